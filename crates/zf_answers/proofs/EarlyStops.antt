@@ -1,7 +1,8 @@
 -- What a run that stops early has written is a front of an answer.
-use Rattle.zf_answers.proofs.Prelude.{◌++◌, ◌∙◌, ◌≡◌, ap, append_assoc, inl, inr, List, Option, subst, sym, ℕ, Event, exact, value_order, Value, Defined, Schema, Environment, spellings, one_ranges, Portion, property, Job, Check, Show, Why, IsFront, AreEventsUpTo, HasEvents, IsBegun, lines, binding_line, Status, property_told, Answer, IsSearch, JobBegins, Request, ShowBegins, EveryRequestIsAnswered, IsGranted, ShowsEvents, FirstLinesAreAFront, PartsAreFronts}
+use Rattle.zf_answers.proofs.Prelude.{◌++◌, ◌∙◌, ◌≡◌, ap, append_assoc, inl, inr, List, Option, subst, sym, ℕ, Event, exact, value_order, Value, Defined, Schema, Environment, spellings, one_ranges, Portion, property, Job, Check, Reach, Show, Why, IsFront, AreEventsUpTo, HasEvents, IsBegun, lines, binding_line, Status, property_told, Answer, IsSearch, JobBegins, Request, ShowBegins, EveryRequestIsAnswered, IsGranted, ShowsEvents, FirstLinesAreAFront, PartsAreFronts}
 use Rattle.zf_value.specs.contracts.plain.ValueOrd.TheImpl.Laws as order_laws
 use Rattle.zf_answers.proofs.FirstLines.{first_lines}
+use Rattle.zf_answers.proofs.Reached.{first_turns_are_a_front}
 use Rattle.zf_answers.proofs.Shown.{events_are_shown}
 
 -- nothing stands in the way of a search
@@ -43,6 +44,7 @@ front_again text front written p q = (q.0 ++ p.0, p.1 ∙ ap (λ t. t ++ p.0) q.
 begun_front : (job : Job) (file source first text : List ℕ) (status : Status) → JobBegins job source first → Answer job file source text status → IsFront text first
 begun_front (Check types details) file source first text status begins answer = absurd begins
 begun_front (Why r) file source first text status begins answer = absurd begins
+begun_front (Reach x) file source first text status begins answer = first_turns_are_a_front x file source first text status begins answer
 begun_front (Show r) file source first text status begins answer =
     first_lines_are_a_front r file source first text status begins answer
 

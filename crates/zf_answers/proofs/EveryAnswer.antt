@@ -1,11 +1,6 @@
 -- Each request has an answer: it is refused at a stage, or what is asked for is searched.
-use Rattle.zf_answers.proofs.Prelude.{if◌then◌else◌, ◌++◌, ◌+◌, ◌∙◌, ◌∷◌, ◌≡◌, ◌⊎◌, [], ap, Bool, false, inl, inr, IsTrue, List, None, Option, refl, Some, subst, sym, true, ℕ, none-some, same_Some, AllByRecursion, Value, BoxTree, TextFault, ReadsSource, RefusesSource, abbreviation, Comp, constructor, Defined, Definition, free_type, given_set, Schema, schema, sets_of, Fault, first, finite_without_cause, causes, NotFinite, one_bounds, Environment, AreComplete, given_sets, spellings, Portion, portion, IsNoneOut, Job, Check, Show, Why, HasLimit, IsBelow, binding_line, Status, BadRequest, BadSpec, PastBounds, some_search, some_tests_line, Answer, AreHeld, check_status, Checks, HasSchema, IsAsked, IsLimited, IsNamed, IsNamedRow, IsSearch, JobAnswer, Request, RefusesRequest, RequestAnswer, ShowsEvents, TellsWhy, size_fault_lines, stated, wants_details, declared_out_line, no_schema_lines, not_a_binding_line, not_finite_lines, not_held_line, numbers_too_large_line, AreSmall, Cited, text_fault_lines, EveryRequestIsAnswered, EverySourceIsRead, numbers_of, IsFinite}
-use Rattle.std.specs.Str.{bytes_eq}
+use Rattle.zf_answers.proofs.Prelude.{if◌then◌else◌, ◌++◌, ◌∷◌, ◌≡◌, ◌⊎◌, [], ap, inl, inr, IsTrue, List, None, Option, refl, Some, subst, sym, ℕ, AllByRecursion, Value, BoxTree, TextFault, ReadsSource, RefusesSource, Comp, Defined, Schema, sets_of, Fault, first, finite_without_cause, causes, NotFinite, one_bounds, Environment, AreComplete, given_sets, spellings, Portion, portion, IsNoneOut, Job, Check, Reach, Show, Why, HasLimit, IsBelow, binding_line, Status, BadRequest, BadSpec, PastBounds, some_search, some_tests_line, Answer, AreHeld, check_status, Checks, HasSchema, IsAsked, IsLimited, IsNamedRow, IsSearch, JobAnswer, Request, RefusesRequest, RequestAnswer, ShowsEvents, TellsWhy, size_fault_lines, stated, wants_details, declared_out_line, no_schema_lines, not_a_binding_line, not_finite_lines, not_held_line, numbers_too_large_line, AreSmall, Cited, text_fault_lines, EveryRequestIsAnswered, EverySourceIsRead, numbers_of, IsFinite}
 use Rattle.zf_checker.specs.Listing.{listing}
-use Rattle.zf_term.specs.FirstNamed.{first_named, later}
-use Rattle.zf_term.proofs.SameNames.{is_same}
-use Rattle.zf_engine.specs.Details.{IsReportedBeside}
-use Rattle.zf_finite.specs.declared.not_finite.NotFinite.TheVariants.{Offends, Unbounded}
 use Rattle.zf_answers.proofs.HeldLines.{every_held_line_is_judged}
 use Rattle.zf_answers.proofs.NamedRows.{every_line_is_judged}
 use Rattle.zf_found.proofs.Ranges.{first_out_or_none, some_ranges}
@@ -13,49 +8,11 @@ use Rattle.zf_total.proofs.Environments.{some_environment}
 use Rattle.zf_total.proofs.StatedSizes.{complete_or_refused}
 use Rattle.zf_verdicts.proofs.Items.{text_has_verdict}
 use Rattle.zf_command.specs.Requests.{IsBare}
+use Rattle.zf_answers.proofs.EveryName.{named_or_none, none_beside}
 use Rattle.zf_answers.proofs.FaultLines.{some_lines}
+use Rattle.zf_answers.proofs.SomeExploration as explorations
 use Rattle.zf_answers.proofs.Reasons.{some_told}
 use Rattle.zf_answers.proofs.SmallNumbers.{small_or_too_large}
-
--- ---- the name
-
--- the global that is found has the name
-found_named : (x : List ℕ) (g : List Defined) (p : ℕ × Defined) → first_named (λ d. d.name) x g ≡ Some p → p.1.name ≡ x
-found_named x [] p e = absurd (none-some p e)
-found_named x (d ∷ g) p e = by (bytes_eq d.name x) refl (first_named (λ d. d.name) x g) (λ q. found_named x g q) e
-  where
-    by : (t : Bool) → bytes_eq d.name x ≡ t → (o : Option (ℕ × Defined)) → ((q : ℕ × Defined) → o ≡ Some q → q.1.name ≡ x) → (if t then Some (0, d) else later o) ≡ Some p → p.1.name ≡ x
-    by true same o rest e = subst (λ (q : ℕ × Defined). q.1.name ≡ x) (same_Some (0, d) p e) (is_same d.name x same)
-    by false same None rest e = absurd (none-some p e)
-    by false same (Some q) rest e = subst (λ (r : ℕ × Defined). r.1.name ≡ x) (same_Some (q.0 + 1, q.1) p e) (rest q refl)
-
--- a definition is a schema, or none
-schema_or_none : (d : Definition) → ((a : Schema) × (d ≡ schema a)) ⊎ ((a : Schema) → d ≡ schema a → ⊥)
-schema_or_none (schema a) = inl (a, refl)
-schema_or_none (given_set n) = inr (λ a e. cc)
-schema_or_none (free_type n names) = inr (λ a e. cc)
-schema_or_none (constructor n of_type place) = inr (λ a e. cc)
-schema_or_none (abbreviation t r x) = inr (λ a e. cc)
-
--- a name is that of a schema, or of none
-named_or_none : (g : List Defined) (name : List ℕ) → ((a : Schema) × IsNamed g name a) ⊎ ((a : Schema) → IsNamed g name a → ⊥)
-named_or_none g name = by (first_named (λ d. d.name) name g) refl
-  where
-    by : (o : Option (ℕ × Defined)) → first_named (λ d. d.name) name g ≡ o → ((a : Schema) × IsNamed g name a) ⊎ ((a : Schema) → IsNamed g name a → ⊥)
-    by None there = inr (λ a n. let z : None ≡ Some (n.0, record { name = name; definition = schema a }) = sym there ∙ n.1 in cc)
-    by (Some p) there = of (schema_or_none p.1.definition)
-      where
-        of : ((a : Schema) × (p.1.definition ≡ schema a)) ⊎ ((a : Schema) → p.1.definition ≡ schema a → ⊥) → ((a : Schema) × IsNamed g name a) ⊎ ((a : Schema) → IsNamed g name a → ⊥)
-        of (inl s) =
-            let whole : p.1 ≡ record { name = name; definition = schema s.0 } =
-            ap (λ (n : List ℕ). record { name = n; definition = p.1.definition }) (found_named name g p there) ∙ ap (λ (d : Definition). record { name = name; definition = d }) s.1 in
-            inl (s.0, (p.0, there ∙ ap (λ (d : Defined). Some (p.0, d)) whole))
-        of (inr none) = inr (λ a n. none a (ap (λ (q : ℕ × Defined). q.1.definition) (same_Some p (n.0, record { name = name; definition = schema a }) (sym there ∙ n.1))))
-
--- nothing need be reported beside what makes a schema infinite
-none_beside : (g : List Defined) (cause : NotFinite) → IsReportedBeside g cause []
-none_beside g (Unbounded l name) = tt
-none_beside g (Offends o) = refl
 
 -- ---- answers of a request, the last stage first
 
@@ -94,23 +51,23 @@ module _ (Tells : List Defined → Schema → Environment → Portion → List �
           | inr none ↦ (not_a_binding_line 0, BadRequest, RequestAnswer.refused (RefusesRequest.not_a_binding g a e 0 asked none refl refl))
         ]
 
-      some_at_finiteness : HasSchema source r.name g a → AreSmall (numbers_of r) → AreComplete (given_sets g) (stated g r) → IsAnswered
-      some_at_finiteness has small complete = by (causes (numbers_of r) g a) refl
+      some_at_finiteness : HasSchema source r.name g a → AreSmall (numbers_of r.setting) → AreComplete (given_sets g) (stated g r.setting) → IsAnswered
+      some_at_finiteness has small complete = by (causes (numbers_of r.setting) g a) refl
         where
-          by : (them : List NotFinite) → causes (numbers_of r) g a ≡ them → IsAnswered
+          by : (them : List NotFinite) → causes (numbers_of r.setting) g a ≡ them → IsAnswered
           by [] none =
-              let e = some_environment g (stated g r) (numbers_of r) complete in
-              some_at_row e.0 (record { has_schema = has; small = small; complete = complete; environment = e.1; finite = subst (λ n. IsFinite n g a) (sym e.1.3) ((finite_without_cause (numbers_of r) g a).1 none) })
+              let e = some_environment g (stated g r.setting) (numbers_of r.setting) complete in
+              some_at_row e.0 (record { has_schema = has; small = small; complete = complete; environment = e.1; finite = subst (λ n. IsFinite n g a) (sym e.1.3) ((finite_without_cause (numbers_of r.setting) g a).1 none) })
           by (cause ∷ them) some = (not_finite_lines r.details file g cause [], BadSpec, RequestAnswer.refused (RefusesRequest.not_finite g a cause [] has small complete (ap first some) (none_beside g cause) refl refl))
 
-      some_at_sizes : HasSchema source r.name g a → AreSmall (numbers_of r) → IsAnswered
-      some_at_sizes has small = elim (complete_or_refused (given_sets g) (stated g r)) [
+      some_at_sizes : HasSchema source r.name g a → AreSmall (numbers_of r.setting) → IsAnswered
+      some_at_sizes has small = elim (complete_or_refused (given_sets g) (stated g r.setting)) [
         | inl complete ↦ some_at_finiteness has small complete
-        | inr bad ↦ (size_fault_lines r.details g (stated g r) bad.0, BadRequest, RequestAnswer.refused (RefusesRequest.bad_sizes g a bad.0 has small bad.1 bad.2 refl refl))
+        | inr bad ↦ (size_fault_lines r.details g (stated g r.setting) bad.0, BadRequest, RequestAnswer.refused (RefusesRequest.bad_sizes g a bad.0 has small bad.1 bad.2 refl refl))
       ]
 
       some_at_numbers : HasSchema source r.name g a → IsAnswered
-      some_at_numbers has = elim (small_or_too_large (numbers_of r)) [
+      some_at_numbers has = elim (small_or_too_large (numbers_of r.setting)) [
         | inl small ↦ some_at_sizes has small
         | inr large ↦ (numbers_too_large_line, BadRequest, RequestAnswer.refused (RefusesRequest.large_numbers g a has large refl refl))
       ]
@@ -163,6 +120,7 @@ some_of_job (Check types details) file source limited g faults checks =
     let some = some_lines details file faults in
     (some.0 ++ (if types then listing g else []), check_status faults, (g, faults, checks, (some.0, some.1, refl), refl))
 some_of_job (Show r) file source limited g faults checks = some_at_types (ShowsEvents r) r file source (shown r source limited) g faults checks
+some_of_job (Reach x) file source limited g faults checks = explorations.some_at_types x file source limited g faults checks
 some_of_job (Why r) file source plain g faults checks = some_at_types (TellsWhy file source) r file source (explained r file source plain) g faults checks
 
 pub every_request_is_answered : EverySourceIsRead → EveryRequestIsAnswered

@@ -1,5 +1,5 @@
 -- A text is the line of some of the components, which holds values of their types, or of none.
-use Rattle.zf_answers.proofs.Prelude.{◌∷◌, ◌≡◌, ◌⊎◌, [], ap, arith, inl, inr, length, List, None, Option, refl, Some, subst, suc, sym, ℕ, cases_eq, Value, Comp, Environment, IsOfType, IsRow, Decided, decided_lists, decided_some, binding_text, spellings, AreHeld, HoldsNoValues, EveryHeldLineIsJudged}
+use Rattle.zf_answers.proofs.Prelude.{◌∷◌, ◌≡◌, ◌⊎◌, [], ap, arith, inl, inr, length, List, None, Option, refl, Some, subst, suc, sym, cases_eq, Value, Comp, Environment, IsOfType, IsRow, Decided, decided_lists, decided_some, binding_text, spellings, AreHeld, HoldsNoValues, EveryHeldLineIsJudged}
 use Rattle.std.proofs.Common.{⊎_elim}
 use Rattle.zf_texts.specs.HeldLines.{held_comps, held_values}
 use Rattle.zf_answers.proofs.ListedValues.{values_listed}

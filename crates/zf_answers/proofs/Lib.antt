@@ -8,14 +8,19 @@ pub mod OneSource
 pub mod OneSearch
 pub mod Stages
 pub mod FaultLines
+mod Machines
+mod Explorations
 pub mod OneAnswer
 pub mod Shown
 pub mod EverySource
 pub mod ListedValues
 pub mod NamedRows
 pub mod HeldLines
+mod EveryName
+mod SomeExploration
 pub mod EveryAnswer
 pub mod FirstLines
+mod Reached
 pub mod EarlyStops
 pub mod Joined
 pub mod RunsFollow

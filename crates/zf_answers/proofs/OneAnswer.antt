@@ -1,7 +1,11 @@
 -- Two answers of one job on one source have one status, and one text but for what is left open.
-use Rattle.zf_answers.proofs.Prelude.{if◌then◌else◌, ◌++◌, ◌∙◌, ◌∷◌, ◌≡◌, [], ap, Bool, inl, inr, List, None, Option, Some, subst, sym, ℕ, same_Some, slice_get, Value, Comp, Defined, Schema, Fault, Environment, IsEnvironment, AreComplete, given_sets, Portion, portion, Job, Check, Show, Why, Status, Answer, AreHeld, check_status, CheckAnswer, Checks, HasSchema, HoldsNoValues, RefusesSource, RequestAnswer, ShowsEvents, TellsWhy, TextFault, IsNamed, IsNamedRow, JobAnswer, NamesNoRow, Request, size_fault_lines, stated, UnreadAnswer, wants_details, declared_out_line, not_finite_lines, AreAlike, AreOfSame, OneStatus, OneText, AreLines, numbers_of}
+use Rattle.zf_answers.proofs.Prelude.{if◌then◌else◌, ◌++◌, ◌∙◌, ◌∷◌, ◌≡◌, [], ap, Bool, inl, inr, List, None, Option, Some, subst, sym, ℕ, same_Some, slice_get, Value, Comp, Defined, Schema, Fault, Environment, IsEnvironment, AreComplete, given_sets, Portion, portion, Job, Check, Reach, Show, Why, Status, Answer, AreHeld, check_status, CheckAnswer, Checks, HasSchema, HoldsNoValues, RefusesSource, RequestAnswer, ShowsEvents, TellsWhy, TextFault, IsNamed, IsNamedRow, JobAnswer, NamesNoRow, Request, size_fault_lines, stated, UnreadAnswer, wants_details, declared_out_line, not_finite_lines, AreAlike, AreOfSame, OneStatus, OneText, AreLines, numbers_of}
 use Rattle.std.proofs.lemmas.List.{append-nil}
 use Rattle.zf_checker.specs.Listing.{listing}
+use Rattle.zf_command.specs.declared.job.Exploration.{Exploration}
+use Rattle.zf_engine.specs.Explorations.{ExplorationAnswer}
+use Rattle.zf_answers.proofs.Explorations.{IsOne, one_exploration_answer}
+use Rattle.zf_answers.proofs.Explorations as explorations
 use Rattle.zf_answers.proofs.OneSource.{none_and_some, one_checked, one_named, one_refused, some_and_none, unread}
 use Rattle.zf_answers.proofs.OneSearch.{clear_at, names_at, not_infinite, one_environment_at, one_first_out, one_held, one_named_row, one_shown}
 use Rattle.zf_answers.proofs.OneRefusal.{none_refused, one_refusal}
@@ -9,10 +13,6 @@ use Rattle.zf_answers.proofs.Stages.{AtFiniteness, AtHeldValues, AtNamedRow, AtN
 use Rattle.zf_answers.proofs.SmallNumbers.{small_not_too_large}
 use Rattle.zf_answers.proofs.Reasons.{AreOneReason, one_told}
 use Rattle.zf_answers.proofs.FaultLines.{lines_of_none}
-
--- one status, and texts that are alike
-abbrev IsOne : (details : Bool) → (file source one two : List ℕ) → (s t : Status) → Type 0
-IsOne details file source one two s t = (s ≡ t) × AreAlike details file source one two
 
 of_same : (details : Bool) (file source one two : List ℕ) (s t : Status) → s ≡ t → one ≡ two → IsOne details file source one two s t
 of_same details file source one two s t e f = (e, AreAlike.same f)
@@ -31,13 +31,13 @@ no_held_values e comps (Some text) held none are = none held are
 -- what is told of a search that is granted is one thing
 abbrev IsOneTold : (Tells : List Defined → Schema → Environment → Portion → List ℕ → Status → Type 0) → Request → (file source one two : List ℕ) → (s t : Status) → Type 0
 IsOneTold Tells r file source one two s t =
-    (g : List Defined) (a : Schema) (e : Environment) (p : Portion) → HasSchema source r.name g a → IsEnvironment g (stated g r) (numbers_of r) e → Tells g a e p one s → Tells g a e p two t
+    (g : List Defined) (a : Schema) (e : Environment) (p : Portion) → HasSchema source r.name g a → IsEnvironment g (stated g r.setting) (numbers_of r.setting) e → Tells g a e p one s → Tells g a e p two t
     → IsOne r.details file source one two s t
 
 module _ (Tells : List Defined → Schema → Environment → Portion → List ℕ → Status → Type 0) (r : Request) (file source one two : List ℕ) (s t : Status) (one_told : IsOneTold Tells r file source one two s t) where
   module _ (g : List Defined) (checks : Checks source g []) where
-    module _ (a : Schema) (named : IsNamed g r.name a) (complete : AreComplete (given_sets g) (stated g r)) where
-      module _ (e : Environment) (is : IsEnvironment g (stated g r) (numbers_of r) e) where
+    module _ (a : Schema) (named : IsNamed g r.name a) (complete : AreComplete (given_sets g) (stated g r.setting)) where
+      module _ (e : Environment) (is : IsEnvironment g (stated g r.setting) (numbers_of r.setting) e) where
         one_at_search : (p : Portion) → AtSearch Tells r file source one s g a e p → AtSearch Tells r file source two t g a e p → IsOne r.details file source one two s t
         one_at_search p (inl x) (inl y) =
             let place = one_first_out e a.comps x.place y.place x.first_out y.first_out in
@@ -52,7 +52,7 @@ module _ (Tells : List Defined → Schema → Environment → Portion → List �
         one_at_values after (inl x) (inr y) = absurd (no_held_values e a.comps r.held y.0 x.none y.1)
         one_at_values after (inr x) (inl y) = absurd (no_held_values e a.comps r.held x.0 y.none x.1)
         one_at_values after (inr x) (inr y) =
-            let held = one_held e a.comps r.held x.0 y.0 (clear_at source g [] (stated g r) (numbers_of r) e checks complete is) (names_at source g [] r.name a checks named) x.1 y.1 in
+            let held = one_held e a.comps r.held x.0 y.0 (clear_at source g [] (stated g r.setting) (numbers_of r.setting) e checks complete is) (names_at source g [] r.name a checks named) x.1 y.1 in
             one_at_search (portion after y.0) (subst (λ values. AtSearch Tells r file source one s g a e (portion after values)) held x.2) y.2
 
         one_at_row : AtNamedRow Tells r file source one s g a e → AtNamedRow Tells r file source two t g a e → IsOne r.details file source one two s t
@@ -60,33 +60,33 @@ module _ (Tells : List Defined → Schema → Environment → Portion → List �
         one_at_row (inl x) (inr y) = absurd (no_named_row e a.comps r.after y.0 x.none y.1)
         one_at_row (inr x) (inl y) = absurd (no_named_row e a.comps r.after x.0 y.none x.1)
         one_at_row (inr x) (inr y) =
-            let row = one_named_row e a.comps r.after x.0 y.0 (clear_at source g [] (stated g r) (numbers_of r) e checks complete is) x.1 y.1 in
+            let row = one_named_row e a.comps r.after x.0 y.0 (clear_at source g [] (stated g r.setting) (numbers_of r.setting) e checks complete is) x.1 y.1 in
             one_at_values y.0 (subst (AtHeldValues Tells r file source one s g a e) row x.2) y.2
 
       one_at_finiteness : AtFiniteness Tells r file source one s g a → AtFiniteness Tells r file source two t g a → IsOne r.details file source one two s t
       one_at_finiteness (inl x) (inl y) =
           let cause = same_Some x.cause y.cause (sym x.first_cause ∙ y.first_cause) in
           (x.bad ∙ sym y.bad, AreAlike.infinite g y.cause x.side y.side (x.told ∙ ap (λ k. not_finite_lines r.details file g k x.side) cause) y.told)
-      one_at_finiteness (inl x) (inr y) = absurd (not_infinite (numbers_of r) g a x.cause y.0 x.first_cause)
-      one_at_finiteness (inr x) (inl y) = absurd (not_infinite (numbers_of r) g a y.cause x.0 y.first_cause)
+      one_at_finiteness (inl x) (inr y) = absurd (not_infinite (numbers_of r.setting) g a x.cause y.0 x.first_cause)
+      one_at_finiteness (inr x) (inl y) = absurd (not_infinite (numbers_of r.setting) g a y.cause x.0 y.first_cause)
       one_at_finiteness (inr x) (inr y) =
           let u = x.1 in
           let v = y.1 in
-          let environment = one_environment_at g (stated g r) (numbers_of r) u.0 v.0 complete u.1 v.1 in
+          let environment = one_environment_at g (stated g r.setting) (numbers_of r.setting) u.0 v.0 complete u.1 v.1 in
           one_at_row v.0 v.1 (subst (AtNamedRow Tells r file source one s g a) environment u.2) v.2
 
     one_at_sizes : (a : Schema) → IsNamed g r.name a → AtSizes Tells r file source one s g a → AtSizes Tells r file source two t g a → IsOne r.details file source one two s t
     one_at_sizes a named (inl x) (inl y) =
-        let fault = one_refusal (given_sets g) (stated g r) x.fault y.fault x.some y.some x.refused y.refused in
-        of_same r.details file source one two s t (x.bad ∙ sym y.bad) (x.told ∙ ap (size_fault_lines r.details g (stated g r)) fault ∙ sym y.told)
-    one_at_sizes a named (inl x) (inr y) = absurd (none_refused (given_sets g) (stated g r) x.fault y.0 x.some x.refused)
-    one_at_sizes a named (inr x) (inl y) = absurd (none_refused (given_sets g) (stated g r) y.fault x.0 y.some y.refused)
+        let fault = one_refusal (given_sets g) (stated g r.setting) x.fault y.fault x.some y.some x.refused y.refused in
+        of_same r.details file source one two s t (x.bad ∙ sym y.bad) (x.told ∙ ap (size_fault_lines r.details g (stated g r.setting)) fault ∙ sym y.told)
+    one_at_sizes a named (inl x) (inr y) = absurd (none_refused (given_sets g) (stated g r.setting) x.fault y.0 x.some x.refused)
+    one_at_sizes a named (inr x) (inl y) = absurd (none_refused (given_sets g) (stated g r.setting) y.fault x.0 y.some y.refused)
     one_at_sizes a named (inr x) (inr y) = one_at_finiteness a named y.0 x.1 y.1
 
     one_at_numbers : (a : Schema) → IsNamed g r.name a → AtNumbers Tells r file source one s g a → AtNumbers Tells r file source two t g a → IsOne r.details file source one two s t
     one_at_numbers a named (inl x) (inl y) = of_same r.details file source one two s t (x.bad ∙ sym y.bad) (x.told ∙ sym y.told)
-    one_at_numbers a named (inl x) (inr y) = absurd (small_not_too_large (numbers_of r) y.0 x.large)
-    one_at_numbers a named (inr x) (inl y) = absurd (small_not_too_large (numbers_of r) x.0 y.large)
+    one_at_numbers a named (inl x) (inr y) = absurd (small_not_too_large (numbers_of r.setting) y.0 x.large)
+    one_at_numbers a named (inr x) (inl y) = absurd (small_not_too_large (numbers_of r.setting) x.0 y.large)
     one_at_numbers a named (inr x) (inr y) = one_at_sizes a named x.1 y.1
 
     one_at_schema : AtSchema Tells r file source one s g → AtSchema Tells r file source two t g → IsOne r.details file source one two s t
@@ -136,25 +136,34 @@ read_request Tells r file source text status fault refused answer = go (staged T
     go (inl x) = let checks = x.checks in unread source fault checks.boxes refused checks.reads
     go (inr x) = let checks = x.1 in unread source fault checks.boxes refused checks.reads
 
+read_exploration : (x : Exploration) (file source text : List ℕ) (status : Status) (fault : TextFault) → RefusesSource source fault → ExplorationAnswer x file source text status → ⊥
+read_exploration x file source text status fault refused answer = go (explorations.staged x file source text status answer)
+  where
+    go : explorations.AtTypes x file source text status → ⊥
+    go (inl ill) = let checks = ill.checks in unread source fault checks.boxes refused checks.reads
+    go (inr well) = let checks = well.1 in unread source fault checks.boxes refused checks.reads
+
 read_unread : (job : Job) (file source one two : List ℕ) (s t : Status) → UnreadAnswer (wants_details job) file source one s → JobAnswer job file source two t → ⊥
 read_unread (Check types details) file source one two s t (fault, about, refused, told, bad) (g, es, p, are, done) = unread source fault p.boxes refused p.reads
 read_unread (Show r) file source one two s t (fault, about, refused, told, bad) answer = read_request (ShowsEvents r) r file source two t fault refused answer
+read_unread (Reach x) file source one two s t (fault, about, refused, told, bad) answer = read_exploration x file source two t fault refused answer
 read_unread (Why r) file source one two s t (fault, about, refused, told, bad) answer = read_request (TellsWhy file source) r file source two t fault refused answer
 
 one_unread : (details : Bool) (file source one two : List ℕ) (s t : Status) → UnreadAnswer details file source one s → UnreadAnswer details file source two t → IsOne details file source one two s t
 one_unread details file source one two s t (e, x, refused, told, bad) (f, y, other_refused, other_told, other_bad) =
     (bad ∙ sym other_bad, one_refused details file source one two e f x y refused other_refused told other_told)
 
-one_reason : (r : Request) (file source one two : List ℕ) (g : List Defined) (a : Schema) (e : Environment) (p : Portion) → HasSchema source r.name g a → IsEnvironment g (stated g r) (numbers_of r) e
+one_reason : (r : Request) (file source one two : List ℕ) (g : List Defined) (a : Schema) (e : Environment) (p : Portion) → HasSchema source r.name g a → IsEnvironment g (stated g r.setting) (numbers_of r.setting) e
     → AreOneReason file source g a e p one two → AreAlike r.details file source one two
 one_reason r file source one two g a e p has is (inl same) = AreAlike.same same
-one_reason r file source one two g a e p has is (inr (first, second, x, y, told, other_told)) = AreAlike.reasons r.name g a (stated g r) (numbers_of r) e p.held first second has is x y told other_told
+one_reason r file source one two g a e p has is (inr (first, second, x, y, told, other_told)) = AreAlike.reasons r.name g a (stated g r.setting) (numbers_of r.setting) e p.held first second has is x y told other_told
 
 one_job_answer : (job : Job) (file source one two : List ℕ) (s t : Status) → JobAnswer job file source one s → JobAnswer job file source two t → IsOne (wants_details job) file source one two s t
 one_job_answer (Check types details) file source one two s t x y = one_check_answer types details file source one two s t x y
 one_job_answer (Show r) file source one two s t x y =
     one_at_types (ShowsEvents r) r file source one two s t (λ g a e p has is u v. let same = one_shown r g a e p one two s t u v in of_same r.details file source one two s t same.1 same.0)
     (staged (ShowsEvents r) r file source one s x) (staged (ShowsEvents r) r file source two t y)
+one_job_answer (Reach e) file source one two s t x y = one_exploration_answer e file source one two s t x y
 one_job_answer (Why r) file source one two s t x y =
     one_at_types (TellsWhy file source) r file source one two s t (λ g a e p has is u v. let told = one_told file source g a e p one two s t u v in (told.statuses, one_reason r file source one two g a e p has is told.reasons))
     (staged (TellsWhy file source) r file source one s x) (staged (TellsWhy file source) r file source two t y)

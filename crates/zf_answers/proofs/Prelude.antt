@@ -56,7 +56,7 @@ pub use Rattle.zf_enum.specs.Portions.{Portion}
 pub use Rattle.zf_enum.specs.Property.{HasTruth, property}
 pub use Rattle.zf_ranges.specs.Ranges.{IsFirstOut, IsNoneOut}
 pub use Rattle.zf_command.specs.declared.job.Job.{Job}
-pub use Rattle.zf_command.specs.declared.job.Job.TheVariants.{Check, Show, Why}
+pub use Rattle.zf_command.specs.declared.job.Job.TheVariants.{Check, Reach, Show, Why}
 pub use Rattle.zf_command.specs.declared.job.Request.{Request}
 pub use Rattle.zf_lines.specs.Faults.{IsFront}
 pub use Rattle.zf_lines.specs.Searches.{AreEventsUpTo, HasEvents, Hold, IsBegun, IsBelow, IsTestsLine, IsNotAbove, IsWritten, lines, out_line, HasLimit}
@@ -65,7 +65,8 @@ pub use Rattle.zf_lines.specs.declared.fault.Status.{Status}
 pub use Rattle.zf_lines.specs.declared.fault.Status.TheVariants.{BadRequest, BadSpec, PastBounds}
 pub use Rattle.zf_found.proofs.Rows.{AreTold, one_truth_of}
 pub use Rattle.zf_found.proofs.Searches.{property_told, some_search, some_tests_line}
-pub use Rattle.zf_engine.specs.Answers.{Answer, AreHeld, check_status, CheckAnswer, Checks, HasSchema, HoldsNoValues, IsAsked, IsLimited, IsLineOf, IsNamed, IsNamedRow, IsSearch, JobAnswer, JobBegins, NamesNoRow, RefusesRequest, RequestAnswer, ShowAnswer, ShowBegins, ShowsEvents, size_fault_lines, stated, UnreadAnswer, wants_details, numbers_of}
+pub use Rattle.zf_engine.specs.Answers.{Answer, AreHeld, check_status, CheckAnswer, HoldsNoValues, IsAsked, IsLimited, IsLineOf, IsNamedRow, IsSearch, JobAnswer, JobBegins, NamesNoRow, RefusesRequest, RequestAnswer, ShowAnswer, ShowBegins, ShowsEvents, UnreadAnswer, wants_details}
+pub use Rattle.zf_engine.specs.Settings.{Checks, HasSchema, IsNamed, size_fault_lines, stated, numbers_of}
 pub use Rattle.zf_engine.specs.Details.{Cited, not_finite_lines, text_fault_lines, AreLines}
 pub use Rattle.zf_engine.specs.Missing.{no_schema_lines}
 pub use Rattle.zf_engine.specs.Numbers.{AreSmall, AreTooLarge}

@@ -1,16 +1,14 @@
 -- What `why` tells of a search is one first event, or one cause but for which minimal set of conjuncts; and there is something to tell.
-use Rattle.zf_answers.proofs.Prelude.{◌++◌, ◌+◌, ◌<◌, ◌∙◌, ◌∷◌, ◌≡◌, ◌≤◌, ◌⊎◌, [], All-cons, All-contains, All-nil, ap, arith, Bool, codes, inl, inr, length, List, None, Option, refl, Some, subst, sym, ℕ, IsTrue, AllByRecursion, Contains, Contains-cases, Contains-head, Contains-nil, Event, IsEvent, Out, True, value_order, Value, Comp, Defined, Schema, sets_of, one_bounds, Environment, Portion, portion, property, spellings, HasEvents, Hold, IsWritten, binding_line, lines, out_line, Status, PastBounds, IsNamedRow, IsSearch, Request, conjunct_lines, empty_lines, TellsWhy, HasSome}
+use Rattle.zf_answers.proofs.Prelude.{◌++◌, ◌+◌, ◌∙◌, ◌∷◌, ◌≡◌, ◌≤◌, ◌⊎◌, [], All-cons, All-contains, All-nil, ap, arith, Bool, codes, inl, inr, length, List, None, Option, refl, Some, subst, sym, ℕ, IsTrue, AllByRecursion, Contains, Contains-head, Contains-nil, Event, IsEvent, Out, True, value_order, Value, Comp, Defined, Schema, sets_of, one_bounds, Environment, Portion, property, spellings, HasEvents, IsWritten, binding_line, lines, out_line, Status, PastBounds, conjunct_lines, empty_lines, TellsWhy, HasSome}
 use Rattle.std.proofs.lemmas.List.{length-append}
 use Rattle.zf_lines.specs.declared.fault.Status.TheVariants.{Done}
 use Rattle.zf_cores.specs.Choices.{chosen_of}
-use Rattle.zf_ranges.specs.Ranges.{AreRanges}
 use Rattle.zf_found.proofs.Ranges.{some_ranges}
 use Rattle.zf_found.proofs.Searches.{some_search}
 use Rattle.zf_why.specs.Causes.{EmptiedBy, RefutedBy, RefutedTogetherBy}
 use Rattle.zf_why.specs.Rows.{RuleOut}
 use Rattle.zf_why.proofs.Decided.{event_of}
 use Rattle.zf_answers.proofs.OneCause.{no_row_when_empty, not_both, same_alone, same_empty}
-use Rattle.zf_answers.proofs.OneEnding.{AreOneEnd}
 use Rattle.zf_answers.proofs.OneSearch.{one_search}
 use Rattle.zf_answers.proofs.SomeCause.{some_cause}
 

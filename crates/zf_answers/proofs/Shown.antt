@@ -1,5 +1,5 @@
 -- What is answered where nothing stands in the way of a request.
-use Rattle.zf_answers.proofs.Prelude.{◌++◌, ◌<◌, ◌↔◌, ◌∙◌, ◌∷◌, ◌⊎◌, [], ap, arith, inl, inr, length, List, None, Option, Some, subst, suc, sym, zero, ℕ, All-cons, All-head, All-nil, All-tail, All, Contains, slice_get, Contains-cases, Contains-head, Contains-later, Contains-nil, IsEvent, Out, True, exact, value_order, Value, Defined, Schema, Environment, given_sets, spellings, Portion, portion, HasTruth, property, binding_line, Status, AreHeld, HoldsNoValues, IsNamedRow, NamesNoRow, ReasonIsTold, Request, RequestAnswer, stated, TellsWhy, UnreadAnswer, IsBinding, IsInDoubt, ShowsBindings, AnswersRequest, EachBindingIsShown, EventsAreShown, IsGranted, IsShownInOneWay, ShowsEvents, numbers_of, IsFinite}
+use Rattle.zf_answers.proofs.Prelude.{◌++◌, ◌<◌, ◌↔◌, ◌∙◌, ◌∷◌, ◌⊎◌, [], ap, arith, inl, inr, length, List, None, Option, Some, subst, suc, sym, zero, ℕ, All-cons, All-head, All-nil, All-tail, All, Contains, slice_get, Contains-cases, Contains-head, Contains-later, Contains-nil, IsEvent, Out, True, exact, value_order, Value, Defined, Schema, Environment, given_sets, spellings, Portion, portion, HasTruth, property, binding_line, Status, AreHeld, HoldsNoValues, IsNamedRow, NamesNoRow, ReasonIsTold, Request, RequestAnswer, stated, TellsWhy, UnreadAnswer, IsBinding, IsInDoubt, ShowsBindings, EachBindingIsShown, EventsAreShown, IsGranted, IsShownInOneWay, ShowsEvents, numbers_of, IsFinite}
 use Rattle.zf_term.specs.ResolvedTrees.{ResolvedTree}
 use Rattle.zf_value.specs.declared.value.Truth.{Truth}
 use Rattle.zf_value.specs.declared.value.Truth.TheVariants as truth
@@ -27,7 +27,7 @@ module _ (Tells : List Defined → Schema → Environment → Portion → List �
       are_held None held none are = none
       are_held (Some text) held none are = none held are
   held_values (inr there) =
-      let clear = clear_at source g [] (stated g r) (numbers_of r) e granted.has_schema.checks granted.complete granted.environment in
+      let clear = clear_at source g [] (stated g r.setting) (numbers_of r.setting) e granted.has_schema.checks granted.complete granted.environment in
       let names = names_at source g [] r.name a granted.has_schema.checks granted.has_schema.named in
       searched (subst (λ held. AtSearch Tells r file source text status g a e (portion p.after held)) (one_held e a.comps r.held there.0 p.held clear names there.1 granted.held) there.2)
 
@@ -39,21 +39,21 @@ module _ (Tells : List Defined → Schema → Environment → Portion → List �
       is_named (Some text) None none named = named
       is_named (Some text) (Some row) none named = none row named
   named_row (inr there) =
-      let clear = clear_at source g [] (stated g r) (numbers_of r) e granted.has_schema.checks granted.complete granted.environment in
+      let clear = clear_at source g [] (stated g r.setting) (numbers_of r.setting) e granted.has_schema.checks granted.complete granted.environment in
       held_values (subst (AtHeldValues Tells r file source text status g a e) (one_named_row e a.comps r.after there.0 p.after clear there.1 granted.named) there.2)
 
   finite : AtFiniteness Tells r file source text status g a → Tells g a e p text status
-  finite (inl infinite) = absurd (not_infinite (numbers_of r) g a infinite.cause (subst (λ n. IsFinite n g a) granted.environment.3 granted.finite) infinite.first_cause)
+  finite (inl infinite) = absurd (not_infinite (numbers_of r.setting) g a infinite.cause (subst (λ n. IsFinite n g a) granted.environment.3 granted.finite) infinite.first_cause)
   finite (inr ends) =
       let f = ends.1 in
-      named_row (subst (AtNamedRow Tells r file source text status g a) (one_environment_at g (stated g r) (numbers_of r) f.0 e granted.complete f.1 granted.environment) f.2)
+      named_row (subst (AtNamedRow Tells r file source text status g a) (one_environment_at g (stated g r.setting) (numbers_of r.setting) f.0 e granted.complete f.1 granted.environment) f.2)
 
   sized : AtSizes Tells r file source text status g a → Tells g a e p text status
-  sized (inl bad) = absurd (none_refused (given_sets g) (stated g r) bad.fault granted.complete bad.some bad.refused)
+  sized (inl bad) = absurd (none_refused (given_sets g) (stated g r.setting) bad.fault granted.complete bad.some bad.refused)
   sized (inr fits) = finite fits.1
 
   numbered : AtNumbers Tells r file source text status g a → Tells g a e p text status
-  numbered (inl bad) = absurd (small_not_too_large (numbers_of r) granted.small bad.large)
+  numbered (inl bad) = absurd (small_not_too_large (numbers_of r.setting) granted.small bad.large)
   numbered (inr small) = sized small.1
 
   schema_named : AtSchema Tells r file source text status g → Tells g a e p text status

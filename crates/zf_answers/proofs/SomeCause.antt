@@ -1,9 +1,8 @@
 -- A schema without a binding has a cause.
-use Rattle.zf_answers.proofs.Prelude.{◌+◌, ◌<◌, ◌++◌, ◌∙◌, ◌∷◌, ◌≡◌, ◌≤◌, ◌⊎◌, [], ap, arith, Bool, false, inl, inr, length, List, None, Option, refl, Some, subst, suc, sym, true, zero, ℕ, slice_get, Contains, Contains-head, Contains-nil, Event, value_order, Value, Comp, Schema, Environment, Decided, HasSome, Portion, portion, property}
+use Rattle.zf_answers.proofs.Prelude.{◌+◌, ◌++◌, ◌∷◌, ◌≡◌, ◌⊎◌, [], ap, arith, Bool, false, inl, inr, length, List, None, Option, refl, Some, subst, suc, sym, true, zero, ℕ, slice_get, Contains-head, Contains-nil, Event, value_order, Value, Comp, Environment, Decided, HasSome, portion, property}
 use Rattle.std.specs.Prelude.{replicate, slice_set}
 use Rattle.zf_term.specs.ResolvedTrees.{ResolvedTree}
 use Rattle.zf_walk.specs.EventLists.{IsEvents}
-use Rattle.zf_enum.specs.EventLaws.{AreEvents}
 use Rattle.zf_ranges.specs.Ranges.{AreRanges, first_held, later_held}
 use Rattle.zf_found.proofs.Searches.{some_list}
 use Rattle.zf_cores.specs.Choices.{chosen_of, HasChosen, IsChosen, IsFewer, IsLeft, IsMinimal}

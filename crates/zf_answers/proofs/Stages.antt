@@ -20,21 +20,21 @@ module _ (Tells : List Defined → Schema → Environment → Portion → List �
     pub bad : status ≡ BadRequest
 
   pub record HasLargeNumbers : Type 0 where
-    pub large : AreTooLarge (numbers_of r)
+    pub large : AreTooLarge (numbers_of r.setting)
     pub told : text ≡ numbers_too_large_line
     pub bad : status ≡ BadRequest
 
   pub record HasBadSizes (g : List Defined) : Type 0 where
     pub fault : SizeFault
-    pub refused : IsRefusal (given_sets g) (stated g r) fault
+    pub refused : IsRefusal (given_sets g) (stated g r.setting) fault
     pub some : fault ≢ size_faults.OutOfMemory
-    pub told : text ≡ size_fault_lines r.details g (stated g r) fault
+    pub told : text ≡ size_fault_lines r.details g (stated g r.setting) fault
     pub bad : status ≡ BadRequest
 
   pub record IsInfinite (g : List Defined) (a : Schema) : Type 0 where
     pub cause : NotFinite
     pub side : List ℕ
-    pub first_cause : first (causes (numbers_of r) g a) ≡ Some cause
+    pub first_cause : first (causes (numbers_of r.setting) g a) ≡ Some cause
     pub told : text ≡ not_finite_lines r.details file g cause side
     pub bad : status ≡ BadSpec
 
@@ -71,13 +71,13 @@ module _ (Tells : List Defined → Schema → Environment → Portion → List �
   AtNamedRow g a e = HasNoRow a e ⊎ ((after : Option (List Value)) × IsNamedRow e a.comps r.after after × AtHeldValues g a e after)
 
   abbrev pub AtFiniteness : List Defined → Schema → Type 0
-  AtFiniteness g a = IsInfinite g a ⊎ (IsFinite (numbers_of r) g a × ((e : Environment) × IsEnvironment g (stated g r) (numbers_of r) e × AtNamedRow g a e))
+  AtFiniteness g a = IsInfinite g a ⊎ (IsFinite (numbers_of r.setting) g a × ((e : Environment) × IsEnvironment g (stated g r.setting) (numbers_of r.setting) e × AtNamedRow g a e))
 
   abbrev pub AtSizes : List Defined → Schema → Type 0
-  AtSizes g a = HasBadSizes g ⊎ (AreComplete (given_sets g) (stated g r) × AtFiniteness g a)
+  AtSizes g a = HasBadSizes g ⊎ (AreComplete (given_sets g) (stated g r.setting) × AtFiniteness g a)
 
   abbrev pub AtNumbers : List Defined → Schema → Type 0
-  AtNumbers g a = HasLargeNumbers ⊎ (AreSmall (numbers_of r) × AtSizes g a)
+  AtNumbers g a = HasLargeNumbers ⊎ (AreSmall (numbers_of r.setting) × AtSizes g a)
 
   abbrev pub AtSchema : List Defined → Type 0
   AtSchema g = HasNoSchema g ⊎ ((a : Schema) × IsNamed g r.name a × AtNumbers g a)
@@ -85,11 +85,11 @@ module _ (Tells : List Defined → Schema → Environment → Portion → List �
   abbrev pub AtTypes : Type 0
   AtTypes = IsIllTyped ⊎ ((g : List Defined) × Checks source g [] × AtSchema g)
 
-  finite_for : (g : List Defined) (a : Schema) (e : Environment) → IsAsked r source g a e → IsFinite (numbers_of r) g a
+  finite_for : (g : List Defined) (a : Schema) (e : Environment) → IsAsked r source g a e → IsFinite (numbers_of r.setting) g a
   finite_for g a e asked = subst (λ n. IsFinite n g a) asked.environment.3 asked.finite
 
   -- what stands at a later stage stands at the first
-  at_finiteness : (g : List Defined) (a : Schema) → HasSchema source r.name g a → AreSmall (numbers_of r) → AreComplete (given_sets g) (stated g r) → AtFiniteness g a → AtTypes
+  at_finiteness : (g : List Defined) (a : Schema) → HasSchema source r.name g a → AreSmall (numbers_of r.setting) → AreComplete (given_sets g) (stated g r.setting) → AtFiniteness g a → AtTypes
   at_finiteness g a has small complete at = inr (g, has.checks, inr (a, has.named, inr (small, inr (complete, at))))
 
   at_row : (g : List Defined) (a : Schema) (e : Environment) → IsAsked r source g a e → AtNamedRow g a e → AtTypes

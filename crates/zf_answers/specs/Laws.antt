@@ -24,7 +24,8 @@ use Rattle.zf_enum.specs.Portions.{Portion}
 use Rattle.zf_ranges.specs.Ranges.{IsNoneOut}
 use Rattle.zf_lines.specs.declared.fault.Status.{Status}
 use Rattle.zf_command.specs.declared.job.Request.{Request}
-use Rattle.zf_engine.specs.Answers.{Answer, AreHeld, Checks, HasSchema, HoldsNoValues, IsLimited, IsNamedRow, NamesNoRow, ShowsEvents, stated, wants_details, numbers_of}
+use Rattle.zf_engine.specs.Answers.{Answer, AreHeld, HoldsNoValues, IsLimited, IsNamedRow, NamesNoRow, ShowsEvents, wants_details}
+use Rattle.zf_engine.specs.Settings.{Checks, HasSchema, stated, numbers_of}
 use Rattle.zf_engine.specs.Details.{Cited, text_fault_lines, not_finite_lines, AreLines}
 use Rattle.zf_engine.specs.Numbers.{AreSmall}
 use Rattle.zf_engine.specs.Reasons.{TellsWhy, conjunct_lines}
@@ -42,9 +43,9 @@ AnswersRequest r file source text status = Answer (Show r) file source text stat
 -- components is given, and no declared set is out.
 pub record IsGranted (r : Request) (source : List ℕ) (globals : List Defined) (a : Schema) (e : Environment) (p : Portion) : Type 0 where
   pub has_schema : HasSchema source r.name globals a
-  pub small : AreSmall (numbers_of r)
-  pub complete : AreComplete (given_sets globals) (stated globals r)
-  pub environment : IsEnvironment globals (stated globals r) (numbers_of r) e
+  pub small : AreSmall (numbers_of r.setting)
+  pub complete : AreComplete (given_sets globals) (stated globals r.setting)
+  pub environment : IsEnvironment globals (stated globals r.setting) (numbers_of r.setting) e
   pub finite : IsFinite e.numbers globals a
   pub named : IsNamedRow e a.comps r.after p.after
   pub held : AreHeld e a.comps r.held p.held

@@ -1,5 +1,6 @@
 pub mod Bindings
 pub mod Laws
+pub mod Reached
 pub mod Runs
 pub mod NamedLines
 pub mod Limits

@@ -1,6 +1,6 @@
 -- The limits that the definitions speak of, as numbers.
 use Rattle.std.specs.Prelude.{◌≡◌, ◌↔◌, ℕ, Some}
-use Rattle.zf_command.specs.declared.limit.TheConstants.{LIMIT_MAX}
+use Rattle.zf_command.specs.declared.limit.TheConstants.{LIMIT_MAX, STATES_MAX}
 use Rattle.zf_scan.specs.declared.scan.TheConstants.{SOURCE_MAX}
 use Rattle.zf_scan.specs.Pieces.{number_max}
 use Rattle.zf_term.specs.Limits.{components_max, conjuncts_max, height_max, nodes_max, sets_max}
@@ -13,9 +13,9 @@ use Rattle.zf_meaning.specs.NumberSets.{IsNumberSet}
 use Rattle.zf_engine.specs.declared.numbers.TheConstants.{NUMBERS_MAX}
 use Rattle.zf_engine.specs.Numbers.{AreTooLarge}
 
--- a set has at most so many members, a source so many bytes, and a limit is at most so many bindings
+-- a set has at most so many members, a source so many bytes, and a limit is at most so many bindings or states
 abbrev pub LimitsOfRuns : Type 0
-LimitsOfRuns = (SET_MAX ≡ 65536) × (SOURCE_MAX ≡ 1048576) × (LIMIT_MAX ≡ 1000000000)
+LimitsOfRuns = (SET_MAX ≡ 65536) × (SOURCE_MAX ≡ 1048576) × (LIMIT_MAX ≡ 1000000000) × (STATES_MAX ≡ 1000000)
 
 -- numbers end at most at so great a one: they are too large exactly where the set of all of them would be out of bounds
 abbrev pub LimitOfNumbers : Type 0

@@ -8,7 +8,8 @@ use Rattle.zf_meaning.specs.GlobalOutcomes.{IsEnvironment}
 use Rattle.zf_meaning.specs.Sizes.{given_sets, AreComplete}
 use Rattle.zf_texts.specs.Readings.{IsNoLine}
 use Rattle.zf_texts.specs.Spellings.{spellings}
-use Rattle.zf_engine.specs.Answers.{HasSchema, IsLineOf, NamesNoRow}
+use Rattle.zf_engine.specs.Answers.{IsLineOf, NamesNoRow}
+use Rattle.zf_engine.specs.Settings.{HasSchema}
 
 -- a schema of the source, and the environment at the sizes
 pub record IsSchemaAt (source name : List ℕ) (sizes : List Size) (globals : List Defined) (a : Schema) (e : Environment) : Type 0 where

@@ -32,11 +32,11 @@ PartsAreFronts =
 
 -- the same request with another limit
 abbrev pub limited : Option ℕ → Request → Request
-limited limit r = record { name = r.name; sizes = r.sizes; size = r.size; numbers = r.numbers; after = r.after; held = r.held; limit = limit; tests = r.tests; details = r.details }
+limited limit r = record { name = r.name; setting = r.setting; after = r.after; held = r.held; limit = limit; tests = r.tests; details = r.details }
 
 -- the same request with another limit, for what comes after the row of this text
 abbrev pub resumed : List ℕ → Option ℕ → Request → Request
-resumed text limit r = record { name = r.name; sizes = r.sizes; size = r.size; numbers = r.numbers; after = Some text; held = r.held; limit = limit; tests = r.tests; details = r.details }
+resumed text limit r = record { name = r.name; setting = r.setting; after = Some text; held = r.held; limit = limit; tests = r.tests; details = r.details }
 
 -- so many bindings, and then up to a limit
 abbrev pub together : ℕ → Option ℕ → Option ℕ

@@ -1,9 +1,10 @@
-//! Laws over what is answered, above the answers of the engine: each source has one answer, that of `show` has each binding once, and that of `why` the first one, or why there is none.
+//! Laws over what is answered, above the answers of the engine: each source has one answer, that of `show` has each binding once, that of `why` the first one, or why there is none, and that of `reach` what can be reached.
 #![tactic(auto)]
 
 ghost use Rattle.zf_answers.specs.Laws.{EachBindingIsShown, EventsAreShown, EveryHeldLineIsJudged, EveryLineIsJudged, EveryRequestIsAnswered, EverySourceIsRead, IsShownInOneWay, OneStatus, OneText, PlainLines, ReasonIsTold};
 ghost use Rattle.zf_answers.specs.Limits.{LimitsAre};
 ghost use Rattle.zf_answers.specs.NamedLines.{OneRowOfALine, RefusedLinesAreOfNoRow};
+ghost use Rattle.zf_answers.specs.Reached.{ReachableAreMet, SchemasMakeOneMachine, WhatIsReachedIsTold};
 ghost use Rattle.zf_answers.specs.Runs.{FirstLinesAreAFront, PartsAreFronts, RunsMakeOne};
 
 /// What `show` answers, where nothing stands in its way: the line of each binding, once, in ascending order.
@@ -16,6 +17,13 @@ pub fn each_binding_is_shown()
 /// What `why` answers, where nothing stands in its way: the first binding or row that is out of bounds, or why there is none.
 pub fn reason_is_told()
     ensures { ReasonIsTold }
+{}
+
+/// What `reach` answers, where nothing stands in its way: what the machine of its schemas can reach; with `end`, the states that are met are exactly the reachable ones.
+pub fn reachable_is_told()
+    ensures told { WhatIsReachedIsTold }
+    ensures machine { SchemasMakeOneMachine }
+    ensures reachable { ReachableAreMet }
 {}
 
 /// A source has one status for a job, and one text, but for what is left open: without details, nothing beside an offence is.

@@ -12,3 +12,5 @@ pub mod FirstEvents
 pub mod WhyAnswers
 pub mod SourceLines
 pub mod ChosenLines
+pub mod Reaching
+pub mod Explored

@@ -1,15 +1,18 @@
 -- How the parts of an answer that are written come together.
-use Rattle.zf_engine.proofs.Prelude.{◌++◌, ◌∙◌, ◌∷◌, ◌≡◌, ◌⊎◌, [], append-nil, Bool, Err, false, IfOk, inl, inr, List, Ok, OnErr, Option, refl, Result, subst, sym, true, ℕ, Appends-kept, Appends-nil, false≢true, Appends, Keeps, Stage, Value, Schema, Environment, spellings, Spelling, Portion, property, Goal, Status, Answer, AnswersReader, AnswersSource, AreHeld, IsAsked, IsNamedRow, IsSearch, Request, RequestAnswer, ShowAnswer, ShowBegins, ShowsEvents, StopsInReader, StopsInSource, UnreadAnswer, RefusesRequest, AnswersRequest, IfAnswered, IsRefused, Shows, Tells, Stop, Answered, OutOfMemory}
+use Rattle.zf_engine.proofs.Prelude.{◌++◌, ◌∙◌, ◌∷◌, ◌≡◌, ◌⊎◌, [], append-nil, Bool, Err, false, IfOk, inl, inr, List, Ok, OnErr, Option, refl, Result, subst, sym, true, ℕ, Appends-kept, Appends-nil, false≢true, Appends, Keeps, Stage, Value, Schema, Environment, spellings, Spelling, Portion, property, Goal, Status, Answer, AnswersReader, AnswersSource, AreHeld, IsAsked, IsNamedRow, IsSearch, Request, RequestAnswer, ShowAnswer, ShowBegins, ShowsEvents, StopsInReader, StopsInSource, UnreadAnswer, RefusesRequest, AnswersRequest, IfAnswered, IsRefused, IsUnexplored, Shows, Tells, Writes, Stop, Answered, OutOfMemory}
 use Rattle.std.specs.Result.{IsErr}
 use Rattle.zf_command.specs.declared.job.Job.{Job}
-use Rattle.zf_command.specs.declared.job.Job.TheVariants.{Show, Why}
+use Rattle.zf_command.specs.declared.job.Exploration.{Exploration}
+use Rattle.zf_command.specs.declared.job.Job.TheVariants.{Reach, Show, Why}
 use Rattle.zf_value.specs.Sets.{value_order}
 use Rattle.zf_enum.specs.Starts.{Begins}
 use Rattle.zf_lines.specs.declared.fault.RunFault.{RunFault}
 use Rattle.zf_walk.specs.Events.{Event}
 use Rattle.zf_walk.specs.Tests.{IsNumberOfTests}
 use Rattle.zf_lines.specs.FaultViews.{AppendsFront}
+use Rattle.zf_engine.specs.Explorations.{ExplorationAnswer}
 use Rattle.zf_engine.specs.Faults.{Gave}
+use Rattle.zf_engine.proofs.Refusing.{weaker}
 use Rattle.zf_lines.specs.Searches.{AreEventsUpTo, HasEvents, IsBegun, IsTestsLine, IsWritten}
 use Rattle.zf_lines.specs.Shown.{FindsEvents, IsSome, StopsShown, TellsTests, WritesAll}
 use Rattle.zf_lines.specs.Texts.{binding_line}
@@ -25,13 +28,21 @@ pub why_refused : (r : Request) (file source text : List ℕ) (status : Status) 
 why_refused r file source text status (inl unread) = inl unread
 why_refused r file source text status (inr refused) = inr (RequestAnswer.refused refused)
 
+pub reach_refused : (x : Exploration) (file source text : List ℕ) (status : Status) → IsUnexplored x file source text status → Answer (Reach x) file source text status
+reach_refused x file source text status (inl unread) = inl unread
+reach_refused x file source text status (inr refused) = inr (ExplorationAnswer.refused refused)
+
+-- what is told is written, or a front of it
+pub told_written : (job : Job) (file source : List ℕ) (stop : Stop) (a b : Option (List ℕ)) (result : Result Status RunFault) → IfAnswered stop (Answer job file source) → Tells stop a b result
+    → Writes job file source a b result
+told_written job file source (Answered text status) a b (Ok given) answer (same, written) = (text.items, subst (λ s. Answer job file source text.items s) same answer, written)
+told_written job file source (Answered text status) a b (Err fault) answer (f, front, written) = (f, inr (inl (text.items, status, answer, front)), written)
+told_written job file source OutOfMemory a b (Ok given) answer h = absurd h
+told_written job file source OutOfMemory a b (Err fault) answer h = ([], inl refl, h)
+
 pub told : (r : Request) (file source : List ℕ) (stop : Stop) (a b : Option (List ℕ)) (result : Result Status RunFault) → AnswersRequest r file source stop → Tells stop a b result
     → Shows r file source a b result
-told r file source (Answered text status) a b (Ok given) answer (same, written) =
-    (text.items, subst (λ s. Answer (Show r) file source text.items s) same (show_refused r file source text.items status answer), written)
-told r file source (Answered text status) a b (Err fault) answer (f, front, written) = (f, inr (inl (text.items, status, show_refused r file source text.items status answer, front)), written)
-told r file source OutOfMemory a b (Ok given) answer h = absurd h
-told r file source OutOfMemory a b (Err fault) answer h = ([], inl refl, h)
+told r file source stop a b result answer h = told_written (Show r) file source stop a b result (weaker stop (show_refused r file source) answer) h
 
 -- the whole of it
 pub told_answers : (job other : Job) (file bytes source : List ℕ) (stop : Stop) (a b : Option (List ℕ)) (result : Result Status RunFault) → job ≡ other → bytes ≡ file
@@ -57,18 +68,30 @@ pub stopped : (r : Request) (file source : List ℕ) (a : Option (List ℕ)) (re
 stopped r file source a (Ok status) h = absurd (false≢true h)
 stopped r file source a (Err fault) h = ([], inl refl, Appends-nil a)
 
--- what is shown for the request is the job's
-pub shows_ok : (r : Request) (job : Job) (file bytes source : List ℕ) (a b : Option (List ℕ)) (result : Result Status RunFault) → job ≡ Show r → bytes ≡ file
-    → Shows r bytes source a b result → IfOk result (λ status. AnswersSource job file source a b status)
-shows_ok r job file bytes source a b (Ok status) same is h =
-    subst (λ j. AnswersSource j file source a b status) (sym same) (subst (λ n. AnswersSource (Show r) n source a b status) is h)
-shows_ok r job file bytes source a b (Err fault) same is h = tt
+-- where a run stops, a part was written
+pub stops_err : (job : Job) (file source : List ℕ) (a b : Option (List ℕ)) (result : Result Status RunFault) → IsErr result → StopsInSource job file source a b → Writes job file source a b result
+stops_err job file source a b (Ok status) h stops = absurd (false≢true h)
+stops_err job file source a b (Err fault) h stops = stops
 
-pub shows_err : (r : Request) (job : Job) (file bytes source : List ℕ) (a b : Option (List ℕ)) (result : Result Status RunFault) → job ≡ Show r → bytes ≡ file
-    → Shows r bytes source a b result → OnErr result (StopsInSource job file source a b)
-shows_err r job file bytes source a b (Ok status) same is h = tt
-shows_err r job file bytes source a b (Err fault) same is h =
-    subst (λ j. StopsInSource j file source a b) (sym same) (subst (λ n. StopsInSource (Show r) n source a b) is h)
+-- what is written for this job is the job's
+pub writes_ok : (other job : Job) (file bytes source : List ℕ) (a b : Option (List ℕ)) (result : Result Status RunFault) → job ≡ other → bytes ≡ file
+    → Writes other bytes source a b result → IfOk result (λ status. AnswersSource job file source a b status)
+writes_ok other job file bytes source a b (Ok status) same is h =
+    subst (λ j. AnswersSource j file source a b status) (sym same) (subst (λ n. AnswersSource other n source a b status) is h)
+writes_ok other job file bytes source a b (Err fault) same is h = tt
+
+pub writes_err : (other job : Job) (file bytes source : List ℕ) (a b : Option (List ℕ)) (result : Result Status RunFault) → job ≡ other → bytes ≡ file
+    → Writes other bytes source a b result → OnErr result (StopsInSource job file source a b)
+writes_err other job file bytes source a b (Ok status) same is h = tt
+writes_err other job file bytes source a b (Err fault) same is h =
+    subst (λ j. StopsInSource j file source a b) (sym same) (subst (λ n. StopsInSource other n source a b) is h)
+
+-- a front of nothing is nothing
+pub nothing_stops : (job : Job) (file source text : List ℕ) (old new : Option (List ℕ)) → text ≡ [] → AppendsFront old new text → StopsInSource job file source old new
+nothing_stops job file source text old new none (f, (rest, split), written) = (f, inl (nothing f rest (sym split ∙ none)), written) where
+  nothing : (xs ys : List ℕ) → xs ++ ys ≡ [] → xs ≡ []
+  nothing [] ys k = refl
+  nothing (x ∷ xs) ys k = cc
 
 -- ---- the lines of a search
 
@@ -117,10 +140,7 @@ module _ (r : Request) (file source : List ℕ) (a : Schema) (g : Goal) (b : Sta
 
   stops_early : (text : List ℕ) (old new : Option (List ℕ)) → (text ≡ []) ⊎ ShowBegins r source text → AppendsFront old new text
       → StopsInSource (Show r) file source old new
-  stops_early text old new (inl none) (f, (rest, split), written) = (f, inl (nothing f rest (sym split ∙ none)), written) where
-    nothing : (xs ys : List ℕ) → xs ++ ys ≡ [] → xs ≡ []
-    nothing [] ys k = refl
-    nothing (x ∷ xs) ys k = cc
+  stops_early text old new (inl none) front = nothing_stops (Show r) file source text old new none front
   stops_early text old new (inr begins) (f, front, written) = (f, inr (inr (text, begins, front)), written)
 
   -- what is written of the search is the answer of the request, or a part of it

@@ -1,5 +1,5 @@
 -- The steps before the first binding make answers: refusals, in their order.
-use Rattle.zf_engine.proofs.Prelude.{◌==◌, ◌∙◌, ◌∷◌, ◌≡◌, ◌≢◌, ◌⊎◌, [], ap, arith, Bool, Err, false, IfErr, IfOk, inl, inr, length, List, map, Ok, Option, refl, Result, Some, subst, sym, true, ℕ, eqb-true, Value, Comp, Defined, Schema, AreWellTyped, Environment, spellings, Spelling, Portion, Status, AreHeld, Checks, HasSchema, IsAsked, IsNamed, IsNamedRow, Request, RefusesRequest, numbers_of, stated, UnreadAnswer, AnswersEach, AnswersRequest, IfAnswered, IsFaultLine, AreSmall, TellsInfinite, TellsMisfit, TellsNumbers, TellsNoRow, TellsNoValues, TellsOut, TellsPlace, TellsPlaceHeld, Cited, Stop, Answered, OutOfMemory, AreLines}
+use Rattle.zf_engine.proofs.Prelude.{◌==◌, ◌∙◌, ◌∷◌, ◌≡◌, ◌≢◌, ◌⊎◌, [], ap, arith, Bool, Err, false, IfErr, IfOk, inl, inr, length, List, map, Ok, Option, refl, Result, Some, subst, sym, true, ℕ, eqb-true, Value, Comp, Defined, Schema, AreWellTyped, Environment, spellings, Spelling, Portion, Status, AreHeld, Checks, HasSchema, IsAsked, IsNamed, IsNamedRow, Request, RefusesRequest, numbers_of, stated, UnreadAnswer, AnswersRequest, IfAnswered, IsRefused, IsUnfit, IsFaultLine, AreSmall, TellsInfinite, TellsMisfit, TellsNoSchema, TellsNumbers, TellsNoRow, TellsNoValues, TellsOut, TellsPlace, TellsPlaceHeld, Cited, Stop, Answered, OutOfMemory, AreLines}
 use Rattle.zf_finite.specs.Finite.{IsFinite}
 use Rattle.zf_scan.specs.declared.fault.TextFault.{TextFault}
 use Rattle.zf_scan.specs.CutViews.{IsWantOfMemory}
@@ -18,7 +18,6 @@ use Rattle.zf_texts.proofs.Chosen.{held_is_line, line_is_held}
 use Rattle.std.proofs.Common.{Global, Vec}
 use Rattle.zf_engine.specs.Details.{IsWithout, LacksComponent}
 use Rattle.zf_engine.specs.Stops.{IsWhole}
-use Rattle.zf_lines.specs.declared.fault.Status.TheVariants.{BadSpec}
 
 pub weaker : (stop : Stop) {P Q : List ℕ → Status → Type 0} → ((text : List ℕ) (status : Status) → P text status → Q text status) → IfAnswered stop P → IfAnswered stop Q
 weaker (Answered text status) f h = f text.items status h
@@ -41,14 +40,13 @@ unread_answers details file source fault about OutOfMemory (inr refuses) h = tt
 unread_answers details file source fault about (Answered text status) (inl memory) h = absurd (h.0 memory.0)
 unread_answers details file source fault about (Answered text status) (inr refuses) h = (fault, about, refuses, h.1, h.2)
 
--- a source that is not read is answered so, whatever else is asked for
-pub unread_each : (details : Bool) (file source : List ℕ) (stop : Stop) → IfAnswered stop (UnreadAnswer details file source) → AnswersEach details file source stop
-unread_each details file source stop told r same = weaker stop (λ text status u. inl (subst (λ d. UnreadAnswer d file source text status) (sym same) u)) told
+-- a source that is not read or not well typed is answered so, whatever else is asked for
+unfit_refused : (r : Request) (file source text : List ℕ) (status : Status) → IsUnfit r.details file source text status → IsRefused r file source text status
+unfit_refused r file source text status (inl unread) = inl unread
+unfit_refused r file source text status (inr ill) = inr (RefusesRequest.ill_typed ill.globals ill.faults ill.checks ill.some ill.told ill.bad)
 
-pub ill_typed_answers : (details : Bool) (file source text : List ℕ) (globals : List Defined) (faults : List Fault) → Checks source globals faults → faults ≢ []
-    → AreLines details file faults text → (r : Request) → r.details ≡ details → RefusesRequest r file source text BadSpec
-ill_typed_answers details file source text globals faults checks some are r same =
-    RefusesRequest.ill_typed globals faults checks some (subst (λ d. AreLines d file faults text) (sym same) are) refl
+pub unfit_answers : (r : Request) (file source : List ℕ) (stop : Stop) → IfAnswered stop (IsUnfit r.details file source) → AnswersRequest r file source stop
+unfit_answers r file source stop told = weaker stop (unfit_refused r file source) told
 
 pub some_of : {A : Type 0} (xs : List A) (b : Bool) → b ≡ false → b ≡ (length xs == 0) → xs ≡ [] → ⊥
 some_of xs b unset test none =
@@ -94,7 +92,7 @@ no_values_told ss e comps text bytes stop place same is none told clear names =
 pub clear_of : (r : Request) (source : List ℕ) (a : Schema) (e : Environment) → IsAsked r source e.globals a e → (ss : List Spelling) → ss ≡ spellings e.globals → AreClear ss e.sizes
 clear_of r source a e is ss same =
     let checks = is.has_schema.checks in
-    subst (λ k. AreClear k e.sizes) (sym same) (globals_clear checks.boxes source e.globals [] (stated e.globals r) (numbers_of r) e checks.reads checks.judged is.complete is.environment)
+    subst (λ k. AreClear k e.sizes) (sym same) (globals_clear checks.boxes source e.globals [] (stated e.globals r.setting) (numbers_of r.setting) e checks.reads checks.judged is.complete is.environment)
 
 -- so are the names of its components
 pub names_of : (r : Request) (source : List ℕ) (a : Schema) (e : Environment) → IsAsked r source e.globals a e → HaveClearNames a.comps
@@ -110,26 +108,30 @@ is_without g component (c ∷ side) lacks = lacks
 
 -- ---- the refusals of a schema
 
+pub no_schema_answers : (r : Request) (file source : List ℕ) (g : List Defined) → Checks source g [] → (stop : Stop)
+    → IfAnswered stop (λ text status. TellsNoSchema r.details g text status r.name) → AnswersRequest r file source stop
+no_schema_answers r file source g checks stop h = weaker stop (λ text status t. inr (RefusesRequest.no_schema g checks t.none t.told t.bad)) h
+
 module _ (r : Request) (file source : List ℕ) (g : List Defined) (a : Schema) where
   pub has_schema : Checks source g [] → IsNamed g r.name a → HasSchema source r.name g a
   has_schema checks named = record { checks = checks; named = named }
 
-  pub numbers_answer : HasSchema source r.name g a → (stop : Stop) → IfAnswered stop (TellsNumbers (numbers_of r)) → AnswersRequest r file source stop
+  pub numbers_answer : HasSchema source r.name g a → (stop : Stop) → IfAnswered stop (TellsNumbers (numbers_of r.setting)) → AnswersRequest r file source stop
   numbers_answer has stop h = weaker stop (λ text status t. inr (RefusesRequest.large_numbers g a has t.0 t.1 t.2)) h
 
-  pub misfit_answers : HasSchema source r.name g a → AreSmall (numbers_of r) → (stop : Stop) → IfAnswered stop (TellsMisfit r.details g (stated g r)) → AnswersRequest r file source stop
+  pub misfit_answers : HasSchema source r.name g a → AreSmall (numbers_of r.setting) → (stop : Stop) → IfAnswered stop (TellsMisfit r.details g (stated g r.setting)) → AnswersRequest r file source stop
   misfit_answers has small stop h = weaker stop (λ text status t. inr (RefusesRequest.bad_sizes g a t.0 has small t.1 t.2.0 t.2.1 t.2.2)) h
 
-  pub infinite_answers : HasSchema source r.name g a → AreSmall (numbers_of r) → AreComplete (given_sets g) (stated g r) → (stop : Stop) → IfAnswered stop (TellsInfinite (numbers_of r) g a r.details file) → AnswersRequest r file source stop
+  pub infinite_answers : HasSchema source r.name g a → AreSmall (numbers_of r.setting) → AreComplete (given_sets g) (stated g r.setting) → (stop : Stop) → IfAnswered stop (TellsInfinite (numbers_of r.setting) g a r.details file) → AnswersRequest r file source stop
   infinite_answers has small complete stop h = weaker stop (λ text status t. inr (RefusesRequest.not_finite g a t.0 t.1 has small complete t.2 t.3 t.4 t.5)) h
 
   -- the same of the globals and the numbers of this environment
-  pub infinite_here : (e : Environment) → IsEnvironment g (stated g r) (numbers_of r) e → (stop : Stop) → IfAnswered stop (TellsInfinite e.numbers e.globals a r.details file) → IfAnswered stop (TellsInfinite (numbers_of r) g a r.details file)
+  pub infinite_here : (e : Environment) → IsEnvironment g (stated g r.setting) (numbers_of r.setting) e → (stop : Stop) → IfAnswered stop (TellsInfinite e.numbers e.globals a r.details file) → IfAnswered stop (TellsInfinite (numbers_of r.setting) g a r.details file)
   infinite_here e is stop h =
       subst (λ n. IfAnswered stop (TellsInfinite n g a r.details file)) is.3 (subst (λ (h : List Defined). IfAnswered stop (TellsInfinite e.numbers h a r.details file)) is.0 h)
 
   -- the schema is asked for in this environment
-  pub asked : (e : Environment) → HasSchema source r.name g a → AreSmall (numbers_of r) → AreComplete (given_sets g) (stated g r) → IsEnvironment g (stated g r) (numbers_of r) e → IsFinite e.numbers e.globals a → IsAsked r source e.globals a e
+  pub asked : (e : Environment) → HasSchema source r.name g a → AreSmall (numbers_of r.setting) → AreComplete (given_sets g) (stated g r.setting) → IsEnvironment g (stated g r.setting) (numbers_of r.setting) e → IsFinite e.numbers e.globals a → IsAsked r source e.globals a e
   asked e has small complete is ends = subst (λ h. IsAsked r source h a e) (sym is.0) (record { has_schema = has; small = small; complete = complete; environment = is; finite = subst (λ h. IsFinite e.numbers h a) is.0 ends })
 
   module _ (e : Environment) (is : IsAsked r source g a e) where

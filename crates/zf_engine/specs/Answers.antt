@@ -1,29 +1,22 @@
 -- What a run writes and answers, by the first case that applies.
-use Rattle.std.specs.Prelude.{◌≡◌, ◌≢◌, ◌⊎◌, ℕ, Bool, not, if◌then◌else◌, List, [], ◌∷◌, ◌++◌, map, Option, Some, None, IsSomeAnd, slice_get}
-use Rattle.std.specs.List.{filter, list_any}
-use Rattle.std.specs.Str.{bytes_eq}
+use Rattle.std.specs.Prelude.{◌≡◌, ◌≢◌, ◌⊎◌, ℕ, Bool, if◌then◌else◌, List, [], ◌∷◌, ◌++◌, Option, Some, None, IsSomeAnd, slice_get}
 use Rattle.std.specs.Io.KnownBytes.{Appends}
 use Rattle.zf_command.specs.declared.job.Job.{Job}
-use Rattle.zf_command.specs.declared.job.Job.TheVariants.{Check, Show, Why}
+use Rattle.zf_command.specs.declared.job.Job.TheVariants.{Check, Reach, Show, Why}
 use Rattle.zf_command.specs.declared.job.Request.{Request}
-use Rattle.zf_command.specs.declared.job.Size as command
 use Rattle.zf_command.specs.Requests.{IsBare}
-use Rattle.zf_schema.specs.Checking.{IsChecked}
 use Rattle.zf_checker.specs.Listing.{listing}
 use Rattle.zf_finite.specs.declared.not_finite.NotFinite.{NotFinite}
 use Rattle.zf_finite.specs.Finite.{IsFinite, causes}
 use Rattle.zf_scan.specs.declared.fault.TextFault.{TextFault}
-use Rattle.zf_text.specs.Parsing.{ReadsSource, RefusesSource}
-use Rattle.zf_tree.specs.Trees.{BoxTree}
-use Rattle.zf_term.specs.Definitions.{Comp, Defined, Schema, schema}
+use Rattle.zf_text.specs.Parsing.{RefusesSource}
+use Rattle.zf_term.specs.Definitions.{Comp, Defined, Schema}
 use Rattle.zf_extent.specs.Extents.{first}
 use Rattle.zf_term.specs.Faults.{Fault}
-use Rattle.zf_term.specs.FirstNamed.{first_named}
 use Rattle.zf_value.specs.declared.plain.Value.{Value}
 use Rattle.zf_walk.specs.Events.{Event}
-use Rattle.zf_meaning.specs.declared.sizes.Size.{Size}
 use Rattle.zf_meaning.specs.declared.sizes.SizeFault.{SizeFault}
-use Rattle.zf_meaning.specs.declared.sizes.SizeFault.TheVariants.{NoSize, NotGiven, SizeTwice, SizeTooLarge, OutOfMemory}
+use Rattle.zf_meaning.specs.declared.sizes.SizeFault.TheVariants.{OutOfMemory}
 use Rattle.zf_meaning.specs.Environments.{Environment}
 use Rattle.zf_meaning.specs.GlobalOutcomes.{IsEnvironment}
 use Rattle.zf_meaning.specs.Rows.{IsRow}
@@ -40,25 +33,12 @@ use Rattle.zf_lines.specs.Texts.{binding_line}
 use Rattle.zf_engine.specs.Faults.{Gave}
 use Rattle.zf_lines.specs.Searches.{HasEvents, IsTestsLine, IsWritten, IsBegun, HasLimit}
 use Rattle.zf_engine.specs.Details.{Cited, text_fault_lines, IsReportedBeside, not_finite_lines, AreLines}
-use Rattle.zf_engine.specs.Missing.{no_schema_lines, no_size_lines}
+use Rattle.zf_engine.specs.Explorations.{ExplorationAnswer, ExplorationBegins}
+use Rattle.zf_engine.specs.Missing.{no_schema_lines}
 use Rattle.zf_engine.specs.Numbers.{AreSmall, AreTooLarge}
 use Rattle.zf_engine.specs.Reasons.{TellsWhy}
-use Rattle.zf_engine.specs.Texts.{numbers_too_large_line, not_given_line, size_twice_line, size_too_large_line, not_a_binding_line, not_held_line, declared_out_line}
-
--- a tree reads the source; it defines these globals, and has these faults of types
-pub record Checks (source : List ℕ) (globals : List Defined) (faults : List Fault) : Type 0 where
-  pub boxes : List BoxTree
-  pub reads : ReadsSource boxes source
-  pub judged : IsChecked boxes globals faults
-
--- this is the schema of the name
-abbrev pub IsNamed : List Defined → List ℕ → Schema → Type 0
-IsNamed globals name a = (place : ℕ) × (first_named (λ d. d.name) name globals ≡ Some (place, record { name = name; definition = schema a }))
-
--- the source is well typed, and this is its schema of the name
-pub record HasSchema (source name : List ℕ) (globals : List Defined) (a : Schema) : Type 0 where
-  pub checks : Checks source globals []
-  pub named : IsNamed globals name a
+use Rattle.zf_engine.specs.Settings.{Checks, HasSchema, IsNamed, numbers_of, size_fault_lines, stated}
+use Rattle.zf_engine.specs.Texts.{numbers_too_large_line, not_a_binding_line, not_held_line, declared_out_line}
 
 -- ---- `check`
 
@@ -79,43 +59,12 @@ CheckAnswer types details file source text status =
 
 -- ---- what `show` and `why` are asked for
 
-abbrev pub stated_size : command.Size → Size
-stated_size s = record { name = s.name; count = s.count }
-
--- the sizes of words
-abbrev pub worded : Request → List Size
-worded r = map stated_size r.sizes
-
--- the sets for which no size is stated
-abbrev pub without_size : List Size → List (List ℕ) → List (List ℕ)
-without_size sizes sets = filter (λ set. not (list_any (λ s. bytes_eq s.name set) sizes)) sets
-
--- each set with the one size, if that is given
-abbrev pub with_size : Option ℕ → List (List ℕ) → List Size
-with_size None sets = []
-with_size (Some count) sets = map (λ set. record { name = set; count = count }) sets
-
--- the sizes that are stated: those of words, and then the one size of each given set that no word names
-abbrev pub stated : List Defined → Request → List Size
-stated g r = worded r ++ with_size r.size (without_size (worded r) (given_sets g))
-
-abbrev pub size_fault_lines : (details : Bool) → List Defined → List Size → SizeFault → List ℕ
-size_fault_lines details g sizes (NoSize name) = no_size_lines details (without_size sizes (given_sets g)) name
-size_fault_lines details g sizes (NotGiven name) = not_given_line name
-size_fault_lines details g sizes (SizeTwice name) = size_twice_line name
-size_fault_lines details g sizes (SizeTooLarge name) = size_too_large_line name
-size_fault_lines details g sizes OutOfMemory = []
-
--- the greatest number that there is, if numbers end
-abbrev pub numbers_of : Request → Option ℕ
-numbers_of r = r.numbers
-
 -- the schema that is asked for is finite, and this is the environment at the stated sizes with the stated end of the numbers
 pub record IsAsked (r : Request) (source : List ℕ) (globals : List Defined) (a : Schema) (e : Environment) : Type 0 where
   pub has_schema : HasSchema source r.name globals a
-  pub small : AreSmall (numbers_of r)
-  pub complete : AreComplete (given_sets globals) (stated globals r)
-  pub environment : IsEnvironment globals (stated globals r) (numbers_of r) e
+  pub small : AreSmall (numbers_of r.setting)
+  pub complete : AreComplete (given_sets globals) (stated globals r.setting)
+  pub environment : IsEnvironment globals (stated globals r.setting) (numbers_of r.setting) e
   pub finite : IsFinite e.numbers globals a
 
 -- the text is the line of this row of the schema's types
@@ -157,12 +106,12 @@ pub data RefusesRequest (r : Request) (file source text : List ℕ) (status : St
       → status ≡ BadSpec → RefusesRequest r file source text status
   no_schema : (globals : List Defined) → Checks source globals [] → ((a : Schema) → IsNamed globals r.name a → ⊥) → text ≡ no_schema_lines r.details globals r.name
       → status ≡ BadRequest → RefusesRequest r file source text status
-  large_numbers : (globals : List Defined) (a : Schema) → HasSchema source r.name globals a → AreTooLarge (numbers_of r) → text ≡ numbers_too_large_line
+  large_numbers : (globals : List Defined) (a : Schema) → HasSchema source r.name globals a → AreTooLarge (numbers_of r.setting) → text ≡ numbers_too_large_line
       → status ≡ BadRequest → RefusesRequest r file source text status
-  bad_sizes : (globals : List Defined) (a : Schema) (fault : SizeFault) → HasSchema source r.name globals a → AreSmall (numbers_of r)
-      → IsRefusal (given_sets globals) (stated globals r) fault → fault ≢ OutOfMemory → text ≡ size_fault_lines r.details globals (stated globals r) fault → status ≡ BadRequest → RefusesRequest r file source text status
-  not_finite : (globals : List Defined) (a : Schema) (cause : NotFinite) (side : List ℕ) → HasSchema source r.name globals a → AreSmall (numbers_of r)
-      → AreComplete (given_sets globals) (stated globals r) → first (causes (numbers_of r) globals a) ≡ Some cause → IsReportedBeside globals cause side → text ≡ not_finite_lines r.details file globals cause side → status ≡ BadSpec
+  bad_sizes : (globals : List Defined) (a : Schema) (fault : SizeFault) → HasSchema source r.name globals a → AreSmall (numbers_of r.setting)
+      → IsRefusal (given_sets globals) (stated globals r.setting) fault → fault ≢ OutOfMemory → text ≡ size_fault_lines r.details globals (stated globals r.setting) fault → status ≡ BadRequest → RefusesRequest r file source text status
+  not_finite : (globals : List Defined) (a : Schema) (cause : NotFinite) (side : List ℕ) → HasSchema source r.name globals a → AreSmall (numbers_of r.setting)
+      → AreComplete (given_sets globals) (stated globals r.setting) → first (causes (numbers_of r.setting) globals a) ≡ Some cause → IsReportedBeside globals cause side → text ≡ not_finite_lines r.details file globals cause side → status ≡ BadSpec
       → RefusesRequest r file source text status
   not_a_binding : (globals : List Defined) (a : Schema) (e : Environment) (place : ℕ) → IsAsked r source globals a e → NamesNoRow e a.comps r.after
       → text ≡ not_a_binding_line place → status ≡ BadRequest → RefusesRequest r file source text status
@@ -212,12 +161,14 @@ abbrev pub IsLimited : Job → Type 0
 IsLimited (Check types details) = Unit {0}
 IsLimited (Show r) = HasLimit r.limit
 IsLimited (Why r) = IsBare r
+IsLimited (Reach x) = HasLimit x.limit
 
 -- whether it is asked what faults are about
 abbrev pub wants_details : Job → Bool
 wants_details (Check types details) = details
 wants_details (Show r) = r.details
 wants_details (Why r) = r.details
+wants_details (Reach x) = x.details
 
 -- the answer for a source with a fault of its text. Which fault of the grammar is told, on which line, and which symbols any fault is about, is open.
 abbrev pub UnreadAnswer : (details : Bool) → (file source text : List ℕ) → Status → Type 0
@@ -228,6 +179,7 @@ abbrev pub JobAnswer : Job → (file source text : List ℕ) → Status → Type
 JobAnswer (Check types details) file source text status = CheckAnswer types details file source text status
 JobAnswer (Show r) file source text status = ShowAnswer r file source text status
 JobAnswer (Why r) file source text status = WhyAnswer r file source text status
+JobAnswer (Reach x) file source text status = ExplorationAnswer x file source text status
 
 -- the text and the status that answer a job on a source
 abbrev pub Answer : Job → (file source text : List ℕ) → Status → Type 0
@@ -238,6 +190,7 @@ abbrev pub JobBegins : Job → (source text : List ℕ) → Type 0
 JobBegins (Check types details) source text = ⊥
 JobBegins (Show r) source text = ShowBegins r source text
 JobBegins (Why r) source text = ⊥
+JobBegins (Reach x) source text = ExplorationBegins x source text
 
 -- ---- what a run leaves
 

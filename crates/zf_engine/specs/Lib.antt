@@ -6,6 +6,8 @@ pub mod Named
 pub mod SourceLines
 pub mod Reasons
 pub mod Numbers
+pub mod Settings
+pub mod Explorations
 pub mod Answers
 pub mod Stops
 pub mod Subjects

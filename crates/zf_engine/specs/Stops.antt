@@ -1,33 +1,27 @@
 -- What the steps of an answer ensure. No public clause rests on this file.
-use Rattle.std.specs.Prelude.{◌≡◌, ◌≢◌, ◌⊎◌, ℕ, Bool, List, [], Option, Some, Result, Ok, Err, Vec, slice_get}
+use Rattle.std.specs.Prelude.{◌≡◌, ◌≢◌, ◌⊎◌, ℕ, Bool, List, [], Option, Result, Ok, Err, Vec}
 use Rattle.std.specs.declared.alloc.Global.{Global}
 use Rattle.std.specs.Io.KnownBytes.{Appends}
-use Rattle.zf_command.specs.declared.job.Job.TheVariants.{Show}
-use Rattle.zf_finite.specs.declared.not_finite.NotFinite.{NotFinite}
-use Rattle.zf_finite.specs.Finite.{causes}
+use Rattle.zf_command.specs.declared.job.Job.TheVariants.{Reach, Show}
 use Rattle.zf_scan.specs.declared.fault.TextFault.{TextFault}
 use Rattle.zf_scan.specs.declared.fault.TextFaultKind.TheVariants as text_faults
-use Rattle.zf_term.specs.Definitions.{Comp, Defined, Schema}
-use Rattle.zf_extent.specs.Extents.{first}
-use Rattle.zf_meaning.specs.declared.sizes.Size.{Size}
-use Rattle.zf_meaning.specs.declared.sizes.SizeFault.{SizeFault}
-use Rattle.zf_meaning.specs.declared.sizes.SizeFault.TheVariants as size_faults
+use Rattle.zf_term.specs.Definitions.{Comp, Defined}
 use Rattle.zf_meaning.specs.Environments.{Environment}
-use Rattle.zf_meaning.specs.Sizes.{given_sets, IsRefusal}
-use Rattle.zf_ranges.specs.Ranges.{IsFirstOut}
 use Rattle.zf_lines.specs.declared.fault.RunFault.{RunFault}
 use Rattle.zf_lines.specs.declared.fault.Status.{Status}
-use Rattle.zf_lines.specs.declared.fault.Status.TheVariants.{BadSpec, BadRequest, PastBounds}
+use Rattle.zf_lines.specs.declared.fault.Status.TheVariants.{BadSpec, BadRequest}
 use Rattle.zf_engine.specs.declared.quoted.Aside as program
 use Rattle.zf_engine.specs.declared.quoted.Aside.TheVariants as variant
 use Rattle.zf_engine.specs.declared.stop.Stop.{Stop}
 use Rattle.zf_engine.specs.declared.stop.Stop.TheVariants.{Answered, OutOfMemory}
+use Rattle.zf_command.specs.declared.job.Exploration.{Exploration}
 use Rattle.zf_command.specs.declared.job.Request.{Request}
-use Rattle.zf_engine.specs.Answers.{AnswersSource, Checks, HoldsNoValues, NamesNoRow, RefusesRequest, UnreadAnswer, size_fault_lines, IsPartOfAnswer}
+use Rattle.zf_engine.specs.Answers.{AnswersSource, HoldsNoValues, NamesNoRow, RefusesRequest, UnreadAnswer, IsPartOfAnswer}
+use Rattle.zf_engine.specs.Settings.{Checks, TellsFaults}
 use Rattle.zf_lines.specs.FaultViews.{AppendsFront}
-use Rattle.zf_engine.specs.Details.{IsReportedBeside, not_finite_lines, Cited, text_fault_lines, Aside, nothing, quoted, like}
-use Rattle.zf_engine.specs.Numbers.{AreTooLarge}
-use Rattle.zf_engine.specs.Texts.{declared_out_line, not_a_binding_line, not_held_line, numbers_too_large_line}
+use Rattle.zf_engine.specs.Details.{Cited, text_fault_lines, Aside, nothing, quoted, like}
+use Rattle.zf_engine.specs.Explorations.{RefusesExploration}
+use Rattle.zf_engine.specs.Texts.{not_a_binding_line, not_held_line}
 use Rattle.zf_command.specs.declared.job.Job.{Job}
 
 abbrev pub StopsInSource : Job → List ℕ → List ℕ → Option (List ℕ) → Option (List ℕ) → Type 0
@@ -55,22 +49,6 @@ IsWhole (Err other) stop = stop ≡ other
 abbrev pub IsFaultLine : (details : Bool) → (file : List ℕ) → TextFault → (about : Cited) → List ℕ → Status → Type 0
 IsFaultLine details file fault about text status = (fault.kind ≢ text_faults.OutOfMemory) × (text ≡ text_fault_lines details file fault about) × (status ≡ BadSpec)
 
-abbrev pub IsMisfit : (details : Bool) → List Defined → List Size → SizeFault → List ℕ → Status → Type 0
-IsMisfit details g sizes fault text status = (fault ≢ size_faults.OutOfMemory) × (text ≡ size_fault_lines details g sizes fault) × (status ≡ BadRequest)
-
--- the answer tells what is wrong with the sizes
-abbrev pub TellsMisfit : (details : Bool) → List Defined → List Size → List ℕ → Status → Type 0
-TellsMisfit details g sizes text status = (fault : SizeFault) × IsRefusal (given_sets g) sizes fault × IsMisfit details g sizes fault text status
-
--- the answer tells that numbers are too large
-abbrev pub TellsNumbers : (numbers : Option ℕ) → List ℕ → Status → Type 0
-TellsNumbers n text status = AreTooLarge n × (text ≡ numbers_too_large_line) × (status ≡ BadRequest)
-
--- the answer tells the first that makes the schema infinite
-abbrev pub TellsInfinite : (numbers : Option ℕ) → List Defined → Schema → (details : Bool) → (file : List ℕ) → List ℕ → Status → Type 0
-TellsInfinite n g a details file text status =
-    (cause : NotFinite) × (side : List ℕ) × (first (causes n g a) ≡ Some cause) × IsReportedBeside g cause side × (text ≡ not_finite_lines details file g cause side) × (status ≡ BadSpec)
-
 -- the answer tells a place of a text that is the line of no row
 abbrev pub TellsPlace : ℕ → List ℕ → Status → Type 0
 TellsPlace place text status = (text ≡ not_a_binding_line place) × (status ≡ BadRequest)
@@ -85,14 +63,6 @@ TellsPlaceHeld place text status = (text ≡ not_held_line place) × (status ≡
 abbrev pub TellsNoValues : Environment → List Comp → Option (List ℕ) → List ℕ → Status → Type 0
 TellsNoValues e comps held text status = HoldsNoValues e comps held × ((place : ℕ) × TellsPlaceHeld place text status)
 
--- the answer names the component at a place
-abbrev pub TellsComponent : List Comp → ℕ → List ℕ → Status → Type 0
-TellsComponent comps place text status = (c : Comp) × (slice_get comps place ≡ Some c) × (text ≡ declared_out_line c.name) × (status ≡ PastBounds)
-
--- the answer names the first component with a declared set that is out
-abbrev pub TellsOut : Environment → List Comp → List ℕ → Status → Type 0
-TellsOut e comps text status = (place : ℕ) × IsFirstOut e comps place × TellsComponent comps place text status
-
 -- the source is not read, or the request is refused for it
 abbrev pub IsRefused : Request → (file source text : List ℕ) → Status → Type 0
 IsRefused r file source text status = UnreadAnswer r.details file source text status ⊎ RefusesRequest r file source text status
@@ -101,11 +71,11 @@ IsRefused r file source text status = UnreadAnswer r.details file source text st
 abbrev pub AnswersRequest : Request → (file source : List ℕ) → Stop → Type 0
 AnswersRequest r file source stop = IfAnswered stop (IsRefused r file source)
 
--- whatever else is asked for, this is the answer
-abbrev pub AnswersEach : (details : Bool) → (file source : List ℕ) → Stop → Type 0
-AnswersEach details file source stop = (r : Request) → r.details ≡ details → AnswersRequest r file source stop
+-- the source is not read, or not well typed: this is the answer, whatever else is asked for
+abbrev pub IsUnfit : (details : Bool) → (file source text : List ℕ) → Status → Type 0
+IsUnfit details file source text status = UnreadAnswer details file source text status ⊎ TellsFaults details file source text status
 
--- the same of a source that is well typed and defines these globals
+-- this answers the request for a source that is well typed and defines these globals
 abbrev pub AnswersOver : List Defined → Request → (file : List ℕ) → Stop → Type 0
 AnswersOver g r file stop = (source : List ℕ) → Checks source g [] → AnswersRequest r file source stop
 
@@ -116,7 +86,22 @@ Tells (Answered text status) old new (Err fault) = AppendsFront old new text.ite
 Tells OutOfMemory old new (Ok given) = ⊥
 Tells OutOfMemory old new (Err fault) = Appends old new []
 
--- the answer of the request is written, or a part of it
+-- the answer of the job is written, or a part of it
+abbrev pub Writes : Job → (file source : List ℕ) → Option (List ℕ) → Option (List ℕ) → Result Status RunFault → Type 0
+Writes job file source old new (Ok status) = AnswersSource job file source old new status
+Writes job file source old new (Err fault) = StopsInSource job file source old new
+
 abbrev pub Shows : Request → (file source : List ℕ) → Option (List ℕ) → Option (List ℕ) → Result Status RunFault → Type 0
-Shows r file source old new (Ok status) = AnswersSource (Show r) file source old new status
-Shows r file source old new (Err fault) = StopsInSource (Show r) file source old new
+Shows r file source old new result = Writes (Show r) file source old new result
+
+abbrev pub Reaches : Exploration → (file source : List ℕ) → Option (List ℕ) → Option (List ℕ) → Result Status RunFault → Type 0
+Reaches x file source old new result = Writes (Reach x) file source old new result
+
+-- ---- answers of `reach` that are whole
+
+-- the source is not read, or the exploration is refused for it
+abbrev pub IsUnexplored : Exploration → (file source text : List ℕ) → Status → Type 0
+IsUnexplored x file source text status = UnreadAnswer x.details file source text status ⊎ RefusesExploration x file source text status
+
+abbrev pub AnswersExploration : Exploration → (file source : List ℕ) → Stop → Type 0
+AnswersExploration x file source stop = IfAnswered stop (IsUnexplored x file source)

@@ -52,6 +52,9 @@ type_fault_line file fault = fault_line file fault.line (type_fault_text (kind_o
 abbrev pub no_schema_line : List ℕ → List ℕ
 no_schema_line schema = codes "zf: no schema " ++ schema ++ codes "\n"
 
+abbrev pub no_component_line : (schema component : List ℕ) → List ℕ
+no_component_line schema component = codes "zf: " ++ schema ++ codes " has no component " ++ component ++ codes "\n"
+
 abbrev pub numbers_too_large_line : List ℕ
 numbers_too_large_line = codes "zf: numbers are too large\n"
 

@@ -2,7 +2,8 @@
 ghost use Rattle.std.specs.Prelude.{◌≡◌, ℕ, List, [], true, IfOk, IfErr, OnErr};
 ghost use Rattle.std.specs.Option.{option_copied};
 ghost use Rattle.zf_command.specs.declared.job.Job.TheVariants.{Check};
-ghost use Rattle.zf_engine.specs.Answers.{Answer, AnswersSource, AreHeld, Checks, IsAsked, IsLimited, IsNamedRow};
+ghost use Rattle.zf_engine.specs.Answers.{Answer, AnswersSource, AreHeld, IsAsked, IsLimited, IsNamedRow};
+ghost use Rattle.zf_engine.specs.Settings.{Checks};
 ghost use Rattle.zf_engine.specs.Stops.{StopsInSource, IfAnswered, Shows, Tells};
 ghost use Rattle.zf_lines.specs.Counts.{device_of, failures_of};
 ghost use Rattle.zf_lines.specs.Faults.{read_failures, write_failures};
@@ -17,6 +18,7 @@ use crate::begin::{begin, begin_counting};
 use crate::check::{check_answer, checked_in};
 use crate::held::values_held;
 use crate::named::named_row;
+use crate::reach::reach_source;
 use crate::report::Report;
 use crate::stop::{Stop, whole};
 use crate::typed::typed_in;
@@ -57,6 +59,7 @@ pub fn answer<W: Write>(
         }
         Job::Show(request) => show_source(alloc, request, file, source, writer),
         Job::Why(request) => tell(why_answer(alloc, request, file, source), writer),
+        Job::Reach(exploration) => reach_source(alloc, exploration, file, source, writer),
     }
 }
 
@@ -89,7 +92,7 @@ fn checked_text(
 }
 
 /// Writes an answer that is whole.
-fn tell<W: Write>(stop: Stop, writer: &mut Counted<W>) -> Result<Status, RunFault>
+pub fn tell<W: Write>(stop: Stop, writer: &mut Counted<W>) -> Result<Status, RunFault>
     requires { failures_of writer.old ≡ 0 }
     ensures told { Tells stop (W.contents (device_of writer.old)) (W.contents (device_of writer.new)) result }
     ensures count { failures_of writer.new ≡ write_failures result }

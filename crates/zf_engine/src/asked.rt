@@ -1,10 +1,11 @@
 //! The schema that is asked for, in the environment of the stated sizes and numbers.
 ghost use Rattle.std.specs.Prelude.{◌≡◌, ℕ, List, [], IfOk, IfErr, OnOk};
-ghost use Rattle.zf_engine.specs.Answers.{Checks, IsAsked, numbers_of, stated, without_size};
+ghost use Rattle.zf_engine.specs.Answers.{IsAsked};
+ghost use Rattle.zf_engine.specs.Settings.{Checks, IsMisfit, IsNamed, numbers_of, stated, TellsInfinite, TellsMisfit, TellsNoSchema, without_size};
 ghost use Rattle.zf_engine.specs.Details.{IsReportedBeside};
 ghost use Rattle.zf_engine.specs.Missing as spec;
 ghost use Rattle.zf_engine.specs.declared.stop.Stop.TheVariants.{OutOfMemory};
-ghost use Rattle.zf_engine.specs.Stops.{AnswersOver, IfAnswered, IsMisfit, TellsInfinite, TellsMisfit};
+ghost use Rattle.zf_engine.specs.Stops.{AnswersOver, IfAnswered};
 ghost use Rattle.zf_finite.specs.Finite.{IsFinite};
 ghost use Rattle.zf_meaning.specs.Envs.{environment_of};
 ghost use Rattle.zf_meaning.specs.GlobalOutcomes.{IsEnvironment};
@@ -21,7 +22,8 @@ use crate::stop::Stop;
 use crate::texts;
 use crate::undeclared::side_without;
 use std::alloc::{AllocError, Global};
-use zf_command::job::Request;
+use zf_command::job::{Request, Setting};
+use zf_data::Word;
 use zf_finite::finite;
 use zf_finite::not_finite::NotFinite;
 use zf_lines::fault::Status;
@@ -48,33 +50,47 @@ pub fn asked_in<'g, 'a>(
     ensures asked { IfOk result (λ p. (source : List ℕ) → Checks source (globals_of globals.now) [] → IsAsked request.now source (environment_of p.env).globals (schema_of p.schema.now) (environment_of p.env)) }
     ensures stop { IfErr result (AnswersOver (globals_of globals.now) request.now report.entry.file.now) }
 {
-    let name = request.name.as_bytes();
-    let Some(schema) = globals.schema(request.name.as_str()) else {
-        let lines = no_schema_lines(alloc, request.details, globals, name)?;
-        return Err(Stop::Answered(lines, Status::BadRequest));
-    };
-    let numbers = greatest_number(alloc, request.numbers)?;
-    let env = env_in(alloc, globals, request, numbers)?;
-    check_finite(alloc, report, &env, name, schema)?;
+    let schema = schema_named(alloc, globals, &request.name, request.details)?;
+    let numbers = greatest_number(alloc, request.setting.numbers)?;
+    let env = env_in(alloc, globals, &request.setting, numbers, request.details)?;
+    check_finite(alloc, report, &env, request.name.as_bytes(), schema)?;
     Ok(Asked { schema, env })
 }
 
-/// The environment of the globals at the stated sizes, with the stated end of the numbers.
-fn env_in<'g, 'a>(
+/// The schema of a name, if there is one.
+pub fn schema_named<'g, 'a>(
     alloc: Global,
     globals: &'g Globals<'a>,
-    request: &Request,
-    numbers: Option<u16>,
-) -> Result<Env<'g, 'a>, Stop>
-    requires { numbers ≡ numbers_of request.now }
-    ensures complete { OnOk result (AreComplete (given_sets (globals_of globals.now)) (stated (globals_of globals.now) request.now)) }
-    ensures is { IfOk result (λ e. IsEnvironment (globals_of globals.now) (stated (globals_of globals.now) request.now) (numbers_of request.now) (environment_of e)) }
-    ensures stop { IfErr result (λ s. IfAnswered s (TellsMisfit request.now.details (globals_of globals.now) (stated (globals_of globals.now) request.now))) }
+    name: &Word,
+    details: bool,
+) -> Result<&'g Flat<'a>, Stop>
+    ensures named { IfOk result (λ a. IsNamed (globals_of globals.now) name.now (schema_of a.now)) }
+    ensures stop { IfErr result (λ s. IfAnswered s (λ text status. TellsNoSchema details (globals_of globals.now) text status name.now)) }
 {
-    let sizes = stated_sizes(alloc, globals, request)?;
+    let Some(schema) = globals.schema(name.as_str()) else {
+        let lines = no_schema_lines(alloc, details, globals, name.as_bytes())?;
+        return Err(Stop::Answered(lines, Status::BadRequest));
+    };
+    Ok(schema)
+}
+
+/// The environment of the globals at the stated sizes, with the stated end of the numbers.
+pub fn env_in<'g, 'a>(
+    alloc: Global,
+    globals: &'g Globals<'a>,
+    setting: &Setting,
+    numbers: Option<u16>,
+    details: bool,
+) -> Result<Env<'g, 'a>, Stop>
+    requires { numbers ≡ numbers_of setting.now }
+    ensures complete { OnOk result (AreComplete (given_sets (globals_of globals.now)) (stated (globals_of globals.now) setting.now)) }
+    ensures is { IfOk result (λ e. IsEnvironment (globals_of globals.now) (stated (globals_of globals.now) setting.now) (numbers_of setting.now) (environment_of e)) }
+    ensures stop { IfErr result (λ s. IfAnswered s (TellsMisfit details (globals_of globals.now) (stated (globals_of globals.now) setting.now))) }
+{
+    let sizes = stated_sizes(alloc, globals, setting)?;
     match Env::new(alloc, globals, &sizes, numbers) {
         Ok(env) => Ok(env),
-        Err(fault) => Err(misfit(alloc, request.details, globals, &sizes, fault)),
+        Err(fault) => Err(misfit(alloc, details, globals, &sizes, fault)),
     }
 }
 
@@ -116,7 +132,7 @@ fn unsized_lines(
 }
 
 /// Refuses a schema that is not finite.
-fn check_finite<'a>(
+pub fn check_finite<'a>(
     alloc: Global,
     report: Report<'_>,
     env: &Env<'_, 'a>,

@@ -1,7 +1,8 @@
 //! The search for the bindings of a schema, or the answer where none is begun.
 ghost use Rattle.std.specs.Prelude.{◌<◌, length, IfOk, IfErr};
 ghost use Rattle.std.specs.Option.{option_copied};
-ghost use Rattle.zf_engine.specs.Stops.{IfAnswered, TellsComponent, TellsOut};
+ghost use Rattle.zf_engine.specs.Stops.{IfAnswered};
+ghost use Rattle.zf_engine.specs.Settings.{TellsComponent, TellsOut};
 ghost use Rattle.zf_enum.specs.PortionViews.{portion};
 ghost use Rattle.zf_enum.specs.Property.{property};
 ghost use Rattle.zf_enum.specs.Searches.{planted_goal};
@@ -68,7 +69,7 @@ pub fn begin_counting<'s, 'e, 'g, 'a>(
 }
 
 /// The answer where no search is begun.
-fn not_begun(alloc: Global, flat: &Flat<'_>, fault: StartFault) -> Stop
+pub fn not_begun(alloc: Global, flat: &Flat<'_>, fault: StartFault) -> Stop
     requires { (e : Environment) × Refuses e (schema_of flat.now).comps fault }
     ensures { (e : Environment) → Refuses e (schema_of flat.now).comps fault → IfAnswered result (TellsOut e (schema_of flat.now).comps) }
 {

@@ -1,6 +1,7 @@
 //! What a source defines, its faults, and the answer of `check`.
 ghost use Rattle.std.specs.Prelude.{◌≡◌, [], IfOk, IfErr, map};
-ghost use Rattle.zf_engine.specs.Answers.{Checks, IsCheckText, UnreadAnswer, check_status};
+ghost use Rattle.zf_engine.specs.Answers.{IsCheckText, UnreadAnswer, check_status};
+ghost use Rattle.zf_engine.specs.Settings.{Checks};
 ghost use Rattle.zf_engine.specs.Stops.{IfAnswered, IsFaultLine};
 ghost use Rattle.zf_engine.specs.Details.{cited_of, AreLines};
 ghost use Rattle.zf_text.specs.Parsing.{ReadsSource};

@@ -13,6 +13,7 @@ mod named;
 mod numbers;
 pub mod program;
 mod quoted;
+mod reach;
 mod reading;
 mod reasons;
 mod report;

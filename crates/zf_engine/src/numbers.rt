@@ -1,7 +1,8 @@
 //! The greatest number that a request states.
 ghost use Rattle.std.specs.Prelude.{◌≡◌, IfErr, IfOk, OnOk, Some};
 ghost use Rattle.zf_engine.specs.Numbers.{AreSmall};
-ghost use Rattle.zf_engine.specs.Stops.{IfAnswered, TellsNumbers};
+ghost use Rattle.zf_engine.specs.Stops.{IfAnswered};
+ghost use Rattle.zf_engine.specs.Settings.{TellsNumbers};
 
 use crate::stop::Stop;
 use crate::texts;

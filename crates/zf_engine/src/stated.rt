@@ -1,13 +1,13 @@
-//! The sizes that a request states.
+//! The sizes that are stated.
 ghost use Rattle.std.specs.Prelude.{◌≡◌, ◌++◌, ◌∷◌, [], IfOk, OnOk, Some, map};
 ghost use Rattle.std.specs.List.{list_any};
 ghost use Rattle.std.specs.Str.{bytes_eq};
-ghost use Rattle.zf_engine.specs.Answers as spec;
+ghost use Rattle.zf_engine.specs.Settings as spec;
 ghost use Rattle.zf_meaning.specs.Sizes.{given_sets};
 ghost use Rattle.zf_term.specs.DefinitionViews.{globals_of};
 
 use std::alloc::{AllocError, Global};
-use zf_command::job::{Request, Size};
+use zf_command::job::{Setting, Size};
 use zf_data::Text;
 use zf_meaning::sizes::{Size as StatedSize, given_names};
 use zf_term::globals::Globals;
@@ -16,12 +16,12 @@ use zf_term::globals::Globals;
 pub fn stated_sizes(
     alloc: Global,
     globals: &Globals<'_>,
-    request: &Request,
+    setting: &Setting,
 ) -> Result<Vec<StatedSize>, AllocError>
-    ensures { IfOk result (λ sizes. sizes.items ≡ spec.stated (globals_of globals.now) request.now) }
+    ensures { IfOk result (λ sizes. sizes.items ≡ spec.stated (globals_of globals.now) setting.now) }
 {
-    let mut sizes = worded(alloc, request.sizes.as_slice())?;
-    if let Some(count) = request.size {
+    let mut sizes = worded(alloc, setting.sizes.as_slice())?;
+    if let Some(count) = setting.size {
         add_others(alloc, globals, count, &mut sizes)?;
     }
     Ok(sizes)

@@ -112,6 +112,22 @@ pub fn no_schema_line(alloc: Global, schema: &[u8]) -> Result<Vec<u8>, AllocErro
     around(alloc, b"zf: no schema ", schema, b"\n")
 }
 
+/// `zf: S has no component x`
+pub fn no_component_line(
+    alloc: Global,
+    schema: &[u8],
+    component: &[u8],
+) -> Result<Vec<u8>, AllocError>
+    ensures { IfOk result (λ v. v.items ≡ spec.no_component_line schema.now component.now) }
+{
+    let mut bytes = Vec::from_slice(alloc, b"zf: ")?;
+    bytes.extend_from_slice(schema)?;
+    bytes.extend_from_slice(b" has no component ")?;
+    bytes.extend_from_slice(component)?;
+    bytes.extend_from_slice(b"\n")?;
+    Ok(bytes)
+}
+
 /// `zf: numbers are too large`
 pub fn numbers_too_large_line(alloc: Global) -> Result<Vec<u8>, AllocError>
     ensures { IfOk result (λ v. v.items ≡ spec.numbers_too_large_line) }

@@ -1,7 +1,7 @@
 //! What a well typed source defines.
 ghost use Rattle.std.specs.Prelude.{[], IfOk, IfErr};
-ghost use Rattle.zf_engine.specs.Answers.{Checks};
-ghost use Rattle.zf_engine.specs.Stops.{AnswersEach};
+ghost use Rattle.zf_engine.specs.Settings.{Checks};
+ghost use Rattle.zf_engine.specs.Stops.{IfAnswered, IsUnfit};
 ghost use Rattle.zf_term.specs.DefinitionViews.{globals_of};
 
 use crate::check::{checked_in, fault_lines};
@@ -20,7 +20,7 @@ pub fn typed_in<'a>(
     report: Report<'a>,
 ) -> Result<Globals<'a>, Stop>
     ensures checks { IfOk result (λ g. Checks report.entry.source.now (globals_of g) []) }
-    ensures stop { IfErr result (AnswersEach report.entry.details report.entry.file.now report.entry.source.now) }
+    ensures stop { IfErr result (λ s. IfAnswered s (IsUnfit report.entry.details report.entry.file.now report.entry.source.now)) }
 {
     let checked = checked_in(alloc, trees, arena, report)?;
     if !checked.faults.as_slice().is_empty() {

@@ -2,8 +2,9 @@
 ghost use Rattle.std.specs.Prelude.{◌≡◌, ◌++◌, [], IfOk, IfErr, MatchOption, OnOk};
 ghost use Rattle.zf_command.specs.Requests.{IsBare};
 ghost use Rattle.zf_command.specs.declared.job.Job.TheVariants.{Why};
-ghost use Rattle.zf_engine.specs.Answers.{Answer, Checks, IsAsked};
-ghost use Rattle.zf_engine.specs.Stops.{IfAnswered, TellsOut};
+ghost use Rattle.zf_engine.specs.Answers.{Answer, IsAsked};
+ghost use Rattle.zf_engine.specs.Settings.{Checks, TellsOut};
+ghost use Rattle.zf_engine.specs.Stops.{IfAnswered};
 ghost use Rattle.zf_engine.specs.Subjects.{CanBeSearched, HasNone, environment_in, IsBegunOf, line_in, schema_in, TellsFirst, TellsNone, TellsOf};
 ghost use Rattle.zf_ranges.specs.Ranges.{IsNoneOut};
 ghost use Rattle.zf_meaning.specs.Envs.{environment_of};

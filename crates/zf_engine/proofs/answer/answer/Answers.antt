@@ -1,5 +1,5 @@
-use Rattle.zf_command.specs.declared.job.Job.TheVariants.{Check, Why}
-use Rattle.zf_engine.proofs.Parts.{told_answers, told_stops, shows_ok, shows_err}
+use Rattle.zf_command.specs.declared.job.Job.TheVariants.{Check, Reach, Show, Why}
+use Rattle.zf_engine.proofs.Parts.{told_answers, told_stops, writes_err, writes_ok}
 use Rattle.zf_engine.proofs.answer.answer.Goals as goal
 
 pub returns-in-Check-clause-answered : goal.returns-in-Check-clause-answered
@@ -10,14 +10,20 @@ returns-in-Check-clause-stopped g c = told_stops c.args.job.now (Check c.in-Chec
 
 pub returns-in-Show-clause-answered : goal.returns-in-Show-clause-answered
 returns-in-Show-clause-answered g c =
-    shows_ok _ c.args.job.now _ _ _ _ _ _ c.in-Show.is c.as_bytes-file.ensures.value c.show_source.ensures.shows
+    writes_ok (Show c.in-Show.request) c.args.job.now _ _ _ _ _ _ c.in-Show.is c.as_bytes-file.ensures.value c.show_source.ensures.shows
 
 pub returns-in-Show-clause-stopped : goal.returns-in-Show-clause-stopped
 returns-in-Show-clause-stopped g c =
-    shows_err _ c.args.job.now _ _ _ _ _ _ c.in-Show.is c.as_bytes-file.ensures.value c.show_source.ensures.shows
+    writes_err (Show c.in-Show.request) c.args.job.now _ _ _ _ _ _ c.in-Show.is c.as_bytes-file.ensures.value c.show_source.ensures.shows
 
 pub returns-in-Why-clause-answered : goal.returns-in-Why-clause-answered
 returns-in-Why-clause-answered g c = told_answers c.args.job.now (Why c.in-Why.request) _ _ _ _ _ _ _ c.in-Why.is c.as_bytes-file.ensures.value c.why_answer.ensures c.tell-in-Why.ensures.told
 
 pub returns-in-Why-clause-stopped : goal.returns-in-Why-clause-stopped
 returns-in-Why-clause-stopped g c = told_stops c.args.job.now (Why c.in-Why.request) _ _ _ _ _ _ _ c.in-Why.is c.as_bytes-file.ensures.value c.why_answer.ensures c.tell-in-Why.ensures.told
+
+pub returns-in-Reach-clause-answered : goal.returns-in-Reach-clause-answered
+returns-in-Reach-clause-answered g c = writes_ok (Reach c.in-Reach.exploration) c.args.job.now _ _ _ _ _ _ c.in-Reach.is c.as_bytes-file.ensures.value c.reach_source.ensures.reaches
+
+pub returns-in-Reach-clause-stopped : goal.returns-in-Reach-clause-stopped
+returns-in-Reach-clause-stopped g c = writes_err (Reach c.in-Reach.exploration) c.args.job.now _ _ _ _ _ _ c.in-Reach.is c.as_bytes-file.ensures.value c.reach_source.ensures.reaches

@@ -1,0 +1,217 @@
+-- An answer of an exploration by its stages: at each it is refused, or goes on with what the next one stands on; and there is one.
+use Rattle.zf_answers.proofs.Prelude.{◌∙◌, ◌∷◌, ◌≡◌, ◌⊎◌, [], ap, append-nil, Bool, inl, inr, List, Option, refl, subst, sym, ℕ, same_Some, AllByRecursion, AreAlike, AreComplete, Checks, Comp, declared_out_line, Defined, Environment, given_sets, IsEnvironment, IsFinite, IsNoneOut, NotFinite, not_finite_lines, numbers_of, Schema, size_fault_lines, slice_get, spellings, stated, Status, AreSmall}
+use Rattle.std.specs.List.{AllZip}
+use Rattle.zf_command.specs.declared.job.Exploration.{Exploration}
+use Rattle.zf_graph.proofs.OneWay.{one_way}
+use Rattle.zf_graph.specs.Texts as graph
+use Rattle.zf_machines.proofs.Sole.{one_machine}
+use Rattle.zf_machines.specs.Machines.{all_of, HasShape, Named, Schemas}
+use Rattle.zf_steps.proofs.Sure.{is_sure}
+use Rattle.zf_steps.specs.Explored.{explored_in}
+use Rattle.zf_steps.specs.Lines.{lines}
+use Rattle.zf_steps.specs.Systems.{System}
+use Rattle.zf_engine.specs.Explorations.{ending_status, Explores, ExplorationAnswer, HasInfinite, HasOut, HasSchemas, IsBounded, IsOfSchema, IsSchemaOf, IsSettled, LacksComponent, LacksSchema, names_of, RefusesExploration, states_limit}
+use Rattle.zf_engine.specs.Settings.{TellsFaults, TellsInfinite, TellsMisfit, TellsNoSchema, TellsNumbers, TellsOut}
+use Rattle.zf_engine.specs.Texts.{no_component_line}
+use Rattle.zf_answers.proofs.Machines.{not_all_and_first, not_shape_and_lack, one_first, one_lacking}
+use Rattle.zf_answers.proofs.OneRefusal.{none_refused, one_refusal}
+use Rattle.zf_answers.proofs.OneSearch.{not_infinite, one_environment_at, one_first_out}
+use Rattle.zf_answers.proofs.OneSource.{none_and_some, one_checked, one_named, some_and_none}
+use Rattle.zf_answers.proofs.SmallNumbers.{small_not_too_large}
+
+-- one status, and texts that are alike
+abbrev pub IsOne : (details : Bool) → (file source one two : List ℕ) → (s t : Status) → Type 0
+IsOne details file source one two s t = (s ≡ t) × AreAlike details file source one two
+
+-- ---- stages, the last one first
+
+module _ (x : Exploration) (file source text : List ℕ) (status : Status) where
+  abbrev pub AtSets : List Defined → Schemas → Environment → Type 0
+  AtSets g p e = HasOut e p text status ⊎ (AllByRecursion (λ n. IsNoneOut e n.schema.comps) (all_of p) × Explores x g p e text status)
+
+  abbrev pub AtFiniteness : List Defined → Schemas → Type 0
+  AtFiniteness g p =
+      HasInfinite x file (numbers_of x.setting) g p text status
+      ⊎ (AllByRecursion (λ n. IsFinite (numbers_of x.setting) g n.schema) (all_of p) × ((e : Environment) × IsEnvironment g (stated g x.setting) (numbers_of x.setting) e × AtSets g p e))
+
+  abbrev pub AtSizes : List Defined → Schemas → Type 0
+  AtSizes g p = TellsMisfit x.details g (stated g x.setting) text status ⊎ (AreComplete (given_sets g) (stated g x.setting) × AtFiniteness g p)
+
+  abbrev pub AtNumbers : List Defined → Schemas → Type 0
+  AtNumbers g p = TellsNumbers (numbers_of x.setting) text status ⊎ (AreSmall (numbers_of x.setting) × AtSizes g p)
+
+  abbrev pub AtShape : List Defined → Schemas → Type 0
+  AtShape g p = LacksComponent p text status ⊎ (HasShape p × AtNumbers g p)
+
+  abbrev pub AtSchemas : List Defined → Type 0
+  AtSchemas g = LacksSchema x g text status ⊎ ((p : Schemas) × AllZip (IsSchemaOf g) (names_of x) (all_of p) × AtShape g p)
+
+  abbrev pub AtTypes : Type 0
+  AtTypes = TellsFaults x.details file source text status ⊎ ((g : List Defined) × Checks source g [] × AtSchemas g)
+
+  at_shape : (g : List Defined) (p : Schemas) → HasSchemas x source g p → AtShape g p → AtTypes
+  at_shape g p has at = inr (g, has.checks, inr (p, has.named, at))
+
+  at_finiteness : (g : List Defined) (p : Schemas) → IsSettled x source g p → AtFiniteness g p → AtTypes
+  at_finiteness g p is at = at_shape g p is.has_schemas (inr (is.shape, inr (is.small, inr (is.complete, at))))
+
+  at_sets : (g : List Defined) (p : Schemas) (e : Environment) → IsBounded x source g p e → AtSets g p e → AtTypes
+  at_sets g p e is at =
+      at_finiteness g p is.settled (inr (subst (λ n. AllByRecursion (λ (m : Named). IsFinite n g m.schema) (all_of p)) is.environment.3 is.finite, (e, is.environment, at)))
+
+  refused_at : RefusesExploration x file source text status → AtTypes
+  refused_at (RefusesExploration.ill_typed ill) = inl ill
+  refused_at (RefusesExploration.no_schema g checks lacks) = inr (g, checks, inl lacks)
+  refused_at (RefusesExploration.no_component g p has lacks) = at_shape g p has (inl lacks)
+  refused_at (RefusesExploration.large_numbers g p has shape large) = at_shape g p has (inr (shape, inl large))
+  refused_at (RefusesExploration.bad_sizes g p has shape small bad) = at_shape g p has (inr (shape, inr (small, inl bad)))
+  refused_at (RefusesExploration.not_finite g p settled infinite) = at_finiteness g p settled (inl infinite)
+  refused_at (RefusesExploration.declared_out g p e bounded out) = at_sets g p e bounded (inl out)
+
+  pub staged : ExplorationAnswer x file source text status → AtTypes
+  staged (ExplorationAnswer.refused refuses) = refused_at refuses
+  staged (ExplorationAnswer.explored g p e is told) = at_sets g p e is.bounded (inr (is.none_out, told))
+
+-- ---- the schemas of names
+
+pub named_all : (g : List Defined) (names : List (List ℕ)) (ns : List Named) → AllZip (IsSchemaOf g) names ns → AllByRecursion (IsOfSchema g) names
+named_all g [] [] named = tt
+named_all g [] (n ∷ ns) named = absurd named
+named_all g (name ∷ names) [] named = absurd named
+named_all g (name ∷ names) (n ∷ ns) named = ((n.schema, named.0.1), named_all g names ns named.1)
+
+abbrev called : List ℕ → Schema → Named
+called name a = record { name = name; schema = a }
+
+one_schema : (g : List Defined) (name : List ℕ) (n m : Named) → IsSchemaOf g name n → IsSchemaOf g name m → n ≡ m
+one_schema g name n m x y =
+    ap (λ (l : List ℕ). called l n.schema) (x.0 ∙ sym y.0) ∙ ap (λ (a : Schema). called m.name a) (one_named g name n.schema m.schema x.1 y.1)
+
+one_named_all : (g : List Defined) (names : List (List ℕ)) (ns ms : List Named) → AllZip (IsSchemaOf g) names ns → AllZip (IsSchemaOf g) names ms → ns ≡ ms
+one_named_all g [] [] [] x y = refl
+one_named_all g [] [] (m ∷ ms) x y = absurd y
+one_named_all g [] (n ∷ ns) ms x y = absurd x
+one_named_all g (name ∷ names) [] ms x y = absurd x
+one_named_all g (name ∷ names) (n ∷ ns) [] x y = absurd y
+one_named_all g (name ∷ names) (n ∷ ns) (m ∷ ms) x y =
+    ap (λ (l : Named). l ∷ ns) (one_schema g name n m x.0 y.0) ∙ ap (λ (ls : List Named). m ∷ ls) (one_named_all g names ns ms x.1 y.1)
+
+abbrev schemas_of : Named → Named → List Named → Schemas
+schemas_of state init operations = record { state = state; init = init; operations = operations }
+
+pub one_schemas : (x : Exploration) (g : List Defined) (p q : Schemas) → AllZip (IsSchemaOf g) (names_of x) (all_of p) → AllZip (IsSchemaOf g) (names_of x) (all_of q) → p ≡ q
+one_schemas x g p q is also =
+    ap (λ (n : Named). schemas_of n p.init p.operations) (one_schema g x.state p.state q.state is.0 also.0)
+    ∙ ap (λ (n : Named). schemas_of q.state n p.operations) (one_schema g x.initial p.init q.init is.1.0 also.1.0)
+    ∙ ap (λ (ns : List Named). schemas_of q.state q.init ns) (one_named_all g x.operations p.operations q.operations is.1.1 also.1.1)
+
+-- ---- what is told of one that fails excludes that it passes
+
+pub out_apart : (e : Environment) (text : List ℕ) (status : Status) (n : Named) → TellsOut e n.schema.comps text status → IsNoneOut e n.schema.comps → ⊥
+out_apart e text status n out none = none out.0 out.1.here
+
+pub infinite_apart : (numbers : Option ℕ) (g : List Defined) (details : Bool) (file text : List ℕ) (status : Status) (n : Named) → TellsInfinite numbers g n.schema details file text status → IsFinite numbers g n.schema → ⊥
+infinite_apart numbers g details file text status n told finite = not_infinite numbers g n.schema told.0 finite told.2
+
+pub no_schema_apart : (details : Bool) (g : List Defined) (text : List ℕ) (status : Status) (name : List ℕ) → TellsNoSchema details g text status name → IsOfSchema g name → ⊥
+no_schema_apart details g text status name told named = told.none named.0 named.1
+
+-- ---- two answers
+
+-- the machine of the schemas has one text
+pub one_explored : (x : Exploration) (g : List Defined) (p : Schemas) (e : Environment) (one two : List ℕ) (s t : Status) → Explores x g p e one s → Explores x g p e two t → (s ≡ t) × (one ≡ two)
+one_explored x g p e one two s t u v =
+    let same = one_machine e (spellings g) p u.machine v.machine u.is_of v.is_of in
+    let written = subst (λ (m : System). graph.IsWritten (explored_in m) (lines m) (states_limit x) u.ending one) same u.written in
+    let both = one_way (explored_in v.machine) (lines v.machine) (states_limit x) (is_sure v.machine) u.ending v.ending one two written v.written in
+    (u.ends ∙ ap ending_status both.0 ∙ sym v.ends, both.1)
+
+module _ (x : Exploration) (file source one two : List ℕ) (s t : Status) where
+  abbrev One : Type 0
+  One = IsOne x.details file source one two s t
+
+  same_told : s ≡ t → one ≡ two → One
+  same_told e f = (e, AreAlike.same f)
+
+  module _ (g : List Defined) (p : Schemas) where
+    -- ---- declared sets
+    one_out : (e : Environment) (n : Named) → TellsOut e n.schema.comps one s → TellsOut e n.schema.comps two t → One
+    one_out e n u v =
+        let place = one_first_out e n.schema.comps u.0 v.0 u.1 v.1 in
+        let component = same_Some u.2.0 v.2.0 (sym u.2.1 ∙ ap (slice_get n.schema.comps) place ∙ v.2.1) in
+        same_told (u.2.3 ∙ sym v.2.3) (u.2.2 ∙ ap (λ (c : Comp). declared_out_line c.name) component ∙ sym v.2.2)
+
+    one_at_sets : (e : Environment) → AtSets x file source one s g p e → AtSets x file source two t g p e → One
+    one_at_sets e (inl u) (inl v) =
+        one_first (λ (n : Named). IsNoneOut e n.schema.comps) (λ n. TellsOut e n.schema.comps one s) (λ n. TellsOut e n.schema.comps two t) (out_apart e one s) (out_apart e two t) (one_out e) (all_of p) u v
+    one_at_sets e (inl u) (inr v) = absurd (not_all_and_first (λ (n : Named). IsNoneOut e n.schema.comps) (λ n. TellsOut e n.schema.comps one s) (out_apart e one s) (all_of p) v.0 u)
+    one_at_sets e (inr u) (inl v) = absurd (not_all_and_first (λ (n : Named). IsNoneOut e n.schema.comps) (λ n. TellsOut e n.schema.comps two t) (out_apart e two t) (all_of p) u.0 v)
+    one_at_sets e (inr u) (inr v) = let same = one_explored x g p e one two s t u.1 v.1 in same_told same.0 same.1
+
+    -- ---- finite schemas
+    abbrev numbers : Option ℕ
+    numbers = numbers_of x.setting
+
+    abbrev Ends : Named → Type 0
+    Ends n = IsFinite numbers g n.schema
+
+    abbrev Tells : List ℕ → Status → Named → Type 0
+    Tells text status n = TellsInfinite numbers g n.schema x.details file text status
+
+    one_infinite : (n : Named) → Tells one s n → Tells two t n → One
+    one_infinite n u v =
+        let cause = same_Some u.0 v.0 (sym u.2 ∙ v.2) in
+        (u.5 ∙ sym v.5, AreAlike.infinite g v.0 u.1 v.1 (u.4 ∙ ap (λ (c : NotFinite). not_finite_lines x.details file g c u.1) cause) v.4)
+
+    one_at_finiteness : AreComplete (given_sets g) (stated g x.setting) → AtFiniteness x file source one s g p → AtFiniteness x file source two t g p → One
+    one_at_finiteness complete (inl u) (inl v) = one_first Ends (Tells one s) (Tells two t) (infinite_apart numbers g x.details file one s) (infinite_apart numbers g x.details file two t) one_infinite (all_of p) u v
+    one_at_finiteness complete (inl u) (inr v) = absurd (not_all_and_first Ends (Tells one s) (infinite_apart numbers g x.details file one s) (all_of p) v.0 u)
+    one_at_finiteness complete (inr u) (inl v) = absurd (not_all_and_first Ends (Tells two t) (infinite_apart numbers g x.details file two t) (all_of p) u.0 v)
+    one_at_finiteness complete (inr (ends, (e, is, at))) (inr (also_ends, (f, also, also_at))) =
+        let same = one_environment_at g (stated g x.setting) numbers e f complete is also in
+        one_at_sets f (subst (λ (h : Environment). AtSets x file source one s g p h) same at) also_at
+
+    -- ---- sizes, numbers, components
+    one_at_sizes : AtSizes x file source one s g p → AtSizes x file source two t g p → One
+    one_at_sizes (inl u) (inl v) =
+        let fault = one_refusal (given_sets g) (stated g x.setting) u.0 v.0 u.2.0 v.2.0 u.1 v.1 in
+        same_told (u.2.2 ∙ sym v.2.2) (u.2.1 ∙ ap (size_fault_lines x.details g (stated g x.setting)) fault ∙ sym v.2.1)
+    one_at_sizes (inl u) (inr v) = absurd (none_refused (given_sets g) (stated g x.setting) u.0 v.0 u.2.0 u.1)
+    one_at_sizes (inr u) (inl v) = absurd (none_refused (given_sets g) (stated g x.setting) v.0 u.0 v.2.0 v.1)
+    one_at_sizes (inr u) (inr v) = one_at_finiteness v.0 u.1 v.1
+
+    one_at_numbers : AtNumbers x file source one s g p → AtNumbers x file source two t g p → One
+    one_at_numbers (inl u) (inl v) = same_told (u.2 ∙ sym v.2) (u.1 ∙ sym v.1)
+    one_at_numbers (inl u) (inr v) = absurd (small_not_too_large numbers v.0 u.0)
+    one_at_numbers (inr u) (inl v) = absurd (small_not_too_large numbers u.0 v.0)
+    one_at_numbers (inr u) (inr v) = one_at_sizes u.1 v.1
+
+    one_at_shape : AtShape x file source one s g p → AtShape x file source two t g p → One
+    one_at_shape (inl (n, c, u, told, bad)) (inl (m, d, v, also_told, also_bad)) =
+        let same = one_lacking p n c m d u v in
+        same_told (bad ∙ sym also_bad) (told ∙ ap (λ (l : List ℕ). no_component_line l c) same.0 ∙ ap (no_component_line m) same.1 ∙ sym also_told)
+    one_at_shape (inl (n, c, u, told, bad)) (inr v) = absurd (not_shape_and_lack p n c v.0 u)
+    one_at_shape (inr u) (inl (n, c, v, told, bad)) = absurd (not_shape_and_lack p n c u.0 v)
+    one_at_shape (inr u) (inr v) = one_at_numbers u.1 v.1
+
+  -- ---- names, types
+  one_at_schemas : (g : List Defined) → AtSchemas x file source one s g → AtSchemas x file source two t g → One
+  one_at_schemas g (inl u) (inl v) =
+      one_first (IsOfSchema g) (TellsNoSchema x.details g one s) (TellsNoSchema x.details g two t) (no_schema_apart x.details g one s) (no_schema_apart x.details g two t)
+      (λ name f h. same_told (f.bad ∙ sym h.bad) (f.told ∙ sym h.told)) (names_of x) u v
+  one_at_schemas g (inl u) (inr v) = absurd (not_all_and_first (IsOfSchema g) (TellsNoSchema x.details g one s) (no_schema_apart x.details g one s) (names_of x) (named_all g (names_of x) (all_of v.0) v.1) u)
+  one_at_schemas g (inr u) (inl v) = absurd (not_all_and_first (IsOfSchema g) (TellsNoSchema x.details g two t) (no_schema_apart x.details g two t) (names_of x) (named_all g (names_of x) (all_of u.0) u.1) v)
+  one_at_schemas g (inr u) (inr v) = one_at_shape g v.0 (subst (λ (q : Schemas). AtShape x file source one s g q) (one_schemas x g u.0 v.0 u.1 v.1) u.2) v.2
+
+  one_at_types : AtTypes x file source one s → AtTypes x file source two t → One
+  one_at_types (inl u) (inl v) =
+      let c = one_checked source u.globals v.globals u.faults v.faults u.checks v.checks in (
+        u.bad ∙ sym v.bad,
+        AreAlike.types v.globals u.faults v.faults one two [] (subst (λ h. Checks source h u.faults) c.0 u.checks) v.checks u.some c.1 u.told v.told (sym (append-nil one)) (sym (append-nil two)),
+      )
+  one_at_types (inl u) (inr v) = absurd (some_and_none u.faults u.some (one_checked source u.globals v.0 u.faults [] u.checks v.1).1)
+  one_at_types (inr u) (inl v) = absurd (none_and_some v.faults v.some (one_checked source u.0 v.globals [] v.faults u.1 v.checks).1)
+  one_at_types (inr u) (inr v) = one_at_schemas v.0 (subst (λ (h : List Defined). AtSchemas x file source one s h) (one_checked source u.0 v.0 [] [] u.1 v.1).0 u.2) v.2
+
+  pub one_exploration_answer : ExplorationAnswer x file source one s → ExplorationAnswer x file source two t → One
+  one_exploration_answer u v = one_at_types (staged x file source one s u) (staged x file source two t v)

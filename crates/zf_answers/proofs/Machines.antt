@@ -1,0 +1,143 @@
+-- Schemas make a machine, or one of them is the first that lacks a component, and one component the first that it lacks.
+use Rattle.zf_answers.proofs.Prelude.{◌∙◌, ◌∷◌, ◌≡◌, ◌⊎◌, [], ap, inl, inr, List, map, None, Option, refl, Some, sym, ℕ, AllByRecursion, Comp, Decided, Environment, same_Some, Schema}
+use Rattle.zf_machines.specs.Firsts.{FirstFails}
+use Rattle.zf_machines.specs.Machines.{CanBeInitial, CanStep, HasShape, IsMachineOf, LacksFirst, LacksStepFirst, Named, Schemas, state_of}
+use Rattle.zf_steps.specs.Shapes.{both, Has, HasAll, init_in, IsInit, Lacks, LacksInit, LacksStep, operation_in, state_in, with_strokes}
+use Rattle.zf_steps.specs.Systems.{Operation, System}
+use Rattle.zf_term.specs.FirstNamed.{first_named}
+use Rattle.zf_texts.specs.declared.spelling.Spelling.{Spelling}
+use Rattle.zf_verdicts.proofs.Decided.{same_type}
+
+-- ---- the first that fails
+
+module _ {A : Type 0} (Passes : A → Type 0) where
+  pub not_all_and_first : (Fails : A → Type 0) → ((x : A) → Fails x → Passes x → ⊥) → (xs : List A) → AllByRecursion Passes xs → FirstFails Passes Fails xs → ⊥
+  not_all_and_first Fails apart [] all fails = fails
+  not_all_and_first Fails apart (x ∷ xs) all (inl fails) = apart x fails all.0
+  not_all_and_first Fails apart (x ∷ xs) all (inr (passes, fails)) = not_all_and_first Fails apart xs all.1 fails
+
+  -- of two that fail first, both are one
+  pub one_first : {R : Type 0} (F G : A → Type 0) → ((x : A) → F x → Passes x → ⊥) → ((x : A) → G x → Passes x → ⊥) → ((x : A) → F x → G x → R) → (xs : List A)
+      → FirstFails Passes F xs → FirstFails Passes G xs → R
+  one_first F G f_apart g_apart join [] f g = absurd f
+  one_first F G f_apart g_apart join (x ∷ xs) (inl f) (inl g) = join x f g
+  one_first F G f_apart g_apart join (x ∷ xs) (inl f) (inr (passes, g)) = absurd (f_apart x f passes)
+  one_first F G f_apart g_apart join (x ∷ xs) (inr (passes, f)) (inl g) = absurd (g_apart x g passes)
+  one_first F G f_apart g_apart join (x ∷ xs) (inr (passes, f)) (inr (_, g)) = one_first F G f_apart g_apart join xs f g
+
+  -- all pass, or one fails first, with what is told of it
+  pub all_or_first : {B : Type 0} (Fails : B → A → Type 0) → ((x : A) → Passes x ⊎ ((b : B) × Fails b x)) → (xs : List A) → AllByRecursion Passes xs ⊎ ((b : B) × FirstFails Passes (Fails b) xs)
+  all_or_first Fails judged [] = inl tt
+  all_or_first {B} Fails judged (x ∷ xs) = by (judged x) (all_or_first Fails judged xs)
+    where
+      by : Passes x ⊎ ((b : B) × Fails b x) → AllByRecursion Passes xs ⊎ ((b : B) × FirstFails Passes (Fails b) xs) → AllByRecursion Passes (x ∷ xs) ⊎ ((b : B) × FirstFails Passes (Fails b) (x ∷ xs))
+      by (inr fails) others = inr (fails.0, inl fails.1)
+      by (inl passes) (inl all) = inl (passes, all)
+      by (inl passes) (inr fails) = inr (fails.0, inr (passes, fails.1))
+
+-- ---- components that are there, and the first that is not
+
+has_or_not : (comps : List Comp) (c : Comp) → Has comps c ⊎ (Has comps c → ⊥)
+has_or_not comps c = by (first_named (λ d. d.name) c.name comps) refl
+  where
+    by : (o : Option (ℕ × Comp)) → first_named (λ d. d.name) c.name comps ≡ o → Has comps c ⊎ (Has comps c → ⊥)
+    by None none = inr (λ h. let z : None ≡ Some (h.place, h.component) = sym none ∙ h.named in cc)
+    by (Some p) found = of (same_type p.1.type c.type)
+      where
+        of : Decided (p.1.type ≡ c.type) → Has comps c ⊎ (Has comps c → ⊥)
+        of (inl same) = inl (record { place = p.0; component = p.1; named = found; typed = same })
+        of (inr other) = inr (λ h. other (ap (λ (q : ℕ × Comp). q.1.type) (same_Some p (h.place, h.component) (sym found ∙ h.named)) ∙ h.typed))
+
+all_or_lack : (comps wanted : List Comp) → HasAll comps wanted ⊎ ((name : List ℕ) × Lacks comps wanted name)
+all_or_lack comps [] = inl tt
+all_or_lack comps (c ∷ cs) = by (has_or_not comps c) (all_or_lack comps cs)
+  where
+    by : Has comps c ⊎ (Has comps c → ⊥) → HasAll comps cs ⊎ ((name : List ℕ) × Lacks comps cs name) → HasAll comps (c ∷ cs) ⊎ ((name : List ℕ) × Lacks comps (c ∷ cs) name)
+    by (inr none) others = inr (c.name, inl (none, refl))
+    by (inl h) (inl all) = inl (h, all)
+    by (inl h) (inr lacks) = inr (lacks.0, inr (h, lacks.1))
+
+not_all_and_lack : (comps wanted : List Comp) (name : List ℕ) → HasAll comps wanted → Lacks comps wanted name → ⊥
+not_all_and_lack comps [] name all lacks = lacks
+not_all_and_lack comps (c ∷ cs) name all (inl lacks) = lacks.0 all.0
+not_all_and_lack comps (c ∷ cs) name all (inr lacks) = not_all_and_lack comps cs name all.1 lacks.1
+
+one_lack : (comps wanted : List Comp) (x y : List ℕ) → Lacks comps wanted x → Lacks comps wanted y → x ≡ y
+one_lack comps [] x y p q = absurd p
+one_lack comps (c ∷ cs) x y (inl p) (inl q) = p.1 ∙ sym q.1
+one_lack comps (c ∷ cs) x y (inl p) (inr q) = absurd (p.0 q.0)
+one_lack comps (c ∷ cs) x y (inr p) (inl q) = absurd (q.0 p.0)
+one_lack comps (c ∷ cs) x y (inr p) (inr q) = one_lack comps cs x y p.1 q.1
+
+-- ---- schemas that make a machine
+
+initial_or_lack : (state : List Comp) (a : Schema) → CanBeInitial state a ⊎ ((name : List ℕ) × LacksInit state a name)
+initial_or_lack state a = by (all_or_lack a.comps (with_strokes state)) (all_or_lack a.comps state)
+  where
+    by : HasAll a.comps (with_strokes state) ⊎ ((name : List ℕ) × Lacks a.comps (with_strokes state) name) → HasAll a.comps state ⊎ ((name : List ℕ) × Lacks a.comps state name)
+        → CanBeInitial state a ⊎ ((name : List ℕ) × LacksInit state a name)
+    by (inl all) others = inl (inl all)
+    by (inr lacks) (inl all) = inl (inr all)
+    by (inr lacks) (inr others) = inr (others.0, ((λ all. not_all_and_lack a.comps (with_strokes state) lacks.0 all lacks.1), others.1))
+
+not_initial_and_lack : (state : List Comp) (a : Schema) (name : List ℕ) → CanBeInitial state a → LacksInit state a name → ⊥
+not_initial_and_lack state a name (inl all) lacks = lacks.0 all
+not_initial_and_lack state a name (inr all) lacks = not_all_and_lack a.comps state name all lacks.1
+
+steps_or_lack : (state : List Comp) (o : Named) → CanStep state o ⊎ ((b : List ℕ × List ℕ) × ((b.0 ≡ o.name) × LacksStep state o.schema b.1))
+steps_or_lack state o = by (all_or_lack o.schema.comps (both state))
+  where
+    by : HasAll o.schema.comps (both state) ⊎ ((name : List ℕ) × Lacks o.schema.comps (both state) name) → CanStep state o ⊎ ((b : List ℕ × List ℕ) × ((b.0 ≡ o.name) × LacksStep state o.schema b.1))
+    by (inl all) = inl all
+    by (inr lacks) = inr ((o.name, lacks.0), (refl, lacks.1))
+
+pub shape_or_lack : (p : Schemas) → HasShape p ⊎ ((name component : List ℕ) × LacksFirst p name component)
+shape_or_lack p = by (initial_or_lack (state_of p) p.init.schema)
+    (all_or_first (CanStep (state_of p)) (λ (b : List ℕ × List ℕ) o. (b.0 ≡ o.name) × LacksStep (state_of p) o.schema b.1) (steps_or_lack (state_of p)) p.operations)
+  where
+    by : CanBeInitial (state_of p) p.init.schema ⊎ ((name : List ℕ) × LacksInit (state_of p) p.init.schema name)
+        → AllByRecursion (CanStep (state_of p)) p.operations ⊎ ((b : List ℕ × List ℕ) × LacksStepFirst (state_of p) p.operations b.0 b.1)
+        → HasShape p ⊎ ((name component : List ℕ) × LacksFirst p name component)
+    by (inr lacks) others = inr (p.init.name, lacks.0, inl (refl, lacks.1))
+    by (inl init) (inl all) = inl (record { init = init; operations = all })
+    by (inl init) (inr lacks) = inr (lacks.0.0, lacks.0.1, inr (init, lacks.1))
+
+module _ (p : Schemas) where
+  step_apart : (name component : List ℕ) (o : Named) → (name ≡ o.name) × LacksStep (state_of p) o.schema component → CanStep (state_of p) o → ⊥
+  step_apart name component o lacks can = not_all_and_lack o.schema.comps (both (state_of p)) component can lacks.1
+
+  pub not_shape_and_lack : (name component : List ℕ) → HasShape p → LacksFirst p name component → ⊥
+  not_shape_and_lack name component shape (inl lacks) = not_initial_and_lack (state_of p) p.init.schema component shape.init lacks.1
+  not_shape_and_lack name component shape (inr lacks) =
+      not_all_and_first (CanStep (state_of p)) (λ o. (name ≡ o.name) × LacksStep (state_of p) o.schema component) (step_apart name component) p.operations shape.operations lacks.1
+
+  pub one_lacking : (n c m d : List ℕ) → LacksFirst p n c → LacksFirst p m d → (n ≡ m) × (c ≡ d)
+  one_lacking n c m d (inl x) (inl y) = (x.0 ∙ sym y.0, one_lack p.init.schema.comps (state_of p) c d x.1.1 y.1.1)
+  one_lacking n c m d (inl x) (inr y) = absurd (not_initial_and_lack (state_of p) p.init.schema c y.0 x.1)
+  one_lacking n c m d (inr x) (inl y) = absurd (not_initial_and_lack (state_of p) p.init.schema d x.0 y.1)
+  one_lacking n c m d (inr x) (inr y) =
+      one_first (CanStep (state_of p)) (λ o. (n ≡ o.name) × LacksStep (state_of p) o.schema c) (λ o. (m ≡ o.name) × LacksStep (state_of p) o.schema d) (step_apart n c) (step_apart m d)
+      (λ o f g. (f.0 ∙ sym g.0, one_lack o.schema.comps (both (state_of p)) c d f.1 g.1)) p.operations x.1 y.1
+
+-- ---- the machine
+
+some_init : (state : List Comp) (name : List ℕ) (a : Schema) → CanBeInitial state a → (o : Operation) × IsInit state name a o
+some_init state name a can = by (all_or_lack a.comps (with_strokes state)) can
+  where
+    by : HasAll a.comps (with_strokes state) ⊎ ((lacking : List ℕ) × Lacks a.comps (with_strokes state) lacking) → CanBeInitial state a → (o : Operation) × IsInit state name a o
+    by (inl all) can = (init_in (with_strokes state) name a, inl (all, refl))
+    by (inr lacks) (inl all) = absurd (not_all_and_lack a.comps (with_strokes state) lacks.0 all lacks.1)
+    by (inr lacks) (inr all) = (init_in state name a, inr ((λ strokes. not_all_and_lack a.comps (with_strokes state) lacks.0 strokes lacks.1), all, refl))
+
+pub some_machine : (e : Environment) (elements : List Spelling) (p : Schemas) → HasShape p → (m : System) × IsMachineOf e elements p m
+some_machine e elements p shape =
+    let init = some_init (state_of p) p.init.name p.init.schema shape.init in (
+      record {
+        environment = e;
+        elements = elements;
+        state = state_in p.state.name p.state.schema;
+        init = init.0;
+        operations = map (λ o. operation_in (state_of p) o.name o.schema) p.operations;
+      },
+      record { environment = refl; spelled = refl; state = refl; init = init.1; operations = refl },
+    )

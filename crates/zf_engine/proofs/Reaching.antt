@@ -1,0 +1,88 @@
+-- The steps before the first state make answers: refusals, in their order.
+use Rattle.zf_engine.proofs.Prelude.{◌+◌, ◌++◌, ◌<◌, ◌∙◌, ◌∷◌, ◌≡◌, [], ap, Err, get_or, inl, inr, length, List, Ok, Option, Result, subst, sym, take, ℕ, Defined, Environment, Status, Answer, AnswersExploration, Checks, environment_of, IfAnswered, IsUnexplored, IsUnfit, numbers_of, Reaches, spellings, Spelling, stated, Stop, Tells, TellsMisfit, TellsNumbers}
+use Rattle.std.specs.List.{AllByRecursion, AllZip}
+use Rattle.std.specs.Prelude.{OnOk}
+use Rattle.std.proofs.lemmas.List.{take_more}
+use Rattle.zf_command.specs.declared.job.Exploration.{Exploration}
+use Rattle.zf_command.specs.declared.job.Job.TheVariants.{Reach}
+use Rattle.zf_finite.specs.Finite.{IsFinite}
+use Rattle.zf_lines.specs.declared.fault.RunFault.{RunFault}
+use Rattle.zf_machines.specs.Machines.{all_of, HasShape, Schemas}
+use Rattle.zf_meaning.specs.GlobalOutcomes.{IsEnvironment}
+use Rattle.zf_meaning.specs.Sizes.{given_sets, AreComplete}
+use Rattle.zf_ranges.specs.Ranges.{IsNoneOut}
+use Rattle.zf_engine.specs.Explorations.{HasInfinite, HasOut, HasSchemas, IsBounded, IsSchemaOf, IsSearchable, IsSettled, LacksComponent, LacksSchema, names_of, RefusesExploration}
+use Rattle.zf_engine.specs.Numbers.{AreSmall}
+use Rattle.zf_engine.proofs.Parts.{reach_refused, told_written}
+use Rattle.zf_engine.proofs.Refusing.{weaker}
+
+-- ---- lists beside each other
+
+zip_push : {A B : Type 0} (R : A → B → Type 0) (xs : List A) (ys : List B) (x : A) (y : B) → AllZip R xs ys → R x y → AllZip R (xs ++ x ∷ []) (ys ++ y ∷ [])
+zip_push R [] [] x y all here = (here, tt)
+zip_push R [] (b ∷ ys) x y all here = absurd all
+zip_push R (a ∷ xs) [] x y all here = absurd all
+zip_push R (a ∷ xs) (b ∷ ys) x y all here = (all.0, zip_push R xs ys x y all.1 here)
+
+-- one more beside the next
+pub zip_more : {A B : Type 0} (R : A → B → Type 0) (xs : List A) (ys : List B) (i : ℕ) (x : A) (y : B) → x ≡ get_or xs i x → i < length xs → AllZip R (take i xs) ys → R x y
+    → AllZip R (take (i + 1) xs) (ys ++ y ∷ [])
+zip_more R xs ys i x y at l all here =
+    subst (λ zs. AllZip R zs (ys ++ y ∷ [])) (sym (take_more xs i x l ∙ ap (λ z. take i xs ++ z ∷ []) (sym at))) (zip_push R (take i xs) ys x y all here)
+
+-- what holds of the first two, and of the others where there is an answer
+pub all_on_ok : {A : Type 0} (P : A → Type 0) (x y : A) (zs : List A) (result : Result (Unit {0}) Stop) → P x → P y → OnOk result (AllByRecursion P zs) → OnOk result (AllByRecursion P (x ∷ y ∷ zs))
+all_on_ok P x y zs (Ok u) px py all = (px, (py, all))
+all_on_ok P x y zs (Err stop) px py all = tt
+
+-- ---- refusals
+
+pub reach_told : (x : Exploration) (file source : List ℕ) (stop : Stop) (a b : Option (List ℕ)) (result : Result Status RunFault) → AnswersExploration x file source stop → Tells stop a b result
+    → Reaches x file source a b result
+reach_told x file source stop a b result answer h = told_written (Reach x) file source stop a b result (weaker stop (reach_refused x file source) answer) h
+
+unfit_unexplored : (x : Exploration) (file source text : List ℕ) (status : Status) → IsUnfit x.details file source text status → IsUnexplored x file source text status
+unfit_unexplored x file source text status (inl unread) = inl unread
+unfit_unexplored x file source text status (inr ill) = inr (RefusesExploration.ill_typed ill)
+
+pub unfit_explored : (x : Exploration) (file source : List ℕ) (stop : Stop) → IfAnswered stop (IsUnfit x.details file source) → AnswersExploration x file source stop
+unfit_explored x file source stop told = weaker stop (unfit_unexplored x file source) told
+
+module _ (x : Exploration) (file source : List ℕ) (g : List Defined) (checks : Checks source g []) where
+  pub lacks_schema : (stop : Stop) → IfAnswered stop (LacksSchema x g) → AnswersExploration x file source stop
+  lacks_schema stop h = weaker stop (λ text status t. inr (RefusesExploration.no_schema g checks t)) h
+
+  module _ (p : Schemas) (named : AllZip (IsSchemaOf g) (names_of x) (all_of p)) where
+    has_schemas : HasSchemas x source g p
+    has_schemas = record { checks = checks; named = named }
+
+    pub lacks_component : (stop : Stop) → IfAnswered stop (LacksComponent p) → AnswersExploration x file source stop
+    lacks_component stop h = weaker stop (λ text status t. inr (RefusesExploration.no_component g p has_schemas t)) h
+
+    module _ (shape : HasShape p) where
+      pub has_large_numbers : (stop : Stop) → IfAnswered stop (TellsNumbers (numbers_of x.setting)) → AnswersExploration x file source stop
+      has_large_numbers stop h = weaker stop (λ text status t. inr (RefusesExploration.large_numbers g p has_schemas shape t)) h
+
+      module _ (small : AreSmall (numbers_of x.setting)) where
+        pub has_bad_sizes : (stop : Stop) → IfAnswered stop (TellsMisfit x.details g (stated g x.setting)) → AnswersExploration x file source stop
+        has_bad_sizes stop h = weaker stop (λ text status t. inr (RefusesExploration.bad_sizes g p has_schemas shape small t)) h
+
+        module _ (complete : AreComplete (given_sets g) (stated g x.setting)) (e : Environment) (is : IsEnvironment g (stated g x.setting) (numbers_of x.setting) e) where
+          settled : IsSettled x source g p
+          settled = record { has_schemas = has_schemas; shape = shape; small = small; complete = complete }
+
+          -- the globals and the numbers of the environment are those
+          pub has_infinite : (stop : Stop) → IfAnswered stop (HasInfinite x file e.numbers e.globals p) → AnswersExploration x file source stop
+          has_infinite stop h =
+              let here = subst (λ n. IfAnswered stop (HasInfinite x file n g p)) is.3 (subst (λ (f : List Defined). IfAnswered stop (HasInfinite x file e.numbers f p)) is.0 h) in
+              weaker stop (λ text status t. inr (RefusesExploration.not_finite g p settled t)) here
+
+          module _ (finite : AllByRecursion (λ n. IsFinite e.numbers e.globals n.schema) (all_of p)) where
+            bounded : IsBounded x source g p e
+            bounded = record { settled = settled; environment = is; finite = subst (λ (f : List Defined). AllByRecursion (λ n. IsFinite e.numbers f n.schema) (all_of p)) is.0 finite }
+
+            pub has_out : (stop : Stop) → IfAnswered stop (HasOut e p) → AnswersExploration x file source stop
+            has_out stop h = weaker stop (λ text status t. inr (RefusesExploration.declared_out g p e bounded t)) h
+
+            pub searchable : AllByRecursion (λ n. IsNoneOut e n.schema.comps) (all_of p) → IsSearchable x source e.globals p e
+            searchable none = subst (λ f. IsSearchable x source f p e) (sym is.0) (record { bounded = bounded; none_out = none })

@@ -1,0 +1,13 @@
+-- The schemas of the names so far; what is still ahead decides which is the first without one.
+use Rattle.zf_engine.proofs.Prelude.{List, map, take, ℕ, globals_of, Status, TellsNoSchema}
+use Rattle.std.proofs.Common.{drop}
+use Rattle.std.specs.List.{AllZip}
+use Rattle.zf_machines.proofs.Firsts.{IsAhead}
+use Rattle.zf_machines.specs.SchemaViews.{named_of}
+use Rattle.zf_engine.specs.Explorations.{IsOfSchema, IsSchemaOf}
+use Rattle.zf_engine.proofs.reach.operations_in.Given as goal
+
+abbrev pub invariant-loop-name : goal.invariant-loop-name
+invariant-loop-name l =
+    AllZip (IsSchemaOf (globals_of l.globals)) (take l.name-index l.names) (map named_of l.operations.items)
+    × IsAhead (IsOfSchema (globals_of l.globals)) (λ (b : List ℕ × Status). TellsNoSchema l.task.exploration.now.details (globals_of l.globals) b.0 b.1) l.names (drop l.name-index l.names)

@@ -1,0 +1,335 @@
+//! What can be reached from the initial states.
+ghost use Rattle.std.specs.Prelude.{◌≡◌, ◌≤◌, [], IfErr, IfOk, OnOk, map};
+ghost use Rattle.std.specs.List.{AllByRecursion, AllZip};
+ghost use Rattle.zf_engine.specs.Explorations as spec;
+ghost use Rattle.zf_engine.specs.Explorations.{HasInfinite, HasOut, IsOfSchema, IsSchemaOf, IsSearchable, LacksComponent, LacksSchema, names_of};
+ghost use Rattle.zf_engine.specs.Settings.{Checks, TellsInfinite, TellsNoSchema, TellsOut};
+ghost use Rattle.zf_engine.specs.Stops.{AnswersExploration, IfAnswered, Reaches};
+ghost use Rattle.zf_finite.specs.Finite.{IsFinite};
+ghost use Rattle.zf_lines.specs.Counts.{device_of, failures_of};
+ghost use Rattle.zf_lines.specs.Faults.{read_failures, write_failures};
+ghost use Rattle.zf_lines.specs.Searches.{HasLimit};
+ghost use Rattle.zf_machines.specs.Firsts.{FirstFails};
+ghost use Rattle.zf_machines.specs.Machines.{all_of, HasShape};
+ghost use Rattle.zf_machines.specs.SchemaViews.{named_of, schemas_of};
+ghost use Rattle.zf_meaning.specs.Envs.{environment_of};
+ghost use Rattle.zf_ranges.specs.Ranges.{IsNoneOut};
+ghost use Rattle.zf_reach.specs.Machines.{ending_of};
+ghost use Rattle.zf_term.specs.DefinitionViews.{globals_of};
+ghost use Rattle.zf_term.specs.SchemaViews.{schema_of};
+
+use crate::answer::tell;
+use crate::asked::{check_finite, env_in, schema_named};
+use crate::begin::not_begun;
+use crate::numbers::greatest_number;
+use crate::report::Report;
+use crate::stop::Stop;
+use crate::texts;
+use crate::typed::typed_in;
+use bumpalo::Bump;
+use std::alloc::Global;
+use std::io::Write;
+use zf_command::job::Exploration;
+use zf_command::limit::STATES_MAX;
+use zf_data::Word;
+use zf_lines::counted::Counted;
+use zf_lines::fault::{RunFault, Status};
+use zf_machines::{Named, Schemas, Specification, explore_schemas, lack_of};
+use zf_meaning::env::Env;
+use zf_ranges::component::ranges;
+use zf_reach::Ending;
+use zf_term::globals::Globals;
+use zf_term::schema::Flat;
+use zf_texts::spellings_of;
+
+/// What is explored, and how faults of the source are reported.
+#[derive(Clone, Copy)]
+pub struct Task<'s> {
+    pub alloc: Global,
+    pub exploration: &'s Exploration,
+    pub report: Report<'s>,
+}
+
+/// The schemas of a machine, and the environment in which they are explored.
+#[derive(Drop)]
+pub struct Settled<'p, 'a> {
+    pub schemas: Schemas<'p, 'a>,
+    pub env: Env<'p, 'a>,
+}
+
+/// Writes the answer of `reach` for a source.
+pub fn reach_source<W: Write>(
+    alloc: Global,
+    exploration: &Exploration,
+    file: &[u8],
+    source: &[u8],
+    writer: &mut Counted<W>,
+) -> Result<Status, RunFault>
+    requires unfailed { failures_of writer.old ≡ 0 }
+    requires limited { HasLimit exploration.now.limit }
+    ensures reaches { Reaches exploration.now file.now source.now (W.contents (device_of writer.old)) (W.contents (device_of writer.new)) result }
+    ensures count { failures_of writer.new ≡ write_failures result }
+    ensures unread { read_failures result ≡ 0 }
+{
+    let trees = Bump::new(alloc);
+    let arena = Bump::new(alloc);
+    let report = Report {
+        source,
+        file,
+        details: exploration.details,
+    };
+    let task = Task {
+        alloc,
+        exploration,
+        report,
+    };
+    match typed_in(alloc, &trees, &arena, report) {
+        Ok(globals) => reach_globals(task, &arena, &globals, writer),
+        Err(stop) => tell(stop, writer),
+    }
+}
+
+/// Writes the answer of `reach` for a source that is well typed and defines these globals.
+fn reach_globals<'a, W: Write>(
+    task: Task<'_>,
+    arena: &'a Bump,
+    globals: &Globals<'a>,
+    writer: &mut Counted<W>,
+) -> Result<Status, RunFault>
+    requires unfailed { failures_of writer.old ≡ 0 }
+    requires limited { HasLimit task.exploration.now.limit }
+    requires details { task.report.details ≡ task.exploration.now.details }
+    requires checks { Checks task.report.source.now (globals_of globals.now) [] }
+    ensures reaches { Reaches task.entry.exploration.now task.entry.report.file.now task.entry.report.source.now (W.contents (device_of writer.old)) (W.contents (device_of writer.new)) result }
+    ensures count { failures_of writer.new ≡ write_failures result }
+    ensures unread { read_failures result ≡ 0 }
+{
+    match settled_in(task, arena, globals) {
+        Ok(Settled { schemas, env }) => reach_schemas(task, arena, &schemas, &env, writer),
+        Err(stop) => tell(stop, writer),
+    }
+}
+
+/// Writes what the machine of these schemas can reach.
+fn reach_schemas<'a, W: Write>(
+    task: Task<'_>,
+    arena: &'a Bump,
+    schemas: &Schemas<'_, 'a>,
+    env: &Env<'_, 'a>,
+    writer: &mut Counted<W>,
+) -> Result<Status, RunFault>
+    requires unfailed { failures_of writer.old ≡ 0 }
+    requires limited { HasLimit task.exploration.now.limit }
+    requires searchable { IsSearchable task.exploration.now task.report.source.now (environment_of env.now).globals (schemas_of schemas.now) (environment_of env.now) }
+    ensures reaches { Reaches task.entry.exploration.now task.entry.report.file.now task.entry.report.source.now (W.contents (device_of writer.old)) (W.contents (device_of writer.new)) result }
+    ensures count { failures_of writer.new ≡ write_failures result }
+    ensures unread { read_failures result ≡ 0 }
+{
+    let elements = spellings_of(task.alloc, env.globals())?;
+    let specification = Specification {
+        alloc: task.alloc,
+        arena,
+        env,
+        elements: &elements,
+        schemas,
+    };
+    let ending = explore_schemas(&specification, states_limit(task.exploration), writer)?;
+    Ok(ending_status(ending))
+}
+
+/// How many states are written at most.
+fn states_limit(exploration: &Exploration) -> usize
+    requires { HasLimit exploration.now.limit }
+    ensures is { result ≡ spec.states_limit exploration.now }
+    ensures some { 1 ≤ result }
+{
+    exploration.limit.unwrap_or(STATES_MAX) as usize
+}
+
+/// The status by how an exploration ends.
+fn ending_status(ending: Ending) -> Status
+    ensures { result ≡ spec.ending_status (ending_of ending []) }
+{
+    match ending {
+        Ending::Ended => Status::Done,
+        Ending::Paused => Status::Done,
+        Ending::Broken => Status::PastBounds,
+    }
+}
+
+/// The schemas of the names and the environment, if nothing stands in the way of their exploration.
+fn settled_in<'p, 'a>(
+    task: Task<'p>,
+    arena: &'a Bump,
+    globals: &'p Globals<'a>,
+) -> Result<Settled<'p, 'a>, Stop>
+    requires details { task.report.details ≡ task.exploration.now.details }
+    requires checks { Checks task.report.source.now (globals_of globals.now) [] }
+    ensures searchable { IfOk result (λ s. IsSearchable task.entry.exploration.now task.entry.report.source.now (environment_of s.env).globals (schemas_of s.schemas) (environment_of s.env)) }
+    ensures stop { IfErr result (AnswersExploration task.entry.exploration.now task.entry.report.file.now task.entry.report.source.now) }
+{
+    let schemas = schemas_in(task, globals)?;
+    check_shape(task.alloc, arena, &schemas)?;
+    let setting = &task.exploration.setting;
+    let numbers = greatest_number(task.alloc, setting.numbers)?;
+    let env = env_in(
+        task.alloc,
+        globals,
+        setting,
+        numbers,
+        task.exploration.details,
+    )?;
+    check_all_finite(task, &env, &schemas)?;
+    check_all_declared(task.alloc, &env, &schemas)?;
+    Ok(Settled { schemas, env })
+}
+
+// ---- the schemas of the names
+
+fn schemas_in<'p, 'a>(task: Task<'p>, globals: &'p Globals<'a>) -> Result<Schemas<'p, 'a>, Stop>
+    ensures named { IfOk result (λ p. AllZip (IsSchemaOf (globals_of globals.now)) (names_of task.entry.exploration.now) (all_of (schemas_of p))) }
+    ensures stop { IfErr result (λ s. IfAnswered s (LacksSchema task.entry.exploration.now (globals_of globals.now))) }
+{
+    let exploration = task.exploration;
+    let state = named_in(task, globals, &exploration.state)?;
+    let init = named_in(task, globals, &exploration.initial)?;
+    let operations = operations_in(task, globals, exploration.operations.as_slice())?;
+    Ok(Schemas {
+        state,
+        init,
+        operations,
+    })
+}
+
+/// The schema of a name, with the name.
+fn named_in<'p, 'a>(
+    task: Task<'p>,
+    globals: &'p Globals<'a>,
+    name: &'p Word,
+) -> Result<Named<'p, 'a>, Stop>
+    ensures named { IfOk result (λ n. IsSchemaOf (globals_of globals.now) name.now (named_of n)) }
+    ensures stop { IfErr result (λ s. IfAnswered s (λ text status. TellsNoSchema task.entry.exploration.now.details (globals_of globals.now) text status name.now)) }
+{
+    let schema = schema_named(task.alloc, globals, name, task.exploration.details)?;
+    Ok(Named {
+        name: name.as_bytes(),
+        schema,
+    })
+}
+
+/// The schemas of operations.
+fn operations_in<'p, 'a>(
+    task: Task<'p>,
+    globals: &'p Globals<'a>,
+    names: &'p [Word],
+) -> Result<Vec<Named<'p, 'a>>, Stop>
+    ensures named { IfOk result (λ v. AllZip (IsSchemaOf (globals_of globals.now)) names.now (map named_of v.items)) }
+    ensures stop { IfErr result (λ s. IfAnswered s (λ text status. FirstFails (IsOfSchema (globals_of globals.now)) (TellsNoSchema task.entry.exploration.now.details (globals_of globals.now) text status) names.now)) }
+{
+    let mut operations = Vec::with_capacity(task.alloc, names.len())?;
+    for name in names {
+        operations.push(named_in(task, globals, name)?)?;
+    }
+    Ok(operations)
+}
+
+/// Refuses schemas that make no machine.
+fn check_shape<'a>(alloc: Global, arena: &'a Bump, schemas: &Schemas<'_, 'a>) -> Result<(), Stop>
+    ensures shape { OnOk result (HasShape (schemas_of schemas.now)) }
+    ensures stop { IfErr result (λ s. IfAnswered s (LacksComponent (schemas_of schemas.now))) }
+{
+    match lack_of(arena, schemas)? {
+        None => Ok(()),
+        Some(lack) => {
+            let line = texts::no_component_line(alloc, lack.schema, lack.component)?;
+            Err(Stop::Answered(line, Status::BadRequest))
+        }
+    }
+}
+
+// ---- finite schemas
+
+/// Refuses schemas of which one is not finite.
+fn check_all_finite<'a>(
+    task: Task<'_>,
+    env: &Env<'_, 'a>,
+    schemas: &Schemas<'_, 'a>,
+) -> Result<(), Stop>
+    requires { task.report.details ≡ task.exploration.now.details }
+    ensures ok { OnOk result (AllByRecursion (λ n. IsFinite (environment_of env.now).numbers (environment_of env.now).globals n.schema) (all_of (schemas_of schemas.now))) }
+    ensures stop { IfErr result (λ s. IfAnswered s (HasInfinite task.entry.exploration.now task.entry.report.file.now (environment_of env.now).numbers (environment_of env.now).globals (schemas_of schemas.now))) }
+{
+    let Schemas {
+        state,
+        init,
+        operations,
+    } = schemas;
+    check_finite(task.alloc, task.report, env, state.name, state.schema)?;
+    check_finite(task.alloc, task.report, env, init.name, init.schema)?;
+    check_finite_operations(task, env, operations)
+}
+
+fn check_finite_operations<'a>(
+    task: Task<'_>,
+    env: &Env<'_, 'a>,
+    operations: &[Named<'_, 'a>],
+) -> Result<(), Stop>
+    requires { task.report.details ≡ task.exploration.now.details }
+    ensures ok { OnOk result (AllByRecursion (λ n. IsFinite (environment_of env.now).numbers (environment_of env.now).globals n.schema) (map named_of operations.now)) }
+    ensures stop { IfErr result (λ s. IfAnswered s (λ text status. FirstFails (λ n. IsFinite (environment_of env.now).numbers (environment_of env.now).globals n.schema) (λ n. TellsInfinite (environment_of env.now).numbers (environment_of env.now).globals n.schema task.entry.exploration.now.details task.entry.report.file.now text status) (map named_of operations.now))) }
+{
+    for operation in operations {
+        check_finite(
+            task.alloc,
+            task.report,
+            env,
+            operation.name,
+            operation.schema,
+        )?;
+    }
+    Ok(())
+}
+
+// ---- declared sets
+
+/// Refuses schemas of which one has a declared set that is out.
+fn check_all_declared<'a>(
+    alloc: Global,
+    env: &Env<'_, 'a>,
+    schemas: &Schemas<'_, 'a>,
+) -> Result<(), Stop>
+    requires { AllByRecursion (λ n. IsFinite (environment_of env.now).numbers (environment_of env.now).globals n.schema) (all_of (schemas_of schemas.now)) }
+    ensures ok { OnOk result (AllByRecursion (λ n. IsNoneOut (environment_of env.now) n.schema.comps) (all_of (schemas_of schemas.now))) }
+    ensures stop { IfErr result (λ s. IfAnswered s (HasOut (environment_of env.now) (schemas_of schemas.now))) }
+{
+    check_declared(alloc, env, schemas.state.schema)?;
+    check_declared(alloc, env, schemas.init.schema)?;
+    check_declared_operations(alloc, env, &schemas.operations)
+}
+
+fn check_declared_operations<'a>(
+    alloc: Global,
+    env: &Env<'_, 'a>,
+    operations: &[Named<'_, 'a>],
+) -> Result<(), Stop>
+    requires { AllByRecursion (λ n. IsFinite (environment_of env.now).numbers (environment_of env.now).globals n.schema) (map named_of operations.now) }
+    ensures ok { OnOk result (AllByRecursion (λ n. IsNoneOut (environment_of env.now) n.schema.comps) (map named_of operations.now)) }
+    ensures stop { IfErr result (λ s. IfAnswered s (λ text status. FirstFails (λ n. IsNoneOut (environment_of env.now) n.schema.comps) (λ n. TellsOut (environment_of env.now) n.schema.comps text status) (map named_of operations.now))) }
+{
+    for operation in operations {
+        check_declared(alloc, env, operation.schema)?;
+    }
+    Ok(())
+}
+
+/// Refuses a schema with a declared set that is out.
+fn check_declared<'a>(alloc: Global, env: &Env<'_, 'a>, schema: &Flat<'a>) -> Result<(), Stop>
+    requires { IsFinite (environment_of env.now).numbers (environment_of env.now).globals (schema_of schema.now) }
+    ensures ok { OnOk result (IsNoneOut (environment_of env.now) (schema_of schema.now).comps) }
+    ensures stop { IfErr result (λ s. IfAnswered s (TellsOut (environment_of env.now) (schema_of schema.now).comps)) }
+{
+    match ranges(alloc, schema.components.as_slice(), &[], env) {
+        Ok(_) => Ok(()),
+        Err(fault) => Err(not_begun(alloc, schema, fault)),
+    }
+}
