@@ -8,7 +8,7 @@ use std::process::ExitCode;
 use std::rt::Files;
 use std::{fs, io};
 
-static NAMES: [&str; 30] = [
+static NAMES: [&str; 31] = [
     "answers",
     "calculus",
     "command_lines",
@@ -27,6 +27,7 @@ static NAMES: [&str; 30] = [
     "out_of_bounds",
     "quoted",
     "ranges",
+    "reach",
     "refusals",
     "resuming",
     "sessions",
