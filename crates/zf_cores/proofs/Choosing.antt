@@ -63,7 +63,7 @@ module _ {A : Type 0} (P : A → Type 0) where
     none (p ∷ ps) = tt
   all_of (p ∷ ps) (false ∷ small) (b ∷ large) f h = all_of ps small large (λ c k. f (suc c) k) (tail_of p ps b large h)
 
-  beside : (given ps qs : List A) → (AllByRecursion P ps → AllByRecursion P qs) → AllByRecursion P (given ++ ps) → AllByRecursion P (given ++ qs)
+  pub beside : (given ps qs : List A) → (AllByRecursion P ps → AllByRecursion P qs) → AllByRecursion P (given ++ ps) → AllByRecursion P (given ++ qs)
   beside [] ps qs f h = f h
   beside (g ∷ given) ps qs f h = (h.0, beside given ps qs f h.1)
 

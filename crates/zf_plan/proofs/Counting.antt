@@ -19,6 +19,8 @@ use Rattle.zf_plan.specs.declared.plan.Plan.{Plan}
 use Rattle.zf_plan.proofs.SoFar.{so-kept}
 use Rattle.zf_plan.proofs.Testing.{not-false}
 use Rattle.zf_plan.proofs.Moving.{same-under, IsFrontier, frontier-past, frontier-at, frontier-last, within-front, length-front, length-bound, last-value}
+use Rattle.zf_walk.specs.Seen.{unseen}
+use Rattle.zf_plan.specs.Places.{seen_at}
 
 -- what the order, the leaves and the named row are known to be
 pub record Basis {V : Type 0} (cmp : V → V → Ordering) (l : Conjuncts V) (ranges : List (List V)) (after : Option (List V)) : Type 0 where
@@ -271,7 +273,7 @@ module _ {V : Type 0} {cmp : V → V → Ordering} {l : Conjuncts V} {ranges : L
       few = length-take-le k p.places.items (omega (arith, at.all_places))
 
       counts-landed : (tests : ℕ) → Counts cmp l ranges after front F tests → Lands (length (get_or ranges k [])) k f p q → Counts cmp l ranges after (picked ranges (bound q)) (λ tail. q.fresh) tests
-      counts-landed tests (number, count, is) (found, inl (low, ps, d, fr, marks)) =
+      counts-landed tests (number, count, is) (found, seen, inl (low, ps, d, fr, marks)) =
           let n = nth-at (get_or ranges k []) f low in
           let there : bound q ≡ take k p.places.items ++ f ∷ [] =
           ap (λ j. take j q.places.items) d ∙ ap (take (k + 1)) ps ∙ take_more_set p.places.items k f (omega (arith, at.all_places)) in
@@ -281,7 +283,7 @@ module _ {V : Type 0} {cmp : V → V → Ordering} {l : Conjuncts V} {ranges : L
             subst (λ b. IsCount (Passed (picked ranges (bound q)) (λ tail. b)) number) (sym fr) (subst (λ r. IsCount (Passed r all_of) number) (sym line) (on-value n.0 n.1 number count)),
             is,
           )
-      counts-landed tests (number, count, is) (found, inr (high, ps, d, fr, marks)) =
+      counts-landed tests (number, count, is) (found, seen, inr (high, ps, d, fr, marks)) =
           let there : bound q ≡ take k p.places.items = ap (λ j. take j q.places.items) d ∙ ap (take k) ps in (
             number,
             subst (λ b. IsCount (Passed (picked ranges (bound q)) (λ tail. b)) number) (sym fr) (subst (λ ps. IsCount (Passed (picked ranges ps) none_of) number) (sym there) (past-row high number count)),
@@ -443,10 +445,11 @@ module _ {V : Type 0} {cmp : V → V → Ordering} {l : Conjuncts V} {ranges : L
     counted-still k = record {
       counts = subst (λ b. Counts cmp l ranges after (path ranges p) (λ tail. b) new) (sym f) (subst (λ is. Counts cmp l ranges after (picked ranges (take p.depth is)) all_of new) e k);
       whole = h.whole;
+      unseen = h.unseen;
     }
 
     pub counted-out : Counts cmp l ranges after (picked ranges (take p.depth all)) none_of new → IsCounted cmp l ranges after (record p { fresh = false }) new choices
-    counted-out k = record { counts = subst (λ is. Counts cmp l ranges after (picked ranges (take p.depth is)) none_of new) e k; whole = h.whole }
+    counted-out k = record { counts = subst (λ is. Counts cmp l ranges after (picked ranges (take p.depth is)) none_of new) e k; whole = h.whole; unseen = h.unseen }
 
   pub found-false : (line : List V) (t : Truth) (tests : ℕ) → t ≡ False → CountsFound cmp l ranges after line t tests → Counts cmp l ranges after line none_of tests
   found-false line False tests e h = h
@@ -471,6 +474,7 @@ module _ {V : Type 0} {cmp : V → V → Ordering} {l : Conjuncts V} {ranges : L
             | inl is ↦ ap (λ j. get_or (set choices p.depth choice) j None) is ∙ here
             | inr other ↦ get_or-set_other choices p.depth i choice None other ∙ h.whole i
           ];
+          unseen = λ i. ap (λ ss. get_or ss i unseen) lands.2.1 ∙ h.unseen i;
         }
 
     pub counted-retreats : (tests k : ℕ) → IsCounted cmp l ranges after p tests choices → p.fresh ≡ false → p.depth ≡ k + 1
@@ -480,6 +484,7 @@ module _ {V : Type 0} {cmp : V → V → Ordering} {l : Conjuncts V} {ranges : L
         record {
           counts = counts-retreats given p q tests k at d (asc k [] (omega (arith, at.shallow))) (subst (λ b. Counts cmp l ranges after (path ranges p) (λ tail. b) tests) f h.counts) next;
           whole = h.whole;
+          unseen = λ i. ap (λ ss. get_or ss i unseen) lands.2.1 ∙ h.unseen i;
         }
 
   -- ---- what a step answers
@@ -508,11 +513,12 @@ module _ {V : Type 0} {cmp : V → V → Ordering} {l : Conjuncts V} {ranges : L
         tests-all given tests (subst (λ r. Counts cmp l ranges after r none_of tests) none (subst (λ b. Counts cmp l ranges after (path ranges q) (λ tail. b) tests) over.0 h.counts))
 
   -- nothing is counted where no value is bound
-  pub counted-first : (p : Place) (tests : ℕ) (choices : List (Option (List ℕ))) → p.depth ≡ 0 → p.fresh ≡ true → tests ≡ 0 → ((k : ℕ) → get_or choices k None ≡ None) → IsCounted cmp l ranges after p tests choices
-  counted-first p tests choices d f e none = record {
+  pub counted-first : (p : Place) (tests : ℕ) (choices : List (Option (List ℕ))) → p.depth ≡ 0 → p.fresh ≡ true → tests ≡ 0 → ((k : ℕ) → get_or choices k None ≡ None) → ((k : ℕ) → seen_at p k ≡ unseen) → IsCounted cmp l ranges after p tests choices
+  counted-first p tests choices d f e none nothing = record {
     counts =
         let none : path ranges p ≡ [] = ap (λ k. picked ranges (take k p.places.items)) d ∙ picked-nil ranges in
         subst (λ b. Counts cmp l ranges after (path ranges p) (λ tail. b) tests) (sym f)
         (subst (λ r. Counts cmp l ranges after r all_of tests) (sym none) (subst (Counts cmp l ranges after [] all_of) (sym e) (counts-first given)));
     whole = none;
+    unseen = nothing;
   }

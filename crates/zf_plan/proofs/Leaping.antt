@@ -157,6 +157,7 @@ module _ {V : Type 0} {cmp : V → V → Ordering} {l : Conjuncts V} {used : ℕ
           within = within;
           all_stamps = at.all_stamps;
           all_marks = at.all_marks;
+          all_seen = at.all_seen;
         };
         remembers = subst (λ js. Remembers l uses ranges js memo) (sym front) (remembers-front l uses trees ranges (bound q) d few memo st.remembers);
         found = λ j m. st.found j (omega (arith, m, low, deep));
@@ -164,6 +165,7 @@ module _ {V : Type 0} {cmp : V → V → Ordering} {l : Conjuncts V} {used : ℕ
         kept = λ c near'. subst (λ js. IsKept l trees ranges q.marks.stamps.items js c (get_or choices c None) (mark_at q.marks c)) (sym front)
             (kept-front l uses trees ranges (bound q) d few q.marks.stamps.items c (get_or choices c None) (mark_at q.marks c) (st.kept c near'));
         chosen = λ j m. st.chosen j (omega (arith, m, low, deep));
+        seen = λ j m. st.seen j (omega (arith, m, low, deep));
       }
 
 -- what a leap leaves
@@ -187,8 +189,8 @@ module _ {V : Type 0} {cmp : V → V → Ordering} {l : Conjuncts V} {used : ℕ
 
 -- a landing past the row has found no chosen value
 pub landed-none : (end k : ℕ) (choice : Option (List ℕ)) (p q : Place) → LandsNext end choice k 0 p q → q.fresh ≡ false → (q.depth ≡ k) × ((i : ℕ) → i < end → IsChosen choice i → ⊥)
-landed-none end k choice p q (next, is, (found, inl (low, ps, d, fresh, marks))) f = absurd (false≢true (sym f ∙ fresh))
-landed-none end k choice p q (next, is, (found, inr (high, ps, d, fresh, marks))) f = (d, λ i near. is.skipped i (omega arith) (omega (arith, near, high)))
+landed-none end k choice p q (next, is, (found, seen, inl (low, ps, d, fresh, marks))) f = absurd (false≢true (sym f ∙ fresh))
+landed-none end k choice p q (next, is, (found, seen, inr (high, ps, d, fresh, marks))) f = (d, λ i near. is.skipped i (omega arith) (omega (arith, near, high)))
 
 -- where all values are chosen there is no leap
 pub never-leaps : (k : ℕ) (choice : Option (List ℕ)) (q r : Place) → choice ≡ None → Leaps k choice q r → r ≡ q

@@ -11,6 +11,7 @@ pub mod Looking
 pub mod Testing
 pub mod Narrowing
 pub mod Moving
+pub mod Seeing
 pub mod Marking
 pub mod Sieving
 pub mod Stepping

@@ -10,6 +10,7 @@ use Rattle.zf_plan.specs.Marks.{AreNew, is_still, mark_at}
 use Rattle.zf_plan.specs.Places.{AreKept, IsKept}
 use Rattle.zf_plan.specs.declared.marks.Mark.{Mark}
 use Rattle.zf_plan.specs.declared.marks.Marks.{Marks}
+use Rattle.zf_walk.specs.declared.seen.Seen.{Seen}
 use Rattle.zf_plan.proofs.Moving.{length-bound}
 use Rattle.zf_plan.proofs.TreeTruths.{both-kept, either-kept}
 
@@ -154,7 +155,7 @@ module _ {V : Type 0} (l : Conjuncts V) (trees : List Tree) (ranges : List (List
 
     pub moved-on : (end i : ℕ) → Lands end k i p q → IsKept l trees ranges p.marks.stamps.items (bound p) d choice (mark_at p.marks d)
         → IsKept l trees ranges q.marks.stamps.items (bound q) d choice (mark_at q.marks d)
-    moved-on end i (found, inl (low, ps, depth, fr, renews)) h =
+    moved-on end i (found, seen, inl (low, ps, depth, fr, renews)) h =
         let mark = mark_at p.marks d in
         let stamps = p.marks.stamps.items in
         let next = cut (get_or stamps (k + 1) 0 + 1) in
@@ -173,7 +174,7 @@ module _ {V : Type 0} (l : Conjuncts V) (trees : List Tree) (ranges : List (List
         ] in
         subst (λ m. IsKept l trees ranges q.marks.stamps.items (bound q) d choice m) same
         (subst (λ ss. IsKept l trees ranges ss (bound q) d choice mark) (sym renews.stamps) new)
-    moved-on end i (found, inr (high, ps, depth, fr, marks)) h =
+    moved-on end i (found, seen, inr (high, ps, depth, fr, marks)) h =
         subst (λ (ms : Marks). IsKept l trees ranges ms.stamps.items (bound q) d choice (mark_at ms d)) (sym marks)
         (moved p.marks.stamps.items p.marks.stamps.items (mark_at p.marks d) h (λ is. ((λ within. omega arith), is)) h.past)
 
@@ -201,9 +202,9 @@ module _ {V : Type 0} (l : Conjuncts V) (trees : List Tree) (ranges : List (List
         (subst (IsKept l trees ranges old.stamps.items places d (get_or choices d None)) (sym (others d ne)) (kept d near)))
   ]
 
--- a landing from a place of which only a mark and what was found are others
-pub landed-marked : {V : Type 0} (ranges : List (List V)) (choices : List (Option (List ℕ))) (choice : Option (List ℕ)) (p now q : Place) (truth : Truth) → now ≡ record p { marks = now.marks }
-    → LandsNext (length (get_or ranges now.depth [])) (get_or (set choices p.depth choice) now.depth None) now.depth 0 (record now { found = with_item now.found p.depth truth }) q
-    → LandsNext (length (get_or ranges p.depth [])) (get_or (set choices p.depth choice) p.depth None) p.depth 0 (record p { marks = now.marks; found = with_item p.found p.depth truth }) q
-landed-marked ranges choices choice p now q truth is h =
-    subst (λ (w : Place). LandsNext (length (get_or ranges w.depth [])) (get_or (set choices p.depth choice) w.depth None) w.depth 0 (record w { found = with_item w.found p.depth truth }) q) is h
+-- a landing from a place of which only a mark, what was found and what was seen are others
+pub landed-marked : {V : Type 0} (ranges : List (List V)) (choices : List (Option (List ℕ))) (choice : Option (List ℕ)) (p now q : Place) (truth : Truth) (seen : Seen) → now ≡ record p { marks = now.marks }
+    → LandsNext (length (get_or ranges now.depth [])) (get_or (set choices p.depth choice) now.depth None) now.depth 0 (record now { found = with_item now.found p.depth truth; seen = with_item now.seen p.depth seen }) q
+    → LandsNext (length (get_or ranges p.depth [])) (get_or (set choices p.depth choice) p.depth None) p.depth 0 (record p { marks = now.marks; found = with_item p.found p.depth truth; seen = with_item p.seen p.depth seen }) q
+landed-marked ranges choices choice p now q truth seen is h =
+    subst (λ (w : Place). LandsNext (length (get_or ranges w.depth [])) (get_or (set choices p.depth choice) w.depth None) w.depth 0 (record w { found = with_item w.found p.depth truth; seen = with_item w.seen p.depth seen }) q) is h

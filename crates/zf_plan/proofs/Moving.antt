@@ -198,8 +198,8 @@ module _ {V : Type 0} (cmp : V → V → Ordering) (o : IsTotalOrder cmp) (ties 
     falls : (length (get_or ranges k []) - g) * below (drop (k + 1) ranges) ≤ (length (get_or ranges k []) - f) * below (drop (k + 1) ranges)
     falls = let h : length (get_or ranges k []) - g ≤ length (get_or ranges k []) - f = omega arith in mul-le-mul_right (below (drop (k + 1) ranges)) h
 
-    on-value : q.found.items ≡ p.found.items → g < length (get_or ranges k []) → q.places.items ≡ set p.places.items k g → q.depth ≡ k + 1 → q.fresh ≡ true → Renews (k + 1) p.marks q.marks → Landed cmp s ranges after p k q
-    on-value found l ps d fr renews =
+    on-value : q.found.items ≡ p.found.items → q.seen.items ≡ p.seen.items → g < length (get_or ranges k []) → q.places.items ≡ set p.places.items k g → q.depth ≡ k + 1 → q.fresh ≡ true → Renews (k + 1) p.marks q.marks → Landed cmp s ranges after p k q
+    on-value found seen l ps d fr renews =
         let n = nth-at (get_or ranges k []) g l in
         let y = n.0 in
         let long = length-places ranges p at k deep in
@@ -215,6 +215,7 @@ module _ {V : Type 0} (cmp : V → V → Ordering) (o : IsTotalOrder cmp) (ties 
             shallow = omega arith;
             all_stamps = ap length renews.stamps ∙ length-set p.marks.stamps.items (k + 1) (cut (get_or p.marks.stamps.items (k + 1) 0 + 1)) ∙ at.all_stamps;
             all_marks = ap length renews.choices ∙ at.all_marks;
+            all_seen = ap length seen ∙ at.all_seen;
             within = subst (AreWithin ranges) (sym stairs) (AreWithin-push ranges (take k p.places.items) g y inner (omega arith) n');
           };
           same = keeps (reaches cmp true (y ∷ [])) (frontier-at cmp o ties (get_or ranges k []) (asc k [] near) g y n.1)
@@ -229,8 +230,8 @@ module _ {V : Type 0} (cmp : V → V → Ordering) (o : IsTotalOrder cmp) (ties 
           fronts = λ i h. take-take i q.depth q.places.items (omega arith) ∙ ap (take i) ps ∙ take-set-le i p.places.items k g h ∙ sym (take-take i p.depth p.places.items (omega arith));
         }
 
-    past-row : q.found.items ≡ p.found.items → length (get_or ranges k []) ≤ g → q.places.items ≡ p.places.items → q.depth ≡ k → q.fresh ≡ false → q.marks ≡ p.marks → Landed cmp s ranges after p k q
-    past-row found l ps d fr marks =
+    past-row : q.found.items ≡ p.found.items → q.seen.items ≡ p.seen.items → length (get_or ranges k []) ≤ g → q.places.items ≡ p.places.items → q.depth ≡ k → q.fresh ≡ false → q.marks ≡ p.marks → Landed cmp s ranges after p k q
+    past-row found seen l ps d fr marks =
         let stairs : bound q ≡ take k p.places.items = ap (λ j. take j q.places.items) d ∙ ap (take k) ps in
         record {
           at = record {
@@ -239,6 +240,7 @@ module _ {V : Type 0} (cmp : V → V → Ordering) (o : IsTotalOrder cmp) (ties 
             shallow = omega arith;
             all_stamps = ap (λ (m : Marks). length m.stamps.items) marks ∙ at.all_stamps;
             all_marks = ap (λ (m : Marks). length m.choices.items) marks ∙ at.all_marks;
+            all_seen = ap length seen ∙ at.all_seen;
             within = subst (AreWithin ranges) (sym stairs) (within-front ranges p at k deep);
           };
           same = keeps (λ _. false) (frontier-last cmp o ties (get_or ranges k []) g l)
@@ -251,8 +253,8 @@ module _ {V : Type 0} (cmp : V → V → Ordering) (o : IsTotalOrder cmp) (ties 
         }
 
     pub landed : Lands (length (get_or ranges k [])) k g p q → Landed cmp s ranges after p k q
-    landed (found, inl a) = on-value found a.0 a.1 a.2 a.3 a.4
-    landed (found, inr a) = past-row found a.0 a.1 a.2 a.3 a.4
+    landed (found, seen, inl a) = on-value found seen a.0 a.1 a.2 a.3 a.4
+    landed (found, seen, inr a) = past-row found seen a.0 a.1 a.2 a.3 a.4
 
 -- what was told stays right where the leaves that need one value more are forgotten
 pub tells-landed : {V : Type 0} (l : Conjuncts V) (ranges : List (List V)) (k : ℕ) (places new : List ℕ) (old told : List (Option Truth)) → Tells l ranges places old → AreForgotten l (k + 1) old told

@@ -3,8 +3,8 @@ use Rattle.zf_plan.proofs.Prelude.{◌++◌, ◌+◌, ◌<◌, ◌∙◌, ◌≡
 use Rattle.std.proofs.Common.{Bool, ◌||◌, max}
 use Rattle.std.proofs.lemmas.Bool.{eq-eqb}
 use Rattle.zf_plan.specs.Knowing.{IsAmong, IsLeafDue, IsLeafOrBelow, IsRefuted, IsSoFar, joined, NeedsBelow, NeedsWithin}
-use Rattle.zf_plan.specs.Places.{AreDue, AreTouched, touches, touches_inside}
-use Rattle.zf_plan.specs.Testing.{AreNotFalse, Tests}
+use Rattle.zf_plan.specs.Places.{AreDue, AreHeld, AreTouched, IsTold, touches, touches_inside}
+use Rattle.zf_plan.specs.Testing.{AreNotFalse, IsTruthOfLeaves, Tests}
 use Rattle.zf_plan.proofs.Knowing.{settled-leaf}
 use Rattle.zf_plan.proofs.TreeTruths.{settled-here}
 
@@ -40,6 +40,13 @@ module _ {V : Type 0} (l : Conjuncts V) (trees : List Tree) where
   pub so-false : (P Q : ℕ → Type 0) (row : List V) → IsSoFar l trees row P False → IsSoFar l trees row Q False
   unfolding IsSoFar
   so-false P Q row h = h
+
+  -- with the leaves that need k values, where these are True
+  pub so-told : (k : ℕ) (row : List V) (t : Truth) → IsSoFar l trees row (NeedsBelow l trees k) t → AreHeld l trees row k → IsSoFar l trees row (IsLeafOrBelow l trees k) t
+  unfolding IsSoFar
+  so-told k row True h held = λ j m p. elim p [ inl below ↦ h j m below | inr w ↦ held j w.0 m w.1 ]
+  so-told k row False h held = h
+  so-told k row Out h held = ((λ j m p. elim p [ inl below ↦ h.0 j m below | inr w ↦ inl (held j w.0 m w.1) ]), h.1)
 
   -- of one more, whose truth is known
   module _ (P : ℕ → Type 0) (row : List V) (i : ℕ) (near : i < length trees) where
@@ -202,3 +209,9 @@ module _ {V : Type 0} (l : Conjuncts V) (trees : List Tree) where
       elim h.1.1 [ inl e ↦ absurd (let z : True ≡ Out = e in cc) | inr w ↦ some-leaf Out (w.0, (let z = w.1 in omega (arith, h.0)), w.2) ],
     )
     so-tested Out Out n ne h k = ((λ j m p. elim p [ inl below ↦ k.0 j m below | inr w ↦ not-false-there n h.0 h.1.0 j m w ]), k.1)
+
+    -- what these leaves come to is told of their conjuncts
+    pub told-so : (t : Truth) → IsTruthOfLeaves l road leaves (length leaves) t → IsTold l trees road (length places) t
+    told-so False h = some-leaf False h
+    told-so True h = λ j c m is. let f = found-at j c m is in settled-so j c True m is (subst (λ d. l.says d road True) f.2 (h f.0 f.1))
+    told-so Out h = h

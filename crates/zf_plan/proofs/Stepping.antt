@@ -3,9 +3,10 @@ use Rattle.zf_plan.proofs.Prelude.{Bool, suc, zero, ◌++◌, ◌+◌, ◌<◌, 
 use Rattle.zf_walk.proofs.Reaching.{IsLater-from, later-reached, unreached, IsAhead-from, IsAhead-to}
 use Rattle.zf_walk.proofs.Truths.{IsTruthOf-false, IsTruthOf-only}
 use Rattle.zf_plan.specs.Marks.{AreNew, mark_at}
-use Rattle.zf_plan.specs.Places.{AreKept, begun, Finds, found_before, IsFound, IsKept}
+use Rattle.zf_walk.specs.Seen.{unseen}
+use Rattle.zf_plan.specs.Places.{AreKept, AreSeen, begun, Finds, found_before, IsFound, IsKept, seen_at}
 use Rattle.zf_plan.proofs.Marking.{kept-chosen, kept-first, moved-on}
-use Rattle.zf_plan.specs.Knowing.{NeedsBelow, NeedsWithin}
+use Rattle.zf_plan.specs.Knowing.{IsRefuted, NeedsBelow, NeedsWithin}
 use Rattle.zf_plan.proofs.Forgetting.{are-forgotten}
 use Rattle.zf_plan.proofs.SoFar.{so-fewer, so-longer, so-none, so-refuted, so-whole}
 use Rattle.zf_walk.specs.Tables.{AreTrue}
@@ -67,8 +68,9 @@ module _ {V : Type 0} {cmp : V → V → Ordering} {l : Conjuncts V} {used : ℕ
 
     -- the leaves that need one value more are forgotten
     moves-stand : (uses : ℕ → ℕ → Bool) (old new : Memory) → Remembers l uses ranges (bound p) old → length choices ≡ length ranges → AreKept l trees ranges p.marks (bound p) choices → Forgets (k + 1) old new
-        → ((j : ℕ) → j ≤ k → IsFound l trees (picked ranges (take j p.places.items)) j (get_or p.found.items j True)) → Stands l uses trees ranges q new choices
-    moves-stand uses old new remembers long kept g found =
+        → ((j : ℕ) → j ≤ k → IsFound l trees (picked ranges (take j p.places.items)) j (get_or p.found.items j True))
+        → ((j : ℕ) → j ≤ k → AreSeen l trees ranges (take j p.places.items) (seen_at p j)) → Stands l uses trees ranges q new choices
+    moves-stand uses old new remembers long kept g found seen =
         let h = lands in
         let n = next.2 in
         let fronts : (j : ℕ) → j ≤ k → j ≤ q.depth → take j p.places.items ≡ take j q.places.items =
@@ -90,6 +92,10 @@ module _ {V : Type 0} {cmp : V → V → Ordering} {l : Conjuncts V} {used : ℕ
           chosen = λ j m.
               let low : j ≤ k = omega (arith, h.deep) in
               subst (λ is. IsChoice l trees ranges (picked ranges is) (get_or ranges j []) (get_or choices j None)) (fronts j low (omega arith)) (chosen j low);
+          seen = λ j m.
+              let low : j ≤ k = omega (arith, h.deep) in
+              subst (λ is. AreSeen l trees ranges is (seen_at q j)) (fronts j low (omega arith))
+              (subst (λ ss. AreSeen l trees ranges (take j p.places.items) (get_or ss j unseen)) (sym n.1) (seen j low));
         }
 
   module _ (p q : Place) (choices : List (Option (List ℕ))) (choice : Option (List ℕ)) (at : IsAt ranges p) (all : length choices ≡ length ranges)
@@ -115,10 +121,11 @@ module _ {V : Type 0} {cmp : V → V → Ordering} {l : Conjuncts V} {used : ℕ
     descends = moves-on p q (set choices p.depth choice) p.depth 0 at near (omega arith) all-chosen first-from next
 
     pub descends-stand : (uses : ℕ → ℕ → Bool) (old new : Memory) → Remembers l uses ranges (bound p) old → AreKept l trees ranges p.marks (bound p) (set choices p.depth choice) → Forgets (p.depth + 1) old new
-        → ((j : ℕ) → j ≤ p.depth → IsFound l trees (picked ranges (take j p.places.items)) j (get_or p.found.items j True)) → Stands l uses trees ranges q new (set choices p.depth choice)
-    descends-stand uses old new remembers kept g found =
+        → ((j : ℕ) → j ≤ p.depth → IsFound l trees (picked ranges (take j p.places.items)) j (get_or p.found.items j True))
+        → ((j : ℕ) → j ≤ p.depth → AreSeen l trees ranges (take j p.places.items) (seen_at p j)) → Stands l uses trees ranges q new (set choices p.depth choice)
+    descends-stand uses old new remembers kept g found seen =
         moves-stand p q (set choices p.depth choice) p.depth 0 at near (omega arith) all-chosen first-from next uses old new remembers
-        (length-set choices p.depth choice ∙ all) kept g found
+        (length-set choices p.depth choice ∙ all) kept g found seen
 
   module _ (uses : ℕ → ℕ → Bool) (p q : Place) (old : Memory) (choices : List (Option (List ℕ))) (k : ℕ) (st : Stands l uses trees ranges p old choices) (f : p.fresh ≡ false) (d : p.depth ≡ k + 1)
       (next : LandsNext (length (get_or ranges k [])) (get_or choices k None) k (get_or p.places.items k 0 + 1) p q) where
@@ -134,7 +141,7 @@ module _ {V : Type 0} {cmp : V → V → Ordering} {l : Conjuncts V} {used : ℕ
     pub retreats-stand : (new : Memory) → Forgets (k + 1) old new → Stands l uses trees ranges q new choices
     retreats-stand new g =
         moves-stand p q choices k (get_or p.places.items k 0 + 1) st.at near-last (omega arith) (λ j h. st.chosen j (omega arith)) last-from next
-        uses old new st.remembers st.all_choices st.kept g (λ j h. st.found j (omega arith))
+        uses old new st.remembers st.all_choices st.kept g (λ j h. st.found j (omega arith)) (λ j h. st.seen j (omega arith))
 
   pub passes : (p q : Place) → IsAt ranges p → p.fresh ≡ true → q.fresh ≡ false → q.places.items ≡ p.places.items → q.depth ≡ p.depth
       → IsHopeless cmp l trees (length ranges) after (path ranges p) → GoesOn cmp (planted l trees) ranges after p q
@@ -287,6 +294,11 @@ module _ {V : Type 0} {cmp : V → V → Ordering} {l : Conjuncts V} {used : ℕ
   gives-on p q r Breaks same g = (takes-on (ahead_of ranges p) (ahead_of ranges q) (ahead_of ranges r) (record { row = path ranges r; truth = Out }) same g.0, g.1)
   gives-on p q r End same g = ((λ e ev a. g.0 e ev ((same e ev).0 a)), g.1, g.2)
 
+-- a row on which a conjunct is False holds no event
+pub finds-refuted : {V : Type 0} (cmp : V → V → Ordering) (l : Conjuncts V) (trees : List Tree) (n : ℕ) (after : Option (List V)) (row : List V) → IsRefuted l trees row → Finds cmp l trees n after row False
+unfolding Finds
+finds-refuted cmp l trees n after row h = inr h
+
 -- there is no row where a range is empty
 pub empty-none : {V : Type 0} (ranges : List (List V)) (k : ℕ) → k < length ranges → length (get_or ranges k []) ≡ 0 → (row : List V) → IsRowOf ranges row → ⊥
 empty-none [] k near e row m = omega arith
@@ -309,9 +321,9 @@ setting-of o one keep sound = record { total = o; one_truth = one; kept = keep; 
 
 -- no value is bound and nothing is known
 pub stands-first : {V : Type 0} (l : Conjuncts V) (uses : ℕ → ℕ → Bool) (trees : List Tree) (ranges : List (List V)) (p : Place) (memo : Memory) (choices : List (Option (List ℕ)))
-    → p.depth ≡ 0 → length p.places.items ≡ length ranges → length p.found.items ≡ length ranges → AreNew (length ranges) p.marks
+    → p.depth ≡ 0 → length p.places.items ≡ length ranges → length p.found.items ≡ length ranges → length p.seen.items ≡ length ranges → AreNew (length ranges) p.marks
     → IsNew l uses ranges memo → length choices ≡ length ranges → Stands l uses trees ranges p memo choices
-stands-first l uses trees ranges p memo choices d long found marks new all = record {
+stands-first l uses trees ranges p memo choices d long found seen marks new all = record {
   at = record {
     all_places = long;
     all_found = found;
@@ -319,6 +331,7 @@ stands-first l uses trees ranges p memo choices d long found marks new all = rec
     within = subst (λ k. AreWithin ranges (take k p.places.items)) (sym d) (record { few = omega arith; each = λ k h. absurd (omega arith) });
     all_stamps = marks.all_stamps;
     all_marks = marks.all_choices;
+    all_seen = seen;
   };
   remembers = record {
     dues = new.dues;
@@ -332,6 +345,7 @@ stands-first l uses trees ranges p memo choices d long found marks new all = rec
   all_choices = all;
   kept = kept-first l trees ranges p.marks (bound p) choices marks;
   chosen = λ k m. absurd (omega arith);
+  seen = λ k m. absurd (omega arith);
 }
 
 -- a choice that was refused leaves all as it was
@@ -345,4 +359,5 @@ stands-refused l uses trees ranges p old new choices choice st near remembers ke
   all_choices = length-set choices p.depth choice ∙ st.all_choices;
   kept = kept-chosen l trees ranges p.marks p.marks (bound p) choices p.depth choice (omega (arith, st.all_choices)) refl (λ d ne. refl) st.kept kept;
   chosen = λ k m. subst (IsChoice l trees ranges (picked ranges (take k p.places.items)) (get_or ranges k [])) (sym (get_or-set_other choices p.depth k choice None (λ e. absurd (omega arith)))) (st.chosen k m);
+  seen = st.seen;
 }

@@ -8,7 +8,8 @@ use Rattle.zf_walk.specs.Tests.{IsWalked, IsCount, cut}
 use Rattle.zf_walk.specs.Picked.{picked}
 use Rattle.zf_walk.specs.Order.{under}
 use Rattle.zf_plan.specs.Trees.{Tree, IsFlat}
-use Rattle.zf_plan.specs.Places.{bound}
+use Rattle.zf_walk.specs.Seen.{unseen}
+use Rattle.zf_plan.specs.Places.{bound, seen_at}
 use Rattle.zf_plan.specs.declared.place.Place.{Place}
 use Rattle.zf_plan.specs.declared.plan.Plan.{Plan}
 
@@ -17,6 +18,7 @@ pub record IsPlain {V : Type 0} (l : Conjuncts V) (trees : List Tree) (planned :
   pub flat : IsFlat l.number trees
   pub none : (k : ℕ) → slice_index_or planned.narrowing.items k [] ≡ []
   pub unsifted : (k : ℕ) → slice_index_or planned.sifting.items k [] ≡ []
+  pub plain : planned.is_plain ≡ true
 
 -- which rows that begin with a given one are ahead, by what they have behind it: all, those that go on, or none
 abbrev pub all_of : {V : Type 0} → List V → Bool
@@ -47,7 +49,8 @@ abbrev pub CountsOn : {V E : Type 0} → (V → V → Ordering) → Conjuncts V 
 CountsOn cmp l ranges after road (Err e) tests = Counts cmp l ranges after road all_of tests
 CountsOn cmp l ranges after road (Ok t) tests = CountsFound cmp l ranges after road t tests
 
--- what is counted at a place, where all values of each range are tried
+-- what is counted at a place, where all values of each range are tried and nothing is known of them
 pub record IsCounted {V : Type 0} (cmp : V → V → Ordering) (l : Conjuncts V) (ranges : List (List V)) (after : Option (List V)) (p : Place) (tests : ℕ) (choices : List (Option (List ℕ))) : Type 0 where
   pub counts : Counts cmp l ranges after (picked ranges (bound p)) (λ tail. p.fresh) tests
   pub whole : (k : ℕ) → slice_index_or choices k None ≡ None
+  pub unseen : (k : ℕ) → seen_at p k ≡ unseen

@@ -1,5 +1,5 @@
 -- Where a search is, and what its steps do: for private contracts and the model of `Search` alone.
-use Rattle.std.specs.Prelude.{◌≡◌, ◌≢◌, ◌⊎◌, ℕ, zero, suc, ◌+◌, ◌-◌, ◌*◌, ◌<◌, ◌≤◌, ◌^◌, Bool, true, false, cond, eqb, ◌||◌, nat_eq, List, [], ◌∷◌, length, take, drop, slice_index_or, slice_set, AllPairs, Contains, Option, Some, None}
+use Rattle.std.specs.Prelude.{◌≡◌, ◌≢◌, ◌⊎◌, ℕ, zero, suc, ◌+◌, ◌-◌, ◌*◌, ◌<◌, ◌≤◌, ◌^◌, Bool, true, false, cond, eqb, ◌||◌, nat_eq, List, [], ◌∷◌, ◌++◌, length, take, drop, slice_index_or, slice_set, AllPairs, Contains, Option, Some, None}
 use Rattle.std.specs.declared.cmp.Ordering.{Ordering}
 use Rattle.zf_walk.specs.declared.judge.Truth.{Truth}
 use Rattle.zf_walk.specs.declared.judge.Truth.TheVariants.{True, False, Out}
@@ -18,7 +18,9 @@ use Rattle.std.specs.Option.{option_copied}
 use Rattle.zf_plan.specs.Groves.{trees_of}
 use Rattle.zf_plan.specs.Memories.{Memory}
 use Rattle.zf_plan.specs.Trees.{Tree, leaf, negated, both, either, tree_at, HaveLeavesWithin}
-use Rattle.zf_plan.specs.Knowing.{Remembers, IsRefuted, IsSoFar, IsLeafDue, NeedsWithin, AreBelow}
+use Rattle.zf_walk.specs.Seen.{IsSeen, unseen}
+use Rattle.zf_walk.specs.declared.seen.Seen.{Seen}
+use Rattle.zf_plan.specs.Knowing.{Remembers, IsRefuted, IsSettled, IsSoFar, IsLeafDue, NeedsWithin, AreBelow}
 use Rattle.zf_plan.specs.Choosing.{AreLasts, IsChoice, IsNextChoice, StaysChoice}
 use Rattle.zf_plan.specs.declared.marks.Mark.{Mark}
 use Rattle.zf_plan.specs.declared.marks.Marks.{Marks}
@@ -74,6 +76,7 @@ pub record IsAt {V : Type 0} (ranges : List (List V)) (p : Place) : Type 0 where
   pub within : AreWithin ranges (take p.depth p.places.items)
   pub all_stamps : length p.marks.stamps.items ≡ length ranges + 1
   pub all_marks : length p.marks.choices.items ≡ length ranges
+  pub all_seen : length p.seen.items ≡ length ranges
 
 -- the places of the values that are bound
 abbrev pub bound : Place → List ℕ
@@ -99,6 +102,24 @@ pub record IsFound {V : Type 0} (l : Conjuncts V) (trees : List Tree) (row : Lis
   pub so : IsSoFar l trees row (NeedsWithin l trees k) t
   pub not_false : t ≢ False
 
+-- what is known of range k behind the values before it
+abbrev pub seen_at : Place → ℕ → Seen
+seen_at p k = slice_index_or p.seen.items k unseen
+
+-- the conjuncts that are leaves and need just this row are True on it
+abbrev pub AreHeld : {V : Type 0} → Conjuncts V → List Tree → List V → ℕ → Type 0
+AreHeld l trees row k = (j c : ℕ) → j < length trees → IsLeafDue l k (tree_at trees j) c → IsSettled l (tree_at trees j) row True
+
+-- the truth of the conjuncts that are leaves and need just this row, of k values: False where one is, True where all are
+abbrev pub IsTold : {V : Type 0} → Conjuncts V → List Tree → List V → ℕ → Truth → Type 0
+IsTold l trees row k False = IsRefuted l trees row
+IsTold l trees row k True = AreHeld l trees row k
+IsTold l trees row k Out = ⊥
+
+-- what is known of the values of the next range behind those at these places is so
+abbrev pub AreSeen : {V : Type 0} → Conjuncts V → List Tree → List (List V) → List ℕ → Seen → Type 0
+AreSeen l trees ranges places seen = (i : ℕ) (t : Truth) → AreWithin ranges (places ++ i ∷ []) → IsSeen seen i t → IsTold l trees (picked ranges (places ++ i ∷ [])) (length places + 1) t
+
 -- a choice of range k: it is one still where the values at these places are those of which its mark says that it was made
 pub record IsKept {V : Type 0} (l : Conjuncts V) (trees : List Tree) (ranges : List (List V)) (stamps places : List ℕ) (k : ℕ) (choice : Option (List ℕ)) (mark : Mark) : Type 0 where
   pub few : mark.due ≤ k
@@ -110,7 +131,7 @@ pub record IsKept {V : Type 0} (l : Conjuncts V) (trees : List Tree) (ranges : L
 abbrev pub AreKept : {V : Type 0} → Conjuncts V → List Tree → List (List V) → Marks → List ℕ → List (Option (List ℕ)) → Type 0
 AreKept l trees ranges marks places choices = (k : ℕ) → k < length ranges → IsKept l trees ranges marks.stamps.items places k (slice_index_or choices k None) (mark_at marks k)
 
--- what holds between two steps: what is remembered, kept and was found is right, and for each value that is bound what was chosen of its range
+-- what holds between two steps: what is remembered, kept, seen and was found is right, and for each value that is bound what was chosen of its range
 pub record Stands {V : Type 0} (l : Conjuncts V) (uses : ℕ → ℕ → Bool) (trees : List Tree) (ranges : List (List V)) (p : Place) (memo : Memory) (choices : List (Option (List ℕ))) : Type 0 where
   pub at : IsAt ranges p
   pub remembers : Remembers l uses ranges (bound p) memo
@@ -118,6 +139,7 @@ pub record Stands {V : Type 0} (l : Conjuncts V) (uses : ℕ → ℕ → Bool) (
   pub all_choices : length choices ≡ length ranges
   pub kept : AreKept l trees ranges p.marks (bound p) choices
   pub chosen : (k : ℕ) → k < p.depth → IsChoice l trees ranges (picked ranges (take k p.places.items)) (slice_index_or ranges k []) (slice_index_or choices k None)
+  pub seen : (k : ℕ) → k < p.depth → AreSeen l trees ranges (take k p.places.items) (seen_at p k)
 
 -- what holds of what a search goes over
 pub record IsSound {V : Type 0} (cmp : V → V → Ordering) (l : Conjuncts V) (uses : ℕ → ℕ → Bool) (trees : List Tree) (ranges : List (List V)) (after : Option (List V)) (planned : Plan) : Type 0 where
@@ -155,7 +177,7 @@ is_over p = cond p.fresh false (eqb p.depth 0)
 
 -- the value at place i of range k is bound as the last one, or where the range ends before it the row before it is passed
 abbrev pub Lands : ℕ → ℕ → ℕ → Place → Place → Type 0
-Lands end k i old new = (new.found.items ≡ old.found.items) × (((i < end) × (new.places.items ≡ slice_set old.places.items k i) × (new.depth ≡ k + 1) × (new.fresh ≡ true) × Renews (k + 1) old.marks new.marks)
+Lands end k i old new = (new.found.items ≡ old.found.items) × (new.seen.items ≡ old.seen.items) × (((i < end) × (new.places.items ≡ slice_set old.places.items k i) × (new.depth ≡ k + 1) × (new.fresh ≡ true) × Renews (k + 1) old.marks new.marks)
     ⊎ ((end ≤ i) × (new.places.items ≡ old.places.items) × (new.depth ≡ k) × (new.fresh ≡ false) × (new.marks ≡ old.marks)))
 
 -- to the next chosen place from one on

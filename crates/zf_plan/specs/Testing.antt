@@ -1,9 +1,12 @@
 -- Tests of leaves on a row: for private contracts alone.
-use Rattle.std.specs.Prelude.{◌≡◌, ◌⊎◌, ℕ, ◌+◌, ◌<◌, List, length, slice_index}
+use Rattle.std.specs.Prelude.{◌≡◌, ◌⊎◌, ℕ, ◌+◌, ◌<◌, List, [], ◌∷◌, ◌++◌, length, slice_index}
 use Rattle.zf_walk.specs.declared.judge.Truth.{Truth}
 use Rattle.zf_walk.specs.declared.judge.Truth.TheVariants.{True, False, Out}
 use Rattle.zf_walk.specs.Conjuncts.{Conjuncts}
+use Rattle.zf_walk.specs.Picked.{AreWithin, picked}
+use Rattle.zf_walk.specs.Seen.{IsSeen}
 use Rattle.zf_walk.specs.Tests.{cut}
+use Rattle.zf_walk.specs.declared.seen.Seen.{Seen}
 
 -- each of these is a leaf that needs k values
 abbrev pub AreLeaves : {V : Type 0} → Conjuncts V → ℕ → List ℕ → Type 0
@@ -27,3 +30,13 @@ Tests l row leaves before Out n = (n ≡ length leaves) × ArePassed l row leave
 -- they were tested so, and counted
 abbrev pub IsTested : {V : Type 0} → Conjuncts V → List V → List ℕ → Truth → Truth → ℕ → ℕ → Type 0
 IsTested l row leaves before t old new = (n : ℕ) × Tests l row leaves before t n × (new ≡ cut (old + n))
+
+-- of the first n leaves, which need one value more than those at these places: False, where one of them is, and True, where all are
+abbrev pub IsTruthOfLeaves : {V : Type 0} → Conjuncts V → List V → List ℕ → ℕ → Truth → Type 0
+IsTruthOfLeaves l row leaves n False = (k : ℕ) × (k < n) × l.says (slice_index leaves k) row False
+IsTruthOfLeaves l row leaves n True = (k : ℕ) → k < n → l.says (slice_index leaves k) row True
+IsTruthOfLeaves l row leaves n Out = ⊥
+
+-- what is known of them with each value of the next range
+abbrev pub AreSeenOf : {V : Type 0} → Conjuncts V → List (List V) → List ℕ → List ℕ → ℕ → Seen → Type 0
+AreSeenOf l ranges places leaves n seen = (i : ℕ) (t : Truth) → AreWithin ranges (places ++ i ∷ []) → IsSeen seen i t → IsTruthOfLeaves l (picked ranges (places ++ i ∷ [])) leaves n t

@@ -1,5 +1,5 @@
 //! What a search remembers of the leaves.
-ghost use Rattle.std.specs.Prelude.{◌≡◌, ◌≢◌, ◌+◌, ◌<◌, ◌≤◌, ◌^◌, length, IfOk, IfSome, OnErr};
+ghost use Rattle.std.specs.Prelude.{◌≡◌, ◌≢◌, ◌+◌, ◌<◌, ◌≤◌, ◌^◌, ◌++◌, ◌∷◌, [], length, IfOk, IfSome, OnErr};
 ghost use Rattle.zf_walk.specs.declared.judge.Truth.TheVariants.{False};
 ghost use Rattle.zf_walk.specs.Progress.{AreDueWithin};
 ghost use Rattle.zf_walk.specs.Picked.{AreWithin, picked};
@@ -7,7 +7,7 @@ ghost use Rattle.zf_walk.specs.Tables.{AreTrue};
 ghost use Rattle.zf_plan.specs.Trees.{leaf};
 ghost use Rattle.zf_plan.specs.Memories.{Forgets, IsNew};
 ghost use Rattle.zf_plan.specs.Knowing.{Remembers, IsKnown, IsSettled};
-ghost use Rattle.zf_plan.specs.Testing.{AreLeaves, IsTested, Tests};
+ghost use Rattle.zf_plan.specs.Testing.{AreLeaves, AreSeenOf, IsTested, Tests};
 ghost use Rattle.zf_plan.specs.Stamps.{AreUnknown, IsCleared, cleared};
 
 use crate::guide::Guide;
@@ -15,7 +15,7 @@ use crate::known::conjoin;
 use crate::problem::Problem;
 use std::alloc::{AllocError, Global};
 use std::marker::Model;
-use zf_walk::{Judge, Range, Tables, Truth};
+use zf_walk::{Judge, Range, Seen, Tables, Truth};
 
 /// A truth that is known of a leaf as long as its stamp is that of as many values as the leaf needs.
 #[derive(Clone, Copy)]
@@ -102,6 +102,21 @@ impl Memo {
         let tested = test_all(problem, places, leaves, before, &mut self.tables)?;
         self.tests = self.tests.saturating_add(tested.number as u64);
         Ok(tested.truth)
+    }
+
+    /// With which values of the next range some leaves, which need one more, are known to be all True, and with which one is False.
+    pub fn seen<V: Ord, J: Guide<V>>(
+        &self,
+        problem: &Problem<V, J>,
+        places: &[usize],
+        leaves: &[usize],
+    ) -> Seen
+        requires leaves { AreLeaves (J.conjuncts problem.now.judge.now) (length places.now + 1) leaves.now }
+        requires some { AreWithin problem.now.ranges.now (places.now ++ 0 ∷ []) }
+        requires remembers { Remembers (J.conjuncts problem.now.judge.now) (J.is_used problem.now.judge.now) problem.now.ranges.now places.now self.now }
+        ensures { AreSeenOf (J.conjuncts problem.now.judge.now) problem.now.ranges.now places.now leaves.now (length leaves.now) result }
+    {
+        seen_of_all(problem, places, leaves, &self.tables)
     }
 
     /// What is known of a leaf. Where it has the values that it needs and is not known, it is asked for.
@@ -213,6 +228,26 @@ fn cleared(leaf: Stamped, due: usize) -> Stamped
     } else {
         leaf
     }
+}
+
+/// What is known of these leaves.
+fn seen_of_all<V: Ord, J: Guide<V>>(
+    problem: &Problem<V, J>,
+    places: &[usize],
+    leaves: &[usize],
+    tables: &Tables,
+) -> Seen
+    requires leaves { AreLeaves (J.conjuncts problem.now.judge.now) (length places.now + 1) leaves.now }
+    requires some { AreWithin problem.now.ranges.now (places.now ++ 0 ∷ []) }
+    requires known { AreTrue (J.conjuncts problem.now.judge.now) (J.is_used problem.now.judge.now) problem.now.ranges.now tables.now.each.items }
+    ensures { AreSeenOf (J.conjuncts problem.now.judge.now) problem.now.ranges.now places.now leaves.now (length leaves.now) result }
+{
+    let mut all = Seen::all();
+    for i in 0..leaves.len() {
+        let seen = tables.seen(problem.judge, problem.ranges, leaves[i], places);
+        all = all.and(seen);
+    }
+    all
 }
 
 /// Tests these leaves.

@@ -22,7 +22,7 @@ use crate::problem::Problem;
 use crate::steps::next_answer;
 use std::alloc::{AllocError, Global};
 use std::marker::Model;
-use zf_walk::{Range, Row, Step, Truth, pick};
+use zf_walk::{Range, Row, Seen, Step, Truth, pick};
 
 /// A search over the rows of some ranges, in ascending order, for those on which no conjunct is False. It passes over rows that hold none, and takes no memory of its own once it stands.
 #[derive(Drop)]
@@ -138,10 +138,12 @@ impl<'a, V: Ord + Drop, J: Guide<V> + Drop> Search<'a, V, J> {
         let choices = all_chosen(alloc, ranges.len())?;
         let found = vec![in alloc; Truth::True; ranges.len()]?;
         let marks = Marks::new(alloc, ranges.len())?;
+        let seen = vec![in alloc; Seen::none(); ranges.len()]?;
         let place = Place {
             places,
             found,
             marks,
+            seen,
             depth: 0,
             fresh: may_begin(&ranges, plain),
         };

@@ -1,5 +1,5 @@
 //! The steps of a search.
-ghost use Rattle.std.specs.Prelude.{◌≡◌, ◌≢◌, ◌<◌, ◌≤◌, None, [], length, slice_index_or, IsTrue, IfOk, OnOk, OnErr};
+ghost use Rattle.std.specs.Prelude.{◌≡◌, ◌≢◌, ◌<◌, ◌≤◌, None, [], length, slice_index_or, IsTrue, IfOk, OnOk, OnErr, ℕ, take};
 ghost use Rattle.std.specs.Option.{option_copied};
 ghost use Rattle.zf_walk.specs.declared.judge.Truth.TheVariants.{False};
 ghost use Rattle.zf_walk.specs.Picked.{AreWithin, picked};
@@ -9,7 +9,8 @@ ghost use Rattle.zf_plan.specs.Knowing.{Remembers, IsSoFar, NeedsBelow};
 ghost use Rattle.zf_plan.specs.Choosing.{IsChoice, StaysChoice};
 ghost use Rattle.zf_plan.specs.Marks.{mark_at};
 ghost use Rattle.zf_plan.specs.Counts.{IsPlain, Counts, CountsOn, IsCounted, all_of};
-ghost use Rattle.zf_plan.specs.Places.{IsPosed, bound, path, IsAt, IsKept, IsMarked, Finds, Stands, Goes, Gives, KeepsEvents, is_over};
+ghost use Rattle.zf_walk.specs.Seen.{unseen};
+ghost use Rattle.zf_plan.specs.Places.{IsPosed, bound, path, found_before, seen_at, AreHeld, AreSeen, IsAt, IsKept, IsMarked, Finds, Stands, Goes, Gives, KeepsEvents, is_over};
 
 use crate::choice::Choice;
 use crate::choosing::choose;
@@ -22,10 +23,10 @@ use crate::plan::Choosers;
 use crate::problem::Problem;
 use crate::sieve::{sift, wait};
 use std::alloc::AllocError;
-use zf_walk::{Step, Truth, is_reached};
+use zf_walk::{Seen, Step, Truth, is_reached};
 
-/// Tests the row of the bound values. Where it is False no event begins with that row, and else it is the truth of the conjuncts that need no more values.
-fn test<V: Ord, J: Guide<V>>(
+/// Tests a row of bound values. Where it is False no event begins with that row, and else it is the truth of the conjuncts that need no more values.
+fn test_row<V: Ord, J: Guide<V>>(
     problem: &Problem<V, J>,
     places: &[usize],
     before: Truth,
@@ -51,6 +52,76 @@ fn test<V: Ord, J: Guide<V>>(
     }
     let touched = &problem.plan.touched[places.len()];
     test_trees(problem, places, &touched.numbers, tested, memo)
+}
+
+/// The same where the leaves that are conjuncts and need just this row are known to be True. Where it is False no event begins with that row, and else it is the truth of the conjuncts that need no more values.
+fn test_told<V: Ord, J: Guide<V>>(
+    problem: &Problem<V, J>,
+    places: &[usize],
+    before: Truth,
+    memo: &mut Memo,
+) -> Result<Truth, AllocError>
+    requires sound { IsPosed V.cmp J.conjuncts J.is_used problem.now }
+    requires within { AreWithin problem.now.ranges.now places.now }
+    requires before { before ≢ False }
+    requires so_far { IsSoFar (J.conjuncts problem.now.judge.now) (trees_of problem.now.forest.now) (picked problem.now.ranges.now places.now) (NeedsBelow (J.conjuncts problem.now.judge.now) (trees_of problem.now.forest.now) (length places.now)) before }
+    requires remembers { Remembers (J.conjuncts problem.now.judge.now) (J.is_used problem.now.judge.now) problem.now.ranges.now places.now memo.old }
+    requires told { AreHeld (J.conjuncts problem.now.judge.now) (trees_of problem.now.forest.now) (picked problem.now.ranges.now places.now) (length places.now) }
+    ensures remembers { Remembers (J.conjuncts problem.now.judge.now) (J.is_used problem.now.judge.now) problem.now.ranges.now places.now memo.new }
+    ensures same { memo.new.tests ≡ memo.old.tests }
+    ensures finds { IfOk result (Finds V.cmp (J.conjuncts problem.now.judge.now) (trees_of problem.now.forest.now) (length problem.now.ranges.now) (option_copied problem.now.after) (picked problem.now.ranges.now places.now)) }
+{
+    if !is_reached(problem.after, problem.ranges, places) {
+        return Ok(Truth::False);
+    }
+    let asked = &problem.plan.touched[places.len()];
+    test_trees(problem, places, &asked.numbers, before, memo)
+}
+
+/// Tests the row of the bound values: of the leaves that need the last one, as far as it was not seen before what they come to.
+fn test<V: Ord, J: Guide<V>>(
+    problem: &Problem<V, J>,
+    place: &Place,
+    memo: &mut Memo,
+) -> Result<Truth, AllocError>
+    requires sound { IsPosed V.cmp J.conjuncts J.is_used problem.now }
+    requires at { IsAt problem.now.ranges.now place.now }
+    requires before { found_before place.now.found.items place.now.depth ≢ False }
+    requires so_far { IsSoFar (J.conjuncts problem.now.judge.now) (trees_of problem.now.forest.now) (path problem.now.ranges.now place.now) (NeedsBelow (J.conjuncts problem.now.judge.now) (trees_of problem.now.forest.now) place.now.depth) (found_before place.now.found.items place.now.depth) }
+    requires seen { (k : ℕ) → k < place.now.depth → AreSeen (J.conjuncts problem.now.judge.now) (trees_of problem.now.forest.now) problem.now.ranges.now (take k place.now.places.items) (seen_at place.now k) }
+    requires remembers { Remembers (J.conjuncts problem.now.judge.now) (J.is_used problem.now.judge.now) problem.now.ranges.now (bound place.now) memo.old }
+    ensures remembers { Remembers (J.conjuncts problem.now.judge.now) (J.is_used problem.now.judge.now) problem.now.ranges.now (bound place.now) memo.new }
+    ensures more { memo.old.tests ≤ memo.new.tests }
+    ensures finds { IfOk result (Finds V.cmp (J.conjuncts problem.now.judge.now) (trees_of problem.now.forest.now) (length problem.now.ranges.now) (option_copied problem.now.after) (path problem.now.ranges.now place.now)) }
+    ensures counts { IsPlain (J.conjuncts problem.now.judge.now) (trees_of problem.now.forest.now) problem.now.plan.now → ((k : ℕ) → seen_at place.now k ≡ unseen) → Counts V.cmp (J.conjuncts problem.now.judge.now) problem.now.ranges.now (option_copied problem.now.after) (path problem.now.ranges.now place.now) all_of memo.old.tests → CountsOn V.cmp (J.conjuncts problem.now.judge.now) problem.now.ranges.now (option_copied problem.now.after) (path problem.now.ranges.now place.now) result memo.new.tests }
+{
+    let row = &place.places[..place.depth];
+    match place.told() {
+        None => test_row(problem, row, place.so_far(), memo),
+        Some(Truth::True) => test_told(problem, row, place.so_far(), memo),
+        Some(Truth::False) => Ok(Truth::False),
+        Some(Truth::Out) => test_row(problem, row, place.so_far(), memo),
+    }
+}
+
+/// What is known, with each value of the next range, of the leaves that are conjuncts and need it as the last; nothing where tests are counted.
+fn see<V: Ord, J: Guide<V>>(problem: &Problem<V, J>, places: &[usize], memo: &Memo) -> Seen
+    requires sound { IsPosed V.cmp J.conjuncts J.is_used problem.now }
+    requires within { AreWithin problem.now.ranges.now places.now }
+    requires deeper { length places.now < length problem.now.ranges.now }
+    requires remembers { Remembers (J.conjuncts problem.now.judge.now) (J.is_used problem.now.judge.now) problem.now.ranges.now places.now memo.now }
+    ensures seen { AreSeen (J.conjuncts problem.now.judge.now) (trees_of problem.now.forest.now) problem.now.ranges.now places.now result }
+    ensures plain { IsPlain (J.conjuncts problem.now.judge.now) (trees_of problem.now.forest.now) problem.now.plan.now → result ≡ unseen }
+{
+    if problem.plan.is_plain {
+        return Seen::none();
+    }
+    let range = &problem.ranges[places.len()];
+    if range.values.len() == 0 {
+        return Seen::none();
+    }
+    let due = &problem.plan.due[places.len() + 1];
+    memo.seen(problem, places, &due.numbers)
 }
 
 /// Chooses the values of the next range that are tried. Answers of how many first values the choice was made.
@@ -201,7 +272,7 @@ fn step_on<V: Ord, J: Guide<V>>(
         return Ok(None);
     }
     let depth = place.depth;
-    let truth = test(problem, &place.places[..depth], place.so_far(), memo)?;
+    let truth = test(problem, place, memo)?;
     if let Truth::False = truth {
         place.fresh = false;
         return Ok(None);
@@ -209,6 +280,7 @@ fn step_on<V: Ord, J: Guide<V>>(
     if depth < problem.ranges.len() {
         choose_next(problem, place, memo, &mut choices[depth])?;
         place.found[depth] = truth;
+        place.seen[depth] = see(problem, &place.places[..depth], memo);
         descend(problem.ranges, choices, place, memo);
         leap(choices, place, depth);
         return Ok(None);

@@ -8,4 +8,5 @@ pub mod Counting
 pub mod Truths
 pub mod LawProofs
 pub mod Numbering
+pub mod Marking
 pub mod Telling

@@ -7,7 +7,7 @@ pub HavePlaces-tail : (u : Used) (us : List Used) (places : List ℕ) → HavePl
 HavePlaces-tail u us places h w m = h w (Contains-later u us w m)
 
 -- a number has one last digit
-one_digit : (n m c p q : ℕ) → p < c → q < c → n * c + p ≡ m * c + q → (n ≡ m) × (p ≡ q)
+pub one_digit : (n m c p q : ℕ) → p < c → q < c → n * c + p ≡ m * c + q → (n ≡ m) × (p ≡ q)
 one_digit n m c p q a b e = elim (cases_eq n m) [
   | inl same ↦ (same, let z : n * c ≡ m * c = ap (λ k. k * c) same in omega arith)
   | inr other ↦ absurd (elim (cases_lt n m) [

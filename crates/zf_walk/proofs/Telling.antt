@@ -3,7 +3,9 @@ use Rattle.zf_walk.proofs.Prelude.{◌*◌, ◌++◌, ◌+◌, ◌<◌, ◌^◌,
 use Rattle.std.proofs.Math.Seq.{get_or-append_seam}
 use Rattle.zf_walk.specs.declared.entry.Entry.{Entry}
 use Rattle.zf_walk.specs.declared.entry.Entry.TheVariants.{Unknown}
-use Rattle.zf_walk.specs.Tables.{told, number, combinations, HavePlaces, Fits, MayKeep, AreUsed, IsTableOf, AreTables, known_in}
+use Rattle.zf_walk.specs.Seen.{IsSeen, unseen}
+use Rattle.zf_walk.specs.Tables.{told, number, combinations, HavePlaces, Fits, MayKeep, AreUsed, IsMarked, IsTableOf, AreTables, known_in}
+use Rattle.zf_walk.proofs.Marking.{unmarked-new}
 use Rattle.zf_walk.proofs.Lists.{Contains-head, Contains-nil, Contains-left, Contains-right, Contains-either, Contains-cases}
 use Rattle.zf_walk.proofs.Picks.{slice_get-picked, length-picked}
 use Rattle.zf_walk.proofs.Numbering.{number-same}
@@ -68,11 +70,12 @@ combinations-more (w ∷ us) u = let e = ap (λ n. w.count * n) (combinations-mo
 
 module _ {V : Type 0} (s : Conjuncts V) (uses : ℕ → ℕ → Bool) (ranges : List (List V)) (c : ℕ) where
   -- nothing is known in a new table
-  pub table-new : (t : Table) → AreUsed ranges (uses c) (s.due c) t.used.items → combinations t.used.items < 2 ^ 64 → t.entries.items ≡ [] → IsTableOf s uses ranges c t
-  table-new t used few none = record {
+  pub table-new : (t : Table) → AreUsed ranges (uses c) (s.due c) t.used.items → combinations t.used.items < 2 ^ 64 → t.entries.items ≡ [] → t.seen.items ≡ [] → IsTableOf s uses ranges c t
+  table-new t used few none nothing = record {
     used = used;
     few = few;
     truths = λ places u w l e. let never : None ≡ Some u = ap (λ es. told (get_or es (number 0 t.used.items places) Unknown)) (sym none) ∙ e in absurd (cc);
+    marks = λ places u w l m. absurd (unmarked-new t (number 0 t.used.items places) u nothing m);
   }
 
   module _ (places : List ℕ) (w : AreWithin ranges places) (due : s.due c ≡ length places) where
@@ -94,12 +97,20 @@ module _ {V : Type 0} (s : Conjuncts V) (uses : ℕ → ℕ → Bool) (ranges : 
       few = subst (λ us. combinations us < 2 ^ 64) (sym k.used) h.few;
       truths = λ others u v l e. elim (k.truths others u e) [
         | inl before ↦ h.truths others u v l before
-        | inr now ↦ subst (s.says c (picked ranges others)) (sym now.1)
-            (follow c (picked ranges places) (picked ranges others) kept near
-            (omega (arith, length-picked ranges places w)) (omega (arith, length-picked ranges others v))
-            (same-used ranges (uses c) old.used.items places others (subst (λ n. AreUsed ranges (uses c) n old.used.items) due h.used) w v (sym due ∙ l) now.0) says)
+        | inr now ↦ subst (s.says c (picked ranges others)) (sym now.1) (so-there others v l now.0)
       ];
-    }
+      marks = λ others u v l m.
+          let n : number 0 new.used.items others ≡ number 0 old.used.items others = ap (λ us. number 0 us others) k.used in
+          elim (k.marks (number 0 new.used.items others) u m) [
+            | inl before ↦ h.marks others u v l (subst (λ j. IsMarked old j u) n before)
+            | inr now ↦ subst (s.says c (picked ranges others)) (sym now.1) (so-there others v l (sym n ∙ now.0))
+          ];
+    } where
+      so-there : (others : List ℕ) → AreWithin ranges others → s.due c ≡ length others → number 0 old.used.items others ≡ number 0 old.used.items places → s.says c (picked ranges others) kept
+      so-there others v l same =
+          follow c (picked ranges places) (picked ranges others) kept near
+          (omega (arith, length-picked ranges places w)) (omega (arith, length-picked ranges others v))
+          (same-used ranges (uses c) old.used.items places others (subst (λ n. AreUsed ranges (uses c) n old.used.items) due h.used) w v (sym due ∙ l) same) says
 
 -- ---- what is known of all
 

@@ -10,4 +10,5 @@ pub mod Progress
 pub mod Laws
 pub mod Picked
 pub mod Order
+pub mod Seen
 pub mod Tables

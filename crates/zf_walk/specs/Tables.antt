@@ -1,5 +1,5 @@
 -- What is known of the truths of conjuncts: for private contracts and the model of `Walk` alone.
-use Rattle.std.specs.Prelude.{◌≡◌, ◌⊎◌, ℕ, ◌+◌, ◌*◌, ◌<◌, ◌^◌, Bool, true, List, [], ◌∷◌, length, Contains, slice_index, slice_index_or, Option, Some, None, IfSome}
+use Rattle.std.specs.Prelude.{◌≡◌, ◌⊎◌, ℕ, ◌+◌, ◌*◌, ◌/◌, ◌%◌, ◌<◌, ◌^◌, Bool, true, List, [], ◌∷◌, length, Contains, slice_index, slice_index_or, Option, Some, None, IfSome}
 use Rattle.zf_walk.specs.declared.judge.Truth.{Truth}
 use Rattle.zf_walk.specs.declared.judge.Truth.TheVariants as truth
 use Rattle.zf_walk.specs.declared.entry.Entry.{Entry}
@@ -8,6 +8,7 @@ use Rattle.zf_walk.specs.declared.table.Used.{Used}
 use Rattle.zf_walk.specs.declared.table.Table.{Table}
 use Rattle.zf_walk.specs.Conjuncts.{Conjuncts}
 use Rattle.zf_walk.specs.Picked.{AreWithin, picked}
+use Rattle.zf_walk.specs.Seen.{IsSeen, unseen}
 
 -- the truth that an entry is, if it is known
 abbrev pub told : Entry → Option Truth
@@ -43,11 +44,16 @@ abbrev pub known_in : Option Table → List ℕ → Option Truth
 known_in None places = None
 known_in (Some t) places = known t places
 
--- What is known of a row was known before, or it is the truth that is kept and the row has the number of the one that it is kept of.
+-- that is marked as the truth on the rows with this number
+abbrev pub IsMarked : Table → ℕ → Truth → Type 0
+IsMarked t n u = (0 < t.width) × IsSeen (slice_index_or t.seen.items (n / t.width) unseen) (n % t.width) u
+
+-- What is known or marked of a row was so before, or it is the truth that is kept and the row has the number of the one that it is kept of.
 pub record Keeps (places : List ℕ) (kept : Truth) (old new : Table) : Type 0 where
   pub used : new.used.items ≡ old.used.items
   pub truths : (others : List ℕ) (t : Truth) → known new others ≡ Some t
       → (known old others ≡ Some t) ⊎ ((number 0 old.used.items others ≡ number 0 old.used.items places) × (t ≡ kept))
+  pub marks : (n : ℕ) (t : Truth) → IsMarked new n t → IsMarked old n t ⊎ ((n ≡ number 0 old.used.items places) × (t ≡ kept))
 
 abbrev pub MayKeep : List ℕ → Truth → Option Table → Option Table → Type 0
 MayKeep places kept None None = Unit {0}
@@ -60,11 +66,12 @@ pub record AreUsed {V : Type 0} (ranges : List (List V)) (uses : ℕ → Bool) (
   pub each : (u : Used) → Contains us u → (u.component < n) × (u.count ≡ length (slice_index_or ranges u.component []))
   pub all : (k : ℕ) → k < n → uses k ≡ true → (u : Used) × Contains us u × (u.component ≡ k)
 
--- a table of a conjunct: what is known is so
+-- a table of a conjunct: what is known or marked is so
 pub record IsTableOf {V : Type 0} (s : Conjuncts V) (uses : ℕ → ℕ → Bool) (ranges : List (List V)) (c : ℕ) (t : Table) : Type 0 where
   pub used : AreUsed ranges (uses c) (s.due c) t.used.items
   pub few : combinations t.used.items < 2 ^ 64
   pub truths : (places : List ℕ) (u : Truth) → AreWithin ranges places → s.due c ≡ length places → known t places ≡ Some u → s.says c (picked ranges places) u
+  pub marks : (places : List ℕ) (u : Truth) → AreWithin ranges places → s.due c ≡ length places → IsMarked t (number 0 t.used.items places) u → s.says c (picked ranges places) u
 
 -- tables of the first n conjuncts, where they have one
 pub record AreTables {V : Type 0} (s : Conjuncts V) (uses : ℕ → ℕ → Bool) (ranges : List (List V)) (n : ℕ) (ts : List (Option Table)) : Type 0 where

@@ -1,10 +1,13 @@
 //! What is known of the truths of one conjunct.
-ghost use Rattle.std.specs.Prelude.{◌≡◌, ◌+◌, ◌<◌, ◌^◌, ℕ, length, slice_index_or, IsTrue};
+ghost use Rattle.std.specs.Prelude.{◌≡◌, ◌⊎◌, ◌+◌, ◌<◌, ◌≤◌, ◌^◌, ◌++◌, ◌∷◌, [], ℕ, drop, length, slice_index_or, IfSome, IsTrue};
 ghost use Rattle.zf_walk.specs.declared.entry.Entry.TheVariants.{Unknown};
-ghost use Rattle.zf_walk.specs.Tables.{Fits, Keeps, known, number};
+ghost use Rattle.zf_walk.specs.declared.judge.Truth.{Truth};
+ghost use Rattle.zf_walk.specs.Seen.{IsSeen, unseen};
+ghost use Rattle.zf_walk.specs.Tables.{Fits, IsMarked, Keeps, known, number};
 
 use crate::entry::Entry;
 use crate::judge::Truth;
+use crate::seen::Seen;
 
 /// A component that a conjunct uses, and how many values it may have.
 #[derive(Clone, Copy)]
@@ -18,6 +21,10 @@ pub struct Used {
 pub struct Table {
     pub used: Vec<Used>,
     pub entries: Vec<Entry>,
+    /// How many values the last component may have, if these are few enough to be marked by bits; else 0.
+    pub width: usize,
+    /// For each number of the digits but the last the truths that are known with each last one.
+    pub seen: Vec<Seen>,
 }
 
 impl Table {
@@ -43,6 +50,77 @@ impl Table {
         if self.reach(number) {
             self.entries[number] = Entry::of(truth);
         }
+        self.mark(number, truth);
+    }
+
+    /// Marks the truth on the rows with this number, if there is room for it.
+    fn mark(&mut self, number: usize, truth: Truth)
+        requires { number + 1 < 2 ^ 64 }
+        ensures used { self.new.used.items ≡ self.old.used.items }
+        ensures entries { self.new.entries.items ≡ self.old.entries.items }
+        ensures marks { (n : ℕ) (t : Truth) → IsMarked self.new n t → IsMarked self.old n t ⊎ ((n ≡ number) × (t ≡ truth)) }
+    {
+        if self.width == 0 {
+            return;
+        }
+        if self.width > 64 {
+            return;
+        }
+        let front = number / self.width;
+        let last = number % self.width;
+        if self.reach_seen(front) {
+            self.seen[front] = self.seen[front].with(last, truth);
+        }
+    }
+
+    /// What is known on the rows that go on from these places with one more. It is nothing, unless this one is of the last component that is used.
+    pub fn seen(&self, places: &[usize]) -> Seen
+        requires { Fits (places.now ++ 0 ∷ []) self.now }
+        ensures { (i : ℕ) (t : Truth) → Fits (places.now ++ i ∷ []) self.now → IsSeen result i t → IsMarked self.now (number 0 self.now.used.items (places.now ++ i ∷ [])) t }
+    {
+        let count = self.used.len();
+        if count == 0 {
+            return Seen::none();
+        }
+        let last = self.used[count - 1];
+        if last.component != places.len() {
+            return Seen::none();
+        }
+        if last.count != self.width {
+            return Seen::none();
+        }
+        match self.front(places, count - 1) {
+            None => Seen::none(),
+            Some(front) => self.seen_at(front),
+        }
+    }
+
+    /// The number whose digits are the places of so many first values that are used, if these places are among them.
+    fn front(&self, places: &[usize], count: usize) -> Option<usize>
+        requires fits { Fits (places.now ++ 0 ∷ []) self.now }
+        requires count { count ≤ length self.now.used.items }
+        ensures { IfSome result (λ front. (i : ℕ) → number front (drop count self.now.used.items) (places.now ++ i ∷ []) ≡ number 0 self.now.used.items (places.now ++ i ∷ [])) }
+    {
+        let mut number = 0;
+        for i in 0..count {
+            let used = self.used[i];
+            if used.component >= places.len() {
+                return None;
+            }
+            number = number * used.count + places[used.component];
+        }
+        Some(number)
+    }
+
+    /// What is known with each last digit behind the others.
+    fn seen_at(&self, front: usize) -> Seen
+        ensures { result ≡ slice_index_or self.now.seen.items front unseen }
+    {
+        if front < self.seen.len() {
+            self.seen[front]
+        } else {
+            Seen::none()
+        }
     }
 
     /// The number whose digits are the places of the values that are used.
@@ -58,10 +136,27 @@ impl Table {
         number
     }
 
+    /// Makes what is known with each last digit reach beyond a number of the others, with nothing in what is new, if there is room for it.
+    fn reach_seen(&mut self, front: usize) -> bool
+        requires { front + 1 < 2 ^ 64 }
+        ensures used { self.new.used.items ≡ self.old.used.items }
+        ensures entries { self.new.entries.items ≡ self.old.entries.items }
+        ensures width { self.new.width ≡ self.old.width }
+        ensures same { (k : ℕ) → slice_index_or self.new.seen.items k unseen ≡ slice_index_or self.old.seen.items k unseen }
+        ensures there { IsTrue result → front < length self.new.seen.items }
+    {
+        if front < self.seen.len() {
+            return true;
+        }
+        self.seen.resize(front + 1, Seen::none()).is_ok()
+    }
+
     /// Makes the entries reach beyond a number, with nothing known in those that are new, if there is room for them.
     fn reach(&mut self, number: usize) -> bool
         requires { number + 1 < 2 ^ 64 }
         ensures used { self.new.used.items ≡ self.old.used.items }
+        ensures width { self.new.width ≡ self.old.width }
+        ensures seen { self.new.seen.items ≡ self.old.seen.items }
         ensures same { (k : ℕ) → slice_index_or self.new.entries.items k Unknown ≡ slice_index_or self.old.entries.items k Unknown }
         ensures there { IsTrue result → number < length self.new.entries.items }
     {

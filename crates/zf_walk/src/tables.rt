@@ -1,5 +1,7 @@
 //! What is known of the truths of all conjuncts.
-ghost use Rattle.std.specs.Prelude.{◌≡◌, ◌*◌, ◌<◌, ◌≤◌, length, [], slice_index_or, IsTrue, IfOk, IfSome};
+ghost use Rattle.std.specs.Prelude.{◌≡◌, ◌+◌, ◌*◌, ◌<◌, ◌≤◌, ◌++◌, ◌∷◌, ℕ, length, [], slice_index_or, IsTrue, IfOk, IfSome};
+ghost use Rattle.zf_walk.specs.declared.judge.Truth.{Truth};
+ghost use Rattle.zf_walk.specs.Seen.{IsSeen};
 ghost use Rattle.zf_walk.specs.Progress.{AreDueWithin};
 ghost use Rattle.zf_walk.specs.Picked.{AreWithin, picked};
 ghost use Rattle.zf_walk.specs.Tables.{AreTrue, Fits, IsTableOf, MayKeep, known_in};
@@ -7,6 +9,7 @@ ghost use Rattle.zf_walk.specs.Tables.{AreTrue, Fits, IsTableOf, MayKeep, known_
 use crate::judge::{Judge, Truth};
 use crate::picked::Picked;
 use crate::range::Range;
+use crate::seen::Seen;
 use crate::table::{Table, Used};
 use std::alloc::{AllocError, Global};
 
@@ -58,6 +61,26 @@ impl Tables {
             return Ok(truth);
         }
         self.find_out(judge, ranges, conjunct, places)
+    }
+
+    /// What is known of a conjunct on the rows that go on from these places with one more, which it needs.
+    pub fn seen<V, J: Judge<V>>(
+        &self,
+        judge: &J,
+        ranges: &[Range<V>],
+        conjunct: usize,
+        places: &[usize],
+    ) -> Seen
+        requires conjunct { conjunct < (J.conjuncts judge.now).number }
+        requires due { (J.conjuncts judge.now).due conjunct ≡ length places.now + 1 }
+        requires some { AreWithin ranges.now (places.now ++ 0 ∷ []) }
+        requires known { AreTrue (J.conjuncts judge.now) (J.is_used judge.now) ranges.now self.now.each.items }
+        ensures { (i : ℕ) (t : Truth) → AreWithin ranges.now (places.now ++ i ∷ []) → IsSeen result i t → (J.conjuncts judge.now).says conjunct (picked ranges.now (places.now ++ i ∷ [])) t }
+    {
+        match &self.each[conjunct] {
+            None => Seen::none(),
+            Some(table) => table.seen(places),
+        }
     }
 
     /// The same where it is not known.
@@ -141,7 +164,30 @@ fn table_of<V, J: Judge<V>>(
     }
     let entries = Vec::with_capacity(alloc, combinations)?;
     *room -= combinations;
-    Ok(Some(Table { used, entries }))
+    let width = width_of(&used, combinations);
+    let seen = Vec::new(alloc);
+    Ok(Some(Table {
+        used,
+        entries,
+        width,
+        seen,
+    }))
+}
+
+/// How many values the last of these components may have, if there are few enough to have a bit each, and the others have few combinations; else 0.
+fn width_of(used: &[Used], combinations: usize) -> usize {
+    if used.len() == 0 {
+        return 0;
+    }
+    let last = used[used.len() - 1];
+    if last.count == 0 || last.count > 64 {
+        return 0;
+    }
+    if combinations / last.count > 4096 {
+        0
+    } else {
+        last.count
+    }
 }
 
 /// How many values a component may have.

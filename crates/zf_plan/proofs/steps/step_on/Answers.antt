@@ -5,7 +5,8 @@ use Rattle.zf_plan.specs.Knowing.{NeedsBelow, NeedsWithin}
 use Rattle.std.specs.Vec.{with_item}
 use Rattle.zf_plan.specs.Memories.{Forgets}
 use Rattle.zf_plan.specs.Marks.{mark_at}
-use Rattle.zf_plan.specs.Places.{Finds, IsFound, IsKept}
+use Rattle.zf_plan.specs.Places.{AreSeen, Finds, IsFound, IsKept}
+use Rattle.zf_plan.proofs.Seeing.{seen-all, unseen-all}
 use Rattle.zf_plan.proofs.Moving.{length-bound, length-path}
 use Rattle.zf_plan.proofs.Leaping.{landed-none, leaps, never-leaps}
 use Rattle.zf_plan.proofs.Stepping.{before-found, descends, descends-stand, stands-refused, finds-hopeless, finds-reached, finds-whole, gives-end, passes, retreats, retreats-stand, setting-of, takes-whole}
@@ -65,35 +66,24 @@ pub test-requires-clause-before : goal.test-requires-clause-before
 test-requires-clause-before g c =
     let l = g.J.Judge.conjuncts c.args.problem.now.judge.now in
     let uses = g.J.Judge.is_used c.args.problem.now.judge.now in
-    let trees = trees_of c.args.problem.now.forest.now in
-    let ranges = c.args.problem.now.ranges.now in
-    let after = option_copied c.args.problem.now.after in
     let p : Place = c.args.place.now in
     let given = setting-of g.met.V.Ord.total (g.met.J.Judge.one_truth c.args.problem.now.judge.now) (g.met.J.Judge.kept c.args.problem.now.judge.now) c.requires.sound in
-    λ e. (before-found given uses p c.args.memo.now c.args.choices.now c.requires.stands).0 (sym c.so_far.ensures ∙ e)
+    (before-found given uses p c.args.memo.now c.args.choices.now c.requires.stands).0
 
 pub test-requires-clause-so_far : goal.test-requires-clause-so_far
 test-requires-clause-so_far g c =
     let l = g.J.Judge.conjuncts c.args.problem.now.judge.now in
     let uses = g.J.Judge.is_used c.args.problem.now.judge.now in
-    let trees = trees_of c.args.problem.now.forest.now in
-    let ranges = c.args.problem.now.ranges.now in
-    let after = option_copied c.args.problem.now.after in
     let p : Place = c.args.place.now in
     let given = setting-of g.met.V.Ord.total (g.met.J.Judge.one_truth c.args.problem.now.judge.now) (g.met.J.Judge.kept c.args.problem.now.judge.now) c.requires.sound in
-    let so = (before-found given uses p c.args.memo.now c.args.choices.now c.requires.stands).1 in
-    let long : length (take p.depth c.deref.result.now) ≡ p.depth =
-    ap (λ is. length (take p.depth is)) c.deref.ensures.value ∙ length-bound ranges p c.requires.stands.at in
-    subst (λ is. IsSoFar l trees (picked ranges (take p.depth is)) (NeedsBelow l trees (length (take p.depth c.deref.result.now))) c.so_far.result) (sym c.deref.ensures.value)
-    (subst (λ n. IsSoFar l trees (path ranges p) (NeedsBelow l trees n) c.so_far.result) (sym long)
-    (subst (IsSoFar l trees (path ranges p) (NeedsBelow l trees p.depth)) (sym c.so_far.ensures) so))
+    (before-found given uses p c.args.memo.now c.args.choices.now c.requires.stands).1
 
 pub choose_next-requires-clause-remembers : goal.choose_next-requires-clause-remembers
 choose_next-requires-clause-remembers g c =
     let p : Place = c.args.place.now in
     let l = g.J.Judge.conjuncts c.args.problem.now.judge.now in
     let uses = g.J.Judge.is_used c.args.problem.now.judge.now in
-    subst (λ is. Remembers l uses c.args.problem.now.ranges.now (take p.depth is) c.test.new.memo) c.deref.ensures.value c.in_ok-truth.ensures.remembers
+    c.in_ok-truth.ensures.remembers
 
 pub choose_next-requires-clause-kept : goal.choose_next-requires-clause-kept
 choose_next-requires-clause-kept g c =
@@ -133,9 +123,9 @@ returns-in_err-truth-clause-counts g c = λ plain h.
     let p : Place = c.args.place.now in
     let basis = basis-of g.met.V.Ord.total (g.met.J.Judge.one_truth c.args.problem.now.judge.now) (g.met.J.Judge.kept c.args.problem.now.judge.now) c.requires.sound in
     let at = c.requires.stands.at in
-    let here = counted-here basis p c.deref.result.now c.deref.ensures.value c.if-not-place.false c.args.choices.now c.args.memo.now.tests c.test.new.memo.tests h in
-    counted-still basis p c.deref.result.now c.deref.ensures.value c.if-not-place.false c.args.choices.now c.args.memo.now.tests c.test.new.memo.tests h
-    (c.in_err-truth.ensures.counts plain here)
+    let here = counted-here basis p p.places.items refl c.if-not-place.false c.args.choices.now c.args.memo.now.tests c.test.new.memo.tests h in
+    counted-still basis p p.places.items refl c.if-not-place.false c.args.choices.now c.args.memo.now.tests c.test.new.memo.tests h
+    (c.in_err-truth.ensures.counts plain h.unseen here)
 
 pub returns-in-False-clause-goes : goal.returns-in-False-clause-goes
 returns-in-False-clause-goes g c =
@@ -149,7 +139,7 @@ returns-in-False-clause-goes g c =
     let given = setting-of g.met.V.Ord.total (g.met.J.Judge.one_truth c.args.problem.now.judge.now) (g.met.J.Judge.kept c.args.problem.now.judge.now) c.requires.sound in
     let truth = c.in_ok-truth.truth in
     let finds : Finds g.V.Ord.cmp l trees (length ranges) after (path ranges p) truth =
-    subst (λ is. Finds g.V.Ord.cmp l trees (length ranges) after (picked ranges (take p.depth is)) truth) c.deref.ensures.value c.in_ok-truth.ensures.finds in
+    c.in_ok-truth.ensures.finds in
     passes given p q c.requires.stands.at c.if-not-place.false refl refl refl (finds-hopeless given (path ranges p) truth c.in-False.is finds)
 
 pub returns-in-False-clause-counts : goal.returns-in-False-clause-counts
@@ -162,12 +152,13 @@ returns-in-False-clause-counts g c = λ plain h.
     let p : Place = c.args.place.now in
     let basis = basis-of g.met.V.Ord.total (g.met.J.Judge.one_truth c.args.problem.now.judge.now) (g.met.J.Judge.kept c.args.problem.now.judge.now) c.requires.sound in
     let at = c.requires.stands.at in
-    let here = counted-here basis p c.deref.result.now c.deref.ensures.value c.if-not-place.false c.args.choices.now c.args.memo.now.tests c.test.new.memo.tests h in
+    let here = counted-here basis p p.places.items refl c.if-not-place.false c.args.choices.now c.args.memo.now.tests c.test.new.memo.tests h in
     let found : CountsFound g.V.Ord.cmp l ranges after (path ranges p) c.in_ok-truth.truth c.test.new.memo.tests =
-    subst (λ is. CountsFound g.V.Ord.cmp l ranges after (picked ranges (take p.depth is)) c.in_ok-truth.truth c.test.new.memo.tests) c.deref.ensures.value (c.in_ok-truth.ensures.counts plain here) in
+    c.in_ok-truth.ensures.counts plain h.unseen here in
     record {
       counts = found-false basis (path ranges p) c.in_ok-truth.truth c.test.new.memo.tests c.in-False.is found;
       whole = h.whole;
+      unseen = h.unseen;
     }
 
 pub returns-then-depth-problem-clause-goes : goal.returns-then-depth-problem-clause-goes
@@ -181,12 +172,12 @@ returns-then-depth-problem-clause-goes g c =
     let given = setting-of g.met.V.Ord.total (g.met.J.Judge.one_truth c.args.problem.now.judge.now) (g.met.J.Judge.kept c.args.problem.now.judge.now) c.requires.sound in
     let truth = c.in_ok-truth.truth in
     let finds : Finds g.V.Ord.cmp l trees (length ranges) after (path ranges p) truth =
-    subst (λ is. Finds g.V.Ord.cmp l trees (length ranges) after (picked ranges (take p.depth is)) truth) c.deref.ensures.value c.in_ok-truth.ensures.finds in
+    c.in_ok-truth.ensures.finds in
     let st = c.requires.stands in
     let at : IsAt ranges p = st.at in
     let marked = c.choose_next.ensures.place in
     let marks = c.choose_next.new.place.marks in
-    let now : Place = record p { marks = marks; found = with_item p.found p.depth c.in_ok-truth.truth } in
+    let now : Place = record p { marks = marks; found = with_item p.found p.depth c.in_ok-truth.truth; seen = with_item p.seen p.depth c.see.result } in
     let now-at : IsAt ranges now = record {
       all_places = at.all_places;
       all_found = length-set p.found.items p.depth c.in_ok-truth.truth ∙ at.all_found;
@@ -194,11 +185,12 @@ returns-then-depth-problem-clause-goes g c =
       within = at.within;
       all_stamps = ap length marked.stamps ∙ at.all_stamps;
       all_marks = marked.all ∙ at.all_marks;
+      all_seen = length-set p.seen.items p.depth c.see.result ∙ at.all_seen;
     } in
     let choices = c.args.choices.now in
     let choice = c.choose_next.new.choice in
     let chosen = c.in_ok-choose_next.ensures.choice in
-    let lands = landed-marked ranges choices choice p c.choose_next.new.place c.descend.new.place c.in_ok-truth.truth marked.is c.descend.ensures.lands in
+    let lands = landed-marked ranges choices choice p c.choose_next.new.place c.descend.new.place c.in_ok-truth.truth c.see.result marked.is c.descend.ensures.lands in
     let remembers = c.in_ok-choose_next.ensures.remembers in
     let forgets = subst (λ (q : Place). Forgets (q.depth + 1) c.choose_next.new.memo c.descend.new.memo) marked.is c.descend.ensures.forgets in
     let found-here : IsFound l trees (path ranges p) p.depth truth = record {
@@ -215,9 +207,14 @@ returns-then-depth-problem-clause-goes g c =
       | inr ne ↦
           subst (IsFound l trees (picked ranges (take j p.places.items)) j) (sym (get_or-set_other p.found.items p.depth j truth True ne)) (st.found j (omega (arith, low, ne)))
     ] in
+    let seen-there : AreSeen l trees ranges (take p.depth c.choose_next.new.place.places.items) c.see.result =
+    subst (λ is. AreSeen l trees ranges (take p.depth is) c.see.result) c.deref.ensures.value c.see.ensures.seen in
+    let seen-here : AreSeen l trees ranges (bound p) c.see.result =
+    subst (λ (q : Place). AreSeen l trees ranges (take p.depth q.places.items) c.see.result) marked.is seen-there in
+    let seen = seen-all l trees ranges p c.see.result at.all_seen c.if-depth-problem.true seen-here st.seen in
     let kept = kept-chosen l trees ranges p.marks marks (bound p) choices p.depth choice (omega (arith, st.all_choices, c.if-depth-problem.true)) marked.stamps marked.others st.kept c.choose_next.ensures.kept in
     let stood = descends-stand given now c.descend.new.place choices choice now-at st.all_choices st.chosen chosen c.if-not-place.false c.if-depth-problem.true lands
-    uses c.choose_next.new.memo c.descend.new.memo remembers kept forgets found in
+    uses c.choose_next.new.memo c.descend.new.memo remembers kept forgets found seen in
     let leapt = leaps given uses c.descend.new.place c.leap.new.place c.descend.new.memo (set choices p.depth choice) stood p.depth c.if-depth-problem.true c.leap.ensures
     (landed-none (length (get_or ranges p.depth [])) p.depth (get_or (set choices p.depth choice) p.depth None) now c.descend.new.place lands) in
     let h = descends given now c.descend.new.place choices choice now-at st.all_choices st.chosen chosen c.if-not-place.false c.if-depth-problem.true lands in
@@ -234,12 +231,12 @@ returns-then-depth-problem-clause-stands g c =
     let given = setting-of g.met.V.Ord.total (g.met.J.Judge.one_truth c.args.problem.now.judge.now) (g.met.J.Judge.kept c.args.problem.now.judge.now) c.requires.sound in
     let truth = c.in_ok-truth.truth in
     let finds : Finds g.V.Ord.cmp l trees (length ranges) after (path ranges p) truth =
-    subst (λ is. Finds g.V.Ord.cmp l trees (length ranges) after (picked ranges (take p.depth is)) truth) c.deref.ensures.value c.in_ok-truth.ensures.finds in
+    c.in_ok-truth.ensures.finds in
     let st = c.requires.stands in
     let at : IsAt ranges p = st.at in
     let marked = c.choose_next.ensures.place in
     let marks = c.choose_next.new.place.marks in
-    let now : Place = record p { marks = marks; found = with_item p.found p.depth c.in_ok-truth.truth } in
+    let now : Place = record p { marks = marks; found = with_item p.found p.depth c.in_ok-truth.truth; seen = with_item p.seen p.depth c.see.result } in
     let now-at : IsAt ranges now = record {
       all_places = at.all_places;
       all_found = length-set p.found.items p.depth c.in_ok-truth.truth ∙ at.all_found;
@@ -247,11 +244,12 @@ returns-then-depth-problem-clause-stands g c =
       within = at.within;
       all_stamps = ap length marked.stamps ∙ at.all_stamps;
       all_marks = marked.all ∙ at.all_marks;
+      all_seen = length-set p.seen.items p.depth c.see.result ∙ at.all_seen;
     } in
     let choices = c.args.choices.now in
     let choice = c.choose_next.new.choice in
     let chosen = c.in_ok-choose_next.ensures.choice in
-    let lands = landed-marked ranges choices choice p c.choose_next.new.place c.descend.new.place c.in_ok-truth.truth marked.is c.descend.ensures.lands in
+    let lands = landed-marked ranges choices choice p c.choose_next.new.place c.descend.new.place c.in_ok-truth.truth c.see.result marked.is c.descend.ensures.lands in
     let remembers = c.in_ok-choose_next.ensures.remembers in
     let forgets = subst (λ (q : Place). Forgets (q.depth + 1) c.choose_next.new.memo c.descend.new.memo) marked.is c.descend.ensures.forgets in
     let found-here : IsFound l trees (path ranges p) p.depth truth = record {
@@ -268,9 +266,14 @@ returns-then-depth-problem-clause-stands g c =
       | inr ne ↦
           subst (IsFound l trees (picked ranges (take j p.places.items)) j) (sym (get_or-set_other p.found.items p.depth j truth True ne)) (st.found j (omega (arith, low, ne)))
     ] in
+    let seen-there : AreSeen l trees ranges (take p.depth c.choose_next.new.place.places.items) c.see.result =
+    subst (λ is. AreSeen l trees ranges (take p.depth is) c.see.result) c.deref.ensures.value c.see.ensures.seen in
+    let seen-here : AreSeen l trees ranges (bound p) c.see.result =
+    subst (λ (q : Place). AreSeen l trees ranges (take p.depth q.places.items) c.see.result) marked.is seen-there in
+    let seen = seen-all l trees ranges p c.see.result at.all_seen c.if-depth-problem.true seen-here st.seen in
     let kept = kept-chosen l trees ranges p.marks marks (bound p) choices p.depth choice (omega (arith, st.all_choices, c.if-depth-problem.true)) marked.stamps marked.others st.kept c.choose_next.ensures.kept in
     let stood = descends-stand given now c.descend.new.place choices choice now-at st.all_choices st.chosen chosen c.if-not-place.false c.if-depth-problem.true lands
-    uses c.choose_next.new.memo c.descend.new.memo remembers kept forgets found in
+    uses c.choose_next.new.memo c.descend.new.memo remembers kept forgets found seen in
     let leapt = leaps given uses c.descend.new.place c.leap.new.place c.descend.new.memo (set choices p.depth choice) stood p.depth c.if-depth-problem.true c.leap.ensures
     (landed-none (length (get_or ranges p.depth [])) p.depth (get_or (set choices p.depth choice) p.depth None) now c.descend.new.place lands) in
     leapt.stands
@@ -284,15 +287,15 @@ returns-then-depth-problem-clause-counts g c = λ plain h.
     let after = option_copied c.args.problem.now.after in
     let p : Place = c.args.place.now in
     let basis = basis-of g.met.V.Ord.total (g.met.J.Judge.one_truth c.args.problem.now.judge.now) (g.met.J.Judge.kept c.args.problem.now.judge.now) c.requires.sound in
-    let here = counted-here basis p c.deref.result.now c.deref.ensures.value c.if-not-place.false c.args.choices.now c.args.memo.now.tests c.test.new.memo.tests h in
+    let here = counted-here basis p p.places.items refl c.if-not-place.false c.args.choices.now c.args.memo.now.tests c.test.new.memo.tests h in
     let found : CountsFound g.V.Ord.cmp l ranges after (path ranges p) c.in_ok-truth.truth c.test.new.memo.tests =
-    subst (λ is. CountsFound g.V.Ord.cmp l ranges after (picked ranges (take p.depth is)) c.in_ok-truth.truth c.test.new.memo.tests) c.deref.ensures.value (c.in_ok-truth.ensures.counts plain here) in
+    c.in_ok-truth.ensures.counts plain h.unseen here in
     let below = found-other basis (path ranges p) c.in_ok-truth.truth c.test.new.memo.tests c.in_default.not-False found in
     let st = c.requires.stands in
     let at : IsAt ranges p = st.at in
     let marked = c.choose_next.ensures.place in
     let marks = c.choose_next.new.place.marks in
-    let now : Place = record p { marks = marks; found = with_item p.found p.depth c.in_ok-truth.truth } in
+    let now : Place = record p { marks = marks; found = with_item p.found p.depth c.in_ok-truth.truth; seen = with_item p.seen p.depth c.see.result } in
     let now-at : IsAt ranges now = record {
       all_places = at.all_places;
       all_found = length-set p.found.items p.depth c.in_ok-truth.truth ∙ at.all_found;
@@ -300,15 +303,16 @@ returns-then-depth-problem-clause-counts g c = λ plain h.
       within = at.within;
       all_stamps = ap length marked.stamps ∙ at.all_stamps;
       all_marks = marked.all ∙ at.all_marks;
+      all_seen = length-set p.seen.items p.depth c.see.result ∙ at.all_seen;
     } in
     let choices = c.args.choices.now in
     let choice = c.choose_next.new.choice in
     let chosen = c.in_ok-choose_next.ensures.choice in
-    let lands = landed-marked ranges choices choice p c.choose_next.new.place c.descend.new.place c.in_ok-truth.truth marked.is c.descend.ensures.lands in
+    let lands = landed-marked ranges choices choice p c.choose_next.new.place c.descend.new.place c.in_ok-truth.truth c.see.result marked.is c.descend.ensures.lands in
     let tests = c.descend.new.memo.tests in
     let none = c.in_ok-choose_next.ensures.all plain (was-none choices p.depth c.index-choices-depth.result (omega (arith, st.all_choices, c.if-depth-problem.true)) (h.whole p.depth)) in
     let there = subst (Counts g.V.Ord.cmp l ranges after (path ranges p) below_it) (sym (c.descend.ensures.forgets.tests ∙ c.in_ok-choose_next.ensures.same)) below in
-    let old : IsCounted g.V.Ord.cmp l ranges after now c.args.memo.now.tests choices = record { counts = h.counts; whole = h.whole } in
+    let old : IsCounted g.V.Ord.cmp l ranges after now c.args.memo.now.tests choices = record { counts = h.counts; whole = h.whole; unseen = unseen-all p c.see.result (length ranges) at.all_seen c.if-depth-problem.true (c.see.ensures.plain plain) h.unseen } in
     let counted = counted-descends basis now c.descend.new.place now-at c.requires.sound.ascending choices c.args.memo.now.tests tests old c.if-depth-problem.true st.all_choices choice none there
     lands in
     let whole : get_or (set choices p.depth choice) p.depth None ≡ None = get_or-set_same choices p.depth choice None (omega (arith, st.all_choices, c.if-depth-problem.true)) ∙ none in
@@ -326,7 +330,7 @@ returns-in-True-clause-goes g c =
     let given = setting-of g.met.V.Ord.total (g.met.J.Judge.one_truth c.args.problem.now.judge.now) (g.met.J.Judge.kept c.args.problem.now.judge.now) c.requires.sound in
     let truth = c.in_ok-truth.truth in
     let finds : Finds g.V.Ord.cmp l trees (length ranges) after (path ranges p) truth =
-    subst (λ is. Finds g.V.Ord.cmp l trees (length ranges) after (picked ranges (take p.depth is)) truth) c.deref.ensures.value c.in_ok-truth.ensures.finds in
+    c.in_ok-truth.ensures.finds in
     let at = c.requires.stands.at in
     let whole : length (path ranges p) ≡ length ranges = omega (arith, length-path ranges p at, at.shallow, c.if-depth-problem.false) in
     let so = finds-whole given (path ranges p) truth whole c.in_default.not-False finds in
@@ -342,14 +346,15 @@ returns-in-True-clause-counts g c = λ plain h.
     let after = option_copied c.args.problem.now.after in
     let p : Place = c.args.place.now in
     let basis = basis-of g.met.V.Ord.total (g.met.J.Judge.one_truth c.args.problem.now.judge.now) (g.met.J.Judge.kept c.args.problem.now.judge.now) c.requires.sound in
-    let here = counted-here basis p c.deref.result.now c.deref.ensures.value c.if-not-place.false c.args.choices.now c.args.memo.now.tests c.test.new.memo.tests h in
+    let here = counted-here basis p p.places.items refl c.if-not-place.false c.args.choices.now c.args.memo.now.tests c.test.new.memo.tests h in
     let found : CountsFound g.V.Ord.cmp l ranges after (path ranges p) c.in_ok-truth.truth c.test.new.memo.tests =
-    subst (λ is. CountsFound g.V.Ord.cmp l ranges after (picked ranges (take p.depth is)) c.in_ok-truth.truth c.test.new.memo.tests) c.deref.ensures.value (c.in_ok-truth.ensures.counts plain here) in
+    c.in_ok-truth.ensures.counts plain h.unseen here in
     let below = found-other basis (path ranges p) c.in_ok-truth.truth c.test.new.memo.tests c.in_default.not-False found in
     let at : IsAt ranges p = c.requires.stands.at in
     record {
       counts = counts-whole basis (take p.depth p.places.items) at.within c.test.new.memo.tests (omega (arith, length-bound ranges p at, c.if-depth-problem.false)) below;
       whole = h.whole;
+      unseen = h.unseen;
     }
 
 pub returns-in-Out-clause-goes : goal.returns-in-Out-clause-goes
@@ -364,7 +369,7 @@ returns-in-Out-clause-goes g c =
     let given = setting-of g.met.V.Ord.total (g.met.J.Judge.one_truth c.args.problem.now.judge.now) (g.met.J.Judge.kept c.args.problem.now.judge.now) c.requires.sound in
     let truth = c.in_ok-truth.truth in
     let finds : Finds g.V.Ord.cmp l trees (length ranges) after (path ranges p) truth =
-    subst (λ is. Finds g.V.Ord.cmp l trees (length ranges) after (picked ranges (take p.depth is)) truth) c.deref.ensures.value c.in_ok-truth.ensures.finds in
+    c.in_ok-truth.ensures.finds in
     let at = c.requires.stands.at in
     let whole : length (path ranges p) ≡ length ranges = omega (arith, length-path ranges p at, at.shallow, c.if-depth-problem.false) in
     let so = finds-whole given (path ranges p) truth whole c.in_default.not-False finds in
@@ -380,12 +385,13 @@ returns-in-Out-clause-counts g c = λ plain h.
     let after = option_copied c.args.problem.now.after in
     let p : Place = c.args.place.now in
     let basis = basis-of g.met.V.Ord.total (g.met.J.Judge.one_truth c.args.problem.now.judge.now) (g.met.J.Judge.kept c.args.problem.now.judge.now) c.requires.sound in
-    let here = counted-here basis p c.deref.result.now c.deref.ensures.value c.if-not-place.false c.args.choices.now c.args.memo.now.tests c.test.new.memo.tests h in
+    let here = counted-here basis p p.places.items refl c.if-not-place.false c.args.choices.now c.args.memo.now.tests c.test.new.memo.tests h in
     let found : CountsFound g.V.Ord.cmp l ranges after (path ranges p) c.in_ok-truth.truth c.test.new.memo.tests =
-    subst (λ is. CountsFound g.V.Ord.cmp l ranges after (picked ranges (take p.depth is)) c.in_ok-truth.truth c.test.new.memo.tests) c.deref.ensures.value (c.in_ok-truth.ensures.counts plain here) in
+    c.in_ok-truth.ensures.counts plain h.unseen here in
     let below = found-other basis (path ranges p) c.in_ok-truth.truth c.test.new.memo.tests c.in_default.not-False found in
     let at : IsAt ranges p = c.requires.stands.at in
     record {
       counts = counts-whole basis (take p.depth p.places.items) at.within c.test.new.memo.tests (omega (arith, length-bound ranges p at, c.if-depth-problem.false)) below;
       whole = h.whole;
+      unseen = h.unseen;
     }

@@ -47,8 +47,8 @@ pub returns : goal.returns
 returns g c =
     let s = g.J.Judge.conjuncts c.args.judge.now in
     let uses = g.J.Judge.is_used c.args.judge.now in
-    let t : Table = record { used = c.loop-component.used; entries = c.in_ok-entries.entries } in
+    let t : Table = record { used = c.loop-component.used; entries = c.in_ok-entries.entries; width = c.width_of-width.result; seen = c.new-seen.result } in
     let all : c.loop-component.component ≡ s.due c.args.conjunct = omega (arith, c.due-due.ensures) in
     table-new s uses c.args.ranges.now c.args.conjunct t
     (subst (λ (n : ℕ). AreUsed c.args.ranges.now (uses c.args.conjunct) n c.loop-component.used.items) all c.loop-component.invariant.used)
-    (omega (arith, c.loop-component.invariant.product)) c.in_ok-entries.ensures.items
+    (omega (arith, c.loop-component.invariant.product)) c.in_ok-entries.ensures.items c.new-seen.ensures.items
