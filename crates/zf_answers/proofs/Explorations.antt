@@ -12,7 +12,7 @@ use Rattle.zf_steps.specs.Lines.{lines}
 use Rattle.zf_steps.specs.Systems.{System}
 use Rattle.zf_engine.specs.Explorations.{ending_status, Explores, ExplorationAnswer, HasInfinite, HasOut, HasSchemas, IsBounded, IsOfSchema, IsSchemaOf, IsSettled, LacksComponent, LacksSchema, names_of, RefusesExploration, states_limit}
 use Rattle.zf_engine.specs.Settings.{TellsFaults, TellsInfinite, TellsMisfit, TellsNoSchema, TellsNumbers, TellsOut}
-use Rattle.zf_engine.specs.Texts.{no_component_line}
+use Rattle.zf_messages.specs.Texts.{no_component_line}
 use Rattle.zf_answers.proofs.Machines.{not_all_and_first, not_shape_and_lack, one_first, one_lacking}
 use Rattle.zf_answers.proofs.OneRefusal.{none_refused, one_refusal}
 use Rattle.zf_answers.proofs.OneSearch.{not_infinite, one_environment_at, one_first_out}

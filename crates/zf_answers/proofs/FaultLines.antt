@@ -2,8 +2,8 @@
 use Rattle.zf_answers.proofs.Prelude.{◌∙◌, ◌∷◌, ◌≡◌, [], ap, Bool, List, refl, sym, ℕ, flat_map, Fault, AreLines}
 use Rattle.std.proofs.Common.{map}
 use Rattle.std.proofs.lemmas.List.Folds.{flat_map-map}
-use Rattle.zf_engine.specs.Details.{nothing, Reported, reported_lines}
-use Rattle.zf_engine.specs.Texts.{type_fault_line}
+use Rattle.zf_messages.specs.Details.{nothing, Reported, reported_lines}
+use Rattle.zf_messages.specs.Texts.{type_fault_line}
 use Rattle.zf_answers.specs.Laws.{PlainLines}
 
 abbrev bare : Fault → Reported

@@ -156,7 +156,8 @@ one_unread details file source one two s t (e, x, refused, told, bad) (f, y, oth
 one_reason : (r : Request) (file source one two : List ℕ) (g : List Defined) (a : Schema) (e : Environment) (p : Portion) → HasSchema source r.name g a → IsEnvironment g (stated g r.setting) (numbers_of r.setting) e
     → AreOneReason file source g a e p one two → AreAlike r.details file source one two
 one_reason r file source one two g a e p has is (inl same) = AreAlike.same same
-one_reason r file source one two g a e p has is (inr (first, second, x, y, told, other_told)) = AreAlike.reasons r.name g a (stated g r.setting) (numbers_of r.setting) e p.held first second has is x y told other_told
+one_reason r file source one two g a e p has is (inr (inl (alone, x, told, other_told))) = AreAlike.sides r.name g a (stated g r.setting) (numbers_of r.setting) e p.held alone has is x told other_told
+one_reason r file source one two g a e p has is (inr (inr (first, second, x, y, told, other_told))) = AreAlike.reasons r.name g a (stated g r.setting) (numbers_of r.setting) e p.held first second has is x y told other_told
 
 one_job_answer : (job : Job) (file source one two : List ℕ) (s t : Status) → JobAnswer job file source one s → JobAnswer job file source two t → IsOne (wants_details job) file source one two s t
 one_job_answer (Check types details) file source one two s t x y = one_check_answer types details file source one two s t x y

@@ -67,11 +67,11 @@ pub use Rattle.zf_found.proofs.Rows.{AreTold, one_truth_of}
 pub use Rattle.zf_found.proofs.Searches.{property_told, some_search, some_tests_line}
 pub use Rattle.zf_engine.specs.Answers.{Answer, AreHeld, check_status, CheckAnswer, HoldsNoValues, IsAsked, IsLimited, IsLineOf, IsNamedRow, IsSearch, JobAnswer, JobBegins, NamesNoRow, RefusesRequest, RequestAnswer, ShowAnswer, ShowBegins, ShowsEvents, UnreadAnswer, wants_details}
 pub use Rattle.zf_engine.specs.Settings.{Checks, HasSchema, IsNamed, size_fault_lines, stated, numbers_of}
-pub use Rattle.zf_engine.specs.Details.{Cited, not_finite_lines, text_fault_lines, AreLines}
-pub use Rattle.zf_engine.specs.Missing.{no_schema_lines}
+pub use Rattle.zf_messages.specs.Details.{Cited, not_finite_lines, text_fault_lines, AreLines}
+pub use Rattle.zf_messages.specs.Missing.{no_schema_lines}
 pub use Rattle.zf_engine.specs.Numbers.{AreSmall, AreTooLarge}
-pub use Rattle.zf_engine.specs.Reasons.{conjunct_lines, empty_lines, TellsWhy}
-pub use Rattle.zf_engine.specs.Texts.{declared_out_line, not_a_binding_line, not_held_line, numbers_too_large_line}
+pub use Rattle.zf_engine.specs.Reasons.{empty_lines, TellsConjuncts, TellsWhy, told_lines}
+pub use Rattle.zf_messages.specs.Texts.{declared_out_line, not_a_binding_line, not_held_line, numbers_too_large_line}
 pub use Rattle.zf_answers.specs.Bindings.{EndsLines, IsBefore, IsBinding, IsInDoubt, IsNotPast, ShowsBindings}
 pub use Rattle.zf_answers.specs.Laws.{AnswersRequest, AreAlike, AreOfSame, EachBindingIsShown, EventsAreShown, EveryHeldLineIsJudged, EveryLineIsJudged, EveryRequestIsAnswered, EverySourceIsRead, IsGranted, IsShownInOneWay, OneStatus, OneText, ReasonIsTold}
 pub use Rattle.zf_answers.specs.Runs.{FirstLinesAreAFront, limited, PartsAreFronts, resumed, RunsMakeOne, together}

@@ -1,5 +1,5 @@
 -- What `why` tells of a search is one first event, or one cause but for which minimal set of conjuncts; and there is something to tell.
-use Rattle.zf_answers.proofs.Prelude.{◌++◌, ◌+◌, ◌∙◌, ◌∷◌, ◌≡◌, ◌≤◌, ◌⊎◌, [], All-cons, All-contains, All-nil, ap, arith, Bool, codes, inl, inr, length, List, None, Option, refl, Some, subst, sym, ℕ, IsTrue, AllByRecursion, Contains, Contains-head, Contains-nil, Event, IsEvent, Out, True, value_order, Value, Comp, Defined, Schema, sets_of, one_bounds, Environment, Portion, property, spellings, HasEvents, IsWritten, binding_line, lines, out_line, Status, PastBounds, conjunct_lines, empty_lines, TellsWhy, HasSome}
+use Rattle.zf_answers.proofs.Prelude.{◌++◌, ◌+◌, ◌∙◌, ◌∷◌, ◌≡◌, ◌≤◌, ◌⊎◌, [], All-cons, All-contains, All-nil, ap, arith, Bool, codes, false, inl, inr, length, List, None, Option, refl, Some, subst, sym, ℕ, IsTrue, AllByRecursion, Contains, Contains-head, Contains-nil, Event, IsEvent, Out, True, value_order, Value, Comp, Defined, Schema, sets_of, one_bounds, Environment, Portion, property, spellings, HasEvents, IsWritten, binding_line, lines, out_line, Status, PastBounds, empty_lines, TellsConjuncts, TellsWhy, told_lines, HasSome}
 use Rattle.std.proofs.lemmas.List.{length-append}
 use Rattle.zf_lines.specs.declared.fault.Status.TheVariants.{Done}
 use Rattle.zf_cores.specs.Choices.{chosen_of}
@@ -7,10 +7,12 @@ use Rattle.zf_found.proofs.Ranges.{some_ranges}
 use Rattle.zf_found.proofs.Searches.{some_search}
 use Rattle.zf_why.specs.Causes.{EmptiedBy, RefutedBy, RefutedTogetherBy}
 use Rattle.zf_why.specs.Rows.{RuleOut}
+use Rattle.zf_why.specs.Told.{nothing_beside, others_beside}
 use Rattle.zf_why.proofs.Decided.{event_of}
 use Rattle.zf_answers.proofs.OneCause.{no_row_when_empty, not_both, same_alone, same_empty}
 use Rattle.zf_answers.proofs.OneSearch.{one_search}
-use Rattle.zf_answers.proofs.SomeCause.{some_cause}
+use Rattle.zf_answers.proofs.SomeCause.{some_cause, some_told_lines}
+use Rattle.zf_term.specs.ResolvedTrees.{ResolvedTree}
 
 -- ---- as `show` would have it, with one binding at most
 
@@ -55,11 +57,12 @@ module _ (file source : List ℕ) (g : List Defined) (a : Schema) (e : Environme
 
   -- ---- what is told is one
 
-  -- two texts are one, or tell two minimal sets of conjuncts
+  -- two texts are one, or tell the same conjuncts with other sides, or two minimal sets of conjuncts
   abbrev pub AreOneReason : (one two : List ℕ) → Type 0
   AreOneReason one two = (one ≡ two)
+      ⊎ (((alone : List Bool) × RefutedBy e a p.held alone × TellsConjuncts file source a e p.held nothing_beside alone one × TellsConjuncts file source a e p.held nothing_beside alone two)
       ⊎ ((first : List Bool) × (second : List Bool) × RefutedTogetherBy e a p.held first × RefutedTogetherBy e a p.held second
-      × (one ≡ conjunct_lines file source (chosen_of a.conjuncts first) ++ codes "no binding\n") × (two ≡ conjunct_lines file source (chosen_of a.conjuncts second) ++ codes "no binding\n"))
+      × TellsConjuncts file source a e p.held (others_beside a.conjuncts first) first one × TellsConjuncts file source a e p.held (others_beside a.conjuncts second) second two))
 
   pub record AreOneTold (one two : List ℕ) (s t : Status) : Type 0 where
     pub statuses : s ≡ t
@@ -114,7 +117,10 @@ module _ (file source : List ℕ) (g : List Defined) (a : Schema) (e : Environme
     one_told (TellsWhy.refuted m none cause told done) (TellsWhy.doubtful other other_listed out other_told past) = none_and_some other.row (seen_none s none done) (seen_out other t other_listed out past)
     one_told (TellsWhy.refuted m none cause told done) (TellsWhy.emptied n other_none other_cause other_told other_done) = absurd (no_row_when_empty e a p.held n other_cause cause.0)
     one_told (TellsWhy.refuted m none cause told done) (TellsWhy.refuted n other_none other_cause other_told other_done) =
-        same_lines (λ z. conjunct_lines file source (chosen_of a.conjuncts z) ++ codes "no binding\n") m n done other_done (same_alone e a p.held m n cause other_cause) told other_told
+        record {
+          statuses = done ∙ sym other_done;
+          reasons = inr (inl (n, other_cause, subst (λ (z : List Bool). TellsConjuncts file source a e p.held nothing_beside z one) (same_alone e a p.held m n cause other_cause) told, other_told));
+        }
     one_told (TellsWhy.refuted m none cause told done) (TellsWhy.refuted_together n other_none other_cause other_told other_done) = absurd (not_both e a p.held m n cause other_cause)
     one_told (TellsWhy.refuted_together m none cause told done) (TellsWhy.satisfied other other_listed true other_told other_done) =
         none_and_some other.row (seen_none s none done) (seen_first other t other_listed true other_done)
@@ -122,7 +128,7 @@ module _ (file source : List ℕ) (g : List Defined) (a : Schema) (e : Environme
     one_told (TellsWhy.refuted_together m none cause told done) (TellsWhy.emptied n other_none other_cause other_told other_done) = absurd (no_row_when_empty e a p.held n other_cause cause.2)
     one_told (TellsWhy.refuted_together m none cause told done) (TellsWhy.refuted n other_none other_cause other_told other_done) = absurd (not_both e a p.held n m other_cause cause)
     one_told (TellsWhy.refuted_together m none cause told done) (TellsWhy.refuted_together n other_none other_cause other_told other_done) =
-        record { statuses = done ∙ sym other_done; reasons = inr (m, n, cause, other_cause, told, other_told) }
+        record { statuses = done ∙ sym other_done; reasons = inr (inr (m, n, cause, other_cause, told, other_told)) }
 
   -- ---- there is something to tell
 
@@ -157,10 +163,16 @@ module _ (file source : List ℕ) (g : List Defined) (a : Schema) (e : Environme
       let l = h.listed in
       Contains-nil ev.0 ((l.members ev.0).1 (subst (λ after. IsEvent value_order (property e a.conjuncts) h.ranges after ev.0) (sym first) ev.1, tt))
 
+  -- without sides
+  some_conjuncts : (beside : ℕ → List ResolvedTree) (m : List Bool) → (text : List ℕ) × TellsConjuncts file source a e p.held beside m text
+  some_conjuncts beside m =
+      let told = some_told_lines e a.comps p.held beside a.conjuncts m in
+      (told_lines file source told.0 ++ codes "no binding\n", ((λ i. false), told.0, told.1, refl))
+
   by_cause : HasEvents e a p None [] → HasSome (EmptiedBy e a p.held) ⊎ (HasSome (RefutedBy e a p.held) ⊎ HasSome (RefutedTogetherBy e a p.held)) → CanTell
   by_cause none (inl (m, cause)) = (empty_lines file (chosen_of a.comps m) ++ codes "no binding\n", Done, TellsWhy.emptied m none cause refl refl)
-  by_cause none (inr (inl (m, cause))) = (conjunct_lines file source (chosen_of a.conjuncts m) ++ codes "no binding\n", Done, TellsWhy.refuted m none cause refl refl)
-  by_cause none (inr (inr (m, cause))) = (conjunct_lines file source (chosen_of a.conjuncts m) ++ codes "no binding\n", Done, TellsWhy.refuted_together m none cause refl refl)
+  by_cause none (inr (inl (m, cause))) = let t = some_conjuncts nothing_beside m in (t.0, Done, TellsWhy.refuted m none cause t.1 refl)
+  by_cause none (inr (inr (m, cause))) = let t = some_conjuncts (others_beside a.conjuncts m) m in (t.0, Done, TellsWhy.refuted_together m none cause t.1 refl)
 
   pub some_told : p.after ≡ None → AllByRecursion (λ (c : Comp). IsTrue (one_bounds e.numbers e.globals (sets_of c.sets))) a.comps → CanTell
   some_told first bounded =

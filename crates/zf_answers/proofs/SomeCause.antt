@@ -2,6 +2,7 @@
 use Rattle.zf_answers.proofs.Prelude.{◌+◌, ◌++◌, ◌∷◌, ◌≡◌, ◌⊎◌, [], ap, arith, Bool, false, inl, inr, length, List, None, Option, refl, Some, subst, suc, sym, true, zero, ℕ, slice_get, Contains-head, Contains-nil, Event, value_order, Value, Comp, Environment, Decided, HasSome, portion, property}
 use Rattle.std.specs.Prelude.{replicate, slice_set}
 use Rattle.zf_term.specs.ResolvedTrees.{ResolvedTree}
+use Rattle.zf_term.specs.Shapes.{term_line}
 use Rattle.zf_walk.specs.EventLists.{IsEvents}
 use Rattle.zf_ranges.specs.Ranges.{AreRanges, first_held, later_held}
 use Rattle.zf_found.proofs.Searches.{some_list}
@@ -12,6 +13,8 @@ use Rattle.zf_why.specs.Besides.{has_fewer}
 use Rattle.zf_why.specs.Rows.{HasRow, IsInRange, RuleOut}
 use Rattle.zf_why.specs.Cores.{ArePicked, HasNoValue, HasValue}
 use Rattle.zf_why.specs.Searching.{schema_with}
+use Rattle.zf_why.specs.declared.told.Told.{Told}
+use Rattle.zf_why.specs.Told.{AreTellings, AreTold, IsTold}
 use Rattle.zf_why.specs.Causes.{EmptiedBy, RefutedBy, RefutedTogetherBy}
 use Rattle.zf_why.proofs.Decided.{event_of, row_at}
 use Rattle.zf_why.proofs.Explained.{held_later, some_row}
@@ -102,3 +105,17 @@ module _ (e : Environment) (cs : List Comp) (held : List (Option Value)) (ranges
       | inr filled ↦ inr (by_conjuncts (some_row e cs held (all_left (HasNoValue e held) (HasValue e held) cs empty.0 empty.1 filled))
           (pick (λ i p. RuleOut e cs held (p ∷ [])) (λ i p. HasRow e cs held (p ∷ [])) ps (λ i p at. elim (row_decided (p ∷ [])) [ inl some ↦ inr some | inr never ↦ inl never ])))
     ]
+
+-- ---- what is told of conjuncts, by none of their sides
+
+some_tellings : (R : ℕ → ResolvedTree → Told → Type 0) → ((i : ℕ) (p : ResolvedTree) → HasSome (R i p)) → (i : ℕ) (ps : List ResolvedTree) (m : List Bool) → HasSome (AreTellings R i ps m)
+some_tellings R each i [] m = ([], refl)
+some_tellings R each i (p ∷ ps) [] = ([], refl)
+some_tellings R each i (p ∷ ps) (false ∷ m) = some_tellings R each (suc i) ps m
+some_tellings R each i (p ∷ ps) (true ∷ m) =
+    let first = each i p in
+    let rest = some_tellings R each (suc i) ps m in
+    (first.0 ∷ rest.0, (first.1, rest.1))
+
+pub some_told_lines : (e : Environment) (cs : List Comp) (held : List (Option Value)) (beside : ℕ → List ResolvedTree) (ps : List ResolvedTree) (m : List Bool) → HasSome (AreTold e cs held beside (λ i. false) ps m)
+some_told_lines e cs held beside = some_tellings (λ i p told. IsTold e cs held (beside i) false p told) (λ i p. (record { line = term_line p; sides = None }, record { line = refl; sides = tt })) 0

@@ -14,7 +14,7 @@ use Rattle.zf_total.proofs.Environments.{some_environment}
 use Rattle.zf_total.proofs.StatedSizes.{complete_or_refused}
 use Rattle.zf_engine.specs.Explorations.{ending_status, ExplorationAnswer, HasSchemas, IsBounded, IsOfSchema, IsSchemaOf, IsSearchable, IsSettled, names_of, RefusesExploration, states_limit}
 use Rattle.zf_engine.specs.Settings.{TellsInfinite, TellsNoSchema, TellsOut}
-use Rattle.zf_engine.specs.Texts.{no_component_line}
+use Rattle.zf_messages.specs.Texts.{no_component_line}
 use Rattle.zf_answers.proofs.EveryName.{named_or_none, none_beside}
 use Rattle.zf_answers.proofs.FaultLines.{some_lines}
 use Rattle.zf_answers.proofs.Machines.{all_or_first, shape_or_lack, some_machine}

@@ -18,18 +18,18 @@ use Rattle.zf_meaning.specs.Environments.{Environment}
 use Rattle.zf_meaning.specs.GlobalOutcomes.{IsEnvironment}
 use Rattle.zf_meaning.specs.declared.sizes.Size.{Size}
 use Rattle.zf_meaning.specs.Sizes.{given_sets, AreComplete}
-use Rattle.zf_cores.specs.Choices.{chosen_of}
-use Rattle.zf_why.specs.Causes.{RefutedTogetherBy}
+use Rattle.zf_why.specs.Causes.{RefutedBy, RefutedTogetherBy}
+use Rattle.zf_why.specs.Told.{nothing_beside, others_beside}
 use Rattle.zf_enum.specs.Portions.{Portion}
 use Rattle.zf_ranges.specs.Ranges.{IsNoneOut}
 use Rattle.zf_lines.specs.declared.fault.Status.{Status}
 use Rattle.zf_command.specs.declared.job.Request.{Request}
 use Rattle.zf_engine.specs.Answers.{Answer, AreHeld, HoldsNoValues, IsLimited, IsNamedRow, NamesNoRow, ShowsEvents, wants_details}
 use Rattle.zf_engine.specs.Settings.{Checks, HasSchema, stated, numbers_of}
-use Rattle.zf_engine.specs.Details.{Cited, text_fault_lines, not_finite_lines, AreLines}
+use Rattle.zf_messages.specs.Details.{Cited, text_fault_lines, not_finite_lines, AreLines}
 use Rattle.zf_engine.specs.Numbers.{AreSmall}
-use Rattle.zf_engine.specs.Reasons.{TellsWhy, conjunct_lines}
-use Rattle.zf_engine.specs.Texts.{not_a_binding_line, not_held_line, type_fault_line}
+use Rattle.zf_engine.specs.Reasons.{TellsConjuncts, TellsWhy}
+use Rattle.zf_messages.specs.Texts.{not_a_binding_line, not_held_line, type_fault_line}
 use Rattle.zf_answers.specs.Bindings.{ShowsBindings}
 
 -- ---- what `show` answers
@@ -102,8 +102,8 @@ AreOfSame (e ∷ es) [] = ⊥
 AreOfSame (e ∷ es) (f ∷ fs) = ((g : List Defined) × (item : Item) × OffendsItem g item e.offence e.line × OffendsItem g item f.offence f.line) × AreOfSame es fs
 
 -- Two texts are one, or differ in what is left open: which fault of the grammar an unread source has, which symbols a fault of it is about, which offence of
--- an ill typed paragraph is told and what is reported beside it, which schema without a component is reported, the byte at which a text is no binding, or no line of some components, and
--- which minimal set of conjuncts that can't hold together is told.
+-- an ill typed paragraph is told and what is reported beside it, which schema without a component is reported, the byte at which a text is no binding, or no line of some components,
+-- what is told of the sides of disjunctions, and which minimal set of conjuncts that can't hold together is told.
 pub data AreAlike (details : Bool) (file source one two : List ℕ) : Type 0 where
   same : one ≡ two → AreAlike details file source one two
   symbols : (fault : TextFault) (first second : Cited) → RefusesSource source fault → one ≡ text_fault_lines details file fault first
@@ -115,9 +115,13 @@ pub data AreAlike (details : Bool) (file source one two : List ℕ) : Type 0 whe
       → two ≡ not_finite_lines details file globals cause second → AreAlike details file source one two
   no_binding : (first second : ℕ) → one ≡ not_a_binding_line first → two ≡ not_a_binding_line second → AreAlike details file source one two
   no_values : (first second : ℕ) → one ≡ not_held_line first → two ≡ not_held_line second → AreAlike details file source one two
+  sides : (name : List ℕ) (globals : List Defined) (a : Schema) (sizes : List Size) (numbers : Option ℕ) (e : Environment) (held : List (Option Value)) (alone : List Bool) → HasSchema source name globals a
+      → IsEnvironment globals sizes numbers e → RefutedBy e a held alone → TellsConjuncts file source a e held nothing_beside alone one
+      → TellsConjuncts file source a e held nothing_beside alone two → AreAlike details file source one two
   reasons : (name : List ℕ) (globals : List Defined) (a : Schema) (sizes : List Size) (numbers : Option ℕ) (e : Environment) (held : List (Option Value)) (first second : List Bool) → HasSchema source name globals a
-      → IsEnvironment globals sizes numbers e → RefutedTogetherBy e a held first → RefutedTogetherBy e a held second → one ≡ conjunct_lines file source (chosen_of a.conjuncts first) ++ codes "no binding\n"
-      → two ≡ conjunct_lines file source (chosen_of a.conjuncts second) ++ codes "no binding\n" → AreAlike details file source one two
+      → IsEnvironment globals sizes numbers e → RefutedTogetherBy e a held first → RefutedTogetherBy e a held second
+      → TellsConjuncts file source a e held (others_beside a.conjuncts first) first one
+      → TellsConjuncts file source a e held (others_beside a.conjuncts second) second two → AreAlike details file source one two
 
 -- A source has one text for a job, but for what is left open.
 abbrev pub OneText : Type 0

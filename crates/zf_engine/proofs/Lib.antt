@@ -1,5 +1,5 @@
 mod Prelude
-pub mod Listing
+pub mod Unsized
 pub mod Reported
 pub mod Refusing
 pub mod Parts
@@ -12,5 +12,6 @@ pub mod FirstEvents
 pub mod WhyAnswers
 pub mod SourceLines
 pub mod ChosenLines
+pub mod ToldLines
 pub mod Reaching
 pub mod Explored

@@ -1,5 +1,5 @@
 -- How the parts of an answer that are written come together.
-use Rattle.zf_engine.proofs.Prelude.{◌++◌, ◌∙◌, ◌∷◌, ◌≡◌, ◌⊎◌, [], append-nil, Bool, Err, false, IfOk, inl, inr, List, Ok, OnErr, Option, refl, Result, subst, sym, true, ℕ, Appends-kept, Appends-nil, false≢true, Appends, Keeps, Stage, Value, Schema, Environment, spellings, Spelling, Portion, property, Goal, Status, Answer, AnswersReader, AnswersSource, AreHeld, IsAsked, IsNamedRow, IsSearch, Request, RequestAnswer, ShowAnswer, ShowBegins, ShowsEvents, StopsInReader, StopsInSource, UnreadAnswer, RefusesRequest, AnswersRequest, IfAnswered, IsRefused, IsUnexplored, Shows, Tells, Writes, Stop, Answered, OutOfMemory}
+use Rattle.zf_engine.proofs.Prelude.{◌++◌, ◌∙◌, ◌∷◌, ◌≡◌, ◌⊎◌, [], append-nil, Bool, Err, false, IfOk, inl, inr, List, Ok, OnErr, Option, refl, Result, subst, sym, true, ℕ, Appends-kept, Appends-nil, false≢true, Appends, Keeps, Stage, Value, Schema, Environment, spellings, Spelling, Portion, property, Goal, Status, Answer, AnswersReader, AnswersSource, AreHeld, IsAsked, IsNamedRow, IsSearch, Request, RequestAnswer, ShowAnswer, ShowBegins, StopsInReader, StopsInSource, AnswersRequest, IfAnswered, IsRefused, IsUnexplored, Shows, Tells, Writes, Stop, Answered, OutOfMemory}
 use Rattle.std.specs.Result.{IsErr}
 use Rattle.zf_command.specs.declared.job.Job.{Job}
 use Rattle.zf_command.specs.declared.job.Exploration.{Exploration}

@@ -38,9 +38,9 @@ pub use Rattle.zf_engine.specs.Answers.{Answer, AnswersReader, AnswersSource, Ar
 pub use Rattle.zf_engine.specs.Settings.{Checks, HasSchema, IsNamed, numbers_of, stated, stated_size, TellsFaults, TellsInfinite, TellsMisfit, TellsNoSchema, TellsNumbers, TellsOut, without_size}
 pub use Rattle.zf_engine.specs.Stops.{StopsInSource, AnswersExploration, AnswersOver, AnswersRequest, IfAnswered, IsFaultLine, IsRefused, IsUnexplored, IsUnfit, Reaches, Shows, Tells, TellsNoRow, TellsNoValues, TellsPlace, TellsPlaceHeld, Writes}
 pub use Rattle.zf_engine.specs.Statuses.{IsStatus, IsStatusOfRefused, IsWorkStatus}
-pub use Rattle.zf_engine.specs.Details.{Cited, cited_of, type_fault_lines, AreLines}
-pub use Rattle.zf_engine.specs.Missing.{no_schema_lines}
+pub use Rattle.zf_messages.specs.Details.{Cited, cited_of, type_fault_lines, AreLines}
+pub use Rattle.zf_messages.specs.Missing.{no_schema_lines}
 pub use Rattle.zf_engine.specs.Numbers.{AreSmall}
-pub use Rattle.zf_engine.specs.Texts.{declared_out_line}
+pub use Rattle.zf_messages.specs.Texts.{declared_out_line}
 pub use Rattle.zf_engine.specs.declared.stop.Stop.{Stop}
 pub use Rattle.zf_engine.specs.declared.stop.Stop.TheVariants.{Answered, OutOfMemory}

@@ -1,5 +1,5 @@
 -- The steps before the first state make answers: refusals, in their order.
-use Rattle.zf_engine.proofs.Prelude.{◌+◌, ◌++◌, ◌<◌, ◌∙◌, ◌∷◌, ◌≡◌, [], ap, Err, get_or, inl, inr, length, List, Ok, Option, Result, subst, sym, take, ℕ, Defined, Environment, Status, Answer, AnswersExploration, Checks, environment_of, IfAnswered, IsUnexplored, IsUnfit, numbers_of, Reaches, spellings, Spelling, stated, Stop, Tells, TellsMisfit, TellsNumbers}
+use Rattle.zf_engine.proofs.Prelude.{◌+◌, ◌++◌, ◌<◌, ◌∙◌, ◌∷◌, ◌≡◌, [], ap, Err, get_or, inl, inr, length, List, Ok, Option, Result, subst, sym, take, ℕ, Defined, Environment, Status, AnswersExploration, Checks, IfAnswered, IsUnexplored, IsUnfit, numbers_of, Reaches, stated, Stop, Tells, TellsMisfit, TellsNumbers}
 use Rattle.std.specs.List.{AllByRecursion, AllZip}
 use Rattle.std.specs.Prelude.{OnOk}
 use Rattle.std.proofs.lemmas.List.{take_more}

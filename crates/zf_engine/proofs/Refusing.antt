@@ -1,5 +1,5 @@
 -- The steps before the first binding make answers: refusals, in their order.
-use Rattle.zf_engine.proofs.Prelude.{◌==◌, ◌∙◌, ◌∷◌, ◌≡◌, ◌≢◌, ◌⊎◌, [], ap, arith, Bool, Err, false, IfErr, IfOk, inl, inr, length, List, map, Ok, Option, refl, Result, Some, subst, sym, true, ℕ, eqb-true, Value, Comp, Defined, Schema, AreWellTyped, Environment, spellings, Spelling, Portion, Status, AreHeld, Checks, HasSchema, IsAsked, IsNamed, IsNamedRow, Request, RefusesRequest, numbers_of, stated, UnreadAnswer, AnswersRequest, IfAnswered, IsRefused, IsUnfit, IsFaultLine, AreSmall, TellsInfinite, TellsMisfit, TellsNoSchema, TellsNumbers, TellsNoRow, TellsNoValues, TellsOut, TellsPlace, TellsPlaceHeld, Cited, Stop, Answered, OutOfMemory, AreLines}
+use Rattle.zf_engine.proofs.Prelude.{◌==◌, ◌∙◌, ◌∷◌, ◌≡◌, ◌≢◌, ◌⊎◌, [], ap, arith, Bool, Err, false, IfErr, IfOk, inl, inr, length, List, map, Ok, Option, refl, Result, Some, subst, sym, true, ℕ, eqb-true, Value, Comp, Defined, Schema, AreWellTyped, Environment, spellings, Spelling, Portion, Status, AreHeld, Checks, HasSchema, IsAsked, IsNamed, IsNamedRow, Request, RefusesRequest, numbers_of, stated, UnreadAnswer, AnswersRequest, IfAnswered, IsRefused, IsUnfit, IsFaultLine, AreSmall, TellsInfinite, TellsMisfit, TellsNoSchema, TellsNumbers, TellsNoRow, TellsNoValues, TellsOut, TellsPlace, TellsPlaceHeld, Cited, Stop, Answered, OutOfMemory}
 use Rattle.zf_finite.specs.Finite.{IsFinite}
 use Rattle.zf_scan.specs.declared.fault.TextFault.{TextFault}
 use Rattle.zf_scan.specs.CutViews.{IsWantOfMemory}
@@ -16,7 +16,7 @@ use Rattle.zf_texts.specs.Readings.{IsNoLine}
 use Rattle.zf_names.proofs.Clear.{components_clear, globals_clear}
 use Rattle.zf_texts.proofs.Chosen.{held_is_line, line_is_held}
 use Rattle.std.proofs.Common.{Global, Vec}
-use Rattle.zf_engine.specs.Details.{IsWithout, LacksComponent}
+use Rattle.zf_messages.specs.Details.{IsWithout, LacksComponent}
 use Rattle.zf_engine.specs.Stops.{IsWhole}
 
 pub weaker : (stop : Stop) {P Q : List ℕ → Status → Type 0} → ((text : List ℕ) (status : Status) → P text status → Q text status) → IfAnswered stop P → IfAnswered stop Q

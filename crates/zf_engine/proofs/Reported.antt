@@ -3,7 +3,7 @@ use Rattle.zf_engine.proofs.Prelude.{◌++◌, ◌+◌, ◌<◌, ◌∙◌, ◌�
 use Rattle.std.proofs.lemmas.List.{flat_map_more, map-append, take_more}
 use Rattle.zf_term.specs.Faults.{Fault}
 use Rattle.zf_sorts.specs.declared.fault.TypeFault.{TypeFault}
-use Rattle.zf_engine.specs.Details.{Aside, Reported, reported_lines}
+use Rattle.zf_messages.specs.Details.{Aside, Reported, reported_lines}
 
 module _ (details : Bool) (file : List ℕ) where
   more_lines : (faults : List Fault) (fault : Fault) (aside : Aside) (lines further : List ℕ) → AreLines details file faults lines → further ≡ type_fault_lines details file fault aside

@@ -1,5 +1,5 @@
 -- What `why` finds is the answer of its request.
-use Rattle.zf_engine.proofs.Prelude.{Err, IfOk, inr, List, None, Ok, Option, refl, Result, subst, sym, ℕ, Value, Schema, Environment, portion, Status, Answer, AreHeld, IsAsked, IsNamedRow, Request, RequestAnswer, AnswersRequest, IfAnswered, TellsOut, Stop}
+use Rattle.zf_engine.proofs.Prelude.{Bool, Err, IfOk, inr, List, None, Ok, Option, refl, Result, subst, sym, ℕ, Value, Schema, Environment, portion, Status, Answer, AreHeld, IsAsked, IsNamedRow, Request, RequestAnswer, AnswersRequest, IfAnswered, TellsOut, Stop}
 use Rattle.std.proofs.Common.{Global, Vec}
 use Rattle.std.specs.Prelude.{OnOk}
 use Rattle.zf_command.specs.Requests.{IsBare}
@@ -7,6 +7,7 @@ use Rattle.zf_command.specs.declared.job.Job.TheVariants.{Why}
 use Rattle.zf_ranges.specs.Ranges.{IsNoneOut}
 use Rattle.zf_lines.specs.declared.fault.Status.TheVariants.{Done}
 use Rattle.zf_why.specs.Causes.{Explains}
+use Rattle.zf_why.specs.Disjunctions.{disjunction_at}
 use Rattle.zf_why.specs.declared.cause.Cause.{Cause}
 use Rattle.zf_why.specs.declared.cause.Cause.TheVariants.{Alone, Empty, Together}
 use Rattle.zf_engine.specs.Reasons.{TellsWhy}
@@ -36,14 +37,14 @@ module _ (r : Request) (file source : List ℕ) (a : Schema) (e : Environment) (
   pub why_out : (stop : Stop) → IfAnswered stop (TellsOut e a.comps) → IfAnswered stop (Answer (Why r) file source)
   why_out stop h = why_stopped r file source stop (out_answers r file source e.globals a e is (portion None held) (none_named r e a plain) are stop h)
 
--- a cause speaks of each component, or of each conjunct
-pub of_schema : (e : Environment) (a : Schema) (held : List (Option Value)) (cause : Cause) → Explains e a held cause → IsOfSchema a cause
-of_schema e a held (Empty empty) h = h.0.each
-of_schema e a held (Alone alone) h = h.1.each
-of_schema e a held (Together core) h = h.1.each
+-- a cause of empty ranges speaks of each component
+pub of_schema : (e : Environment) (a : Schema) (held : List (Option Value)) (disjunctions : ℕ → Bool) (cause : Cause) → Explains e a held disjunctions cause → IsOfSchema a cause
+of_schema e a held disjunctions (Empty empty) h = h.0.each
+of_schema e a held disjunctions (Alone told) h = tt
+of_schema e a held disjunctions (Together told) h = tt
 
 -- a schema without an event, and why
 pub none_told : (s : Subject) (file source text : List ℕ) → HasNone s → TellsNone s file source text → TellsOf s file source text Done
 none_told s file source text none (Empty empty, explains, told) = TellsWhy.emptied empty.items none.events explains told refl
-none_told s file source text none (Alone alone, explains, told) = TellsWhy.refuted alone.items none.events explains told refl
-none_told s file source text none (Together core, explains, told) = TellsWhy.refuted_together core.items none.events explains told refl
+none_told s file source text none (Alone tellings, (alone, refuted, are), told) = TellsWhy.refuted alone none.events refuted (disjunction_at s.schema.now.conjuncts, tellings.items, are, told) refl
+none_told s file source text none (Together tellings, (core, refuted, are), told) = TellsWhy.refuted_together core none.events refuted (disjunction_at s.schema.now.conjuncts, tellings.items, are, told) refl

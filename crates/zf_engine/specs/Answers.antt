@@ -32,13 +32,13 @@ use Rattle.zf_lines.specs.Faults.{IsFront}
 use Rattle.zf_lines.specs.Texts.{binding_line}
 use Rattle.zf_engine.specs.Faults.{Gave}
 use Rattle.zf_lines.specs.Searches.{HasEvents, IsTestsLine, IsWritten, IsBegun, HasLimit}
-use Rattle.zf_engine.specs.Details.{Cited, text_fault_lines, IsReportedBeside, not_finite_lines, AreLines}
+use Rattle.zf_messages.specs.Details.{Cited, text_fault_lines, IsReportedBeside, not_finite_lines, AreLines}
 use Rattle.zf_engine.specs.Explorations.{ExplorationAnswer, ExplorationBegins}
-use Rattle.zf_engine.specs.Missing.{no_schema_lines}
+use Rattle.zf_messages.specs.Missing.{no_schema_lines}
 use Rattle.zf_engine.specs.Numbers.{AreSmall, AreTooLarge}
 use Rattle.zf_engine.specs.Reasons.{TellsWhy}
 use Rattle.zf_engine.specs.Settings.{Checks, HasSchema, IsNamed, numbers_of, size_fault_lines, stated}
-use Rattle.zf_engine.specs.Texts.{numbers_too_large_line, not_a_binding_line, not_held_line, declared_out_line}
+use Rattle.zf_messages.specs.Texts.{numbers_too_large_line, not_a_binding_line, not_held_line, declared_out_line}
 
 -- ---- `check`
 

@@ -5,8 +5,6 @@ use Rattle.zf_command.specs.declared.job.Exploration.{Exploration}
 use Rattle.zf_command.specs.declared.limit.TheConstants.{STATES_MAX}
 use Rattle.zf_term.specs.Definitions.{Defined, Schema}
 use Rattle.zf_finite.specs.Finite.{IsFinite}
-use Rattle.zf_meaning.specs.declared.sizes.SizeFault.{SizeFault}
-use Rattle.zf_meaning.specs.declared.sizes.SizeFault.TheVariants.{OutOfMemory}
 use Rattle.zf_meaning.specs.Environments.{Environment}
 use Rattle.zf_meaning.specs.GlobalOutcomes.{IsEnvironment}
 use Rattle.zf_meaning.specs.Sizes.{given_sets, AreComplete}
@@ -23,7 +21,7 @@ use Rattle.zf_lines.specs.declared.fault.Status.{Status}
 use Rattle.zf_lines.specs.declared.fault.Status.TheVariants.{BadRequest, Done, PastBounds}
 use Rattle.zf_engine.specs.Numbers.{AreSmall}
 use Rattle.zf_engine.specs.Settings.{Checks, IsNamed, numbers_of, stated, TellsFaults, TellsInfinite, TellsMisfit, TellsNoSchema, TellsNumbers, TellsOut}
-use Rattle.zf_engine.specs.Texts.{no_component_line}
+use Rattle.zf_messages.specs.Texts.{no_component_line}
 
 -- ---- what is asked for
 

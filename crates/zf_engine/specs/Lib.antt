@@ -1,8 +1,4 @@
 pub mod Faults
-pub mod Texts
-pub mod Details
-pub mod Missing
-pub mod Named
 pub mod SourceLines
 pub mod Reasons
 pub mod Numbers

@@ -1,9 +1,8 @@
 -- What `why` tells of a search: its first event, or why there is none.
-use Rattle.std.specs.Prelude.{◌≡◌, ℕ, Bool, List, [], ◌∷◌, ◌++◌, codes, Some, None}
+use Rattle.std.specs.Prelude.{◌≡◌, ℕ, Bool, List, [], ◌∷◌, ◌++◌, codes, Option, Some, None}
 use Rattle.std.specs.List.{flat_map}
 use Rattle.zf_term.specs.Definitions.{Comp, Defined, Schema, sets_of}
 use Rattle.zf_term.specs.ResolvedTrees.{ResolvedTree}
-use Rattle.zf_term.specs.Shapes.{term_line}
 use Rattle.zf_finite.specs.Finite.{first_plain}
 use Rattle.zf_value.specs.declared.plain.Value.{Value}
 use Rattle.zf_walk.specs.declared.judge.Truth.TheVariants.{True, Out}
@@ -14,13 +13,16 @@ use Rattle.zf_texts.specs.Spellings.{spellings}
 use Rattle.zf_cores.specs.Choices.{chosen_of}
 use Rattle.zf_why.specs.declared.cause.Cause.{Cause}
 use Rattle.zf_why.specs.declared.cause.Cause.TheVariants.{Empty, Alone, Together}
+use Rattle.zf_why.specs.declared.told.Sides.{Sides}
+use Rattle.zf_why.specs.declared.told.Told.{Told}
 use Rattle.zf_why.specs.Causes.{EmptiedBy, RefutedBy, RefutedTogetherBy}
+use Rattle.zf_why.specs.Told.{AreTold, nothing_beside, others_beside}
 use Rattle.zf_lines.specs.declared.fault.Status.{Status}
 use Rattle.zf_lines.specs.declared.fault.Status.TheVariants.{Done, PastBounds}
 use Rattle.zf_lines.specs.Searches.{HasEvents, out_line}
 use Rattle.zf_lines.specs.Texts.{binding_line}
 use Rattle.zf_engine.specs.SourceLines.{line_numbered, trimmed}
-use Rattle.zf_engine.specs.Texts.{fault_line}
+use Rattle.zf_messages.specs.Texts.{fault_line}
 
 -- ---- the lines of a cause
 
@@ -28,24 +30,46 @@ use Rattle.zf_engine.specs.Texts.{fault_line}
 abbrev pub empty_line : (file : List ℕ) → Comp → List ℕ
 empty_line file c = fault_line file (first_plain (sets_of c.sets)) (c.name ++ codes ": empty")
 
--- `FILE:LINE: SOURCE LINE`, with the line of the conjunct's first symbol, as the source has it
-abbrev pub conjunct_line : (file source : List ℕ) → ResolvedTree → List ℕ
-conjunct_line file source p = fault_line file (term_line p) (trimmed (line_numbered (term_line p) source))
+-- `FILE:LINE: SOURCE LINE`, as the source has it
+abbrev pub source_line : (file source : List ℕ) → (line : ℕ) → List ℕ
+source_line file source n = fault_line file n (trimmed (line_numbered n source))
+
+-- the lines of one side of a disjunction, with four blanks before each
+abbrev pub side_lines : (file source : List ℕ) → (lines : List ℕ) → List ℕ
+side_lines file source ns = flat_map (λ n. codes "    " ++ source_line file source n) ns
+
+-- those of the left side, and those of the right
+abbrev pub sides_lines : (file source : List ℕ) → Sides → List ℕ
+sides_lines file source s = side_lines file source s.left.items ++ codes "    or\n" ++ side_lines file source s.right.items
+
+abbrev pub sides_lines_of : (file source : List ℕ) → Option Sides → List ℕ
+sides_lines_of file source None = []
+sides_lines_of file source (Some s) = sides_lines file source s
+
+-- a conjunct's line, that of its first symbol, and behind it those of its sides, if it is told by both
+abbrev pub told_line : (file source : List ℕ) → Told → List ℕ
+told_line file source t = source_line file source t.line ++ sides_lines_of file source t.sides
 
 -- a line each, in their order
 abbrev pub empty_lines : (file : List ℕ) → List Comp → List ℕ
 empty_lines file cs = flat_map (empty_line file) cs
 
-abbrev pub conjunct_lines : (file source : List ℕ) → List ResolvedTree → List ℕ
-conjunct_lines file source ps = flat_map (conjunct_line file source) ps
+abbrev pub told_lines : (file source : List ℕ) → List Told → List ℕ
+told_lines file source told = flat_map (told_line file source) told
 
--- the components without a value, or the conjuncts that are to blame
+-- the components without a value, or what is told of the conjuncts that are to blame
 abbrev pub cause_lines : (file source : List ℕ) → Schema → Cause → List ℕ
 cause_lines file source a (Empty empty) = empty_lines file (chosen_of a.comps empty.items)
-cause_lines file source a (Alone alone) = conjunct_lines file source (chosen_of a.conjuncts alone.items)
-cause_lines file source a (Together core) = conjunct_lines file source (chosen_of a.conjuncts core.items)
+cause_lines file source a (Alone told) = told_lines file source told.items
+cause_lines file source a (Together told) = told_lines file source told.items
 
 -- ---- the answer
+
+-- The text tells these conjuncts, each beside others. Which minimal sets are told of the sides of a disjunction is open. So are the places of the conjuncts that are told by their sides:
+-- those of the disjunctions of schemas, as `why` of `zf_why` has it, which a schema's predicates do not show.
+abbrev pub TellsConjuncts : (file source : List ℕ) → Schema → Environment → (held : List (Option Value)) → (beside : ℕ → List ResolvedTree) → (chosen : List Bool) → (text : List ℕ) → Type 0
+TellsConjuncts file source a e held beside chosen text =
+    (disjunctions : ℕ → Bool) × (told : List Told) × AreTold e a.comps held beside disjunctions a.conjuncts chosen told × (text ≡ told_lines file source told ++ codes "no binding\n")
 
 -- The text and the status of a search for bindings of a schema among these globals: its first event, as a binding or as one that is out of bounds; or, where there is none, a cause.
 -- Which minimal set of conjuncts is told, where there are several, is open.
@@ -56,7 +80,7 @@ pub data TellsWhy (file source : List ℕ) (globals : List Defined) (a : Schema)
       → text ≡ out_line (binding_line (spellings globals) a.comps) event.row → status ≡ PastBounds → TellsWhy file source globals a e p text status
   emptied : (empty : List Bool) → HasEvents e a p None [] → EmptiedBy e a p.held empty
       → text ≡ empty_lines file (chosen_of a.comps empty) ++ codes "no binding\n" → status ≡ Done → TellsWhy file source globals a e p text status
-  refuted : (alone : List Bool) → HasEvents e a p None [] → RefutedBy e a p.held alone
-      → text ≡ conjunct_lines file source (chosen_of a.conjuncts alone) ++ codes "no binding\n" → status ≡ Done → TellsWhy file source globals a e p text status
-  refuted_together : (core : List Bool) → HasEvents e a p None [] → RefutedTogetherBy e a p.held core
-      → text ≡ conjunct_lines file source (chosen_of a.conjuncts core) ++ codes "no binding\n" → status ≡ Done → TellsWhy file source globals a e p text status
+  refuted : (alone : List Bool) → HasEvents e a p None [] → RefutedBy e a p.held alone → TellsConjuncts file source a e p.held nothing_beside alone text → status ≡ Done
+      → TellsWhy file source globals a e p text status
+  refuted_together : (core : List Bool) → HasEvents e a p None [] → RefutedTogetherBy e a p.held core → TellsConjuncts file source a e p.held (others_beside a.conjuncts core) core text → status ≡ Done
+      → TellsWhy file source globals a e p text status

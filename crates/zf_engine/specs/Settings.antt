@@ -22,10 +22,10 @@ use Rattle.zf_meaning.specs.Sizes.{given_sets, IsRefusal}
 use Rattle.zf_ranges.specs.Ranges.{IsFirstOut}
 use Rattle.zf_lines.specs.declared.fault.Status.{Status}
 use Rattle.zf_lines.specs.declared.fault.Status.TheVariants.{BadSpec, BadRequest, PastBounds}
-use Rattle.zf_engine.specs.Details.{IsReportedBeside, not_finite_lines, AreLines}
-use Rattle.zf_engine.specs.Missing.{no_schema_lines, no_size_lines}
+use Rattle.zf_messages.specs.Details.{IsReportedBeside, not_finite_lines, AreLines}
+use Rattle.zf_messages.specs.Missing.{no_schema_lines, no_size_lines}
 use Rattle.zf_engine.specs.Numbers.{AreTooLarge}
-use Rattle.zf_engine.specs.Texts.{declared_out_line, not_given_line, numbers_too_large_line, size_twice_line, size_too_large_line}
+use Rattle.zf_messages.specs.Texts.{declared_out_line, not_given_line, numbers_too_large_line, size_twice_line, size_too_large_line}
 
 -- a tree reads the source; it defines these globals, and has these faults of types
 pub record Checks (source : List ℕ) (globals : List Defined) (faults : List Fault) : Type 0 where

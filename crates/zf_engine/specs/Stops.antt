@@ -10,8 +10,6 @@ use Rattle.zf_meaning.specs.Environments.{Environment}
 use Rattle.zf_lines.specs.declared.fault.RunFault.{RunFault}
 use Rattle.zf_lines.specs.declared.fault.Status.{Status}
 use Rattle.zf_lines.specs.declared.fault.Status.TheVariants.{BadSpec, BadRequest}
-use Rattle.zf_engine.specs.declared.quoted.Aside as program
-use Rattle.zf_engine.specs.declared.quoted.Aside.TheVariants as variant
 use Rattle.zf_engine.specs.declared.stop.Stop.{Stop}
 use Rattle.zf_engine.specs.declared.stop.Stop.TheVariants.{Answered, OutOfMemory}
 use Rattle.zf_command.specs.declared.job.Exploration.{Exploration}
@@ -19,20 +17,13 @@ use Rattle.zf_command.specs.declared.job.Request.{Request}
 use Rattle.zf_engine.specs.Answers.{AnswersSource, HoldsNoValues, NamesNoRow, RefusesRequest, UnreadAnswer, IsPartOfAnswer}
 use Rattle.zf_engine.specs.Settings.{Checks, TellsFaults}
 use Rattle.zf_lines.specs.FaultViews.{AppendsFront}
-use Rattle.zf_engine.specs.Details.{Cited, text_fault_lines, Aside, nothing, quoted, like}
+use Rattle.zf_messages.specs.Details.{Cited, text_fault_lines}
 use Rattle.zf_engine.specs.Explorations.{RefusesExploration}
-use Rattle.zf_engine.specs.Texts.{not_a_binding_line, not_held_line}
+use Rattle.zf_messages.specs.Texts.{not_a_binding_line, not_held_line}
 use Rattle.zf_command.specs.declared.job.Job.{Job}
 
 abbrev pub StopsInSource : Job → List ℕ → List ℕ → Option (List ℕ) → Option (List ℕ) → Type 0
 StopsInSource job file source old new = (written : List ℕ) × IsPartOfAnswer job file source written × Appends old new written
-
--- ---- what is reported beside an offence
-
-abbrev pub aside_of : program.Aside → Aside
-aside_of variant.Nothing = nothing
-aside_of (variant.Quoted q) = quoted q.text.items q.first q.last
-aside_of (variant.Like name) = like name
 
 -- ---- answers that are whole
 

@@ -14,6 +14,7 @@ use Rattle.zf_enum.specs.Searches.{Goal}
 use Rattle.zf_enum.specs.Starts.{Begins}
 use Rattle.zf_texts.specs.Spellings.{spellings}
 use Rattle.zf_why.specs.Causes.{Explains}
+use Rattle.zf_why.specs.Disjunctions.{disjunction_at}
 use Rattle.zf_why.specs.Rows.{RuleOut}
 use Rattle.zf_why.specs.declared.cause.Cause.{Cause}
 use Rattle.zf_why.specs.declared.cause.Cause.TheVariants.{Empty, Alone, Together}
@@ -62,10 +63,11 @@ pub record HasNone (s : Subject) : Type 0 where
 
 -- the text says why
 abbrev pub TellsNone : Subject → (file source text : List ℕ) → Type 0
-TellsNone s file source text = (cause : Cause) × Explains (environment_in s) (schema_in s) s.held.now cause × (text ≡ cause_lines file source (schema_in s) cause ++ codes "no binding\n")
+TellsNone s file source text =
+    (cause : Cause) × Explains (environment_in s) (schema_in s) s.held.now (disjunction_at s.schema.now.conjuncts) cause × (text ≡ cause_lines file source (schema_in s) cause ++ codes "no binding\n")
 
--- the cause speaks of each component, or of each conjunct
+-- a cause of empty ranges speaks of each component
 abbrev pub IsOfSchema : Schema → Cause → Type 0
 IsOfSchema a (Empty empty) = length empty.items ≡ length a.comps
-IsOfSchema a (Alone alone) = length alone.items ≡ length a.conjuncts
-IsOfSchema a (Together core) = length core.items ≡ length a.conjuncts
+IsOfSchema a (Alone told) = Unit {0}
+IsOfSchema a (Together told) = Unit {0}

@@ -2,8 +2,8 @@
 ghost use Rattle.std.specs.Prelude.{◌≡◌, ℕ, List, [], IfOk, IfErr, OnOk};
 ghost use Rattle.zf_engine.specs.Answers.{IsAsked};
 ghost use Rattle.zf_engine.specs.Settings.{Checks, IsMisfit, IsNamed, numbers_of, stated, TellsInfinite, TellsMisfit, TellsNoSchema, without_size};
-ghost use Rattle.zf_engine.specs.Details.{IsReportedBeside};
-ghost use Rattle.zf_engine.specs.Missing as spec;
+ghost use Rattle.zf_messages.specs.Details.{IsReportedBeside};
+ghost use Rattle.zf_messages.specs.Missing as spec;
 ghost use Rattle.zf_engine.specs.declared.stop.Stop.TheVariants.{OutOfMemory};
 ghost use Rattle.zf_engine.specs.Stops.{AnswersOver, IfAnswered};
 ghost use Rattle.zf_finite.specs.Finite.{IsFinite};
@@ -13,14 +13,9 @@ ghost use Rattle.zf_meaning.specs.Sizes.{given_sets, AreComplete};
 ghost use Rattle.zf_term.specs.DefinitionViews.{globals_of};
 ghost use Rattle.zf_term.specs.SchemaViews.{schema_of};
 
-use crate::details::not_finite_lines;
-use crate::missing::{no_schema_lines, no_size_lines};
 use crate::numbers::greatest_number;
-use crate::report::Report;
 use crate::stated::{sets_without_size, stated_sizes};
 use crate::stop::Stop;
-use crate::texts;
-use crate::undeclared::side_without;
 use std::alloc::{AllocError, Global};
 use zf_command::job::{Request, Setting};
 use zf_data::Word;
@@ -29,6 +24,7 @@ use zf_finite::not_finite::NotFinite;
 use zf_lines::fault::Status;
 use zf_meaning::env::Env;
 use zf_meaning::sizes::{Size as StatedSize, SizeFault};
+use zf_messages::{Report, no_schema_lines, no_size_lines, not_finite_lines, side_without, texts};
 use zf_term::globals::Globals;
 use zf_term::schema::Flat;
 
@@ -166,7 +162,7 @@ fn side_beside(
 {
     match cause {
         NotFinite::Unbounded(_, component) if report.details => {
-            side_without(alloc, report.source, globals, name, component.as_slice())
+            Ok(side_without(alloc, report.source, globals, name, component.as_slice())?)
         }
         _ => Ok(Vec::new(alloc)),
     }

@@ -16,12 +16,12 @@ ghost use Rattle.zf_walk.specs.Progress.{AreDueWithin};
 ghost use Rattle.zf_walk.specs.RowLaws.{HasLength};
 
 use crate::stop::Stop;
-use crate::texts;
 use bumpalo::Bump;
 use std::alloc::Global;
 use zf_enum::{Bindings, Instances};
 use zf_lines::fault::Status;
 use zf_meaning::env::Env;
+use zf_messages::texts;
 use zf_ranges::StartFault;
 use zf_term::schema::Flat;
 use zf_value::value::Value;

@@ -9,11 +9,11 @@ ghost use Rattle.zf_texts.specs.HeldLaws.{HaveClearNames};
 ghost use Rattle.zf_texts.specs.Spellings.{spellings};
 
 use crate::stop::Stop;
-use crate::texts;
 use std::alloc::Global;
 use zf_data::Word;
 use zf_lines::fault::Status;
 use zf_meaning::env::Env;
+use zf_messages::texts;
 use zf_term::schema::Flat;
 use zf_texts::{AfterFault, Spelling, read_held};
 use zf_value::value::Value;

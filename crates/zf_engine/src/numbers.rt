@@ -5,9 +5,9 @@ ghost use Rattle.zf_engine.specs.Stops.{IfAnswered};
 ghost use Rattle.zf_engine.specs.Settings.{TellsNumbers};
 
 use crate::stop::Stop;
-use crate::texts;
 use std::alloc::Global;
 use zf_lines::fault::Status;
+use zf_messages::texts;
 use zf_value::SET_MAX;
 
 /// The greatest number up to which `\num` has no more members than a set may have.

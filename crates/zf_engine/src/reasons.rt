@@ -3,16 +3,15 @@ ghost use Rattle.std.specs.Prelude.{◌≡◌, ◌++◌, IfOk, OnOk, length, map
 ghost use Rattle.zf_cores.specs.Choices.{chosen_of};
 ghost use Rattle.zf_engine.specs.Reasons as spec;
 ghost use Rattle.zf_engine.specs.Subjects.{IsOfSchema};
-ghost use Rattle.zf_term.specs.SchemaViews.{comp_of, conjunct_of, schema_of};
+ghost use Rattle.zf_term.specs.SchemaViews.{comp_of, schema_of};
 
 use crate::lines::trimmed_line;
-use crate::report::Report;
-use crate::texts::fault_line;
 use std::alloc::{AllocError, Global};
 use zf_finite::first_plain;
-use zf_term::conjunct::Conjunct;
+use zf_messages::Report;
+use zf_messages::texts::fault_line;
 use zf_term::schema::{Component, Flat};
-use zf_why::Cause;
+use zf_why::{Cause, Sides, Told};
 
 /// The lines of a cause.
 pub fn cause_lines(
@@ -26,8 +25,8 @@ pub fn cause_lines(
 {
     match cause {
         Cause::Empty(empty) => empty_lines(alloc, report, flat.components.as_slice(), empty),
-        Cause::Alone(alone) => told_lines(alloc, report, flat, alone),
-        Cause::Together(core) => told_lines(alloc, report, flat, core),
+        Cause::Alone(told) => told_lines(alloc, report, told),
+        Cause::Together(told) => told_lines(alloc, report, told),
     }
 }
 
@@ -66,49 +65,71 @@ fn append_empty(
     lines.extend_from_slice(&told)
 }
 
-/// The lines of the chosen conjuncts of a schema.
-fn told_lines(
-    alloc: Global,
-    report: Report<'_>,
-    flat: &Flat<'_>,
-    chosen: &[bool],
-) -> Result<Vec<u8>, AllocError>
-    requires { length chosen.now ≡ length (schema_of flat.now).conjuncts }
-    ensures { IfOk result (λ v. v.items ≡ spec.conjunct_lines report.entry.file.now report.entry.source.now (chosen_of (schema_of flat.now).conjuncts chosen.now)) }
-{
-    let conjuncts = flat.conjuncts.flat()?;
-    conjunct_lines(alloc, report, conjuncts.as_slice(), chosen)
-}
-
-fn conjunct_lines(
-    alloc: Global,
-    report: Report<'_>,
-    conjuncts: &[Conjunct<'_>],
-    chosen: &[bool],
-) -> Result<Vec<u8>, AllocError>
-    requires { length chosen.now ≡ length conjuncts.now }
-    ensures { IfOk result (λ v. v.items ≡ spec.conjunct_lines report.entry.file.now report.entry.source.now (chosen_of (map conjunct_of conjuncts.now) chosen.now)) }
+/// The lines of what is told of conjuncts.
+fn told_lines(alloc: Global, report: Report<'_>, told: &[Told]) -> Result<Vec<u8>, AllocError>
+    ensures { IfOk result (λ v. v.items ≡ spec.told_lines report.entry.file.now report.entry.source.now told.now) }
 {
     let mut lines = Vec::new(alloc);
-    for place in 0..conjuncts.len() {
-        if chosen[place] {
-            append_conjunct(alloc, &mut lines, report, &conjuncts[place])?;
-        }
+    for one in told {
+        append_told(alloc, &mut lines, report, one)?;
     }
     Ok(lines)
 }
 
-/// `FILE:LINE: SOURCE LINE`
-fn append_conjunct(
+/// `FILE:LINE: SOURCE LINE`, and those of both sides of a disjunction.
+fn append_told(
     alloc: Global,
     lines: &mut Vec<u8>,
     report: Report<'_>,
-    conjunct: &Conjunct<'_>,
+    told: &Told,
 ) -> Result<(), AllocError>
-    ensures { OnOk result (lines.new.items ≡ lines.old.items ++ spec.conjunct_line report.entry.file.now report.entry.source.now (conjunct_of conjunct.now)) }
+    ensures { OnOk result (lines.new.items ≡ lines.old.items ++ spec.told_line report.entry.file.now report.entry.source.now told.now) }
 {
-    let line = conjunct.line();
-    let text = trimmed_line(report.source, line);
-    let told = fault_line(alloc, report.file, u64::from(line), text)?;
+    append_line(alloc, lines, report, told.line)?;
+    match &told.sides {
+        None => Ok(()),
+        Some(sides) => append_sides(alloc, lines, report, sides),
+    }
+}
+
+fn append_sides(
+    alloc: Global,
+    lines: &mut Vec<u8>,
+    report: Report<'_>,
+    sides: &Sides,
+) -> Result<(), AllocError>
+    ensures { OnOk result (lines.new.items ≡ lines.old.items ++ spec.sides_lines report.entry.file.now report.entry.source.now sides.now) }
+{
+    append_side(alloc, lines, report, &sides.left)?;
+    lines.extend_from_slice(b"    or\n")?;
+    append_side(alloc, lines, report, &sides.right)
+}
+
+fn append_side(
+    alloc: Global,
+    lines: &mut Vec<u8>,
+    report: Report<'_>,
+    numbers: &[u32],
+) -> Result<(), AllocError>
+    ensures { OnOk result (lines.new.items ≡ lines.old.items ++ spec.side_lines report.entry.file.now report.entry.source.now numbers.now) }
+{
+    for number in numbers {
+        lines.extend_from_slice(b"    ")?;
+        append_line(alloc, lines, report, *number)?;
+    }
+    Ok(())
+}
+
+/// `FILE:LINE: SOURCE LINE`
+fn append_line(
+    alloc: Global,
+    lines: &mut Vec<u8>,
+    report: Report<'_>,
+    number: u32,
+) -> Result<(), AllocError>
+    ensures { OnOk result (lines.new.items ≡ lines.old.items ++ spec.source_line report.entry.file.now report.entry.source.now number) }
+{
+    let text = trimmed_line(report.source, number);
+    let told = fault_line(alloc, report.file, u64::from(number), text)?;
     lines.extend_from_slice(&told)
 }

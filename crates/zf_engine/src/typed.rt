@@ -5,11 +5,11 @@ ghost use Rattle.zf_engine.specs.Stops.{IfAnswered, IsUnfit};
 ghost use Rattle.zf_term.specs.DefinitionViews.{globals_of};
 
 use crate::check::{checked_in, fault_lines};
-use crate::report::Report;
 use crate::stop::Stop;
 use bumpalo::Bump;
 use std::alloc::Global;
 use zf_lines::fault::Status;
+use zf_messages::Report;
 use zf_term::globals::Globals;
 
 /// What a source that is well typed defines.

@@ -5,3 +5,6 @@ pub mod Rows
 pub mod Decided
 pub mod Beginning
 pub mod Explained
+pub mod Disjoined
+pub mod Gathered
+pub mod Tellings

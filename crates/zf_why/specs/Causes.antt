@@ -9,6 +9,7 @@ use Rattle.zf_why.specs.declared.cause.Cause.TheVariants.{Empty, Alone, Together
 use Rattle.zf_why.specs.Rows.{HasRow}
 use Rattle.zf_cores.specs.Choices.{HasChosen}
 use Rattle.zf_why.specs.Cores.{IsCore, AreAlone, AreEmpty}
+use Rattle.zf_why.specs.Told.{AreTold, nothing_beside, others_beside}
 
 -- some ranges are empty, and these are they
 abbrev pub EmptiedBy : Environment → Schema → (held : List (Option Value)) → List Bool → Type 0
@@ -23,8 +24,10 @@ abbrev pub RefutedTogetherBy : Environment → Schema → (held : List (Option V
 RefutedTogetherBy e a held core =
     ((i : ℕ) (p : ResolvedTree) → slice_get a.conjuncts i ≡ Some p → HasRow e a.comps held (p ∷ [])) × IsCore e a.comps held [] a.conjuncts core × HasRow e a.comps held []
 
--- Where a range is empty, the components of all such ranges; else, where a conjunct rules out everything alone, all that do; else a minimal set of conjuncts that can't hold together.
-abbrev pub Explains : Environment → Schema → (held : List (Option Value)) → Cause → Type 0
-Explains e a held (Empty empty) = EmptiedBy e a held empty.items
-Explains e a held (Alone alone) = RefutedBy e a held alone.items
-Explains e a held (Together core) = RefutedTogetherBy e a held core.items
+-- Where a range is empty, the components of all such ranges; else, where a conjunct rules out everything alone, what is told of all that do; else what is told of a minimal set
+-- of conjuncts that can't hold together, of each beside the others. These places of the conjuncts have disjunctions of schemas.
+abbrev pub Explains : Environment → Schema → (held : List (Option Value)) → (disjunctions : ℕ → Bool) → Cause → Type 0
+Explains e a held disjunctions (Empty empty) = EmptiedBy e a held empty.items
+Explains e a held disjunctions (Alone told) = (alone : List Bool) × RefutedBy e a held alone × AreTold e a.comps held nothing_beside disjunctions a.conjuncts alone told.items
+Explains e a held disjunctions (Together told) =
+    (core : List Bool) × RefutedTogetherBy e a held core × AreTold e a.comps held (others_beside a.conjuncts core) disjunctions a.conjuncts core told.items

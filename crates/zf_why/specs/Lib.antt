@@ -1,5 +1,7 @@
 pub mod Rows
 pub mod Cores
+pub mod Disjunctions
+pub mod Told
 pub mod Causes
 pub mod Searching
 pub mod Besides

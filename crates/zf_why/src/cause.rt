@@ -1,12 +1,14 @@
 //! Why a schema has no binding.
 
-/// Why a schema has no binding: of its components or conjuncts, by their places, whether each is one of those that are to blame.
+use crate::told::Told;
+
+/// Why a schema has no binding.
 #[derive(Drop)]
 pub enum Cause {
-    /// The components whose range is empty.
+    /// Of each component, whether its range is empty.
     Empty(Vec<bool>),
     /// The conjuncts that rule out everything alone. No range is empty.
-    Alone(Vec<bool>),
+    Alone(Vec<Told>),
     /// A minimal set of conjuncts that can't hold together. No range is empty, and no conjunct rules out everything alone.
-    Together(Vec<bool>),
+    Together(Vec<Told>),
 }

@@ -10,11 +10,13 @@ ghost use Rattle.zf_cores.specs.Choices.{HasChosen, OneOf};
 ghost use Rattle.zf_why.specs.Rows.{RuleOut};
 ghost use Rattle.zf_why.specs.Cores.{AreAlone, AreEmpty, IsCore};
 ghost use Rattle.zf_why.specs.Causes.{Explains};
+ghost use Rattle.zf_why.specs.Disjunctions.{disjunction_at};
 ghost use Rattle.zf_why.specs.Searching.{CanBegin};
 
 use crate::beside::Beside;
 use crate::cause::Cause;
 use crate::setting::Setting;
+use crate::telling::{told_alone, told_together};
 use bumpalo::Bump;
 use std::alloc::{AllocError, Global};
 use zf_cores::minimal;
@@ -35,7 +37,7 @@ pub fn why<'s, 'g, 'a>(
     requires due { AreDueWithin (property (environment_of env.now) (schema_of flat.now).conjuncts) (length (schema_of flat.now).comps) }
     requires none_out { IsNoneOut (environment_of env.now) (schema_of flat.now).comps }
     requires none { RuleOut (environment_of env.now) (schema_of flat.now).comps held.now (schema_of flat.now).conjuncts }
-    ensures { IfOk result (Explains (environment_of env.now) (schema_of flat.now) held.now) }
+    ensures { IfOk result (Explains (environment_of env.now) (schema_of flat.now) held.now (disjunction_at flat.now.conjuncts)) }
 {
     let setting = Setting {
         alloc,
@@ -51,9 +53,12 @@ pub fn why<'s, 'g, 'a>(
     let all = flat.conjuncts.flat()?;
     let alone = all_alone(&setting, all.as_slice())?;
     if has_one(&alone) {
-        return Ok(Cause::Alone(alone));
+        let each = told_alone(&setting, all.as_slice(), &alone)?;
+        return Ok(Cause::Alone(each));
     }
-    Ok(Cause::Together(core(&setting, &[], all.as_slice())?))
+    let core = core(&setting, &[], all.as_slice())?;
+    let told = told_together(&setting, all.as_slice(), &core)?;
+    Ok(Cause::Together(told))
 }
 
 /// Which components have no value.

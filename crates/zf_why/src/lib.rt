@@ -5,6 +5,10 @@ mod beside;
 mod cause;
 mod explaining;
 mod setting;
+mod side;
+mod telling;
+mod told;
 
 pub use cause::Cause;
 pub use explaining::why;
+pub use told::{Sides, Told};

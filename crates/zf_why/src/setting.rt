@@ -123,7 +123,7 @@ fn shared_components<'a>(
 }
 
 /// Takes also the chosen ones of some conjuncts.
-fn push_chosen<'a>(
+pub fn push_chosen<'a>(
     part: &mut Chunked<'a, Conjunct<'a>>,
     conjuncts: &[Conjunct<'a>],
     chosen: &[bool],

@@ -1,4 +1,4 @@
-use Rattle.zf_engine.proofs.Listing.{unsized-more}
+use Rattle.zf_engine.proofs.Unsized.{unsized-more}
 use Rattle.zf_engine.proofs.stated.unsized_of.Goals as goal
 
 pub loop-set-preserved : goal.loop-set-preserved

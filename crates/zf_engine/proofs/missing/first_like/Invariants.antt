@@ -1,7 +1,0 @@
--- No name before the place is like it.
-use Rattle.std.proofs.Common.{◌≡◌, drop}
-use Rattle.zf_engine.specs.Missing.{first_like}
-use Rattle.zf_engine.proofs.missing.first_like.Given as goal
-
-abbrev pub invariant-loop-other : goal.invariant-loop-other
-invariant-loop-other l = first_like l.name l.names ≡ first_like l.name (drop l.other-index l.names)

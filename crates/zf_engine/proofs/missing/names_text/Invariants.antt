@@ -1,8 +1,0 @@
--- The text has the names up to the place.
-use Rattle.std.proofs.Common.{◌≡◌, [], take}
-use Rattle.std.specs.List.{fold}
-use Rattle.zf_engine.specs.Missing.{and_name}
-use Rattle.zf_engine.proofs.missing.names_text.Given as goal
-
-abbrev pub invariant-loop-name : goal.invariant-loop-name
-invariant-loop-name l = l.text.items ≡ fold and_name [] (take l.name-index l.names)

@@ -1,8 +1,0 @@
--- The schemas up to the place are listed.
-use Rattle.zf_engine.proofs.Prelude.{◌++◌, ◌≡◌, globals_of}
-use Rattle.std.proofs.Common.{drop}
-use Rattle.zf_engine.specs.Missing.{schemas}
-use Rattle.zf_engine.proofs.missing.schemas.Given as goal
-
-abbrev pub invariant-loop-place : goal.invariant-loop-place
-invariant-loop-place l = l.names.items ++ schemas (drop l.place (globals_of l.globals)) ≡ schemas (globals_of l.globals)

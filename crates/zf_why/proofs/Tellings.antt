@@ -1,0 +1,130 @@
+-- What is told of chosen conjuncts, one after another.
+use Rattle.zf_why.proofs.Prelude.{◌++◌, ◌+◌, ◌<◌, ◌≤◌, ◌∙◌, ◌∷◌, ◌≡◌, [], add-one, ap, append-nil, append_assoc, arith, Bool, drop, false, inl, inr, length, List, map, None, Option, refl, Some, subst, suc, sym, true, zero, ℕ, AllByRecursion, slice_get, slice_set, Comp, conjunct_of, ResolvedTree, Value, Environment, CanAsk, CanBegin, HasRow, IsAllowed, RuleOut, chosen_of, IsChosen, IsCore, AreAlone}
+use Rattle.std.proofs.lemmas.List.{drop_all}
+use Rattle.zf_term.specs.declared.conjunct.Batch.{Batch}
+use Rattle.zf_term.specs.declared.conjunct.Conjunct.{Conjunct}
+use Rattle.zf_term.specs.declared.conjunct.Conjunct.TheVariants as conjunct
+use Rattle.zf_term.specs.declared.resolved.Resolved.{Resolved}
+use Rattle.zf_cores.proofs.Choosing.{beside, seen_chosen}
+use Rattle.zf_why.specs.Disjunctions.{disjunction_at, has_sides, is_disjunction, is_one}
+use Rattle.zf_why.specs.Told.{AreSidesOf, AreTellings, HasSides, IsTold}
+use Rattle.zf_why.specs.declared.told.Sides.{Sides}
+use Rattle.zf_why.specs.declared.told.Told.{Told}
+use Rattle.zf_why.proofs.Beginning.{each_begins}
+use Rattle.zf_why.proofs.Lists.{all_at}
+
+-- ---- one after another
+
+ahead : {A : Type 0} (xs : List A) (i : ℕ) (x : A) → slice_get xs i ≡ Some x → drop i xs ≡ x ∷ drop (suc i) xs
+ahead [] i x at = absurd (cc)
+ahead (y ∷ ys) zero x at = let e : y ≡ x = cc in ap (λ z. z ∷ ys) e
+ahead (y ∷ ys) (suc i) x at = ahead ys i x at
+
+module _ (R : ℕ → ResolvedTree → Told → Type 0) (ps : List ResolvedTree) (m : List Bool) where
+  -- what is told so far, up to this place
+  pub record AreToldUpTo (i : ℕ) (told : List Told) : Type 0 where
+    pub further : (rest : List Told) → AreTellings R i (drop i ps) (drop i m) rest → AreTellings R 0 ps m (told ++ rest)
+
+  pub none_told : AreToldUpTo 0 []
+  none_told = record { further = λ rest h. h }
+
+  pub one_told : (i : ℕ) (p : ResolvedTree) (t : Told) (told : List Told) → slice_get ps i ≡ Some p → IsChosen m i → R i p t → AreToldUpTo i told → AreToldUpTo (i + 1) (told ++ t ∷ [])
+  one_told i p t told at chosen is before = record {
+    further = λ rest h.
+        subst (AreTellings R 0 ps m) (sym (append_assoc told (t ∷ []) rest))
+        (before.further (t ∷ rest)
+        (subst (λ (qs : List ResolvedTree). AreTellings R i qs (drop i m) (t ∷ rest)) (sym (ahead ps i p at))
+        (subst (λ (n : List Bool). AreTellings R i (p ∷ drop (suc i) ps) n (t ∷ rest)) (sym (ahead m i true chosen))
+        (is, subst (λ (j : ℕ). AreTellings R j (drop j ps) (drop j m) rest) (add-one i) h))));
+  }
+
+  pub one_left : (i : ℕ) (p : ResolvedTree) (told : List Told) → slice_get ps i ≡ Some p → slice_get m i ≡ Some false → AreToldUpTo i told → AreToldUpTo (i + 1) told
+  one_left i p told at left before = record {
+    further = λ rest h.
+        before.further rest
+        (subst (λ (qs : List ResolvedTree). AreTellings R i qs (drop i m) rest) (sym (ahead ps i p at))
+        (subst (λ (n : List Bool). AreTellings R i (p ∷ drop (suc i) ps) n rest) (sym (ahead m i false left))
+        (subst (λ (j : ℕ). AreTellings R j (drop j ps) (drop j m) rest) (add-one i) h)));
+  }
+
+  pub all_told : (i : ℕ) (told : List Told) → length ps ≤ i → AreToldUpTo i told → AreTellings R 0 ps m told
+  all_told i told past before =
+      subst (AreTellings R 0 ps m) (append-nil told)
+      (before.further [] (subst (λ (qs : List ResolvedTree). AreTellings R i qs (drop i m) []) (sym (drop_all i ps past)) refl))
+
+-- ---- a conjunct beside the others
+
+module _ {A : Type 0} (P : A → Type 0) where
+  put_back : (ps : List A) (m : List Bool) (i : ℕ) (p : A) → slice_get ps i ≡ Some p → IsChosen m i → AllByRecursion P (chosen_of ps (slice_set m i false) ++ p ∷ []) → AllByRecursion P (chosen_of ps m)
+  put_back [] m i p at chosen h = absurd (cc)
+  put_back (q ∷ ps) [] i p at chosen h = tt
+  put_back (q ∷ ps) (b ∷ m) zero p at chosen h =
+      let here : b ≡ true = cc in
+      let same : q ≡ p = cc in
+      rw here (let both = apart (chosen_of ps m) h in (subst P (sym same) both.1, both.0)) where
+        apart : (xs : List A) → AllByRecursion P (xs ++ p ∷ []) → AllByRecursion P xs × P p
+        apart [] h = (tt, h.0)
+        apart (x ∷ xs) h = let rest = apart xs h.1 in ((h.0, rest.0), rest.1)
+  put_back (q ∷ ps) (true ∷ m) (suc i) p at chosen h = (h.0, put_back ps m i p at chosen h.1)
+  put_back (q ∷ ps) (false ∷ m) (suc i) p at chosen h = put_back ps m i p at chosen h
+
+  pub one_behind : (xs : List A) (p : A) → AllByRecursion P xs → P p → AllByRecursion P (xs ++ p ∷ [])
+  one_behind [] p hs h = (h, tt)
+  one_behind (x ∷ xs) p hs h = (hs.0, one_behind xs p hs.1 h)
+
+module _ (e : Environment) (cs : List Comp) (held : List (Option Value)) (ps : List ResolvedTree) where
+  -- what rules out everything together does so with one of them last
+  pub ruled_out_beside : (m : List Bool) (i : ℕ) (p : ResolvedTree) → slice_get ps i ≡ Some p → IsChosen m i → RuleOut e cs held (chosen_of ps m) → RuleOut e cs held (chosen_of ps (slice_set m i false) ++ p ∷ [])
+  ruled_out_beside m i p at chosen none h = none (record { row = h.row; within = h.within; allowed = put_back (IsAllowed e h.row) ps m i p at chosen h.allowed })
+
+  pub begins_beside : (m : List Bool) (i : ℕ) (p : ResolvedTree) → slice_get ps i ≡ Some p → CanBegin e cs ps → CanBegin e cs (chosen_of ps m ++ p ∷ [])
+  begins_beside m i p at h = record {
+    ranges = h.ranges;
+    predicates = one_behind (CanAsk e (length cs)) (chosen_of ps m) p (each_begins e cs [] ps m h).predicates (all_at (CanAsk e (length cs)) ps i p at h.predicates);
+  }
+
+-- the others that are chosen, as predicates
+pub others_seen : (cs others : List Conjunct) (m : List Bool) → others ≡ chosen_of cs m → map conjunct_of others ≡ chosen_of (map conjunct_of cs) m
+others_seen cs others m is = ap (map conjunct_of) is ∙ seen_chosen conjunct_of cs m
+
+-- ---- what is told of each
+
+module _ (e : Environment) (cs : List Comp) (held : List (Option Value)) where
+  -- of one that rules out everything alone, that it does
+  pub alone_ruled_out : (ps : List ResolvedTree) (m : List Bool) (i : ℕ) (p : ResolvedTree) → slice_get ps i ≡ Some p → IsChosen m i → AreAlone e cs held ps m → RuleOut e cs held (p ∷ [])
+  alone_ruled_out ps m i p at chosen alone = elim (alone.picked i p at) [
+    | inl (there, none) ↦ none
+    | inr (left, some) ↦ absurd (let z : Some true ≡ Some false = sym chosen ∙ left in cc)
+  ]
+
+  -- whether the conjunct at a place is a disjunction
+  pub told_at :
+      (xs : List Conjunct) (i : ℕ) (x : Conjunct) (given others : List ResolvedTree) (told : Told) → slice_get xs i ≡ Some x → others ≡ given
+      → IsTold e cs held others (is_disjunction x) (conjunct_of x) told → IsTold e cs held given (disjunction_at xs i) (conjunct_of x) told
+  told_at xs i x given others told at same is =
+      subst (λ (b : Bool). IsTold e cs held given b (conjunct_of x) told) (sym (ap is_one at))
+      (subst (λ (qs : List ResolvedTree). IsTold e cs held qs (is_disjunction x) (conjunct_of x) told) same is)
+
+-- ---- which conjuncts are disjunctions
+
+of_term : (t : Resolved) (ps : Option (List ℕ)) → is_disjunction (conjunct.Term t ps) ≡ false
+unfolding is_disjunction
+of_term t ps = ap has_sides (conjunct.outs-Term t ps)
+
+of_member : (i : ℕ) (t : Resolved) (ps : Option (List ℕ)) → is_disjunction (conjunct.Member i t ps) ≡ false
+unfolding is_disjunction
+of_member i t ps = ap has_sides (conjunct.outs-Member i t ps)
+
+of_either : (l : ℕ) (left right : List Batch) (ps : Option (List ℕ)) → is_disjunction (conjunct.Either l left right ps) ≡ true
+unfolding is_disjunction
+of_either l left right ps = ap has_sides (conjunct.outs-Either l left right ps)
+
+module _ (e : Environment) (cs : List Comp) (held : List (Option Value)) (given : List ResolvedTree) (p : ResolvedTree) (whole : Conjunct) where
+  pub term_told : (t : Resolved) (ps : Option (List ℕ)) → whole ≡ conjunct.Term t ps → AreSidesOf e cs held given p (is_disjunction whole) None
+  term_told t ps is = subst (λ (b : Bool). AreSidesOf e cs held given p b None) (sym (ap is_disjunction is ∙ of_term t ps)) tt
+
+  pub member_told : (i : ℕ) (t : Resolved) (ps : Option (List ℕ)) → whole ≡ conjunct.Member i t ps → AreSidesOf e cs held given p (is_disjunction whole) None
+  member_told i t ps is = subst (λ (b : Bool). AreSidesOf e cs held given p b None) (sym (ap is_disjunction is ∙ of_member i t ps)) tt
+
+  pub either_told : (l : ℕ) (left right : List Batch) (ps : Option (List ℕ)) (sides : Sides) → whole ≡ conjunct.Either l left right ps → HasSides e cs held given p sides → AreSidesOf e cs held given p (is_disjunction whole) (Some sides)
+  either_told l left right ps sides is h = subst (λ (b : Bool). AreSidesOf e cs held given p b (Some sides)) (sym (ap is_disjunction is ∙ of_either l left right ps)) h

@@ -1,0 +1,17 @@
+//! What is told of a conjunct that is to blame.
+
+/// A conjunct that is to blame.
+#[derive(Drop)]
+pub struct Told {
+    /// The line of its first symbol.
+    pub line: u32,
+    /// Where it is a disjunction of schemas.
+    pub sides: Option<Sides>,
+}
+
+/// Of each side of a disjunction the lines of a minimal set of its conjuncts that can't hold together with what else is to blame.
+#[derive(Drop)]
+pub struct Sides {
+    pub left: Vec<u32>,
+    pub right: Vec<u32>,
+}
