@@ -110,6 +110,15 @@ begins_for r e a i held f h =
     let b = begins_as (environment_of r.env.now) e (schema_of r.flat.now) a i held f.environment f.schema h in
     record { ranges = b.ranges; named = b.named; ahead = b.ahead }
 
+-- of a search that is made of another with the same environment and schema
+pub begins_again : (r s : Renewed) (e : Environment) (a : Schema) (i : Instances) (held : List (Option Value)) → s.env ≡ r.env → s.flat ≡ r.flat
+    → Begins (environment_of s.env.now) (schema_of s.flat.now) (portion None held) (planted_goal i.names i.search) i.search.stage → IsFor r e a → BeginsFor e a held i.search.stage
+begins_again r s e a i held env flat h f =
+    let here : environment_of s.env.now ≡ e = ap (λ x. environment_of x.now) env ∙ f.environment in
+    let at : schema_of s.flat.now ≡ a = ap (λ x. schema_of x.now) flat ∙ f.schema in
+    let b = begins_as (environment_of s.env.now) e (schema_of s.flat.now) a i held here at h in
+    record { ranges = b.ranges; named = b.named; ahead = b.ahead }
+
 -- what is not there is not held
 pub not_there : (h : Option Value) → is_some h ≡ true → h ≡ None → ⊥
 not_there None there none = absurd (false≢true there)
