@@ -15,7 +15,8 @@ pub mod Seeing
 pub mod Marking
 pub mod Sieving
 pub mod Stepping
-pub mod Leaping
+pub mod Blaming
+pub mod Jumping
 pub mod Alike
 pub mod Counting
 pub mod Walking

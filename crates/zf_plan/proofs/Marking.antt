@@ -6,7 +6,7 @@ use Rattle.zf_walk.proofs.Picks.{slice_get-picked}
 use Rattle.zf_walk.specs.ConjunctLaws.{FollowUsed}
 use Rattle.zf_walk.specs.Tests.{cut}
 use Rattle.zf_plan.specs.Choosing.{StaysChoice, UsesFirst}
-use Rattle.zf_plan.specs.Marks.{AreNew, is_still, mark_at}
+use Rattle.zf_plan.specs.Marks.{AreNew, is_still, mark_at, unmarked}
 use Rattle.zf_plan.specs.Places.{AreKept, IsKept}
 use Rattle.zf_plan.specs.declared.marks.Mark.{Mark}
 use Rattle.zf_plan.specs.declared.marks.Marks.{Marks}
@@ -16,12 +16,12 @@ use Rattle.zf_plan.proofs.TreeTruths.{both-kept, either-kept}
 
 -- ---- rows that agree
 
-get-left : {V : Type 0} (xs ys : List V) (i : ℕ) → i < length xs → slice_get (xs ++ ys) i ≡ slice_get xs i
+pub get-left : {V : Type 0} (xs ys : List V) (i : ℕ) → i < length xs → slice_get (xs ++ ys) i ≡ slice_get xs i
 get-left [] ys i h = absurd (omega arith)
 get-left (x ∷ xs) ys zero h = refl
 get-left (x ∷ xs) ys (suc i) h = get-left xs ys i (omega arith)
 
-get-right : {V : Type 0} (xs zs ys : List V) (i : ℕ) → length xs ≡ length zs → length xs ≤ i → slice_get (xs ++ ys) i ≡ slice_get (zs ++ ys) i
+pub get-right : {V : Type 0} (xs zs ys : List V) (i : ℕ) → length xs ≡ length zs → length xs ≤ i → slice_get (xs ++ ys) i ≡ slice_get (zs ++ ys) i
 get-right [] [] ys i e h = refl
 get-right [] (z ∷ zs) ys i e h = absurd (omega arith)
 get-right (x ∷ xs) [] ys i e h = absurd (omega arith)
@@ -160,7 +160,7 @@ module _ {V : Type 0} (l : Conjuncts V) (trees : List Tree) (ranges : List (List
         let stamps = p.marks.stamps.items in
         let next = cut (get_or stamps (k + 1) 0 + 1) in
         let there : k + 1 < length stamps = let a = at.all_stamps in let b = bt.shallow in omega arith in
-        let same : mark_at p.marks d ≡ mark_at q.marks d = ap (λ ms. get_or ms d (record { due = 0; stamp = 0 })) (sym renews.choices) in
+        let same : mark_at p.marks d ≡ mark_at q.marks d = ap (λ ms. get_or ms d unmarked) (sym renews.choices) in
         let new : IsKept l trees ranges (set stamps (k + 1) next) (bound q) d choice mark = elim (cases_eq mark.due (k + 1)) [
           | inl e ↦
               let now : get_or (set stamps (k + 1) next) mark.due 0 ≡ next = ap (λ j. get_or (set stamps (k + 1) next) j 0) e ∙ get_or-set_same stamps (k + 1) next 0 there in

@@ -1,9 +1,9 @@
 -- The truth of the conjuncts of which something holds, on every row that begins with a given one.
-use Rattle.zf_plan.proofs.Prelude.{◌++◌, ◌+◌, ◌<◌, ◌∙◌, ◌≡◌, ◌≤◌, ◌⊎◌, ap, append_assoc, arith, false, get_or, inl, inr, length, List, None, Option, refl, Some, subst, sym, true, ℕ, cases_eq, cases_lt, get_or_default, take_all, ◌≢◌, Conjuncts, IsTruthOf, KeepTruths, AreWithin, picked, Truth, False, Out, True, conjoined, IsKnown, IsSettled, HasLeavesWithin, HaveLeavesWithin, IsTreeTruth, both, due_of, either, leaf, negated, planted, Tree, tree_at}
+use Rattle.zf_plan.proofs.Prelude.{◌++◌, ◌+◌, ◌<◌, ◌∙◌, ◌≡◌, ◌≤◌, ◌⊎◌, ap, append_assoc, arith, false, get_or, inl, inr, length, length-picked, List, None, Option, refl, Some, subst, sym, true, ℕ, cases_eq, cases_lt, get_or_default, take_all, ◌≢◌, Conjuncts, IsTruthOf, KeepTruths, AreWithin, picked, Truth, False, Out, True, conjoined, IsKnown, IsSettled, HasLeavesWithin, HaveLeavesWithin, IsTreeTruth, both, due_of, either, leaf, negated, planted, Tree, tree_at}
 use Rattle.std.proofs.Common.{Bool, ◌||◌, max}
 use Rattle.std.proofs.lemmas.Bool.{eq-eqb}
-use Rattle.zf_plan.specs.Knowing.{IsAmong, IsLeafDue, IsLeafOrBelow, IsRefuted, IsSoFar, joined, NeedsBelow, NeedsWithin}
-use Rattle.zf_plan.specs.Places.{AreDue, AreHeld, AreTouched, IsTold, touches, touches_inside}
+use Rattle.zf_plan.specs.Knowing.{IsAmong, IsLeafDue, IsLeafOrBelow, IsRefuted, IsSoFar, joined, NeedsBelow, NeedsWithin, touches}
+use Rattle.zf_plan.specs.Places.{AreDue, AreHeld, AreTouched, IsTold, touches_inside}
 use Rattle.zf_plan.specs.Testing.{AreNotFalse, IsTruthOfLeaves, Tests}
 use Rattle.zf_plan.proofs.Knowing.{settled-leaf}
 use Rattle.zf_plan.proofs.TreeTruths.{settled-here}
@@ -13,11 +13,11 @@ module _ {V : Type 0} (l : Conjuncts V) (trees : List Tree) where
   settled-longer tree row more t h rest = subst (λ r. IsTreeTruth l tree r t) (sym (append_assoc row more rest)) (h (more ++ rest))
 
   -- on a longer row
-  pub so-longer : (P : ℕ → Type 0) (row more : List V) (t : Truth) → IsSoFar l trees row P t → IsSoFar l trees (row ++ more) P t
+  pub so-longer : (P : ℕ → Type 0) (row more : List V) (t : Truth) → t ≢ False → IsSoFar l trees row P t → IsSoFar l trees (row ++ more) P t
   unfolding IsSoFar
-  so-longer P row more True h = λ j m p. settled-longer (tree_at trees j) row more True (h j m p)
-  so-longer P row more False h = (h.0, h.1, settled-longer (tree_at trees h.0) row more False h.2)
-  so-longer P row more Out h = (
+  so-longer P row more True ne h = λ j m p. settled-longer (tree_at trees j) row more True (h j m p)
+  so-longer P row more False ne h = absurd (ne refl)
+  so-longer P row more Out ne h = (
     (λ j m p. elim (h.0 j m p) [ inl a ↦ inl (settled-longer (tree_at trees j) row more True a) | inr b ↦ inr (settled-longer (tree_at trees j) row more Out b) ]),
     (let w = h.1 in (w.0, w.1, settled-longer (tree_at trees w.0) row more Out w.2)),
   )
@@ -56,15 +56,15 @@ module _ {V : Type 0} (l : Conjuncts V) (trees : List Tree) where
     settled-as : (j : ℕ) (u : Truth) → j ≡ i → IsSettled l (tree_at trees i) row u → IsSettled l (tree_at trees j) row u
     settled-as j u e h = subst (λ k. IsSettled l (tree_at trees k) row u) (sym e) h
 
-    pub so-more : (t u : Truth) → t ≢ False → IsSoFar l trees row P t → IsSettled l (tree_at trees i) row u → IsSoFar l trees row OrThis (conjoined t u)
+    pub so-more : (t u : Truth) → t ≢ False → touches l (length row) (tree_at trees i) ≡ true → IsSoFar l trees row P t → IsSettled l (tree_at trees i) row u → IsSoFar l trees row OrThis (conjoined t u)
     unfolding IsSoFar
-    so-more False u ne h k = absurd (ne refl)
-    so-more True True ne h k = λ j m p. elim p [ inl q ↦ h j m q | inr e ↦ settled-as j True e k ]
-    so-more True False ne h k = (i, near, k)
-    so-more True Out ne h k = ((λ j m p. elim p [ inl q ↦ inl (h j m q) | inr e ↦ inr (settled-as j Out e k) ]), (i, near, k))
-    so-more Out True ne h k = ((λ j m p. elim p [ inl q ↦ h.0 j m q | inr e ↦ inl (settled-as j True e k) ]), h.1)
-    so-more Out False ne h k = (i, near, k)
-    so-more Out Out ne h k = ((λ j m p. elim p [ inl q ↦ h.0 j m q | inr e ↦ inr (settled-as j Out e k) ]), h.1)
+    so-more False u ne at h k = absurd (ne refl)
+    so-more True True ne at h k = λ j m p. elim p [ inl q ↦ h j m q | inr e ↦ settled-as j True e k ]
+    so-more True False ne at h k = (i, near, k, at)
+    so-more True Out ne at h k = ((λ j m p. elim p [ inl q ↦ inl (h j m q) | inr e ↦ inr (settled-as j Out e k) ]), (i, near, k))
+    so-more Out True ne at h k = ((λ j m p. elim p [ inl q ↦ h.0 j m q | inr e ↦ inl (settled-as j True e k) ]), h.1)
+    so-more Out False ne at h k = (i, near, k, at)
+    so-more Out Out ne at h k = ((λ j m p. elim p [ inl q ↦ h.0 j m q | inr e ↦ inr (settled-as j Out e k) ]), h.1)
 
   -- on a row that has all values
   pub so-whole : (k : ℕ) (row : List V) (t : Truth) → ((j : ℕ) → j < length trees → due_of l (tree_at trees j) ≤ k) → t ≢ False → IsSoFar l trees row (NeedsWithin l trees k) t → IsTruthOf (planted l trees) row t
@@ -94,9 +94,9 @@ module _ {V : Type 0} (l : Conjuncts V) (trees : List Tree) where
     pub first-none : (t : Truth) → IsSoFar l trees row (IsLeafOrBelow l trees k) t → IsSoFar l trees row (IsFirst k conjuncts 0) t
     first-none t h = so-fewer (IsLeafOrBelow l trees k) (IsFirst k conjuncts 0) row t (λ j m p. elim p [ inl q ↦ q | inr w ↦ absurd (let n = w.0.1 in omega arith) ]) h
 
-    pub first-next : (i c : ℕ) (t : Truth) (known : Option Truth) → get_or conjuncts i 0 ≡ c → c < length trees → t ≢ False → IsSoFar l trees row (IsFirst k conjuncts i) t → IsKnown l (tree_at trees c) row known
+    pub first-next : (i c : ℕ) (t : Truth) (known : Option Truth) → get_or conjuncts i 0 ≡ c → c < length trees → touches l k (tree_at trees c) ≡ true → t ≢ False → IsSoFar l trees row (IsFirst k conjuncts i) t → IsKnown l (tree_at trees c) row known
         → IsSoFar l trees row (IsFirst k conjuncts (i + 1)) (joined t known)
-    first-next i c t None is near ne h later = so-fewer (IsFirst k conjuncts i) (IsFirst k conjuncts (i + 1)) row t
+    first-next i c t None is near at ne h later = so-fewer (IsFirst k conjuncts i) (IsFirst k conjuncts (i + 1)) row t
         (λ j m p. elim p [
           | inl q ↦ inl q
           | inr w ↦ let n = w.0 in elim (cases_eq n.0 i) [
@@ -105,7 +105,7 @@ module _ {V : Type 0} (l : Conjuncts V) (trees : List Tree) where
             | inr other ↦ inr ((n.0, (let z = n.1 in omega arith), n.2), w.1)
           ]
         ]) h
-    first-next i c t (Some u) is near ne h known =
+    first-next i c t (Some u) is near at ne h known =
         so-fewer (OrThis (IsFirst k conjuncts i) row c near) (IsFirst k conjuncts (i + 1)) row (conjoined t u)
         (λ j m p. elim p [
           | inl q ↦ inl (inl q)
@@ -114,7 +114,7 @@ module _ {V : Type 0} (l : Conjuncts V) (trees : List Tree) where
             | inr other ↦ inl (inr ((n.0, (let z = n.1 in omega arith), n.2), w.1))
           ]
         ])
-        (so-more (IsFirst k conjuncts i) row c near t u ne h known)
+        (so-more (IsFirst k conjuncts i) row c near t u ne (subst (λ n. touches l n (tree_at trees c) ≡ true) (sym long) at) h known)
 
     pub first-all : (t : Truth) → IsSoFar l trees row (IsFirst k conjuncts (length conjuncts)) t → IsSoFar l trees row (IsAmong l trees k conjuncts) t
     first-all t h = so-fewer (IsFirst k conjuncts (length conjuncts)) (IsAmong l trees k conjuncts) row t
@@ -148,6 +148,16 @@ module _ {V : Type 0} (l : Conjuncts V) (trees : List Tree) where
   leaf-or-inside (negated a) = inr (touches-due a)
   leaf-or-inside (both a b) = inr (either-due a b (touches-due a) (touches-due b))
   leaf-or-inside (either a b) = inr (either-due a b (touches-due a) (touches-due b))
+
+  inside-touches : (k : ℕ) (tree : Tree) → touches_inside l k tree ≡ true → touches l k tree ≡ true
+  inside-touches k (leaf c) h = absurd (let z : false ≡ true = h in cc)
+  inside-touches k (negated a) h = h
+  inside-touches k (both a b) h = h
+  inside-touches k (either a b) h = h
+
+  -- a value touches those that are listed with it
+  pub touched-each : (k : ℕ) (numbers : List ℕ) → AreTouched l trees k (length trees) numbers → (i : ℕ) → i < length numbers → touches l k (tree_at trees (get_or numbers i 0)) ≡ true
+  touched-each k numbers touched i near = inside-touches k (tree_at trees (get_or numbers i 0)) (touched.only (get_or numbers i 0) (i, near, get_or_default numbers i (get_or numbers i 0) 0 near))
 
   -- all conjuncts that need at most k values are among those that were tested
   pub so-within : (k : ℕ) (row : List V) (numbers : List ℕ) (t : Truth) → AreTouched l trees k (length trees) numbers → IsSoFar l trees row (IsAmong l trees k numbers) t → IsSoFar l trees row (NeedsWithin l trees k) t
@@ -184,6 +194,16 @@ module _ {V : Type 0} (l : Conjuncts V) (trees : List Tree) where
     found-at : (j c : ℕ) → j < length trees → IsLeafDue l (length places) (tree_at trees j) c → (i : ℕ) × (i < length leaves) × (get_or leaves i 0 ≡ c)
     found-at j c m is = let f = due.all j c m is in (f.0, f.1, get_or_default leaves f.0 0 c f.1 ∙ f.2)
 
+    refuting-leaf : (i : ℕ) × (i < length leaves) × l.says (get_or leaves i 0) road False → IsRefuted l trees road
+    refuting-leaf (i, near, s) =
+        let at = leaf-at i near in
+        let is = at.2 in (
+          at.0,
+          at.1,
+          settled-so at.0 (get_or leaves i 0) False at.1 is s,
+          subst (λ tree. touches l (length road) tree ≡ true) (sym is.0) (eq-eqb (l.due (get_or leaves i 0)) (length road) (is.1 ∙ sym (length-picked ranges places w))),
+        )
+
     some-leaf : (t : Truth) → (i : ℕ) × (i < length leaves) × l.says (get_or leaves i 0) road t → (j : ℕ) × (j < length trees) × IsSettled l (tree_at trees j) road t
     some-leaf t (i, near, s) = let at = leaf-at i near in (at.0, at.1, settled-so at.0 (get_or leaves i 0) t at.1 at.2 s)
 
@@ -197,8 +217,8 @@ module _ {V : Type 0} (l : Conjuncts V) (trees : List Tree) where
     pub so-tested : (before t : Truth) (n : ℕ) → before ≢ False → Tests l road leaves before t n → IsSoFar l trees road (NeedsBelow l trees (length places)) before → IsSoFar l trees road (IsLeafOrBelow l trees (length places)) t
     unfolding IsSoFar Tests
     so-tested False t n ne h k = absurd (ne refl)
-    so-tested True False n ne h k = some-leaf False (h.0, h.2, h.4)
-    so-tested Out False n ne h k = some-leaf False (h.0, h.2, h.4)
+    so-tested True False n ne h k = refuting-leaf (h.0, h.2, h.4)
+    so-tested Out False n ne h k = refuting-leaf (h.0, h.2, h.4)
     so-tested Out True n ne h k = absurd (let z : Out ≡ True = h.1.0 in cc)
     so-tested True True n ne h k = λ j m p. elim p [
       | inl below ↦ k j m below
@@ -212,6 +232,6 @@ module _ {V : Type 0} (l : Conjuncts V) (trees : List Tree) where
 
     -- what these leaves come to is told of their conjuncts
     pub told-so : (t : Truth) → IsTruthOfLeaves l road leaves (length leaves) t → IsTold l trees road (length places) t
-    told-so False h = some-leaf False h
+    told-so False h = refuting-leaf h
     told-so True h = λ j c m is. let f = found-at j c m is in settled-so j c True m is (subst (λ d. l.says d road True) f.2 (h f.0 f.1))
     told-so Out h = h

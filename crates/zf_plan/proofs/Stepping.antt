@@ -1,10 +1,14 @@
 -- The steps of a search: rows that hold no event are passed, and a whole row is an answer.
-use Rattle.zf_plan.proofs.Prelude.{Bool, suc, zero, ◌++◌, ◌+◌, ◌<◌, ◌∙◌, ◌∷◌, ◌≡◌, ◌≤◌, ◌⊎◌, [], ap, arith, cond, drop, eqb, false, get_or, inl, inr, length, List, None, Option, refl, set, Some, subst, sym, take, true, ℕ, cases_eq, false≢true, get_or-replicate, get_or-set_other, get_or-set_same, length-replicate, length-set, take-take, take_all, IsTotalOrder, ◌≢◌, slice_get, Ordering, Equal, Less, reaches-under, IsFrontOf-picked, IsRowOf-front, IsRowOf-length, picked-nil, slice_get-nth, Conjuncts, HaveOneTruth, IsTruthOf, KeepTruths, Event, IsEvent, AreWithin, picked, above, below, is_reached, reaches, Ahead, AreAllAhead, AreDueWithin, ended, IsAhead, SameAhead, Takes, ComesAfter, IsRowOf, False, Out, Truth, True, Step, Breaks, End, Holds, IsChoice, IsChosen, Remembers, ahead_of, bound, Gives, GoesOn, is_over, IsAt, IsHopeless, IsSoFar, IsSound, KeepsEvents, LandsNext, path, Stands, steps_left, planted, Tree, Place}
+use Rattle.zf_plan.proofs.Prelude.{Bool, suc, zero, ◌++◌, ◌+◌, ◌<◌, ◌∙◌, ◌∷◌, ◌≡◌, ◌≤◌, ◌⊎◌, [], ap, arith, cond, drop, eqb, false, get_or, inl, inr, length, List, None, Option, refl, set, Some, subst, sym, take, true, ℕ, cases_eq, false≢true, get_or-replicate, get_or-set_other, get_or-set_same, length-replicate, length-set, take-take, take_all, IsTotalOrder, ◌≢◌, slice_get, Ordering, Equal, Less, reaches-under, IsFrontOf-picked, IsRowOf-front, IsRowOf-length, picked-nil, slice_get-nth, Conjuncts, HaveOneTruth, IsTruthOf, KeepTruths, Event, IsEvent, AreWithin, picked, above, below, is_reached, reaches, Ahead, AreAllAhead, AreDueWithin, ended, IsAhead, SameAhead, Takes, ComesAfter, IsRowOf, False, Out, Truth, True, Step, Breaks, End, Holds, IsChoice, IsChosen, Remembers, ahead_of, bound, Gives, GoesOn, is_over, IsAt, IsHopeless, IsSoFar, IsSound, KeepsEvents, Lands, LandsNext, path, Stands, steps_left, planted, Tree, Place}
 use Rattle.zf_walk.proofs.Reaching.{IsLater-from, later-reached, unreached, IsAhead-from, IsAhead-to}
 use Rattle.zf_walk.proofs.Truths.{IsTruthOf-false, IsTruthOf-only}
-use Rattle.zf_plan.specs.Marks.{AreNew, mark_at}
+use Rattle.zf_plan.specs.Marks.{AreNew, mark_at, unmarked}
+use Rattle.zf_plan.specs.declared.marks.Marks.{Marks}
 use Rattle.zf_walk.specs.Seen.{unseen}
 use Rattle.zf_plan.specs.Places.{AreKept, AreSeen, begun, Finds, found_before, IsFound, IsKept, seen_at}
+use Rattle.zf_plan.specs.Blaming.{IsBlamed}
+use Rattle.zf_plan.specs.Choosing.{IsFailed}
+use Rattle.zf_plan.proofs.Blaming.{blamed-as, blamed-skips}
 use Rattle.zf_plan.proofs.Marking.{kept-chosen, kept-first, moved-on}
 use Rattle.zf_plan.specs.Knowing.{IsRefuted, NeedsBelow, NeedsWithin}
 use Rattle.zf_plan.proofs.Forgetting.{are-forgotten}
@@ -14,6 +18,41 @@ use Rattle.zf_plan.specs.Memories.{AreDues, Forgets, IsNew, Memory}
 use Rattle.zf_plan.specs.declared.plan.Plan.{Plan}
 use Rattle.zf_plan.proofs.TreeTruths.{planted-one, planted-kept, planted-due}
 use Rattle.zf_plan.proofs.Moving.{enough, same-under, length-bound, length-path, last-value, IsFrom, from-fresh, from-past, Landed, landed, tells-landed}
+
+-- what holds of a place but for what is known of the last value
+pub record Rests {V : Type 0} (l : Conjuncts V) (uses : ℕ → ℕ → Bool) (trees : List Tree) (ranges : List (List V)) (p : Place) (memo : Memory) (choices : List (Option (List ℕ))) : Type 0 where
+  pub at : IsAt ranges p
+  pub remembers : Remembers l uses ranges (bound p) memo
+  pub found : (k : ℕ) → k < p.depth → IsFound l trees (picked ranges (take k p.places.items)) k (get_or p.found.items k True)
+  pub all_choices : length choices ≡ length ranges
+  pub kept : AreKept l trees ranges p.marks (bound p) choices
+  pub chosen : (k : ℕ) → k < p.depth → IsChoice l trees ranges (picked ranges (take k p.places.items)) (get_or ranges k []) (get_or choices k None)
+  pub seen : (k : ℕ) → k < p.depth → AreSeen l trees ranges (take k p.places.items) (seen_at p k)
+  pub blamed : (k : ℕ) → k < p.depth → IsBlamed l trees ranges p.places.items k (get_or p.places.items k 0) (get_or choices k None) (mark_at p.marks k)
+
+-- the same with what is remembered now
+pub rests-still : {V : Type 0} (l : Conjuncts V) (uses : ℕ → ℕ → Bool) (trees : List Tree) (ranges : List (List V)) (p : Place) (old new : Memory) (choices : List (Option (List ℕ))) → Stands l uses trees ranges p old choices → Remembers l uses ranges (bound p) new
+    → Rests l uses trees ranges p new choices
+rests-still l uses trees ranges p old new choices st remembers = record {
+  at = st.at;
+  remembers = remembers;
+  found = st.found;
+  all_choices = st.all_choices;
+  kept = st.kept;
+  chosen = st.chosen;
+  seen = st.seen;
+  blamed = st.blamed;
+}
+
+-- where it is past a row whose next range is exhausted it is known what that is to be blamed on
+pub record IsSpent {V : Type 0} (l : Conjuncts V) (trees : List Tree) (ranges : List (List V)) (k : ℕ) (p : Place) (choices : List (Option (List ℕ))) : Type 0 where
+  pub deep : p.depth ≡ k
+  pub blamed : IsBlamed l trees ranges p.places.items k (length (get_or ranges k [])) (get_or choices k None) (mark_at p.marks k)
+
+-- what a move leaves
+pub record Moves {V : Type 0} (l : Conjuncts V) (uses : ℕ → ℕ → Bool) (trees : List Tree) (ranges : List (List V)) (k : ℕ) (p : Place) (memo : Memory) (choices : List (Option (List ℕ))) : Type 0 where
+  pub rest : Rests l uses trees ranges p memo choices
+  pub spent : p.fresh ≡ false → IsSpent l trees ranges k p choices
 
 -- what the order, the leaves and what is gone over are known to be
 pub record Setting {V : Type 0} (cmp : V → V → Ordering) (l : Conjuncts V) (used : ℕ → ℕ → Bool) (trees : List Tree) (ranges : List (List V)) (after : Option (List V)) (planned : Plan) : Type 0 where
@@ -44,6 +83,12 @@ module _ {V : Type 0} {cmp : V → V → Ordering} {l : Conjuncts V} {used : ℕ
       let m = IsRowOf-length ranges e.row ev.within in
       ev.not_false (IsTruthOf-false (planted l trees) one e.row r.0 e.truth r.1 (let d = due r.0 r.1 in omega arith) (subst (λ row. (planted l trees).says r.0 row False) is (r.2 tail)) ev.truth_of)
 
+  -- a row on which a conjunct is False is that of no event
+  pub failed-none : (row : List V) (e : Event V) → IsEvent cmp (planted l trees) ranges after e → row ≡ e.row → IsFailed l trees row → ⊥
+  failed-none row e ev is r =
+      let m = IsRowOf-length ranges e.row ev.within in
+      ev.not_false (IsTruthOf-false (planted l trees) one e.row r.0 e.truth r.1 (let d = due r.0 r.1 in omega arith) (subst (λ w. (planted l trees).says r.0 w False) is r.2) ev.truth_of)
+
   -- a value that is not chosen begins no event
   pub unchosen-none : (row range : List V) (choice : Option (List ℕ)) (i : ℕ) (v : V) → IsChoice l trees ranges row range choice → slice_get range i ≡ Some v → (IsChosen choice i → ⊥) → (e : Event V) (tail : List V) → IsEvent cmp (planted l trees) ranges after e → row ++ v ∷ tail ≡ e.row → ⊥
   unchosen-none row range choice i v chosen at out e tail ev is =
@@ -66,36 +111,76 @@ module _ {V : Type 0} {cmp : V → V → Ordering} {l : Conjuncts V} {used : ℕ
     moves-on : GoesOn cmp (planted l trees) ranges after p q
     moves-on = let h = lands in record { same = h.same; smaller = h.smaller }
 
+    blames : ((j : ℕ) → j < k → IsBlamed l trees ranges p.places.items j (get_or p.places.items j 0) (get_or choices j None) (mark_at p.marks j)) → IsBlamed l trees ranges p.places.items k f (get_or choices k None) (mark_at p.marks k)
+        → (j : ℕ) → j < q.depth → IsBlamed l trees ranges q.places.items j (get_or q.places.items j 0) (get_or choices j None) (mark_at q.marks j)
+    blames blamed here = go next.2 where
+      go : Lands (length (get_or ranges k [])) k next.0 p q → (j : ℕ) → j < q.depth → IsBlamed l trees ranges q.places.items j (get_or q.places.items j 0) (get_or choices j None) (mark_at q.marks j)
+      go (found, seen, inl (low, ps, d, fr, renews)) j m =
+          let mark : mark_at q.marks j ≡ mark_at p.marks j = ap (λ ms. get_or ms j unmarked) renews.choices in
+          let same = λ (i : ℕ) (ne : i ≢ k). ap (λ is. get_or is i 0) ps ∙ get_or-set_other p.places.items k i next.0 0 ne in
+          elim (cases_eq j k) [
+            | inl e ↦
+                let now : get_or q.places.items j 0 ≡ next.0 = ap (λ is. get_or is j 0) ps ∙ ap (λ i. get_or (set p.places.items k next.0) i 0) e ∙ get_or-set_same p.places.items k next.0 0 (omega (arith, at.all_places)) in
+                let skipped = blamed-skips l trees ranges p.places.items k f next.0 (get_or choices k None) (mark_at p.marks k) next.1 here in
+                blamed-as l trees ranges p.places.items q.places.items j next.0 (get_or q.places.items j 0) (get_or choices j None) (get_or choices j None) (mark_at p.marks j) (mark_at q.marks j)
+                (λ i low'. same i (λ z. absurd (omega arith))) (omega (arith, now)) refl mark
+                (subst (λ i. IsBlamed l trees ranges p.places.items i next.0 (get_or choices i None) (mark_at p.marks i)) (sym e) skipped)
+            | inr ne ↦
+                blamed-as l trees ranges p.places.items q.places.items j (get_or p.places.items j 0) (get_or q.places.items j 0) (get_or choices j None) (get_or choices j None) (mark_at p.marks j) (mark_at q.marks j)
+                (λ i low'. same i (λ z. absurd (omega (arith, m, d, ne)))) (omega (arith, same j ne)) refl mark (blamed j (omega (arith, m, d, ne)))
+          ]
+      go (found, seen, inr (high, ps, d, fr, marks)) j m =
+          let mark : mark_at q.marks j ≡ mark_at p.marks j = ap (λ (ms : Marks). mark_at ms j) marks in
+          blamed-as l trees ranges p.places.items q.places.items j (get_or p.places.items j 0) (get_or q.places.items j 0) (get_or choices j None) (get_or choices j None) (mark_at p.marks j) (mark_at q.marks j)
+          (λ i low'. ap (λ is. get_or is i 0) ps) (omega (arith, ap (λ is. get_or is j 0) ps)) refl mark (blamed j (omega (arith, m, d)))
+
+    spends : IsBlamed l trees ranges p.places.items k f (get_or choices k None) (mark_at p.marks k) → q.fresh ≡ false → IsSpent l trees ranges k q choices
+    spends here = go next.2 where
+      go : Lands (length (get_or ranges k [])) k next.0 p q → q.fresh ≡ false → IsSpent l trees ranges k q choices
+      go (found, seen, inl (low, ps, d, fr, renews)) past = absurd (false≢true (sym past ∙ fr))
+      go (found, seen, inr (high, ps, d, fr, marks)) past = record {
+        deep = d;
+        blamed = blamed-as l trees ranges p.places.items q.places.items k next.0 (length (get_or ranges k [])) (get_or choices k None) (get_or choices k None) (mark_at p.marks k) (mark_at q.marks k)
+            (λ i low'. ap (λ is. get_or is i 0) ps) high refl (ap (λ (ms : Marks). mark_at ms k) marks)
+            (blamed-skips l trees ranges p.places.items k f next.0 (get_or choices k None) (mark_at p.marks k) next.1 here);
+      }
+
     -- the leaves that need one value more are forgotten
     moves-stand : (uses : ℕ → ℕ → Bool) (old new : Memory) → Remembers l uses ranges (bound p) old → length choices ≡ length ranges → AreKept l trees ranges p.marks (bound p) choices → Forgets (k + 1) old new
         → ((j : ℕ) → j ≤ k → IsFound l trees (picked ranges (take j p.places.items)) j (get_or p.found.items j True))
-        → ((j : ℕ) → j ≤ k → AreSeen l trees ranges (take j p.places.items) (seen_at p j)) → Stands l uses trees ranges q new choices
-    moves-stand uses old new remembers long kept g found seen =
+        → ((j : ℕ) → j ≤ k → AreSeen l trees ranges (take j p.places.items) (seen_at p j))
+        → ((j : ℕ) → j < k → IsBlamed l trees ranges p.places.items j (get_or p.places.items j 0) (get_or choices j None) (mark_at p.marks j)) → IsBlamed l trees ranges p.places.items k f (get_or choices k None) (mark_at p.marks k)
+        → Moves l uses trees ranges k q new choices
+    moves-stand uses old new remembers long kept g found seen blamed here =
         let h = lands in
         let n = next.2 in
         let fronts : (j : ℕ) → j ≤ k → j ≤ q.depth → take j p.places.items ≡ take j q.places.items =
         λ j low deep'. sym (take-take j p.depth p.places.items (omega arith)) ∙ sym (h.fronts j low) ∙ take-take j q.depth q.places.items deep' in
         record {
-          at = h.at;
-          remembers = record {
-            dues = subst (AreDues l) (sym g.dues) remembers.dues;
-            tells = tells-landed l ranges k (bound p) (bound q) old.truths new.truths remembers.tells (are-forgotten l (k + 1) old new remembers.dues g)
-                (omega (arith, length-bound ranges p at)) (omega (arith, length-bound ranges q h.at, h.deep)) h.fronts;
-            tables = subst (AreTrue l uses ranges) (sym g.tables) remembers.tables;
+          rest = record {
+            at = h.at;
+            remembers = record {
+              dues = subst (AreDues l) (sym g.dues) remembers.dues;
+              tells = tells-landed l ranges k (bound p) (bound q) old.truths new.truths remembers.tells (are-forgotten l (k + 1) old new remembers.dues g)
+                  (omega (arith, length-bound ranges p at)) (omega (arith, length-bound ranges q h.at, h.deep)) h.fronts;
+              tables = subst (AreTrue l uses ranges) (sym g.tables) remembers.tables;
+            };
+            found = λ j m.
+                let low : j ≤ k = omega (arith, h.deep) in
+                subst (λ is. IsFound l trees (picked ranges is) j (get_or q.found.items j True)) (fronts j low (omega arith))
+                (subst (λ ts. IsFound l trees (picked ranges (take j p.places.items)) j (get_or ts j True)) (sym n.0) (found j low));
+            all_choices = long;
+            kept = λ d within. moved-on l trees ranges k p q deep at h.at h.deep h.fronts d (get_or choices d None) (length (get_or ranges k [])) next.0 n (kept d within);
+            chosen = λ j m.
+                let low : j ≤ k = omega (arith, h.deep) in
+                subst (λ is. IsChoice l trees ranges (picked ranges is) (get_or ranges j []) (get_or choices j None)) (fronts j low (omega arith)) (chosen j low);
+            seen = λ j m.
+                let low : j ≤ k = omega (arith, h.deep) in
+                subst (λ is. AreSeen l trees ranges is (seen_at q j)) (fronts j low (omega arith))
+                (subst (λ ss. AreSeen l trees ranges (take j p.places.items) (get_or ss j unseen)) (sym n.1) (seen j low));
+            blamed = blames blamed here;
           };
-          found = λ j m.
-              let low : j ≤ k = omega (arith, h.deep) in
-              subst (λ is. IsFound l trees (picked ranges is) j (get_or q.found.items j True)) (fronts j low (omega arith))
-              (subst (λ ts. IsFound l trees (picked ranges (take j p.places.items)) j (get_or ts j True)) (sym n.0) (found j low));
-          all_choices = long;
-          kept = λ d within. moved-on l trees ranges k p q deep at h.at h.deep h.fronts d (get_or choices d None) (length (get_or ranges k [])) next.0 n (kept d within);
-          chosen = λ j m.
-              let low : j ≤ k = omega (arith, h.deep) in
-              subst (λ is. IsChoice l trees ranges (picked ranges is) (get_or ranges j []) (get_or choices j None)) (fronts j low (omega arith)) (chosen j low);
-          seen = λ j m.
-              let low : j ≤ k = omega (arith, h.deep) in
-              subst (λ is. AreSeen l trees ranges is (seen_at q j)) (fronts j low (omega arith))
-              (subst (λ ss. AreSeen l trees ranges (take j p.places.items) (get_or ss j unseen)) (sym n.1) (seen j low));
+          spent = spends here;
         }
 
   module _ (p q : Place) (choices : List (Option (List ℕ))) (choice : Option (List ℕ)) (at : IsAt ranges p) (all : length choices ≡ length ranges)
@@ -122,10 +207,14 @@ module _ {V : Type 0} {cmp : V → V → Ordering} {l : Conjuncts V} {used : ℕ
 
     pub descends-stand : (uses : ℕ → ℕ → Bool) (old new : Memory) → Remembers l uses ranges (bound p) old → AreKept l trees ranges p.marks (bound p) (set choices p.depth choice) → Forgets (p.depth + 1) old new
         → ((j : ℕ) → j ≤ p.depth → IsFound l trees (picked ranges (take j p.places.items)) j (get_or p.found.items j True))
-        → ((j : ℕ) → j ≤ p.depth → AreSeen l trees ranges (take j p.places.items) (seen_at p j)) → Stands l uses trees ranges q new (set choices p.depth choice)
-    descends-stand uses old new remembers kept g found seen =
+        → ((j : ℕ) → j ≤ p.depth → AreSeen l trees ranges (take j p.places.items) (seen_at p j))
+        → ((j : ℕ) → j < p.depth → IsBlamed l trees ranges p.places.items j (get_or p.places.items j 0) (get_or choices j None) (mark_at p.marks j)) → IsBlamed l trees ranges p.places.items p.depth 0 choice (mark_at p.marks p.depth)
+        → Moves l uses trees ranges p.depth q new (set choices p.depth choice)
+    descends-stand uses old new remembers kept g found seen blamed first =
         moves-stand p q (set choices p.depth choice) p.depth 0 at near (omega arith) all-chosen first-from next uses old new remembers
         (length-set choices p.depth choice ∙ all) kept g found seen
+        (λ j low. subst (λ c. IsBlamed l trees ranges p.places.items j (get_or p.places.items j 0) c (mark_at p.marks j)) (sym (get_or-set_other choices p.depth j choice None (λ e. absurd (omega arith)))) (blamed j low))
+        (subst (λ c. IsBlamed l trees ranges p.places.items p.depth 0 c (mark_at p.marks p.depth)) (sym (get_or-set_same choices p.depth choice None (omega (arith, all)))) first)
 
   module _ (uses : ℕ → ℕ → Bool) (p q : Place) (old : Memory) (choices : List (Option (List ℕ))) (k : ℕ) (st : Stands l uses trees ranges p old choices) (f : p.fresh ≡ false) (d : p.depth ≡ k + 1)
       (next : LandsNext (length (get_or ranges k [])) (get_or choices k None) k (get_or p.places.items k 0 + 1) p q) where
@@ -138,10 +227,10 @@ module _ {V : Type 0} {cmp : V → V → Ordering} {l : Conjuncts V} {used : ℕ
     pub retreats : GoesOn cmp (planted l trees) ranges after p q
     retreats = moves-on p q choices k (get_or p.places.items k 0 + 1) st.at near-last (omega arith) (λ j h. st.chosen j (omega arith)) last-from next
 
-    pub retreats-stand : (new : Memory) → Forgets (k + 1) old new → Stands l uses trees ranges q new choices
+    pub retreats-stand : (new : Memory) → Forgets (k + 1) old new → Moves l uses trees ranges k q new choices
     retreats-stand new g =
         moves-stand p q choices k (get_or p.places.items k 0 + 1) st.at near-last (omega arith) (λ j h. st.chosen j (omega arith)) last-from next
-        uses old new st.remembers st.all_choices st.kept g (λ j h. st.found j (omega arith)) (λ j h. st.seen j (omega arith))
+        uses old new st.remembers st.all_choices st.kept g (λ j h. st.found j (omega arith)) (λ j h. st.seen j (omega arith)) (λ j h. st.blamed j (omega arith)) (st.past f k d)
 
   pub passes : (p q : Place) → IsAt ranges p → p.fresh ≡ true → q.fresh ≡ false → q.places.items ≡ p.places.items → q.depth ≡ p.depth
       → IsHopeless cmp l trees (length ranges) after (path ranges p) → GoesOn cmp (planted l trees) ranges after p q
@@ -175,7 +264,7 @@ module _ {V : Type 0} {cmp : V → V → Ordering} {l : Conjuncts V} {used : ℕ
         let t = get_or p.found.items k True in (
           f.not_false,
           subst (λ row. IsSoFar l trees row (NeedsBelow l trees (suc k)) t) (sym last.2)
-              (so-longer l trees (NeedsBelow l trees (suc k)) (picked ranges (take k p.places.items)) (last.0 ∷ []) t
+              (so-longer l trees (NeedsBelow l trees (suc k)) (picked ranges (take k p.places.items)) (last.0 ∷ []) t f.not_false
               (so-fewer l trees (NeedsWithin l trees k) (NeedsBelow l trees (suc k)) (picked ranges (take k p.places.items)) t (λ j m h. omega arith) f.so)),
         )
 
@@ -346,6 +435,8 @@ stands-first l uses trees ranges p memo choices d long found seen marks new all 
   kept = kept-first l trees ranges p.marks (bound p) choices marks;
   chosen = λ k m. absurd (omega arith);
   seen = λ k m. absurd (omega arith);
+  blamed = λ k m. absurd (omega arith);
+  past = λ f k e. absurd (omega arith);
 }
 
 -- a choice that was refused leaves all as it was
@@ -360,4 +451,6 @@ stands-refused l uses trees ranges p old new choices choice st near remembers ke
   kept = kept-chosen l trees ranges p.marks p.marks (bound p) choices p.depth choice (omega (arith, st.all_choices)) refl (λ d ne. refl) st.kept kept;
   chosen = λ k m. subst (IsChoice l trees ranges (picked ranges (take k p.places.items)) (get_or ranges k [])) (sym (get_or-set_other choices p.depth k choice None (λ e. absurd (omega arith)))) (st.chosen k m);
   seen = st.seen;
+  blamed = λ k m. subst (λ c. IsBlamed l trees ranges p.places.items k (get_or p.places.items k 0) c (mark_at p.marks k)) (sym (get_or-set_other choices p.depth k choice None (λ e. absurd (omega arith)))) (st.blamed k m);
+  past = λ f k e. subst (λ c. IsBlamed l trees ranges p.places.items k (get_or p.places.items k 0 + 1) c (mark_at p.marks k)) (sym (get_or-set_other choices p.depth k choice None (λ z. absurd (omega arith)))) (st.past f k e);
 }

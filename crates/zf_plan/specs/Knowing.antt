@@ -1,12 +1,12 @@
 -- What is known of leaves and trees at a row: for private contracts and the model of `Search` alone.
-use Rattle.std.specs.Prelude.{◌≡◌, ◌⊎◌, ℕ, ◌<◌, ◌≤◌, Bool, List, ◌++◌, length, take, slice_index_or, Contains, Option, Some, None}
+use Rattle.std.specs.Prelude.{◌≡◌, ◌⊎◌, ℕ, ◌<◌, ◌≤◌, Bool, true, ◌||◌, nat_eq, List, ◌++◌, length, take, slice_index_or, Contains, Option, Some, None}
 use Rattle.zf_walk.specs.declared.judge.Truth.{Truth}
 use Rattle.zf_walk.specs.declared.judge.Truth.TheVariants.{True, False, Out}
 use Rattle.zf_walk.specs.Conjuncts.{Conjuncts}
 use Rattle.zf_walk.specs.Picked.{picked}
 use Rattle.zf_walk.specs.Tables.{AreTrue}
 use Rattle.zf_plan.specs.Memories.{Memory, AreDues}
-use Rattle.zf_plan.specs.Trees.{Tree, leaf, opposite, IsTreeTruth, due_of, tree_at}
+use Rattle.zf_plan.specs.Trees.{Tree, leaf, negated, both, either, opposite, IsTreeTruth, due_of, tree_at}
 
 -- what was told of a leaf that needs no more values than there are is its truth on those that it needs
 pub record Tells {V : Type 0} (l : Conjuncts V) (ranges : List (List V)) (places : List ℕ) (told : List (Option Truth)) : Type 0 where
@@ -61,9 +61,16 @@ abbrev pub joined : Truth → Option Truth → Truth
 joined t None = t
 joined t (Some u) = conjoined t u
 
--- one of the conjuncts is False on every row that begins with this one
+-- whether a tree has a leaf that needs so many values
+abbrev pub touches : {V : Type 0} → Conjuncts V → ℕ → Tree → Bool
+touches l due (leaf c) = nat_eq (l.due c) due
+touches l due (negated a) = touches l due a
+touches l due (both a b) = touches l due a || touches l due b
+touches l due (either a b) = touches l due a || touches l due b
+
+-- one of the conjuncts that have a leaf which needs just this row is False on every row that begins with it
 abbrev pub IsRefuted : {V : Type 0} → Conjuncts V → List Tree → List V → Type 0
-IsRefuted l trees row = (j : ℕ) × (j < length trees) × IsSettled l (tree_at trees j) row False
+IsRefuted l trees row = (j : ℕ) × (j < length trees) × IsSettled l (tree_at trees j) row False × (touches l (length row) (tree_at trees j) ≡ true)
 
 -- the truth of the conjuncts of which P holds, on every row that begins with this one: False where some conjunct is, else True where all of these are, else Out where some conjunct is
 unfoldable pub IsSoFar : {V : Type 0} → Conjuncts V → List Tree → List V → (ℕ → Type 0) → Truth → Type 0

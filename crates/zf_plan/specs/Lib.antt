@@ -11,6 +11,7 @@ pub mod Knowing
 pub mod Testing
 pub mod Choosing
 pub mod Sieves
+pub mod Blaming
 pub mod Places
 pub mod Exchanges
 pub mod Counts

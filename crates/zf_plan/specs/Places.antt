@@ -1,5 +1,5 @@
 -- Where a search is, and what its steps do: for private contracts and the model of `Search` alone.
-use Rattle.std.specs.Prelude.{◌≡◌, ◌≢◌, ◌⊎◌, ℕ, zero, suc, ◌+◌, ◌-◌, ◌*◌, ◌<◌, ◌≤◌, ◌^◌, Bool, true, false, cond, eqb, ◌||◌, nat_eq, List, [], ◌∷◌, ◌++◌, length, take, drop, slice_index_or, slice_set, AllPairs, Contains, Option, Some, None}
+use Rattle.std.specs.Prelude.{◌≡◌, ◌≢◌, ◌⊎◌, ℕ, zero, suc, ◌+◌, ◌-◌, ◌*◌, ◌<◌, ◌≤◌, ◌^◌, Bool, true, false, cond, eqb, ◌||◌, List, [], ◌∷◌, ◌++◌, length, take, drop, slice_index_or, slice_set, AllPairs, Contains, Option, Some, None}
 use Rattle.std.specs.declared.cmp.Ordering.{Ordering}
 use Rattle.zf_walk.specs.declared.judge.Truth.{Truth}
 use Rattle.zf_walk.specs.declared.judge.Truth.TheVariants.{True, False, Out}
@@ -18,22 +18,17 @@ use Rattle.std.specs.Option.{option_copied}
 use Rattle.zf_plan.specs.Groves.{trees_of}
 use Rattle.zf_plan.specs.Memories.{Memory}
 use Rattle.zf_plan.specs.Trees.{Tree, leaf, negated, both, either, tree_at, HaveLeavesWithin}
-use Rattle.zf_walk.specs.Seen.{IsSeen, unseen}
+use Rattle.zf_walk.specs.Seen.{HasBit, IsSeen, unseen}
 use Rattle.zf_walk.specs.declared.seen.Seen.{Seen}
-use Rattle.zf_plan.specs.Knowing.{Remembers, IsRefuted, IsSettled, IsSoFar, IsLeafDue, NeedsWithin, AreBelow}
+use Rattle.zf_plan.specs.Knowing.{touches, Remembers, IsRefuted, IsSettled, IsSoFar, IsLeafDue, NeedsWithin, AreBelow}
 use Rattle.zf_plan.specs.Choosing.{AreLasts, IsChoice, IsNextChoice, StaysChoice}
+use Rattle.zf_plan.specs.Blaming.{AreCovered, IsBlamed}
+use Rattle.std.specs.Prelude.{bit_or}
 use Rattle.zf_plan.specs.declared.marks.Mark.{Mark}
 use Rattle.zf_plan.specs.declared.marks.Marks.{Marks}
-use Rattle.zf_plan.specs.Marks.{is_still, mark_at, Renews}
+use Rattle.zf_plan.specs.Marks.{is_still, mark_at, Accuses, Renews}
 
 -- ---- plans
-
--- whether a tree has a leaf that needs so many values
-abbrev pub touches : {V : Type 0} → Conjuncts V → ℕ → Tree → Bool
-touches l due (leaf c) = nat_eq (l.due c) due
-touches l due (negated a) = touches l due a
-touches l due (both a b) = touches l due a || touches l due b
-touches l due (either a b) = touches l due a || touches l due b
 
 -- whether a tree that is no leaf has a leaf that needs so many values
 abbrev pub touches_inside : {V : Type 0} → Conjuncts V → ℕ → Tree → Bool
@@ -66,6 +61,7 @@ pub record IsPlan {V : Type 0} (l : Conjuncts V) (uses : ℕ → ℕ → Bool) (
   pub lasts : AreAll (λ k. AreLasts uses trees k (slice_index_or plan.narrowing.items k [])) n plan.lasts.items
   pub sifting : AreAll (λ k. AreBelow (length trees)) n plan.sifting.items
   pub sifting_lasts : AreAll (λ k. AreLasts uses trees k (slice_index_or plan.sifting.items k [])) n plan.sifting_lasts.items
+  pub blames : AreCovered l uses trees (n + 1) plan.blames.items
 
 -- ---- places
 
@@ -131,7 +127,7 @@ pub record IsKept {V : Type 0} (l : Conjuncts V) (trees : List Tree) (ranges : L
 abbrev pub AreKept : {V : Type 0} → Conjuncts V → List Tree → List (List V) → Marks → List ℕ → List (Option (List ℕ)) → Type 0
 AreKept l trees ranges marks places choices = (k : ℕ) → k < length ranges → IsKept l trees ranges marks.stamps.items places k (slice_index_or choices k None) (mark_at marks k)
 
--- what holds between two steps: what is remembered, kept, seen and was found is right, and for each value that is bound what was chosen of its range
+-- what holds between two steps: what is remembered, kept, seen and was found is right, and for each value that is bound what was chosen of its range, and what the values are to be blamed on that were tried
 pub record Stands {V : Type 0} (l : Conjuncts V) (uses : ℕ → ℕ → Bool) (trees : List Tree) (ranges : List (List V)) (p : Place) (memo : Memory) (choices : List (Option (List ℕ))) : Type 0 where
   pub at : IsAt ranges p
   pub remembers : Remembers l uses ranges (bound p) memo
@@ -140,6 +136,8 @@ pub record Stands {V : Type 0} (l : Conjuncts V) (uses : ℕ → ℕ → Bool) (
   pub kept : AreKept l trees ranges p.marks (bound p) choices
   pub chosen : (k : ℕ) → k < p.depth → IsChoice l trees ranges (picked ranges (take k p.places.items)) (slice_index_or ranges k []) (slice_index_or choices k None)
   pub seen : (k : ℕ) → k < p.depth → AreSeen l trees ranges (take k p.places.items) (seen_at p k)
+  pub blamed : (k : ℕ) → k < p.depth → IsBlamed l trees ranges p.places.items k (slice_index_or p.places.items k 0) (slice_index_or choices k None) (mark_at p.marks k)
+  pub past : p.fresh ≡ false → (k : ℕ) → p.depth ≡ k + 1 → IsBlamed l trees ranges p.places.items k (slice_index_or p.places.items k 0 + 1) (slice_index_or choices k None) (mark_at p.marks k)
 
 -- what holds of what a search goes over
 pub record IsSound {V : Type 0} (cmp : V → V → Ordering) (l : Conjuncts V) (uses : ℕ → ℕ → Bool) (trees : List Tree) (ranges : List (List V)) (after : Option (List V)) (planned : Plan) : Type 0 where
@@ -184,9 +182,39 @@ Lands end k i old new = (new.found.items ≡ old.found.items) × (new.seen.items
 abbrev pub LandsNext : ℕ → Option (List ℕ) → ℕ → ℕ → Place → Place → Type 0
 LandsNext end choice k from old new = (next : ℕ) × IsNextChoice choice from next × Lands end k next old new
 
--- the place is the same, or past the first values of which the choice of a range was made, which is none of all values and was made of those
-abbrev pub Leaps : ℕ → Option (List ℕ) → Place → Place → Type 0
-Leaps range choice old new = (new ≡ old) ⊎ ((old.fresh ≡ false) × (choice ≢ None) × (is_still old.marks.stamps.items (mark_at old.marks range) ≡ true) × (new ≡ record old { depth = (mark_at old.marks range).due }))
+-- the values of the last range are open from now on
+pub record Opens (old new : Place) : Type 0 where
+  pub fresh : old.fresh ≡ false
+  pub last : ℕ
+  pub deep : old.depth ≡ last + 1
+  pub is : new ≡ record old { marks = new.marks }
+  pub marks : Accuses last true 0 old.marks new.marks
+
+-- back to the last value that those of the next range are to be blamed on, which is to be blamed on the others
+pub record FallsBack (old new : Place) : Type 0 where
+  pub fresh : old.fresh ≡ false
+  pub closed : (mark_at old.marks old.depth).is_open ≡ false
+  pub low : new.depth ≤ old.depth
+  pub none : (i : ℕ) → new.depth ≤ i → i < old.depth → HasBit (mark_at old.marks old.depth).blame i → ⊥
+  pub is : new ≡ record old { depth = new.depth; marks = new.marks }
+  pub marks : (new.depth ≡ 0) × (new.marks ≡ old.marks)
+      ⊎ (last : ℕ) × (new.depth ≡ last + 1) × Accuses last (mark_at old.marks last).is_open (bit_or (mark_at old.marks last).blame (mark_at old.marks old.depth).blame) old.marks new.marks
+
+-- where a range is exhausted
+abbrev pub Jumps : Bool → Place → Place → Type 0
+Jumps plain old new = ((new ≡ old) × ((old.fresh ≡ true) ⊎ (old.depth ≡ 0))) ⊎ Opens old new ⊎ (plain ≡ false) × FallsBack old new
+
+-- the row of the bound values is passed, and the last one is open from now on
+abbrev pub PassesOpen : Place → Place → Type 0
+PassesOpen old new = ((old.depth ≡ 0) × (new ≡ record old { fresh = false }))
+    ⊎ (last : ℕ) × (old.depth ≡ last + 1) × (new ≡ record old { fresh = false; marks = new.marks }) × Accuses last true 0 old.marks new.marks
+
+-- the row of the bound values is passed: the last one is open from now on, or it is to be blamed on what the conjuncts use that were tested
+abbrev pub Passes : {V : Type 0} → (V → V → Ordering) → List (List V) → Option (List V) → List ℕ → Place → Place → Type 0
+Passes cmp ranges after blames old new = PassesOpen old new
+    ⊎ (last : ℕ) × (old.depth ≡ last + 1) × (new ≡ record old { fresh = false; marks = new.marks })
+    × (last < 64) × (is_reached cmp after (length ranges) (path ranges old) ≡ true)
+    × Accuses last (mark_at old.marks last).is_open (bit_or (mark_at old.marks last).blame (slice_index_or blames old.depth 0)) old.marks new.marks
 
 -- the place is the same, but for the mark of what is chosen of the next range
 pub record IsMarked (old new : Place) : Type 0 where

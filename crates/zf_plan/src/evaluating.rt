@@ -1,10 +1,10 @@
 //! What is known of trees at a row. The truth of each leaf is asked for once on the values that it needs.
-ghost use Rattle.std.specs.Prelude.{◌≡◌, ◌≢◌, ◌<◌, Ok, [], length, IfOk, IfSome};
+ghost use Rattle.std.specs.Prelude.{◌≡◌, ◌≢◌, ◌<◌, Ok, [], ℕ, true, length, slice_index_or, IfOk, IfSome};
 ghost use Rattle.zf_walk.specs.declared.judge.Truth.TheVariants.{False};
 ghost use Rattle.zf_walk.specs.Picked.{AreWithin, picked};
 ghost use Rattle.zf_plan.specs.Trees.{tree_at, HasLeavesWithin};
 ghost use Rattle.zf_plan.specs.Groves.{trees_made, trees_of};
-ghost use Rattle.zf_plan.specs.Knowing.{Remembers, IsKnown, IsSettled, IsSoFar, IsLeafOrBelow, IsAmong, AreBelow};
+ghost use Rattle.zf_plan.specs.Knowing.{Remembers, IsKnown, IsSettled, IsSoFar, IsLeafOrBelow, IsAmong, AreBelow, touches};
 ghost use Rattle.zf_plan.specs.Places.{IsPosed};
 
 use crate::guide::Guide;
@@ -87,6 +87,7 @@ pub fn test_trees<V: Ord, J: Guide<V>>(
 ) -> Result<Truth, AllocError>
     requires sound { IsPosed V.cmp J.conjuncts J.is_used problem.now }
     requires conjuncts { AreBelow (length (trees_of problem.now.forest.now)) conjuncts.now }
+    requires touched { (i : ℕ) → i < length conjuncts.now → touches (J.conjuncts problem.now.judge.now) (length places.now) (tree_at (trees_of problem.now.forest.now) (slice_index_or conjuncts.now i 0)) ≡ true }
     requires before { before ≢ False }
     requires so_far { IsSoFar (J.conjuncts problem.now.judge.now) (trees_of problem.now.forest.now) (picked problem.now.ranges.now places.now) (IsLeafOrBelow (J.conjuncts problem.now.judge.now) (trees_of problem.now.forest.now) (length places.now)) before }
     requires within { AreWithin problem.now.ranges.now places.now }

@@ -1,6 +1,7 @@
 //! The search over the rows of some ranges that passes over what holds no event: conjuncts are trees over leaves, and a tree that the first values settle as False ends the rows that begin with them, and of a component only those values are tried that the trees leave.
 #![tactic(auto)]
 
+mod blame;
 mod choice;
 mod choosing;
 mod evaluating;

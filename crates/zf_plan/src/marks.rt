@@ -1,14 +1,16 @@
 //! What was made of values that are still bound.
 ghost use Rattle.std.specs.Prelude.{◌≡◌, ◌+◌, ◌-◌, ◌<◌, ◌≤◌, ◌^◌, length, IfOk};
-ghost use Rattle.zf_plan.specs.Marks.{mark_at, is_still, AreNew, Keeps, Renews};
+ghost use Rattle.zf_plan.specs.Marks.{mark_at, is_still, AreNew, Keeps, Accuses, Renews};
 
 use std::alloc::{AllocError, Global};
 
-/// Of how many first values something was made, and under which stamp of theirs.
+/// Of how many first values a range's choice was made, and under which stamp of theirs. And what is known of those of its values that were tried, unless it is open: no event begins with one of them, which is to be blamed on the values of some components before, a bit each.
 #[derive(Clone, Copy)]
 pub struct Mark {
     pub due: usize,
     pub stamp: u64,
+    pub is_open: bool,
+    pub blame: u64,
 }
 
 /// Stamps of values, and the marks of what was chosen.
@@ -27,7 +29,12 @@ impl Marks {
         ensures { IfOk result (AreNew ranges) }
     {
         let stamps = vec![in alloc; 1; ranges + 1]?;
-        let choices = vec![in alloc; Mark { due: 0, stamp: 0 }; ranges]?;
+        let choices = vec![in alloc; Mark {
+            due: 0,
+            stamp: 0,
+            is_open: true,
+            blame: 0
+        }; ranges]?;
         Ok(Marks { stamps, choices })
     }
 
@@ -50,6 +57,22 @@ impl Marks {
         self.choices[range] = Mark {
             due,
             stamp: usable(self.stamps[due]),
+            is_open: true,
+            blame: 0,
+        };
+    }
+
+    /// Notes of a range whether it is open, and else what its values are to be blamed on.
+    pub fn accuse(&mut self, range: usize, is_open: bool, blame: u64)
+        requires { range < length self.old.choices.items }
+        ensures { Accuses range is_open blame self.old self.new }
+    {
+        let mark = self.choices[range];
+        self.choices[range] = Mark {
+            due: mark.due,
+            stamp: mark.stamp,
+            is_open,
+            blame,
         };
     }
 

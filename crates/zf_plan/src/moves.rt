@@ -1,9 +1,9 @@
 //! The moves of a search, whatever the conjuncts say.
-ghost use Rattle.std.specs.Prelude.{◌≡◌, ◌+◌, ◌-◌, ◌<◌, ◌≤◌, [], length, slice_index_or, None};
+ghost use Rattle.std.specs.Prelude.{◌≡◌, ◌+◌, ◌-◌, ◌<◌, [], length, slice_index_or, None, false};
 ghost use Rattle.zf_plan.specs.Memories.{Forgets};
-ghost use Rattle.zf_plan.specs.Marks.{mark_at};
-ghost use Rattle.zf_plan.specs.Places.{IsAt, Lands, LandsNext, Leaps};
+ghost use Rattle.zf_plan.specs.Places.{IsAt, Lands, LandsNext, Jumps};
 
+use crate::blame::last_blamed;
 use crate::choice::Choice;
 use crate::memo::Memo;
 use crate::place::Place;
@@ -61,23 +61,27 @@ pub fn retreat<V>(ranges: &[Range<V>], choices: &[Choice], place: &mut Place, me
     land(place, last, next, end);
 }
 
-/// Goes back past the first values of which the choice of a range was made: where that leaves no value, no event begins with them.
-pub fn leap(choices: &[Choice], place: &mut Place, range: usize)
-    requires choices { range < length choices.now }
-    requires marks { range < length place.old.marks.choices.items }
-    requires due { (mark_at place.old.marks range).due < length place.old.marks.stamps.items }
-    ensures { Leaps range (slice_index_or choices.now range None) place.old place.new }
+/// Where a range is exhausted, goes back past the last value that its values are to be blamed on, which is to be blamed on the others. Where it is open, so is the one before it.
+pub fn jump(place: &mut Place, plain: bool)
+    requires { place.old.fresh ≡ false → place.old.depth < length place.old.marks.choices.items }
+    ensures { Jumps plain place.old place.new }
 {
-    if place.fresh {
+    if place.fresh || place.depth == 0 {
         return;
     }
-    let choice = &choices[range];
-    if choice.all {
-        return;
-    }
-    if !place.marks.is_still(range) {
-        return;
-    }
+    let range = place.depth;
     let mark = place.marks.choices[range];
-    place.depth = mark.due;
+    if plain || mark.is_open {
+        place.marks.accuse(range - 1, true, 0);
+        return;
+    }
+    let depth = last_blamed(mark.blame, range);
+    place.depth = depth;
+    if depth == 0 {
+        return;
+    }
+    let before = place.marks.choices[depth - 1];
+    place
+        .marks
+        .accuse(depth - 1, before.is_open, before.blame | mark.blame);
 }

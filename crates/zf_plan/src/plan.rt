@@ -4,8 +4,12 @@ ghost use Rattle.zf_plan.specs.Trees.{tree_at, HasLeavesWithin, HaveLeavesWithin
 ghost use Rattle.zf_plan.specs.Groves.{trees_made, trees_of};
 ghost use Rattle.zf_plan.specs.Knowing.{AreBelow, IsLeafDue};
 ghost use Rattle.zf_plan.specs.Choosing.{AreLasts, UsesFirst};
-ghost use Rattle.zf_plan.specs.Places.{touches, touches_inside, AreAll, AreDue, AreTouched, IsPlan};
+ghost use Rattle.zf_walk.specs.Seen.{HasBit};
+ghost use Rattle.zf_plan.specs.Knowing.{touches};
+ghost use Rattle.zf_plan.specs.Blaming.{AreCovered, Covers, HasBits};
+ghost use Rattle.zf_plan.specs.Places.{touches_inside, AreAll, AreDue, AreTouched, IsPlan};
 
+use crate::blame::with_bit;
 use crate::forest::Forest;
 use crate::guide::Guide;
 use crate::listed::Listed;
@@ -22,6 +26,8 @@ pub struct Plan {
     pub lasts: Vec<Listed>,
     pub sifting: Vec<Listed>,
     pub sifting_lasts: Vec<Listed>,
+    /// For each number of values which of so many first components the conjuncts use that have a leaf which needs so many, a bit each.
+    pub blames: Vec<u64>,
     /// Whether it is one by which no component is narrowed or sifted.
     pub is_plain: bool,
 }
@@ -52,6 +58,7 @@ impl Plan {
         let lasts = all_lasts(alloc, judge, forest, &narrowing, components)?;
         let sifting = all_sifting(alloc, judge, forest, ranges, &narrowing)?;
         let sifting_lasts = all_lasts(alloc, judge, forest, &sifting, components)?;
+        let blames = all_blames(alloc, judge, forest, components)?;
         Ok(Plan {
             due,
             touched,
@@ -59,6 +66,7 @@ impl Plan {
             lasts,
             sifting,
             sifting_lasts,
+            blames,
             is_plain: false,
         })
     }
@@ -83,6 +91,7 @@ impl Plan {
         let lasts = none_narrowing(alloc, components)?;
         let sifting = none_narrowing(alloc, components)?;
         let sifting_lasts = none_narrowing(alloc, components)?;
+        let blames = all_blames(alloc, judge, forest, components)?;
         Ok(Plan {
             due,
             touched,
@@ -90,6 +99,7 @@ impl Plan {
             lasts,
             sifting,
             sifting_lasts,
+            blames,
             is_plain: true,
         })
     }
@@ -216,6 +226,76 @@ fn is_touched<V, J: Judge<V>>(judge: &J, forest: &Forest, part: usize, due: usiz
             is_touched(judge, forest, left, due) || is_touched(judge, forest, right, due)
         }
     }
+}
+
+/// For each number of values which components the conjuncts use that have a leaf which needs so many.
+fn all_blames<V, J: Judge<V>>(
+    alloc: Global,
+    judge: &J,
+    forest: &Forest,
+    components: usize,
+) -> Result<Vec<u64>, AllocError>
+    requires leaves { HaveLeavesWithin (J.conjuncts judge.now).number (trees_of forest.now) }
+    requires room { components + 1 < 2 ^ 64 }
+    ensures { IfOk result (λ words. AreCovered (J.conjuncts judge.now) (J.is_used judge.now) (trees_of forest.now) (components + 1) words.items) }
+{
+    let mut all = Vec::new(alloc);
+    for due in 0..components + 1 {
+        all.push(blame_at(judge, forest, due))?;
+    }
+    Ok(all)
+}
+
+/// Which of so many first components the conjuncts use that have a leaf which needs so many; of more than there are bits none.
+fn blame_at<V, J: Judge<V>>(judge: &J, forest: &Forest, due: usize) -> u64
+    requires leaves { HaveLeavesWithin (J.conjuncts judge.now).number (trees_of forest.now) }
+    ensures { due ≤ 64 → Covers (J.conjuncts judge.now) (J.is_used judge.now) (trees_of forest.now) due (length (trees_of forest.now)) result }
+{
+    let mut word = 0;
+    if due > 64 {
+        return word;
+    }
+    for conjunct in 0..forest.count() {
+        let root = forest.root(conjunct);
+        if is_touched(judge, forest, root, due) {
+            word = word | used_by(judge, forest, root, due);
+        }
+    }
+    word
+}
+
+/// Which of so many first components a tree uses.
+fn used_by<V, J: Judge<V>>(judge: &J, forest: &Forest, part: usize, components: usize) -> u64
+    requires part { part < length (trees_made forest.now) }
+    requires leaves { HasLeavesWithin (J.conjuncts judge.now).number (tree_at (trees_made forest.now) part) }
+    requires few { components ≤ 64 }
+    ensures { HasBits (J.is_used judge.now) result components (tree_at (trees_made forest.now) part) }
+{
+    match forest.node(part) {
+        Node::Leaf(of) => used_by_leaf(judge, of, components),
+        Node::Not(of) => used_by(judge, forest, of, components),
+        Node::And(left, right) => {
+            used_by(judge, forest, left, components) | used_by(judge, forest, right, components)
+        }
+        Node::Or(left, right) => {
+            used_by(judge, forest, left, components) | used_by(judge, forest, right, components)
+        }
+    }
+}
+
+/// Which of so many first components a leaf uses.
+fn used_by_leaf<V, J: Judge<V>>(judge: &J, of: usize, components: usize) -> u64
+    requires of { of < (J.conjuncts judge.now).number }
+    requires few { components ≤ 64 }
+    ensures { (i : ℕ) → i < components → J.is_used judge.now of i ≡ true → HasBit result i }
+{
+    let mut word = 0;
+    for component in 0..components {
+        if judge.uses(of, component) {
+            word = with_bit(word, component);
+        }
+    }
+    word
 }
 
 /// For each number of values the conjuncts that narrow the next.

@@ -10,14 +10,16 @@ ghost use Rattle.zf_plan.specs.Choosing.{IsChoice, StaysChoice};
 ghost use Rattle.zf_plan.specs.Marks.{mark_at};
 ghost use Rattle.zf_plan.specs.Counts.{IsPlain, Counts, CountsOn, IsCounted, all_of};
 ghost use Rattle.zf_walk.specs.Seen.{unseen};
-ghost use Rattle.zf_plan.specs.Places.{IsPosed, bound, path, found_before, seen_at, AreHeld, AreSeen, IsAt, IsKept, IsMarked, Finds, Stands, Goes, Gives, KeepsEvents, is_over};
+ghost use Rattle.zf_plan.specs.Places.{IsPosed, bound, path, found_before, seen_at, AreHeld, AreSeen, IsAt, IsKept, IsMarked, Finds, Stands, Goes, Gives, KeepsEvents, Passes, PassesOpen, is_over};
+ghost use Rattle.zf_plan.specs.Blaming.{IsBlamed};
 
+use crate::blame::first_bits;
 use crate::choice::Choice;
 use crate::choosing::choose;
 use crate::evaluating::test_trees;
 use crate::guide::Guide;
 use crate::memo::Memo;
-use crate::moves::{descend, leap, retreat};
+use crate::moves::{descend, jump, retreat};
 use crate::place::Place;
 use crate::plan::Choosers;
 use crate::problem::Problem;
@@ -204,7 +206,7 @@ fn choose_again<V: Ord, J: Guide<V>>(
     ensures same { memo.new.tests ≡ memo.old.tests }
     ensures place { IsMarked place.old place.new }
     ensures kept { IsKept (J.conjuncts problem.now.judge.now) (trees_of problem.now.forest.now) problem.now.ranges.now place.new.marks.stamps.items (bound place.old) place.old.depth choice.new (mark_at place.new.marks place.old.depth) }
-    ensures choice { OnOk result (IsChoice (J.conjuncts problem.now.judge.now) (trees_of problem.now.forest.now) problem.now.ranges.now (path problem.now.ranges.now place.old) (slice_index_or problem.now.ranges.now place.old.depth []) choice.new) }
+    ensures choice { OnOk result (StaysChoice (J.conjuncts problem.now.judge.now) (trees_of problem.now.forest.now) problem.now.ranges.now place.old.depth (mark_at place.new.marks place.old.depth).due (bound place.old) choice.new) }
     ensures all { OnOk result (IsPlain (J.conjuncts problem.now.judge.now) (trees_of problem.now.forest.now) problem.now.plan.now → choice.old ≡ None → choice.new ≡ None) }
     ensures granted { OnErr result (IsPlain (J.conjuncts problem.now.judge.now) (trees_of problem.now.forest.now) problem.now.plan.now → ⊥) }
     ensures err { OnErr result (place.new ≡ place.old) }
@@ -231,7 +233,7 @@ fn choose_next<V: Ord, J: Guide<V>>(
     ensures same { memo.new.tests ≡ memo.old.tests }
     ensures place { IsMarked place.old place.new }
     ensures kept { IsKept (J.conjuncts problem.now.judge.now) (trees_of problem.now.forest.now) problem.now.ranges.now place.new.marks.stamps.items (bound place.old) place.old.depth choice.new (mark_at place.new.marks place.old.depth) }
-    ensures choice { OnOk result (IsChoice (J.conjuncts problem.now.judge.now) (trees_of problem.now.forest.now) problem.now.ranges.now (path problem.now.ranges.now place.old) (slice_index_or problem.now.ranges.now place.old.depth []) choice.new) }
+    ensures choice { OnOk result (StaysChoice (J.conjuncts problem.now.judge.now) (trees_of problem.now.forest.now) problem.now.ranges.now place.old.depth (mark_at place.new.marks place.old.depth).due (bound place.old) choice.new) }
     ensures all { OnOk result (IsPlain (J.conjuncts problem.now.judge.now) (trees_of problem.now.forest.now) problem.now.plan.now → choice.old ≡ None → choice.new ≡ None) }
     ensures granted { OnErr result (IsPlain (J.conjuncts problem.now.judge.now) (trees_of problem.now.forest.now) problem.now.plan.now → ⊥) }
     ensures err { OnErr result (place.new ≡ place.old) }
@@ -246,6 +248,78 @@ fn choose_next<V: Ord, J: Guide<V>>(
     let due = choose_at(problem, &place.places[..depth], memo, choice)?;
     place.marks.keep(depth, due);
     Ok(())
+}
+
+/// Chooses the values of the next range that are tried, and notes what those are to be blamed on that are left out.
+fn enter<V: Ord, J: Guide<V>>(
+    problem: &Problem<V, J>,
+    place: &mut Place,
+    memo: &mut Memo,
+    choice: &mut Choice,
+) -> Result<(), AllocError>
+    requires sound { IsPosed V.cmp J.conjuncts J.is_used problem.now }
+    requires at { IsAt problem.now.ranges.now place.old }
+    requires deeper { place.old.depth < length problem.now.ranges.now }
+    requires remembers { Remembers (J.conjuncts problem.now.judge.now) (J.is_used problem.now.judge.now) problem.now.ranges.now (bound place.old) memo.old }
+    requires kept { IsKept (J.conjuncts problem.now.judge.now) (trees_of problem.now.forest.now) problem.now.ranges.now place.old.marks.stamps.items (bound place.old) place.old.depth choice.old (mark_at place.old.marks place.old.depth) }
+    ensures remembers { Remembers (J.conjuncts problem.now.judge.now) (J.is_used problem.now.judge.now) problem.now.ranges.now (bound place.old) memo.new }
+    ensures same { memo.new.tests ≡ memo.old.tests }
+    ensures place { IsMarked place.old place.new }
+    ensures kept { IsKept (J.conjuncts problem.now.judge.now) (trees_of problem.now.forest.now) problem.now.ranges.now place.new.marks.stamps.items (bound place.old) place.old.depth choice.new (mark_at place.new.marks place.old.depth) }
+    ensures choice { OnOk result (IsChoice (J.conjuncts problem.now.judge.now) (trees_of problem.now.forest.now) problem.now.ranges.now (path problem.now.ranges.now place.old) (slice_index_or problem.now.ranges.now place.old.depth []) choice.new) }
+    ensures blamed { OnOk result (IsBlamed (J.conjuncts problem.now.judge.now) (trees_of problem.now.forest.now) problem.now.ranges.now place.old.places.items place.old.depth 0 choice.new (mark_at place.new.marks place.old.depth)) }
+    ensures all { OnOk result (IsPlain (J.conjuncts problem.now.judge.now) (trees_of problem.now.forest.now) problem.now.plan.now → choice.old ≡ None → choice.new ≡ None) }
+    ensures granted { OnErr result (IsPlain (J.conjuncts problem.now.judge.now) (trees_of problem.now.forest.now) problem.now.plan.now → ⊥) }
+    ensures err { OnErr result (place.new ≡ place.old) }
+{
+    choose_next(problem, place, memo, choice)?;
+    let depth = place.depth;
+    if depth >= 64 || problem.plan.is_plain {
+        place.marks.accuse(depth, true, 0);
+        return Ok(());
+    }
+    if choice.all {
+        place.marks.accuse(depth, false, 0);
+        return Ok(());
+    }
+    let mark = place.marks.choices[depth];
+    place.marks.accuse(depth, false, first_bits(mark.due));
+    Ok(())
+}
+
+/// Passes the row of the bound values, on which a conjunct is False that has a leaf which needs the last one, or which the named row comes after.
+fn pass<V: Ord, J: Guide<V>>(problem: &Problem<V, J>, place: &mut Place)
+    requires sound { IsPosed V.cmp J.conjuncts J.is_used problem.now }
+    requires at { IsAt problem.now.ranges.now place.old }
+    ensures { Passes V.cmp problem.now.ranges.now (option_copied problem.now.after) problem.now.plan.now.blames.items place.old place.new }
+{
+    place.fresh = false;
+    let depth = place.depth;
+    if depth == 0 {
+        return;
+    }
+    if depth > 64 || !is_reached(problem.after, problem.ranges, &place.places[..depth]) {
+        place.marks.accuse(depth - 1, true, 0);
+        return;
+    }
+    let mark = place.marks.choices[depth - 1];
+    place.marks.accuse(
+        depth - 1,
+        mark.is_open,
+        mark.blame | problem.plan.blames[depth],
+    );
+}
+
+/// Passes the row of all values, with which there is an event.
+fn pass_event(place: &mut Place)
+    requires { place.old.depth ≤ length place.old.marks.choices.items }
+    ensures { PassesOpen place.old place.new }
+{
+    place.fresh = false;
+    if place.depth == 0 {
+        return;
+    }
+    place.marks.accuse(place.depth - 1, true, 0);
 }
 
 /// One step: to another place, or to an answer.
@@ -269,23 +343,24 @@ fn step_on<V: Ord, J: Guide<V>>(
             return Ok(Some(Step::End));
         }
         retreat(problem.ranges, choices, place, memo);
+        jump(place, problem.plan.is_plain);
         return Ok(None);
     }
     let depth = place.depth;
     let truth = test(problem, place, memo)?;
     if let Truth::False = truth {
-        place.fresh = false;
+        pass(problem, place);
         return Ok(None);
     }
     if depth < problem.ranges.len() {
-        choose_next(problem, place, memo, &mut choices[depth])?;
+        enter(problem, place, memo, &mut choices[depth])?;
         place.found[depth] = truth;
         place.seen[depth] = see(problem, &place.places[..depth], memo);
         descend(problem.ranges, choices, place, memo);
-        leap(choices, place, depth);
+        jump(place, problem.plan.is_plain);
         return Ok(None);
     }
-    place.fresh = false;
+    pass_event(place);
     match truth {
         Truth::True => Ok(Some(Step::Holds)),
         Truth::False => Ok(None),

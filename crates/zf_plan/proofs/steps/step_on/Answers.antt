@@ -1,15 +1,16 @@
-use Rattle.zf_plan.proofs.Prelude.{[], Err, Ok, OnErr, Result, set, Stands, Option, List, None, get_or_default, ◌<◌, ◌+◌, bound, ◌-◌, ◌≤◌, ◌∙◌, ◌≡◌, ap, arith, false, get_or, inl, inr, length, refl, subst, sym, take, ℕ, option_copied, cases_eq, get_or-set_other, get_or-set_same, length-set, IsAt, IsTruthOf, picked, Out, True, IsSoFar, trees_of, Remembers, path, planted, Place}
+use Rattle.zf_plan.proofs.Prelude.{Err, Ok, OnErr, Result, set, Stands, Option, List, None, get_or_default, ◌<◌, ◌+◌, bound, ◌-◌, ◌≤◌, ◌∙◌, ◌≡◌, ap, arith, get_or, inl, inr, length, refl, subst, sym, take, ℕ, option_copied, cases_eq, get_or-set_other, get_or-set_same, length-set, IsAt, IsTruthOf, picked, Out, True, IsSoFar, trees_of, path, planted, Place}
 use Rattle.zf_plan.proofs.Marking.{kept-chosen, landed-marked}
 use Rattle.zf_plan.specs.Counts.{below_it, Counts, CountsFound, IsCounted}
-use Rattle.zf_plan.specs.Knowing.{NeedsBelow, NeedsWithin}
+use Rattle.zf_plan.specs.Knowing.{NeedsWithin}
 use Rattle.std.specs.Vec.{with_item}
 use Rattle.zf_plan.specs.Memories.{Forgets}
 use Rattle.zf_plan.specs.Marks.{mark_at}
 use Rattle.zf_plan.specs.Places.{AreSeen, Finds, IsFound, IsKept}
 use Rattle.zf_plan.proofs.Seeing.{seen-all, unseen-all}
 use Rattle.zf_plan.proofs.Moving.{length-bound, length-path}
-use Rattle.zf_plan.proofs.Leaping.{landed-none, leaps, never-leaps}
-use Rattle.zf_plan.proofs.Stepping.{before-found, descends, descends-stand, stands-refused, finds-hopeless, finds-reached, finds-whole, gives-end, passes, retreats, retreats-stand, setting-of, takes-whole}
+use Rattle.zf_plan.specs.Blaming.{IsBlamed}
+use Rattle.zf_plan.proofs.Jumping.{jumps, jumps-counted, opened-is, passed-is, passes-open-stand, passes-stand}
+use Rattle.zf_plan.proofs.Stepping.{before-found, descends, descends-stand, stands-refused, finds-hopeless, finds-reached, finds-whole, gives-end, passes, retreats, retreats-stand, rests-still, setting-of, takes-whole}
 use Rattle.zf_plan.proofs.Counting.{basis-of, counted-descends, counted-here, counted-retreats, counted-still, counts-whole, found-false, found-other}
 use Rattle.zf_plan.proofs.steps.step_on.Goals as goal
 
@@ -34,7 +35,12 @@ returns-then-not-place-clause-goes g c =
     let after = option_copied c.args.problem.now.after in
     let p : Place = c.args.place.now in
     let given = setting-of g.met.V.Ord.total (g.met.J.Judge.one_truth c.args.problem.now.judge.now) (g.met.J.Judge.kept c.args.problem.now.judge.now) c.requires.sound in
-    retreats given uses p c.retreat.new.place c.args.memo.now c.args.choices.now (p.depth - 1) c.requires.stands c.if-not-place.true (omega arith) c.retreat.ensures.lands
+    let h = retreats given uses p c.retreat.new.place c.args.memo.now c.args.choices.now (p.depth - 1) c.requires.stands c.if-not-place.true (omega arith) c.retreat.ensures.lands in
+    let moved = retreats-stand given uses p c.retreat.new.place c.args.memo.now c.args.choices.now (p.depth - 1) c.requires.stands c.if-not-place.true (omega arith) c.retreat.ensures.lands
+    c.retreat.new.memo (subst (λ n. Forgets n c.args.memo.now c.retreat.new.memo) (omega arith) c.retreat.ensures.forgets) in
+    let at = c.requires.stands.at in
+    let jumped = jumps given uses c.retreat.new.place c.retreat.new.memo c.args.choices.now (p.depth - 1) moved (omega (arith, at.shallow)) c.args.problem.now.plan.now.is_plain c.jump.new.place c.jump.ensures in
+    record { same = λ e ev. h.same e ev ∙ jumped.keeps e ev; smaller = let a = h.smaller in let b = jumped.fewer in omega arith }
 
 pub returns-then-not-place-clause-stands : goal.returns-then-not-place-clause-stands
 returns-then-not-place-clause-stands g c =
@@ -45,8 +51,11 @@ returns-then-not-place-clause-stands g c =
     let after = option_copied c.args.problem.now.after in
     let p : Place = c.args.place.now in
     let given = setting-of g.met.V.Ord.total (g.met.J.Judge.one_truth c.args.problem.now.judge.now) (g.met.J.Judge.kept c.args.problem.now.judge.now) c.requires.sound in
-    retreats-stand given uses p c.retreat.new.place c.args.memo.now c.args.choices.now (p.depth - 1) c.requires.stands c.if-not-place.true (omega arith) c.retreat.ensures.lands
-    c.retreat.new.memo (subst (λ n. Forgets n c.args.memo.now c.retreat.new.memo) (omega arith) c.retreat.ensures.forgets)
+    let moved = retreats-stand given uses p c.retreat.new.place c.args.memo.now c.args.choices.now (p.depth - 1) c.requires.stands c.if-not-place.true (omega arith) c.retreat.ensures.lands
+    c.retreat.new.memo (subst (λ n. Forgets n c.args.memo.now c.retreat.new.memo) (omega arith) c.retreat.ensures.forgets) in
+    let at = c.requires.stands.at in
+    let jumped = jumps given uses c.retreat.new.place c.retreat.new.memo c.args.choices.now (p.depth - 1) moved (omega (arith, at.shallow)) c.args.problem.now.plan.now.is_plain c.jump.new.place c.jump.ensures in
+    jumped.stands
 
 pub returns-then-not-place-clause-counts : goal.returns-then-not-place-clause-counts
 returns-then-not-place-clause-counts g c = λ plain h.
@@ -59,8 +68,9 @@ returns-then-not-place-clause-counts g c = λ plain h.
     let basis = basis-of g.met.V.Ord.total (g.met.J.Judge.one_truth c.args.problem.now.judge.now) (g.met.J.Judge.kept c.args.problem.now.judge.now) c.requires.sound in
     let tests = c.args.memo.now.tests in
     let choices = c.args.choices.now in
-    subst (λ n. IsCounted g.V.Ord.cmp l ranges after c.retreat.new.place n choices) (sym c.retreat.ensures.forgets.tests)
-    (counted-retreats basis p c.retreat.new.place c.requires.stands.at c.requires.sound.ascending choices tests (p.depth - 1) h c.if-not-place.true (omega arith) c.retreat.ensures.lands)
+    jumps-counted g.V.Ord.cmp l ranges after c.args.problem.now.plan.now.is_plain c.retreat.new.place c.jump.new.place c.retreat.new.memo.tests choices plain.plain c.jump.ensures
+    (subst (λ n. IsCounted g.V.Ord.cmp l ranges after c.retreat.new.place n choices) (sym c.retreat.ensures.forgets.tests)
+    (counted-retreats basis p c.retreat.new.place c.requires.stands.at c.requires.sound.ascending choices tests (p.depth - 1) h c.if-not-place.true (omega arith) c.retreat.ensures.lands))
 
 pub test-requires-clause-before : goal.test-requires-clause-before
 test-requires-clause-before g c =
@@ -78,15 +88,15 @@ test-requires-clause-so_far g c =
     let given = setting-of g.met.V.Ord.total (g.met.J.Judge.one_truth c.args.problem.now.judge.now) (g.met.J.Judge.kept c.args.problem.now.judge.now) c.requires.sound in
     (before-found given uses p c.args.memo.now c.args.choices.now c.requires.stands).1
 
-pub choose_next-requires-clause-remembers : goal.choose_next-requires-clause-remembers
-choose_next-requires-clause-remembers g c =
+pub enter-requires-clause-remembers : goal.enter-requires-clause-remembers
+enter-requires-clause-remembers g c =
     let p : Place = c.args.place.now in
     let l = g.J.Judge.conjuncts c.args.problem.now.judge.now in
     let uses = g.J.Judge.is_used c.args.problem.now.judge.now in
     c.in_ok-truth.ensures.remembers
 
-pub choose_next-requires-clause-kept : goal.choose_next-requires-clause-kept
-choose_next-requires-clause-kept g c =
+pub enter-requires-clause-kept : goal.enter-requires-clause-kept
+enter-requires-clause-kept g c =
     let p : Place = c.args.place.now in
     let st = c.requires.stands in
     let choices = c.args.choices.now in
@@ -94,24 +104,24 @@ choose_next-requires-clause-kept g c =
     subst (λ w. IsKept (g.J.Judge.conjuncts c.args.problem.now.judge.now) (trees_of c.args.problem.now.forest.now) c.args.problem.now.ranges.now p.marks.stamps.items (bound p) p.depth w (mark_at p.marks p.depth))
     (get_or_default choices p.depth None c.index-choices-depth.result near) (st.kept p.depth c.if-depth-problem.true)
 
-pub returns-in_err-choose_next-clause-stands : goal.returns-in_err-choose_next-clause-stands
-returns-in_err-choose_next-clause-stands g c =
+pub returns-in_err-enter-clause-stands : goal.returns-in_err-enter-clause-stands
+returns-in_err-enter-clause-stands g c =
     let l = g.J.Judge.conjuncts c.args.problem.now.judge.now in
     let uses = g.J.Judge.is_used c.args.problem.now.judge.now in
     let trees = trees_of c.args.problem.now.forest.now in
     let ranges = c.args.problem.now.ranges.now in
     let p : Place = c.args.place.now in
-    let choice = c.choose_next.new.choice in
-    let same = c.in_err-choose_next.ensures.err in
-    let kept = subst (λ (q : Place). IsKept l trees ranges q.marks.stamps.items (bound p) p.depth choice (mark_at q.marks p.depth)) same c.in_err-choose_next.ensures.kept in
-    subst (λ q. Stands l uses trees ranges q c.choose_next.new.memo (set c.args.choices.now p.depth choice)) (sym same)
-    (stands-refused l uses trees ranges p c.args.memo.now c.choose_next.new.memo c.args.choices.now choice c.requires.stands c.if-depth-problem.true c.in_err-choose_next.ensures.remembers kept)
+    let choice = c.enter.new.choice in
+    let same = c.in_err-enter.ensures.err in
+    let kept = subst (λ (q : Place). IsKept l trees ranges q.marks.stamps.items (bound p) p.depth choice (mark_at q.marks p.depth)) same c.in_err-enter.ensures.kept in
+    subst (λ q. Stands l uses trees ranges q c.enter.new.memo (set c.args.choices.now p.depth choice)) (sym same)
+    (stands-refused l uses trees ranges p c.args.memo.now c.enter.new.memo c.args.choices.now choice c.requires.stands c.if-depth-problem.true c.in_err-enter.ensures.remembers kept)
 
-pub returns-in_err-choose_next-clause-counts : goal.returns-in_err-choose_next-clause-counts
-returns-in_err-choose_next-clause-counts g c = λ plain h. absurd (c.in_err-choose_next.ensures.granted plain)
+pub returns-in_err-enter-clause-counts : goal.returns-in_err-enter-clause-counts
+returns-in_err-enter-clause-counts g c = λ plain h. absurd (c.in_err-enter.ensures.granted plain)
 
-pub returns-in_err-choose_next-clause-err : goal.returns-in_err-choose_next-clause-err
-returns-in_err-choose_next-clause-err g c = on-err c.from_residual-in_err-choose_next.result (c.choose_next.new.place ≡ c.args.place.now) c.in_err-choose_next.ensures.err
+pub returns-in_err-enter-clause-err : goal.returns-in_err-enter-clause-err
+returns-in_err-enter-clause-err g c = on-err c.from_residual-in_err-enter.result (c.enter.new.place ≡ c.args.place.now) c.in_err-enter.ensures.err
 
 pub returns-in_err-truth-clause-counts : goal.returns-in_err-truth-clause-counts
 returns-in_err-truth-clause-counts g c = λ plain h.
@@ -130,17 +140,32 @@ returns-in_err-truth-clause-counts g c = λ plain h.
 pub returns-in-False-clause-goes : goal.returns-in-False-clause-goes
 returns-in-False-clause-goes g c =
     let l = g.J.Judge.conjuncts c.args.problem.now.judge.now in
+    let trees = trees_of c.args.problem.now.forest.now in
+    let ranges = c.args.problem.now.ranges.now in
+    let after = option_copied c.args.problem.now.after in
+    let p : Place = c.args.place.now in
+    let q : Place = c.pass.new.place in
+    let given = setting-of g.met.V.Ord.total (g.met.J.Judge.one_truth c.args.problem.now.judge.now) (g.met.J.Judge.kept c.args.problem.now.judge.now) c.requires.sound in
+    let truth = c.in_ok-truth.truth in
+    let finds : Finds g.V.Ord.cmp l trees (length ranges) after (path ranges p) truth =
+    c.in_ok-truth.ensures.finds in
+    let is = passed-is g.V.Ord.cmp ranges after c.args.problem.now.plan.now.blames.items p q c.pass.ensures in
+    passes given p q c.requires.stands.at c.if-not-place.false (ap (λ (w : Place). w.fresh) is) (ap (λ (w : Place). w.places.items) is) (ap (λ (w : Place). w.depth) is) (finds-hopeless given (path ranges p) truth c.in-False.is finds)
+
+pub returns-in-False-clause-stands : goal.returns-in-False-clause-stands
+returns-in-False-clause-stands g c =
+    let l = g.J.Judge.conjuncts c.args.problem.now.judge.now in
     let uses = g.J.Judge.is_used c.args.problem.now.judge.now in
     let trees = trees_of c.args.problem.now.forest.now in
     let ranges = c.args.problem.now.ranges.now in
     let after = option_copied c.args.problem.now.after in
     let p : Place = c.args.place.now in
-    let q : Place = record p { fresh = false } in
     let given = setting-of g.met.V.Ord.total (g.met.J.Judge.one_truth c.args.problem.now.judge.now) (g.met.J.Judge.kept c.args.problem.now.judge.now) c.requires.sound in
     let truth = c.in_ok-truth.truth in
-    let finds : Finds g.V.Ord.cmp l trees (length ranges) after (path ranges p) truth =
-    c.in_ok-truth.ensures.finds in
-    passes given p q c.requires.stands.at c.if-not-place.false refl refl refl (finds-hopeless given (path ranges p) truth c.in-False.is finds)
+    let finds : Finds g.V.Ord.cmp l trees (length ranges) after (path ranges p) truth = c.in_ok-truth.ensures.finds in
+    passes-stand given (g.met.J.Judge.follow_used c.args.problem.now.judge.now) p c.pass.new.place c.test.new.memo c.args.choices.now
+    (rests-still l uses trees ranges p c.args.memo.now c.test.new.memo c.args.choices.now c.requires.stands c.in_ok-truth.ensures.remembers)
+    (finds-hopeless given (path ranges p) truth c.in-False.is finds) c.pass.ensures
 
 pub returns-in-False-clause-counts : goal.returns-in-False-clause-counts
 returns-in-False-clause-counts g c = λ plain h.
@@ -151,15 +176,14 @@ returns-in-False-clause-counts g c = λ plain h.
     let after = option_copied c.args.problem.now.after in
     let p : Place = c.args.place.now in
     let basis = basis-of g.met.V.Ord.total (g.met.J.Judge.one_truth c.args.problem.now.judge.now) (g.met.J.Judge.kept c.args.problem.now.judge.now) c.requires.sound in
-    let at = c.requires.stands.at in
     let here = counted-here basis p p.places.items refl c.if-not-place.false c.args.choices.now c.args.memo.now.tests c.test.new.memo.tests h in
     let found : CountsFound g.V.Ord.cmp l ranges after (path ranges p) c.in_ok-truth.truth c.test.new.memo.tests =
     c.in_ok-truth.ensures.counts plain h.unseen here in
-    record {
+    subst (λ w. IsCounted g.V.Ord.cmp l ranges after w c.test.new.memo.tests c.args.choices.now) (sym (passed-is g.V.Ord.cmp ranges after c.args.problem.now.plan.now.blames.items p c.pass.new.place c.pass.ensures)) (record {
       counts = found-false basis (path ranges p) c.in_ok-truth.truth c.test.new.memo.tests c.in-False.is found;
       whole = h.whole;
       unseen = h.unseen;
-    }
+    })
 
 pub returns-then-depth-problem-clause-goes : goal.returns-then-depth-problem-clause-goes
 returns-then-depth-problem-clause-goes g c =
@@ -175,8 +199,8 @@ returns-then-depth-problem-clause-goes g c =
     c.in_ok-truth.ensures.finds in
     let st = c.requires.stands in
     let at : IsAt ranges p = st.at in
-    let marked = c.choose_next.ensures.place in
-    let marks = c.choose_next.new.place.marks in
+    let marked = c.enter.ensures.place in
+    let marks = c.enter.new.place.marks in
     let now : Place = record p { marks = marks; found = with_item p.found p.depth c.in_ok-truth.truth; seen = with_item p.seen p.depth c.see.result } in
     let now-at : IsAt ranges now = record {
       all_places = at.all_places;
@@ -188,11 +212,11 @@ returns-then-depth-problem-clause-goes g c =
       all_seen = length-set p.seen.items p.depth c.see.result ∙ at.all_seen;
     } in
     let choices = c.args.choices.now in
-    let choice = c.choose_next.new.choice in
-    let chosen = c.in_ok-choose_next.ensures.choice in
-    let lands = landed-marked ranges choices choice p c.choose_next.new.place c.descend.new.place c.in_ok-truth.truth c.see.result marked.is c.descend.ensures.lands in
-    let remembers = c.in_ok-choose_next.ensures.remembers in
-    let forgets = subst (λ (q : Place). Forgets (q.depth + 1) c.choose_next.new.memo c.descend.new.memo) marked.is c.descend.ensures.forgets in
+    let choice = c.enter.new.choice in
+    let chosen = c.in_ok-enter.ensures.choice in
+    let lands = landed-marked ranges choices choice p c.enter.new.place c.descend.new.place c.in_ok-truth.truth c.see.result marked.is c.descend.ensures.lands in
+    let remembers = c.in_ok-enter.ensures.remembers in
+    let forgets = subst (λ (q : Place). Forgets (q.depth + 1) c.enter.new.memo c.descend.new.memo) marked.is c.descend.ensures.forgets in
     let found-here : IsFound l trees (path ranges p) p.depth truth = record {
       so = subst (λ n. IsSoFar l trees (path ranges p) (NeedsWithin l trees n) truth) (length-path ranges p at)
           (finds-reached given (path ranges p) truth c.in_default.not-False finds).1;
@@ -207,18 +231,18 @@ returns-then-depth-problem-clause-goes g c =
       | inr ne ↦
           subst (IsFound l trees (picked ranges (take j p.places.items)) j) (sym (get_or-set_other p.found.items p.depth j truth True ne)) (st.found j (omega (arith, low, ne)))
     ] in
-    let seen-there : AreSeen l trees ranges (take p.depth c.choose_next.new.place.places.items) c.see.result =
+    let seen-there : AreSeen l trees ranges (take p.depth c.enter.new.place.places.items) c.see.result =
     subst (λ is. AreSeen l trees ranges (take p.depth is) c.see.result) c.deref.ensures.value c.see.ensures.seen in
     let seen-here : AreSeen l trees ranges (bound p) c.see.result =
     subst (λ (q : Place). AreSeen l trees ranges (take p.depth q.places.items) c.see.result) marked.is seen-there in
     let seen = seen-all l trees ranges p c.see.result at.all_seen c.if-depth-problem.true seen-here st.seen in
-    let kept = kept-chosen l trees ranges p.marks marks (bound p) choices p.depth choice (omega (arith, st.all_choices, c.if-depth-problem.true)) marked.stamps marked.others st.kept c.choose_next.ensures.kept in
+    let kept = kept-chosen l trees ranges p.marks marks (bound p) choices p.depth choice (omega (arith, st.all_choices, c.if-depth-problem.true)) marked.stamps marked.others st.kept c.enter.ensures.kept in
     let stood = descends-stand given now c.descend.new.place choices choice now-at st.all_choices st.chosen chosen c.if-not-place.false c.if-depth-problem.true lands
-    uses c.choose_next.new.memo c.descend.new.memo remembers kept forgets found seen in
-    let leapt = leaps given uses c.descend.new.place c.leap.new.place c.descend.new.memo (set choices p.depth choice) stood p.depth c.if-depth-problem.true c.leap.ensures
-    (landed-none (length (get_or ranges p.depth [])) p.depth (get_or (set choices p.depth choice) p.depth None) now c.descend.new.place lands) in
+    uses c.enter.new.memo c.descend.new.memo remembers kept forgets found seen
+    (λ j low. subst (IsBlamed l trees ranges p.places.items j (get_or p.places.items j 0) (get_or choices j None)) (sym (marked.others j (λ e. absurd (omega arith)))) (st.blamed j low)) c.in_ok-enter.ensures.blamed in
+    let jumped = jumps given uses c.descend.new.place c.descend.new.memo (set choices p.depth choice) p.depth stood c.if-depth-problem.true c.args.problem.now.plan.now.is_plain c.jump-then-depth-problem.new.place c.jump-then-depth-problem.ensures in
     let h = descends given now c.descend.new.place choices choice now-at st.all_choices st.chosen chosen c.if-not-place.false c.if-depth-problem.true lands in
-    record { same = λ e ev. h.same e ev ∙ leapt.keeps e ev; smaller = let a = h.smaller in let b = leapt.fewer in omega arith }
+    record { same = λ e ev. h.same e ev ∙ jumped.keeps e ev; smaller = let a = h.smaller in let b = jumped.fewer in omega arith }
 
 pub returns-then-depth-problem-clause-stands : goal.returns-then-depth-problem-clause-stands
 returns-then-depth-problem-clause-stands g c =
@@ -234,8 +258,8 @@ returns-then-depth-problem-clause-stands g c =
     c.in_ok-truth.ensures.finds in
     let st = c.requires.stands in
     let at : IsAt ranges p = st.at in
-    let marked = c.choose_next.ensures.place in
-    let marks = c.choose_next.new.place.marks in
+    let marked = c.enter.ensures.place in
+    let marks = c.enter.new.place.marks in
     let now : Place = record p { marks = marks; found = with_item p.found p.depth c.in_ok-truth.truth; seen = with_item p.seen p.depth c.see.result } in
     let now-at : IsAt ranges now = record {
       all_places = at.all_places;
@@ -247,11 +271,11 @@ returns-then-depth-problem-clause-stands g c =
       all_seen = length-set p.seen.items p.depth c.see.result ∙ at.all_seen;
     } in
     let choices = c.args.choices.now in
-    let choice = c.choose_next.new.choice in
-    let chosen = c.in_ok-choose_next.ensures.choice in
-    let lands = landed-marked ranges choices choice p c.choose_next.new.place c.descend.new.place c.in_ok-truth.truth c.see.result marked.is c.descend.ensures.lands in
-    let remembers = c.in_ok-choose_next.ensures.remembers in
-    let forgets = subst (λ (q : Place). Forgets (q.depth + 1) c.choose_next.new.memo c.descend.new.memo) marked.is c.descend.ensures.forgets in
+    let choice = c.enter.new.choice in
+    let chosen = c.in_ok-enter.ensures.choice in
+    let lands = landed-marked ranges choices choice p c.enter.new.place c.descend.new.place c.in_ok-truth.truth c.see.result marked.is c.descend.ensures.lands in
+    let remembers = c.in_ok-enter.ensures.remembers in
+    let forgets = subst (λ (q : Place). Forgets (q.depth + 1) c.enter.new.memo c.descend.new.memo) marked.is c.descend.ensures.forgets in
     let found-here : IsFound l trees (path ranges p) p.depth truth = record {
       so = subst (λ n. IsSoFar l trees (path ranges p) (NeedsWithin l trees n) truth) (length-path ranges p at)
           (finds-reached given (path ranges p) truth c.in_default.not-False finds).1;
@@ -266,17 +290,17 @@ returns-then-depth-problem-clause-stands g c =
       | inr ne ↦
           subst (IsFound l trees (picked ranges (take j p.places.items)) j) (sym (get_or-set_other p.found.items p.depth j truth True ne)) (st.found j (omega (arith, low, ne)))
     ] in
-    let seen-there : AreSeen l trees ranges (take p.depth c.choose_next.new.place.places.items) c.see.result =
+    let seen-there : AreSeen l trees ranges (take p.depth c.enter.new.place.places.items) c.see.result =
     subst (λ is. AreSeen l trees ranges (take p.depth is) c.see.result) c.deref.ensures.value c.see.ensures.seen in
     let seen-here : AreSeen l trees ranges (bound p) c.see.result =
     subst (λ (q : Place). AreSeen l trees ranges (take p.depth q.places.items) c.see.result) marked.is seen-there in
     let seen = seen-all l trees ranges p c.see.result at.all_seen c.if-depth-problem.true seen-here st.seen in
-    let kept = kept-chosen l trees ranges p.marks marks (bound p) choices p.depth choice (omega (arith, st.all_choices, c.if-depth-problem.true)) marked.stamps marked.others st.kept c.choose_next.ensures.kept in
+    let kept = kept-chosen l trees ranges p.marks marks (bound p) choices p.depth choice (omega (arith, st.all_choices, c.if-depth-problem.true)) marked.stamps marked.others st.kept c.enter.ensures.kept in
     let stood = descends-stand given now c.descend.new.place choices choice now-at st.all_choices st.chosen chosen c.if-not-place.false c.if-depth-problem.true lands
-    uses c.choose_next.new.memo c.descend.new.memo remembers kept forgets found seen in
-    let leapt = leaps given uses c.descend.new.place c.leap.new.place c.descend.new.memo (set choices p.depth choice) stood p.depth c.if-depth-problem.true c.leap.ensures
-    (landed-none (length (get_or ranges p.depth [])) p.depth (get_or (set choices p.depth choice) p.depth None) now c.descend.new.place lands) in
-    leapt.stands
+    uses c.enter.new.memo c.descend.new.memo remembers kept forgets found seen
+    (λ j low. subst (IsBlamed l trees ranges p.places.items j (get_or p.places.items j 0) (get_or choices j None)) (sym (marked.others j (λ e. absurd (omega arith)))) (st.blamed j low)) c.in_ok-enter.ensures.blamed in
+    let jumped = jumps given uses c.descend.new.place c.descend.new.memo (set choices p.depth choice) p.depth stood c.if-depth-problem.true c.args.problem.now.plan.now.is_plain c.jump-then-depth-problem.new.place c.jump-then-depth-problem.ensures in
+    jumped.stands
 
 pub returns-then-depth-problem-clause-counts : goal.returns-then-depth-problem-clause-counts
 returns-then-depth-problem-clause-counts g c = λ plain h.
@@ -293,8 +317,8 @@ returns-then-depth-problem-clause-counts g c = λ plain h.
     let below = found-other basis (path ranges p) c.in_ok-truth.truth c.test.new.memo.tests c.in_default.not-False found in
     let st = c.requires.stands in
     let at : IsAt ranges p = st.at in
-    let marked = c.choose_next.ensures.place in
-    let marks = c.choose_next.new.place.marks in
+    let marked = c.enter.ensures.place in
+    let marks = c.enter.new.place.marks in
     let now : Place = record p { marks = marks; found = with_item p.found p.depth c.in_ok-truth.truth; seen = with_item p.seen p.depth c.see.result } in
     let now-at : IsAt ranges now = record {
       all_places = at.all_places;
@@ -306,17 +330,16 @@ returns-then-depth-problem-clause-counts g c = λ plain h.
       all_seen = length-set p.seen.items p.depth c.see.result ∙ at.all_seen;
     } in
     let choices = c.args.choices.now in
-    let choice = c.choose_next.new.choice in
-    let chosen = c.in_ok-choose_next.ensures.choice in
-    let lands = landed-marked ranges choices choice p c.choose_next.new.place c.descend.new.place c.in_ok-truth.truth c.see.result marked.is c.descend.ensures.lands in
+    let choice = c.enter.new.choice in
+    let chosen = c.in_ok-enter.ensures.choice in
+    let lands = landed-marked ranges choices choice p c.enter.new.place c.descend.new.place c.in_ok-truth.truth c.see.result marked.is c.descend.ensures.lands in
     let tests = c.descend.new.memo.tests in
-    let none = c.in_ok-choose_next.ensures.all plain (was-none choices p.depth c.index-choices-depth.result (omega (arith, st.all_choices, c.if-depth-problem.true)) (h.whole p.depth)) in
-    let there = subst (Counts g.V.Ord.cmp l ranges after (path ranges p) below_it) (sym (c.descend.ensures.forgets.tests ∙ c.in_ok-choose_next.ensures.same)) below in
+    let none = c.in_ok-enter.ensures.all plain (was-none choices p.depth c.index-choices-depth.result (omega (arith, st.all_choices, c.if-depth-problem.true)) (h.whole p.depth)) in
+    let there = subst (Counts g.V.Ord.cmp l ranges after (path ranges p) below_it) (sym (c.descend.ensures.forgets.tests ∙ c.in_ok-enter.ensures.same)) below in
     let old : IsCounted g.V.Ord.cmp l ranges after now c.args.memo.now.tests choices = record { counts = h.counts; whole = h.whole; unseen = unseen-all p c.see.result (length ranges) at.all_seen c.if-depth-problem.true (c.see.ensures.plain plain) h.unseen } in
     let counted = counted-descends basis now c.descend.new.place now-at c.requires.sound.ascending choices c.args.memo.now.tests tests old c.if-depth-problem.true st.all_choices choice none there
     lands in
-    let whole : get_or (set choices p.depth choice) p.depth None ≡ None = get_or-set_same choices p.depth choice None (omega (arith, st.all_choices, c.if-depth-problem.true)) ∙ none in
-    subst (λ q. IsCounted g.V.Ord.cmp l ranges after q tests (set choices p.depth choice)) (sym (never-leaps p.depth (get_or (set choices p.depth choice) p.depth None) c.descend.new.place c.leap.new.place whole c.leap.ensures)) counted
+    jumps-counted g.V.Ord.cmp l ranges after c.args.problem.now.plan.now.is_plain c.descend.new.place c.jump-then-depth-problem.new.place tests (set choices p.depth choice) plain.plain c.jump-then-depth-problem.ensures counted
 
 pub returns-in-True-clause-goes : goal.returns-in-True-clause-goes
 returns-in-True-clause-goes g c =
@@ -326,7 +349,8 @@ returns-in-True-clause-goes g c =
     let ranges = c.args.problem.now.ranges.now in
     let after = option_copied c.args.problem.now.after in
     let p : Place = c.args.place.now in
-    let q : Place = record p { fresh = false } in
+    let q : Place = c.pass_event.new.place in
+    let is = opened-is p q c.pass_event.ensures in
     let given = setting-of g.met.V.Ord.total (g.met.J.Judge.one_truth c.args.problem.now.judge.now) (g.met.J.Judge.kept c.args.problem.now.judge.now) c.requires.sound in
     let truth = c.in_ok-truth.truth in
     let finds : Finds g.V.Ord.cmp l trees (length ranges) after (path ranges p) truth =
@@ -335,7 +359,18 @@ returns-in-True-clause-goes g c =
     let whole : length (path ranges p) ≡ length ranges = omega (arith, length-path ranges p at, at.shallow, c.if-depth-problem.false) in
     let so = finds-whole given (path ranges p) truth whole c.in_default.not-False finds in
     takes-whole given p q True at c.if-not-place.false c.if-depth-problem.false (finds-reached given (path ranges p) truth c.in_default.not-False finds).0
-    (subst (IsTruthOf (planted l trees) (path ranges p)) c.in-True.is so) (λ e. cc) refl refl refl
+    (subst (IsTruthOf (planted l trees) (path ranges p)) c.in-True.is so) (λ e. cc) (ap (λ (w : Place). w.fresh) is) (ap (λ (w : Place). w.places.items) is) (ap (λ (w : Place). w.depth) is)
+
+pub returns-in-True-clause-stands : goal.returns-in-True-clause-stands
+returns-in-True-clause-stands g c =
+    let l = g.J.Judge.conjuncts c.args.problem.now.judge.now in
+    let uses = g.J.Judge.is_used c.args.problem.now.judge.now in
+    let trees = trees_of c.args.problem.now.forest.now in
+    let ranges = c.args.problem.now.ranges.now in
+    let p : Place = c.args.place.now in
+    let given = setting-of g.met.V.Ord.total (g.met.J.Judge.one_truth c.args.problem.now.judge.now) (g.met.J.Judge.kept c.args.problem.now.judge.now) c.requires.sound in
+    passes-open-stand given uses p c.pass_event.new.place c.test.new.memo c.args.choices.now
+    (rests-still l uses trees ranges p c.args.memo.now c.test.new.memo c.args.choices.now c.requires.stands c.in_ok-truth.ensures.remembers) c.pass_event.ensures
 
 pub returns-in-True-clause-counts : goal.returns-in-True-clause-counts
 returns-in-True-clause-counts g c = λ plain h.
@@ -351,11 +386,11 @@ returns-in-True-clause-counts g c = λ plain h.
     c.in_ok-truth.ensures.counts plain h.unseen here in
     let below = found-other basis (path ranges p) c.in_ok-truth.truth c.test.new.memo.tests c.in_default.not-False found in
     let at : IsAt ranges p = c.requires.stands.at in
-    record {
+    subst (λ w. IsCounted g.V.Ord.cmp l ranges after w c.test.new.memo.tests c.args.choices.now) (sym (opened-is p c.pass_event.new.place c.pass_event.ensures)) (record {
       counts = counts-whole basis (take p.depth p.places.items) at.within c.test.new.memo.tests (omega (arith, length-bound ranges p at, c.if-depth-problem.false)) below;
       whole = h.whole;
       unseen = h.unseen;
-    }
+    })
 
 pub returns-in-Out-clause-goes : goal.returns-in-Out-clause-goes
 returns-in-Out-clause-goes g c =
@@ -365,7 +400,8 @@ returns-in-Out-clause-goes g c =
     let ranges = c.args.problem.now.ranges.now in
     let after = option_copied c.args.problem.now.after in
     let p : Place = c.args.place.now in
-    let q : Place = record p { fresh = false } in
+    let q : Place = c.pass_event.new.place in
+    let is = opened-is p q c.pass_event.ensures in
     let given = setting-of g.met.V.Ord.total (g.met.J.Judge.one_truth c.args.problem.now.judge.now) (g.met.J.Judge.kept c.args.problem.now.judge.now) c.requires.sound in
     let truth = c.in_ok-truth.truth in
     let finds : Finds g.V.Ord.cmp l trees (length ranges) after (path ranges p) truth =
@@ -374,7 +410,18 @@ returns-in-Out-clause-goes g c =
     let whole : length (path ranges p) ≡ length ranges = omega (arith, length-path ranges p at, at.shallow, c.if-depth-problem.false) in
     let so = finds-whole given (path ranges p) truth whole c.in_default.not-False finds in
     takes-whole given p q Out at c.if-not-place.false c.if-depth-problem.false (finds-reached given (path ranges p) truth c.in_default.not-False finds).0
-    (subst (IsTruthOf (planted l trees) (path ranges p)) c.in-Out.is so) (λ e. cc) refl refl refl
+    (subst (IsTruthOf (planted l trees) (path ranges p)) c.in-Out.is so) (λ e. cc) (ap (λ (w : Place). w.fresh) is) (ap (λ (w : Place). w.places.items) is) (ap (λ (w : Place). w.depth) is)
+
+pub returns-in-Out-clause-stands : goal.returns-in-Out-clause-stands
+returns-in-Out-clause-stands g c =
+    let l = g.J.Judge.conjuncts c.args.problem.now.judge.now in
+    let uses = g.J.Judge.is_used c.args.problem.now.judge.now in
+    let trees = trees_of c.args.problem.now.forest.now in
+    let ranges = c.args.problem.now.ranges.now in
+    let p : Place = c.args.place.now in
+    let given = setting-of g.met.V.Ord.total (g.met.J.Judge.one_truth c.args.problem.now.judge.now) (g.met.J.Judge.kept c.args.problem.now.judge.now) c.requires.sound in
+    passes-open-stand given uses p c.pass_event.new.place c.test.new.memo c.args.choices.now
+    (rests-still l uses trees ranges p c.args.memo.now c.test.new.memo c.args.choices.now c.requires.stands c.in_ok-truth.ensures.remembers) c.pass_event.ensures
 
 pub returns-in-Out-clause-counts : goal.returns-in-Out-clause-counts
 returns-in-Out-clause-counts g c = λ plain h.
@@ -390,8 +437,8 @@ returns-in-Out-clause-counts g c = λ plain h.
     c.in_ok-truth.ensures.counts plain h.unseen here in
     let below = found-other basis (path ranges p) c.in_ok-truth.truth c.test.new.memo.tests c.in_default.not-False found in
     let at : IsAt ranges p = c.requires.stands.at in
-    record {
+    subst (λ w. IsCounted g.V.Ord.cmp l ranges after w c.test.new.memo.tests c.args.choices.now) (sym (opened-is p c.pass_event.new.place c.pass_event.ensures)) (record {
       counts = counts-whole basis (take p.depth p.places.items) at.within c.test.new.memo.tests (omega (arith, length-bound ranges p at, c.if-depth-problem.false)) below;
       whole = h.whole;
       unseen = h.unseen;
-    }
+    })

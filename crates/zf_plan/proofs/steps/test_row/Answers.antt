@@ -3,7 +3,7 @@ use Rattle.zf_plan.specs.Counts.{CountsFound, CountsOn}
 use Rattle.zf_plan.specs.Knowing.{IsAmong, IsLeafOrBelow, NeedsWithin}
 use Rattle.zf_plan.specs.Places.{AreDue, AreTouched, Finds}
 use Rattle.zf_plan.proofs.Numbers.{touched_flat}
-use Rattle.zf_plan.proofs.SoFar.{leaf-at, leaf-low, so-false, so-tested, so-within}
+use Rattle.zf_plan.proofs.SoFar.{leaf-at, leaf-low, so-false, so-tested, so-within, touched-each}
 use Rattle.zf_plan.proofs.Stepping.{finds-from, finds-unreached, setting-of}
 use Rattle.zf_plan.proofs.Counting.{basis-of, counts-tested, counts-unreached, due-all, due-ascending, due-here, found-false, kept-below}
 use Rattle.zf_plan.proofs.steps.test_row.Goals as goal
@@ -109,6 +109,23 @@ test_trees-requires-clause-conjuncts g c =
     get_or_default touched_lists k [] c.index-touched.result.now there ∙ sym c.index-touched.ensures ∙ sym c.touched.view_is ∙ sym c.deref-2.ensures.value in
     let touched : AreTouched l trees k (length trees) numbers = subst (AreTouched l trees k (length trees)) is (touched_plan.each k there) in
     touched.below
+
+pub test_trees-requires-clause-touched : goal.test_trees-requires-clause-touched
+test_trees-requires-clause-touched g c =
+    let l = g.J.Judge.conjuncts c.args.problem.now.judge.now in
+    let trees = trees_of c.args.problem.now.forest.now in
+    let ranges = c.args.problem.now.ranges.now in
+    let places = c.args.places.now in
+    let row = picked ranges places in
+    let k = length places in
+    let touched_lists = c.args.problem.now.plan.now.touched.items in
+    let touched_plan = c.requires.sound.plan.touched in
+    let there : k < length touched_lists = omega (arith, touched_plan.all, c.requires.within.few) in
+    let numbers = c.deref-2.result.now in
+    let is : get_or touched_lists k [] ≡ numbers =
+    get_or_default touched_lists k [] c.index-touched.result.now there ∙ sym c.index-touched.ensures ∙ sym c.touched.view_is ∙ sym c.deref-2.ensures.value in
+    let touched : AreTouched l trees k (length trees) numbers = subst (AreTouched l trees k (length trees)) is (touched_plan.each k there) in
+    touched-each l trees k numbers touched
 
 pub test_trees-requires-clause-so_far : goal.test_trees-requires-clause-so_far
 test_trees-requires-clause-so_far g c =

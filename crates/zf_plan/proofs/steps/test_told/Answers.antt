@@ -1,7 +1,7 @@
 use Rattle.zf_plan.proofs.Prelude.{◌<◌, ◌∙◌, ◌≡◌, [], arith, get_or, length, option_copied, subst, sym, Err, IfOk, Ok, Result, get_or_default, length-picked, picked, IsSoFar, trees_of}
 use Rattle.zf_plan.specs.Knowing.{IsAmong, NeedsWithin}
 use Rattle.zf_plan.specs.Places.{AreTouched, Finds}
-use Rattle.zf_plan.proofs.SoFar.{so-told, so-within}
+use Rattle.zf_plan.proofs.SoFar.{so-told, so-within, touched-each}
 use Rattle.zf_plan.proofs.Stepping.{finds-from, finds-unreached, setting-of}
 use Rattle.zf_plan.proofs.steps.test_told.Goals as goal
 
@@ -30,6 +30,23 @@ test_trees-requires-clause-conjuncts g c =
     get_or_default touched_lists k [] c.index-asked.result.now there ∙ sym c.index-asked.ensures ∙ sym c.asked.view_is ∙ sym c.deref.ensures.value in
     let touched : AreTouched l trees k (length trees) numbers = subst (AreTouched l trees k (length trees)) is (touched_plan.each k there) in
     touched.below
+
+pub test_trees-requires-clause-touched : goal.test_trees-requires-clause-touched
+test_trees-requires-clause-touched g c =
+    let l = g.J.Judge.conjuncts c.args.problem.now.judge.now in
+    let trees = trees_of c.args.problem.now.forest.now in
+    let ranges = c.args.problem.now.ranges.now in
+    let places = c.args.places.now in
+    let row = picked ranges places in
+    let k = length places in
+    let touched_lists = c.args.problem.now.plan.now.touched.items in
+    let touched_plan = c.requires.sound.plan.touched in
+    let there : k < length touched_lists = omega (arith, touched_plan.all, c.requires.within.few) in
+    let numbers = c.deref.result.now in
+    let is : get_or touched_lists k [] ≡ numbers =
+    get_or_default touched_lists k [] c.index-asked.result.now there ∙ sym c.index-asked.ensures ∙ sym c.asked.view_is ∙ sym c.deref.ensures.value in
+    let touched : AreTouched l trees k (length trees) numbers = subst (AreTouched l trees k (length trees)) is (touched_plan.each k there) in
+    touched-each l trees k numbers touched
 
 pub test_trees-requires-clause-so_far : goal.test_trees-requires-clause-so_far
 test_trees-requires-clause-so_far g c =

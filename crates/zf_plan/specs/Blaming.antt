@@ -1,0 +1,36 @@
+-- On which values it is to be blamed that no event begins with a value: for private contracts and the model of `Search` alone.
+use Rattle.std.specs.Prelude.{◌≡◌, ◌⊎◌, ℕ, ◌<◌, ◌≤◌, Bool, true, false, List, ◌∷◌, ◌++◌, [], length, Option, Some, slice_get, slice_index_or}
+use Rattle.zf_walk.specs.Conjuncts.{Conjuncts}
+use Rattle.zf_walk.specs.Picked.{AreWithin, picked}
+use Rattle.zf_walk.specs.Rows.{IsRowOf}
+use Rattle.zf_walk.specs.Seen.{HasBit}
+use Rattle.zf_plan.specs.Trees.{Tree, leaf, negated, both, either, tree_at}
+use Rattle.zf_plan.specs.Knowing.{touches}
+use Rattle.zf_plan.specs.Choosing.{IsChosen, IsFailed}
+use Rattle.zf_plan.specs.declared.marks.Mark.{Mark}
+
+-- of the first k components the word has a bit for each that the tree uses
+abbrev pub HasBits : (ℕ → ℕ → Bool) → ℕ → ℕ → Tree → Type 0
+HasBits uses word k (leaf c) = (i : ℕ) → i < k → uses c i ≡ true → HasBit word i
+HasBits uses word k (negated a) = HasBits uses word k a
+HasBits uses word k (both a b) = HasBits uses word k a × HasBits uses word k b
+HasBits uses word k (either a b) = HasBits uses word k a × HasBits uses word k b
+
+-- the word has a bit for each of the first k components that one of the first n conjuncts uses which have a leaf that needs k values
+abbrev pub Covers : {V : Type 0} → Conjuncts V → (ℕ → ℕ → Bool) → List Tree → ℕ → ℕ → ℕ → Type 0
+Covers l uses trees k n word = (j : ℕ) → j < n → touches l k (tree_at trees j) ≡ true → HasBits uses word k (tree_at trees j)
+
+-- for each number of values less than n such a word, as far as words have so many bits
+pub record AreCovered {V : Type 0} (l : Conjuncts V) (uses : ℕ → ℕ → Bool) (trees : List Tree) (n : ℕ) (words : List ℕ) : Type 0 where
+  pub all : length words ≡ n
+  pub each : (k : ℕ) → k < n → k ≤ 64 → Covers l uses trees k (length trees) (slice_index_or words k 0)
+
+-- at each component of which the word has a bit these are the same places
+abbrev pub AreAlike : ℕ → List ℕ → List ℕ → Type 0
+AreAlike word places others = (i : ℕ) → i < length others → HasBit word i → slice_index_or others i 0 ≡ slice_index_or places i 0
+
+-- Unless range k is open: with its first n values, and those that are not chosen, a conjunct is False on each row, whatever the values before it are, if only those that are to be blamed stay.
+abbrev pub IsBlamed : {V : Type 0} → Conjuncts V → List Tree → List (List V) → List ℕ → ℕ → ℕ → Option (List ℕ) → Mark → Type 0
+IsBlamed {V} l trees ranges places k n choice mark = mark.is_open ≡ false → (others : List ℕ) → AreWithin ranges others → length others ≡ k → AreAlike mark.blame places others
+    → (i : ℕ) (v : V) (more : List V) → slice_get (slice_index_or ranges k []) i ≡ Some v → (i < n) ⊎ (IsChosen choice i → ⊥)
+    → IsRowOf ranges (picked ranges others ++ v ∷ more) → IsFailed l trees (picked ranges others ++ v ∷ more)
