@@ -1,8 +1,8 @@
 -- What is found first, and all that is found: ordered lists of which one is a front of the other.
 use Rattle.std.proofs.Common.{◌++◌, ◌∙◌, ◌∷◌, ◌≡◌, ◌⊎◌, [], ap, inl, inr, List, refl, subst, sym}
-use Rattle.std.proofs.lemmas.List.{append-nil, append_assoc}
+use Rattle.std.proofs.lemmas.List.{append-nil}
 use Rattle.std.specs.Prelude.{AllPairs, Contains}
-use Rattle.zf_walk.proofs.Lists.{AllPairs-across, AllPairs-cons, AllPairs-head, AllPairs-nil, AllPairs-tail, Contains-cases, Contains-either, Contains-head, Contains-later, Contains-left, Contains-nil, Contains-right}
+use Rattle.zf_walk.proofs.Lists.{AllPairs-across, AllPairs-head, AllPairs-tail, Contains-cases, Contains-head, Contains-later, Contains-right}
 use Rattle.zf_graph.specs.Parts.{AllHold, AreFinds, AreFirst, IsOrderly, Searched}
 
 abbrev pub IsFront : {X : Type 0} → List X → List X → Type 0

@@ -64,7 +64,7 @@ module _ {N L : Type 0} where
       front_here u more f =
           subst (IsTextFront (text_up_to p w b.turns b.met u ++ more)) (sym b.written)
           (before (text_up_to p w b.turns b.met u) more (text_up_to p w b.turns b.met b.now)
-          (behind (turns_text w p.eq 0 (p.root ∷ []) b.turns) (begun_text w p.eq (length b.turns) (nodes_of b.met) u) (begun_text w p.eq (length b.turns) (nodes_of b.met) b.now)
+          (behind (w.head ++ turns_text w p.eq 0 (p.root ∷ []) b.turns) (begun_text w p.eq (length b.turns) (nodes_of b.met) u) (begun_text w p.eq (length b.turns) (nodes_of b.met) b.now)
           (begun_front (length b.turns) (nodes_of b.met) b.now u f)))
 
       -- up to a full turn no more than it is begun
@@ -112,35 +112,36 @@ module _ {N L : Type 0} where
           (front_out now stop (subst (λ x. p.BreaksTurn x.node now stop) item break) b.begins))
 
       -- with further turns: the text of the turns before, and of the next one
-      front_longer : (us : List (Turn N L)) (after : List (Met N L)) → IsLonger p 0 b.turns us b.met after → IsTextFront (turns_text w p.eq 0 (p.root ∷ []) us) first
+      front_longer : (us : List (Turn N L)) (after : List (Met N L)) → IsLonger p 0 b.turns us b.met after → IsTextFront (w.head ++ turns_text w p.eq 0 (p.root ∷ []) us) first
       front_longer us after l =
           let old = turns_text w p.eq 0 (p.root ∷ []) b.turns in
           let end = λ (k : ℕ). turns_text w p.eq k (nodes_of b.met) (l.turn ∷ l.rest) in
           let item : l.item ≡ b.item = one_at b.met (length b.turns) l.item b.item (subst (λ k. slice_get b.met k ≡ Some l.item) (omega arith) l.at) b.up_to.next in
           let begun = begun_front (length b.turns) (nodes_of b.met) b.now l.turn (front_turn l.turn (subst (λ x. p.HasTurn x.node l.turn) item l.has) b.begins) in
           let shifted : end (0 + length b.turns) ≡ end (length b.turns) = ap end (omega arith) in
-          let parted : turns_text w p.eq 0 (p.root ∷ []) us ≡ old ++ end (length b.turns) =
-          ap (λ xs. turns_text w p.eq 0 (p.root ∷ []) xs) l.split ∙ turns_text-append p w (at_first p.root) 0 b.turns (l.turn ∷ l.rest) b.met b.up_to.explores ∙ ap (λ t. old ++ t) shifted in
+          let parted : w.head ++ turns_text w p.eq 0 (p.root ∷ []) us ≡ (w.head ++ old) ++ end (length b.turns) =
+          ap (λ xs. w.head ++ turns_text w p.eq 0 (p.root ∷ []) xs) l.split ∙ ap (λ t. w.head ++ t) (turns_text-append p w (at_first p.root) 0 b.turns (l.turn ∷ l.rest) b.met b.up_to.explores ∙ ap (λ t. old ++ t) shifted)
+          ∙ sym (append_assoc w.head old (end (length b.turns))) in
           let later = turns_text w p.eq (length b.turns + 1) (with_ends p.eq (nodes_of b.met) l.turn.edges) l.rest in
-          subst (λ t. IsTextFront t first) (sym parted) (subst (IsTextFront (old ++ end (length b.turns))) (sym b.written)
-          (behind old (end (length b.turns)) (begun_text w p.eq (length b.turns) (nodes_of b.met) b.now)
+          subst (λ t. IsTextFront t first) (sym parted) (subst (IsTextFront ((w.head ++ old) ++ end (length b.turns))) (sym b.written)
+          (behind (w.head ++ old) (end (length b.turns)) (begun_text w p.eq (length b.turns) (nodes_of b.met) b.now)
           (before (begun_text w p.eq (length b.turns) (nodes_of b.met) l.turn ++ stuck_text w p.eq (length b.turns) l.turn.edges) later (begun_text w p.eq (length b.turns) (nodes_of b.met) b.now)
           (before (begun_text w p.eq (length b.turns) (nodes_of b.met) l.turn) (stuck_text w p.eq (length b.turns) l.turn.edges) (begun_text w p.eq (length b.turns) (nodes_of b.met) b.now) begun))))
 
       -- the text of an end begins with that of its turns
-      turns_first : (e : Ending) (text : List ℕ) (turns : List (Turn N L)) (met : List (Met N L)) → Tail p w limit turns met e text → IsTextFront text (turns_text w p.eq 0 (p.root ∷ []) turns)
-      turns_first e text turns met (all each is written) = subst (λ t. IsTextFront t (turns_text w p.eq 0 (p.root ∷ []) turns)) (sym written) (before (text_up_to p w turns met no_turn) _ _ ([], sym (append-nil (turns_text w p.eq 0 (p.root ∷ []) turns ++ [])) ∙ ap (λ t. t ++ []) (append-nil (turns_text w p.eq 0 (p.root ∷ []) turns))))
+      turns_first : (e : Ending) (text : List ℕ) (turns : List (Turn N L)) (met : List (Met N L)) → Tail p w limit turns met e text → IsTextFront text (w.head ++ turns_text w p.eq 0 (p.root ∷ []) turns)
+      turns_first e text turns met (all each is written) = subst (λ t. IsTextFront t (w.head ++ turns_text w p.eq 0 (p.root ∷ []) turns)) (sym written) (before (text_up_to p w turns met no_turn) _ _ ([], refl))
       turns_first e text turns met (full a now d at begun many fresh is written) =
-          subst (λ t. IsTextFront t (turns_text w p.eq 0 (p.root ∷ []) turns)) (sym written) (before (text_up_to p w turns met (with_edge now d)) _ _ (begun_text w p.eq (length turns) (nodes_of met) (with_edge now d), refl))
+          subst (λ t. IsTextFront t (w.head ++ turns_text w p.eq 0 (p.root ∷ []) turns)) (sym written) (before (text_up_to p w turns met (with_edge now d)) _ _ (begun_text w p.eq (length turns) (nodes_of met) (with_edge now d), refl))
       turns_first e text turns met (out a now stop at break few is written) =
-          subst (λ t. IsTextFront t (turns_text w p.eq 0 (p.root ∷ []) turns)) (sym written) (before (text_up_to p w turns met now) _ _ (begun_text w p.eq (length turns) (nodes_of met) now, refl))
+          subst (λ t. IsTextFront t (w.head ++ turns_text w p.eq 0 (p.root ∷ []) turns)) (sym written) (before (text_up_to p w turns met now) _ _ (begun_text w p.eq (length turns) (nodes_of met) now, refl))
 
       longer_front : (whole middle : List ℕ) → IsTextFront whole middle → IsTextFront middle first → IsTextFront whole first
       longer_front whole middle f h = (h.0 ++ f.0, f.1 ∙ ap (λ t. t ++ f.0) h.1 ∙ append_assoc first h.0 f.0)
 
       begun_is_front_by : (e : Ending) (text : List ℕ) (g : Stop p w limit e text) → IsCompared p 0 b.turns g.turns b.met g.met → IsTextFront text first
       begun_is_front_by e text g (same ts ms) = front_tail e text (subst (λ xs. Tail p w limit xs b.met e text) (sym ts) (subst (λ m. Tail p w limit g.turns m e text) (sym ms) g.tail))
-      begun_is_front_by e text g (shorter l) = longer_front text (turns_text w p.eq 0 (p.root ∷ []) g.turns) (turns_first e text g.turns g.met g.tail) (front_longer g.turns g.met l)
+      begun_is_front_by e text g (shorter l) = longer_front text (w.head ++ turns_text w p.eq 0 (p.root ∷ []) g.turns) (turns_first e text g.turns g.met g.tail) (front_longer g.turns g.met l)
       begun_is_front_by e text g (longer l) = absurd (not_longer p w limit sure g.turns g.met e text b.turns b.met g.tail l b.few)
 
     parts_are_fronts_by : (e : Ending) (part text : List ℕ) → (part ≡ []) ⊎ (IsBegun p w limit part ⊎ ((ending : Ending) × IsWritten p w limit ending part)) → IsWritten p w limit e text → IsTextFront text part

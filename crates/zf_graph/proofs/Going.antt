@@ -1,11 +1,10 @@
 -- A search goes on in a part: what it has passed begins a turn, whole parts make one.
-use Rattle.std.proofs.Common.{◌++◌, ◌+◌, ◌<◌, ◌∙◌, ◌∷◌, ◌≡◌, ◌⊎◌, [], ap, arith, inl, inr, length, List, map, refl, Some, subst, suc, sym, take, zero, ℕ}
-use Rattle.std.proofs.lemmas.List.{append-nil, append_assoc, map-append}
-use Rattle.std.specs.Prelude.{AllPairs, Contains, slice_get}
+use Rattle.std.proofs.Common.{◌++◌, ◌+◌, ◌∙◌, ◌∷◌, ◌≡◌, [], ap, arith, inl, inr, List, map, refl, Some, subst, suc, sym, take, zero, ℕ}
+use Rattle.std.proofs.lemmas.List.{append-nil, append_assoc}
+use Rattle.std.specs.Prelude.{Contains, slice_get}
 use Rattle.zf_graph.specs.Graphs.{Edge}
 use Rattle.zf_graph.proofs.Places.{none_some, one_some}
-use Rattle.zf_graph.proofs.Finds.{first_of_all}
-use Rattle.zf_graph.specs.Parts.{AllHold, AreFinds, AreFirst, BeginsParts, BreaksParts, HasParts, IsOrderly, Searched}
+use Rattle.zf_graph.specs.Parts.{AllHold, AreFinds, AreFirst, BeginsParts, BreaksParts, HasParts, Searched}
 
 module _ {N L O X : Type 0} (s : Searched N L O X) (a : N) where
   abbrev Edges : Type 0

@@ -6,6 +6,11 @@ pub mod Meeting
 pub mod Writing
 pub mod Stages
 pub mod OneWay
+pub mod Deciding
+pub mod OneSearch
+pub mod SomeSearch
+pub mod Searching
+pub mod Numbers
 pub mod Fronts
 pub mod Existing
 pub mod Seeking

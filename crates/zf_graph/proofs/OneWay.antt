@@ -11,7 +11,7 @@ use Rattle.zf_graph.specs.Laws.{IsFrontTurn, IsSure, IsWrittenInOneWay}
 
 module _ {N L : Type 0} where
   -- with an edge to a new node there is one more
-  one_more : (eq : N → N → Bool) (a : Met N L) (met : List (Met N L)) (es : List (Edge N L)) (e : Edge N L) → is_met eq (arrive_all eq a met es) e.to ≡ false
+  pub one_more : (eq : N → N → Bool) (a : Met N L) (met : List (Met N L)) (es : List (Edge N L)) (e : Edge N L) → is_met eq (arrive_all eq a met es) e.to ≡ false
       → length (arrive_all eq a met (es ++ e ∷ [])) ≡ length (arrive_all eq a met es) + 1
   one_more eq a met es e fresh =
       ap (λ xs. length xs) (arrive_all-push eq a met es e ∙ cond-false (is_met eq (arrive_all eq a met es) e.to) (arrive_all eq a met es) (arrive_all eq a met es ++ beyond a e ∷ []) fresh)

@@ -1,8 +1,8 @@
 -- What a search for a node finds, and what it means that it finds none.
-use Rattle.zf_graph.proofs.Prelude.{◌++◌, ◌∷◌, ◌≡◌, ◌⊎◌, [], Bool, inl, inr, length, List, refl, Some, subst, sym, ℕ, slice_get, Edge, Graph, IsReachable, IsShortest, Turn, Explored, Met, nodes_of, IsMet, beyond, arrive_all, ExploresAll, ExploresUpTo, with_edge, IsOf}
+use Rattle.zf_graph.proofs.Prelude.{◌++◌, ◌∷◌, ◌≡◌, ◌⊎◌, [], inl, inr, length, List, subst, ℕ, Graph, Explored, Met, nodes_of, IsMet, beyond, arrive_all, with_edge, IsOf}
 use Rattle.zf_graph.proofs.Meeting.{finds_shortest, meets_reachable}
 use Rattle.zf_graph.specs.Texts.{inner_edges, Words}
-use Rattle.zf_graph.specs.Seeking.{AreOthers, breaks, doubts, finds, found, FoundIsShortest, IsDecisive, IsSearched, misses, missing, MissingIsNowhere, open_ended, pauses, Result, ShowsShortest, Sought, untold}
+use Rattle.zf_graph.specs.Seeking.{AreOthers, breaks, doubts, finds, found, FoundIsShortest, IsDecisive, misses, missing, MissingIsNowhere, open_ended, pauses, Result, Sought, untold}
 
 -- the results are four
 is_found : Result → Type 0

@@ -10,28 +10,28 @@ use Rattle.zf_graph.proofs.Growing.{at-arrive_all, longer-arrive_all, longer-mor
 use Rattle.zf_graph.proofs.Writing.{arrive_all-push, begun_text-push, Explores-push, nodes_of-arrive, nodes_of-arrive_all, turns_text-push}
 
 module _ {N L : Type 0} where
-  edges_in-push : (ts : List (Turn N L)) (t : Turn N L) → edges_in (ts ++ t ∷ []) ≡ edges_in ts + length t.edges
+  pub edges_in-push : (ts : List (Turn N L)) (t : Turn N L) → edges_in (ts ++ t ∷ []) ≡ edges_in ts + length t.edges
   edges_in-push [] t = omega arith
   edges_in-push (u ∷ ts) t = let r = edges_in-push ts t in omega (arith, r)
 
-  inner_edges-push : (ts : List (Turn N L)) (t : Turn N L) → inner_edges (ts ++ t ∷ []) no_turn ≡ inner_edges ts t
+  pub inner_edges-push : (ts : List (Turn N L)) (t : Turn N L) → inner_edges (ts ++ t ∷ []) no_turn ≡ inner_edges ts t
   inner_edges-push [] t = refl
   inner_edges-push (u ∷ ts) t = let r = edges_in-push ts t in omega (arith, r)
 
-  inner_edges-none : (ts : List (Turn N L)) (stray : Bool) → inner_edges ts no_turn ≡ inner_edges ts (record { stray = stray; edges = [] })
+  pub inner_edges-none : (ts : List (Turn N L)) (stray : Bool) → inner_edges ts no_turn ≡ inner_edges ts (record { stray = stray; edges = [] })
   inner_edges-none [] stray = refl
   inner_edges-none (t ∷ ts) stray = refl
 
   -- the count with one more edge: that of an edge of the root stays
-  inner_edges-edge : (ts : List (Turn N L)) (now : Turn N L) (e : Edge N L) (next : ℕ) → (length ts ≡ 0 → next ≡ inner_edges ts now) → (0 < length ts → next ≡ inner_edges ts now + 1)
+  pub inner_edges-edge : (ts : List (Turn N L)) (now : Turn N L) (e : Edge N L) (next : ℕ) → (length ts ≡ 0 → next ≡ inner_edges ts now) → (0 < length ts → next ≡ inner_edges ts now + 1)
       → next ≡ inner_edges ts (with_edge now e)
   inner_edges-edge [] now e next none some = none refl
   inner_edges-edge (t ∷ ts) now e next none some = let s = some (omega arith) in let l = length-append now.edges (e ∷ []) in omega (arith, s, l)
 
 module _ {N L : Type 0} (p : Explored N L) (w : Words N L) (limit : ℕ) where
   -- at first
-  pub stands_first : 1 ≤ limit → StandsBefore p w limit (p.root ∷ []) 0 0 []
-  stands_first some = record { turns = []; met = at_first p.root; explores = refl; placed = refl; of_nodes = refl; within = some; counted = refl; written = refl }
+  pub stands_first : 1 ≤ limit → StandsBefore p w limit (p.root ∷ []) 0 0 w.head
+  stands_first some = record { turns = []; met = at_first p.root; explores = refl; placed = refl; of_nodes = refl; within = some; counted = refl; written = sym (append-nil w.head) }
 
   -- a turn begins
   pub stands_begun : (nodes : List N) (place inner : ℕ) (text : List ℕ) (b : N) (stray : Bool) → StandsBefore p w limit nodes place inner text → slice_get nodes place ≡ Some b
@@ -49,15 +49,15 @@ module _ {N L : Type 0} (p : Explored N L) (w : Words N L) (limit : ℕ) where
         within = s.within;
         counted = s.counted ∙ inner_edges-none s.turns stray;
         written = ap (λ t. t ++ cond stray (w.stray place) []) s.written
-            ∙ ap (λ k. turns_text w p.eq 0 (p.root ∷ []) s.turns ++ cond stray (w.stray k) []) (sym s.placed)
-            ∙ ap (λ t. turns_text w p.eq 0 (p.root ∷ []) s.turns ++ t) (sym (append-nil (cond stray (w.stray (length s.turns)) [])));
+            ∙ ap (λ k. (w.head ++ turns_text w p.eq 0 (p.root ∷ []) s.turns) ++ cond stray (w.stray k) []) (sym s.placed)
+            ∙ ap (λ t. (w.head ++ turns_text w p.eq 0 (p.root ∷ []) s.turns) ++ t) (sym (append-nil (cond stray (w.stray (length s.turns)) [])));
       }
 
   module _ (node : N) (now : Turn N L) (nodes : List N) (place inner : ℕ) (text : List ℕ) (s : StandsIn p w limit node now nodes place inner text) where
     -- the text with one more edge
     text_with_edge : (e : Edge N L) → text ++ edge_text w p.eq place nodes e ≡ text_up_to p w s.turns s.met (with_edge now e)
     text_with_edge e =
-        let old = turns_text w p.eq 0 (p.root ∷ []) s.turns in
+        let old = w.head ++ turns_text w p.eq 0 (p.root ∷ []) s.turns in
         let begun = begun_text w p.eq (length s.turns) (nodes_of s.met) now in
         ap (λ t. t ++ edge_text w p.eq place nodes e) s.written
         ∙ append_assoc old begun (edge_text w p.eq place nodes e)
@@ -109,17 +109,18 @@ module _ {N L : Type 0} (p : Explored N L) (w : Words N L) (limit : ℕ) where
         old : List ℕ
         old = turns_text w p.eq 0 (p.root ∷ []) s.turns
 
-        written : text ++ stuck_text w p.eq place now.edges ≡ turns_text w p.eq 0 (p.root ∷ []) (s.turns ++ now ∷ [])
+        written : text ++ stuck_text w p.eq place now.edges ≡ w.head ++ turns_text w p.eq 0 (p.root ∷ []) (s.turns ++ now ∷ [])
         written =
             let begun = begun_text w p.eq (length s.turns) (nodes_of s.met) now in
             let end = λ (k : ℕ). begun_text w p.eq k (nodes_of s.met) now ++ stuck_text w p.eq k now.edges in
             let pushed : turns_text w p.eq 0 (p.root ∷ []) (s.turns ++ now ∷ []) ≡ old ++ end (0 + length s.turns) = turns_text-push p w (at_first p.root) 0 s.turns s.met now s.up_to.explores in
             let shifted : end (0 + length s.turns) ≡ end (length s.turns) = ap end (omega arith) in
             ap (λ t. t ++ stuck_text w p.eq place now.edges) s.written
-            ∙ append_assoc old begun (stuck_text w p.eq place now.edges)
-            ∙ ap (λ k. old ++ (begun ++ stuck_text w p.eq k now.edges)) (sym s.placed)
-            ∙ ap (λ t. old ++ t) (sym shifted)
-            ∙ sym pushed
+            ∙ append_assoc (w.head ++ old) begun (stuck_text w p.eq place now.edges)
+            ∙ ap (λ k. (w.head ++ old) ++ (begun ++ stuck_text w p.eq k now.edges)) (sym s.placed)
+            ∙ append_assoc w.head old (end (length s.turns))
+            ∙ ap (λ t. w.head ++ (old ++ t)) (sym shifted)
+            ∙ ap (λ t. w.head ++ t) (sym pushed)
 
     -- as many nodes are met as are asked for
     pub ends_paused : (e : Edge N L) (next : ℕ) → p.BeginsTurn node (with_edge now e) → length nodes ≡ limit → is_met p.eq (arrive_all p.eq s.item s.met now.edges) e.to ≡ false
@@ -196,7 +197,7 @@ module _ {N L : Type 0} (p : Explored N L) (w : Words N L) (limit : ℕ) where
       → IsWritten p w limit ended (text ++ w.last ended (length nodes - 1) inner)
   ends_ended nodes place inner text s all more =
       ends s.turns s.met (record { explores = s.explores; each = (let t = s.placed in omega (arith, t, all, more, lengths)) }) s.within refl
-      (ap (λ t. t ++ w.last ended (length nodes - 1) inner) (s.written ∙ sym (append-nil (turns_text w p.eq 0 (p.root ∷ []) s.turns)))
+      (ap (λ t. t ++ w.last ended (length nodes - 1) inner) (s.written ∙ sym (append-nil (w.head ++ turns_text w p.eq 0 (p.root ∷ []) s.turns)))
       ∙ ap (λ k. text_up_to p w s.turns s.met no_turn ++ w.last ended (k - 1) inner) lengths
       ∙ ap (λ k. text_up_to p w s.turns s.met no_turn ++ w.last ended (length s.met - 1) k) s.counted)
     where

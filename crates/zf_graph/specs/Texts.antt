@@ -10,9 +10,10 @@ pub data Ending : Type 0 where
   paused : Ending
   broken : (at : List ℕ) → Ending
 
--- What a writer says of a node that is met in the turn of another, both by their numbers, of an edge from one to the other by its label, of a node that is a stray, of one without edges, and at the end, with how many nodes are met and
--- how many edges have been passed.
+-- What a writer says before all else, of a node that is met in the turn of another, both by their numbers, of an edge from one to the other by its label, of a node that is a stray, of one without edges, and at the end, with how many
+-- nodes are met and how many edges have been passed.
 pub record Words (N L : Type 0) : Type 0 where
+  pub head : List ℕ
   pub node : (from number : ℕ) → N → List ℕ
   pub edge : (from : ℕ) → L → (number : ℕ) → List ℕ
   pub stray : (number : ℕ) → List ℕ
@@ -62,7 +63,7 @@ no_turn = record { stray = false; edges = [] }
 module _ {N L : Type 0} (p : Explored N L) (w : Words N L) where
   -- the text of these turns, in which so many nodes are met, and of the beginning of the next one
   abbrev pub text_up_to : List (Turn N L) → List (Met N L) → Turn N L → List ℕ
-  text_up_to turns met now = turns_text w p.eq 0 (p.root ∷ []) turns ++ begun_text w p.eq (length turns) (nodes_of met) now
+  text_up_to turns met now = (w.head ++ turns_text w p.eq 0 (p.root ∷ []) turns) ++ begun_text w p.eq (length turns) (nodes_of met) now
 
 -- The text of an exploration, with so many nodes beside the root as a limit.
 pub data IsWritten {N L : Type 0} (p : Explored N L) (w : Words N L) (limit : ℕ) (ending : Ending) (text : List ℕ) : Type 0 where

@@ -157,15 +157,17 @@ module _ {N L : Type 0} (p : Explored N L) (w : Words N L) (limit : ℕ) (origin
         let t = subst (InParts p w limit p.HasTurn origin old nodes place edges) is s in
         stops_in_stuck_line p w limit origin old t.node t.now nodes place edges t.in_turn new t.stands t.is_stuck front
 
+-- the node at a place has as many parts as were counted, where what is met has stayed
+pub still_counted : {N : Type 0} (parts : N → ℕ) (first : List N) (before count : ℕ) → ((of : N) → slice_get first before ≡ Some of → count ≡ parts of) → (b : N) → slice_get first before ≡ Some b
+    → (nodes : List N) (place : ℕ) → KeepsNodes first nodes → place ≡ before → (of : N) → slice_get nodes place ≡ Some of → count ≡ parts of
+still_counted parts first before count says b here nodes place keeps stays of at = says b here ∙ ap parts (one_at nodes place b of (subst (λ k. slice_get nodes k ≡ Some b) (sym stays) (keeps before b here)) at)
+
 -- the node of the turn has as many parts as were counted when it began
 module _ {N L : Type 0} (p : Explored N L) (w : Words N L) (limit : ℕ) (origin : Option (List ℕ)) (parts : N → ℕ) (first : List N) (before count : ℕ) (counted' : (of : N) → slice_get first before ≡ Some of → count ≡ parts of) where
   module _ (Begins Stands : N → Turn N L → Type 0) (old new : Option (List ℕ)) (edges later : ℕ) (stuck still : Bool) (s : InParts p w limit Begins origin old first before edges stuck)
       (nodes : List N) (place : ℕ) (t : InParts p w limit Stands origin new nodes place later still) (keeps : KeepsNodes first nodes) (stays : place ≡ before) where
     same_node : (of : N) → slice_get nodes place ≡ Some of → count ≡ parts of
-    same_node of at =
-        let node = part_node p w limit origin Begins old first before edges stuck s in
-        let there : slice_get nodes place ≡ Some s.node = subst (λ k. slice_get nodes k ≡ Some s.node) (sym stays) (keeps before s.node node) in
-        counted' s.node node ∙ ap parts (one_at nodes place s.node of there at)
+    same_node of at = still_counted parts first before count counted' s.node (part_node p w limit origin Begins old first before edges stuck s) nodes place keeps stays of at
 
     pub part_of : (which : ℕ) → which < count → (of : N) → slice_get nodes place ≡ Some of → which < parts of
     part_of which lt of at = subst (λ n. which < n) (same_node of at) lt

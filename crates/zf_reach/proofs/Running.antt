@@ -5,16 +5,16 @@ use Rattle.zf_reach.proofs.Fronts.{front_behind, front_longer, front_whole}
 -- ---- counting
 
 -- the exact count after one more edge
-abbrev next_count : (place inner : ℕ) → ℕ
+abbrev pub next_count : (place inner : ℕ) → ℕ
 next_count place inner = cond (eqb place 0) inner (inner + 1)
 
-none_at_root : (place inner : ℕ) → place ≡ 0 → next_count place inner ≡ inner
+pub none_at_root : (place inner : ℕ) → place ≡ 0 → next_count place inner ≡ inner
 none_at_root place inner z = cond-true (eqb place 0) inner (inner + 1) (eq-eqb place 0 z)
 
-one_beyond : (place inner : ℕ) → 0 < place → next_count place inner ≡ inner + 1
+pub one_beyond : (place inner : ℕ) → 0 < place → next_count place inner ≡ inner + 1
 one_beyond place inner l = cond-false (eqb place 0) inner (inner + 1) (ne_eqb place 0 (λ z. omega (arith, l, z)))
 
-counted_cut : (place edges inner : ℕ) → edges ≡ cut inner → counted place edges ≡ cut (next_count place inner)
+pub counted_cut : (place edges inner : ℕ) → edges ≡ cut inner → counted place edges ≡ cut (next_count place inner)
 counted_cut place edges inner h = go (cases_eq place 0)
   where
     go : (place ≡ 0) ⊎ (place ≡ 0 → ⊥) → counted place edges ≡ cut (next_count place inner)
@@ -27,8 +27,12 @@ counted_cut place edges inner h = go (cases_eq place 0)
 module _ {N L : Type 0} (p : Explored N L) (w : Words N L) (limit : ℕ) (origin : Option (List ℕ)) where
   -- ---- before a turn
 
-  pub at_first : 1 ≤ limit → AtTurn p w limit origin origin (p.root ∷ []) 0 0
-  at_first some = record { inner = 0; text = []; stands = stands_first p w limit some; reached = omega arith; count = refl; written = Appends-nil origin }
+  pub at_first : 1 ≤ limit → (new : Option (List ℕ)) → Appends origin new w.head → AtTurn p w limit origin new (p.root ∷ []) 0 0
+  at_first some new written = record { inner = 0; text = w.head; stands = stands_first p w limit some; reached = omega arith; count = refl; written = written }
+
+  -- before the first turn
+  pub stops_in_head : 1 ≤ limit → (new : Option (List ℕ)) → AppendsFront origin new w.head → StopsEarly p w limit origin new
+  stops_in_head some new front = (w.head, inr (inl (begins_before p w limit (p.root ∷ []) 0 0 w.head p.root (stands_first p w limit some) refl)), front)
 
   module _ (old : Option (List ℕ)) (nodes : List N) (place edges : ℕ) (t : AtTurn p w limit origin old nodes place edges) where
     pub stops_before : (b : N) → slice_get nodes place ≡ Some b → StopsEarly p w limit origin old
@@ -159,9 +163,9 @@ module _ {N L : Type 0} (p : Explored N L) (w : Words N L) (limit : ℕ) (origin
   pub stops_at_once : StopsEarly p w limit origin origin
   stops_at_once = ([], inl refl, front_whole origin origin [] (Appends-nil origin))
 
-  pub at_first_seen : 1 ≤ limit → (nodes : List N) (place edges : ℕ) → nodes ≡ p.root ∷ [] → place ≡ 0 → edges ≡ 0 → AtTurn p w limit origin origin nodes place edges
-  at_first_seen some nodes place edges n k e =
-      subst (λ x. AtTurn p w limit origin origin x place edges) (sym n)
-      (subst (λ x. AtTurn p w limit origin origin (p.root ∷ []) x edges) (sym k)
-      (subst (λ x. AtTurn p w limit origin origin (p.root ∷ []) 0 x) (sym e)
-      (at_first p w limit origin some)))
+  pub at_first_seen : 1 ≤ limit → (new : Option (List ℕ)) → Appends origin new w.head → (nodes : List N) (place edges : ℕ) → nodes ≡ p.root ∷ [] → place ≡ 0 → edges ≡ 0 → AtTurn p w limit origin new nodes place edges
+  at_first_seen some new written nodes place edges n k e =
+      subst (λ x. AtTurn p w limit origin new x place edges) (sym n)
+      (subst (λ x. AtTurn p w limit origin new (p.root ∷ []) x edges) (sym k)
+      (subst (λ x. AtTurn p w limit origin new (p.root ∷ []) 0 x) (sym e)
+      (at_first p w limit origin some new written)))

@@ -1,18 +1,35 @@
--- What the search for the edges of a node answers.
+-- What the search for the edges of a node answers, and how explorations and searches end.
 use Rattle.std.specs.Prelude.{◌≡◌, ℕ, ◌<◌, true, List, []}
 use Rattle.zf_graph.specs.Explorations.{Explored, Turn}
+use Rattle.zf_graph.specs.Seeking.{found, missing, open_ended, Result, Sought, untold}
 use Rattle.zf_graph.specs.Texts.{broken, ended, Ending, no_turn, paused, with_edge}
 use Rattle.zf_reach.specs.declared.ending.Ending as code
 use Rattle.zf_reach.specs.declared.ending.Ending.TheVariants as endings
 use Rattle.zf_reach.specs.declared.machine.Beginning.{Beginning}
 use Rattle.zf_reach.specs.declared.machine.Beginning.TheVariants as beginnings
+use Rattle.zf_reach.specs.declared.finding.Finding.{Finding}
+use Rattle.zf_reach.specs.declared.finding.Finding.TheVariants as findings
 use Rattle.zf_reach.specs.declared.machine.Found.{Found}
 use Rattle.zf_reach.specs.declared.machine.Found.TheVariants as founds
+use Rattle.zf_reach.specs.declared.sight.Sight.{Sight}
+use Rattle.zf_reach.specs.declared.sight.Sight.TheVariants as sights
 
 abbrev pub ending_of : code.Ending → (at : List ℕ) → Ending
 ending_of endings.Ended at = ended
 ending_of endings.Paused at = paused
 ending_of endings.Broken at = broken at
+
+abbrev pub result_of : Finding → (at : List ℕ) → Result
+result_of findings.Found at = found
+result_of findings.Missing at = missing
+result_of findings.OpenEnded at = open_ended
+result_of findings.Untold at = untold at
+
+-- the node is seen so
+abbrev pub IsSeenAs : {N : Type 0} → Sought N → Sight → (node : N) → (stop : List ℕ) → Type 0
+IsSeenAs s sights.Sought node stop = s.IsSought node
+IsSeenAs s sights.Other node stop = s.IsOther node
+IsSeenAs s sights.Untold node stop = s.IsUntold node stop
 
 -- the turn of the node begins so
 abbrev pub BeginsAs : {N L : Type 0} → Explored N L → Beginning → (node : N) → (now : Turn N L) → (stop : List ℕ) → Type 0

@@ -1,9 +1,10 @@
--- Where a run stands, and how it goes on. Of this file public clauses cite `StopsEarly` alone.
+-- Where a run stands, and how it goes on. Of this file public clauses cite `StopsEarly` and `StopsSearch` alone.
 use Rattle.std.specs.Prelude.{◌≡◌, ℕ, ◌+◌, ◌-◌, ◌^◌, ◌≤◌, Bool, true, false, cond, eqb, min, List, [], ◌∷◌, ◌++◌, length, Option, None, Some, slice_get}
 use Rattle.std.specs.List.{list_any}
 use Rattle.std.specs.Io.KnownBytes.{Appends}
 use Rattle.zf_graph.specs.Explorations.{Explored, Turn, with_node}
 use Rattle.zf_graph.specs.Graphs.{Edge}
+use Rattle.zf_graph.specs.Seeking.{IsSearchedPart, Result, Sought}
 use Rattle.zf_graph.specs.Stages.{StandsBefore, StandsIn}
 use Rattle.zf_graph.specs.Texts.{Ending, IsPart, IsWritten, Words}
 use Rattle.zf_lines.specs.FaultViews.{AppendsFront}
@@ -78,3 +79,7 @@ module _ {N L : Type 0} (p : Explored N L) (w : Words N L) (limit : ℕ) where
   abbrev pub LeavesTurn : Option code.Ending → (Next : Type 0) → (stop : List ℕ) → (origin contents : Option (List ℕ)) → (nodes : List N) → (edges : ℕ) → Type 0
   LeavesTurn None Next stop origin contents nodes edges = Next
   LeavesTurn (Some ending) Next stop origin contents nodes edges = Closes (ending_of ending stop) origin contents nodes edges
+
+-- the front of what can be written of a search is written
+abbrev pub StopsSearch : {N L : Type 0} → Explored N L → Sought N → Words N L → (last : Result → (nodes edges : ℕ) → List ℕ) → (limit : ℕ) → (origin contents : Option (List ℕ)) → Type 0
+StopsSearch p s w last limit origin contents = (text : List ℕ) × IsSearchedPart p s w last limit text × AppendsFront origin contents text

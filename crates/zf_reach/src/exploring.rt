@@ -1,5 +1,5 @@
 //! The loops that explore, and write what they meet.
-ghost use Rattle.std.specs.Prelude.{◌≡◌, ◌<◌, ◌≤◌, ◌+◌, ℕ, List, Option, IfOk, MatchBool, OnErr, OnOk};
+ghost use Rattle.std.specs.Prelude.{◌≡◌, ◌<◌, ◌≤◌, ◌+◌, ◌∷◌, [], ℕ, List, Option, IfOk, MatchBool, OnErr, OnOk};
 ghost use Rattle.std.specs.Io.KnownBytes.{Appends};
 ghost use Rattle.indexmap.specs.IndexSet.{index_set_len};
 ghost use Rattle.zf_graph.specs.Texts.{broken, IsWritten};
@@ -35,10 +35,32 @@ pub fn explore<M: Machine, W: Write>(
     ensures unread { read_failures result ≡ 0 }
 {
     let mut run = begun(alloc, machine, cursor)?;
-    let ending = write_turns(machine, limit, &mut run, writer)?;
+    let ending = write_whole(machine, limit, &mut run, writer)?;
     append_last(machine, &mut run, ending)?;
     write_text(writer, &run.line)?;
     Ok(ending)
+}
+
+/// Writes what is said before all else, and the turns of the nodes.
+fn write_whole<M: Machine, W: Write>(
+    machine: &M,
+    limit: usize,
+    run: &mut Run<M::Node, M::Cursor>,
+    writer: &mut Counted<W>,
+) -> Result<Ending, RunFault>
+    ghost origin: { Option (List ℕ) }
+    requires unfailed { failures_of writer.old ≡ 0 }
+    requires limited { 1 ≤ limit }
+    requires unwritten { origin ≡ W.contents (device_of writer.old) }
+    requires first { (run.old.met.keys ≡ (M.explored machine.now).root ∷ []) × (run.old.place ≡ 0) × (run.old.edges ≡ 0) }
+    requires fits { M.Fits machine.now run.old.cursor }
+    ensures ok { IfOk result (λ ending. Closes (M.explored machine.now) (M.words machine.now) limit (ending_of ending (M.stop run.new.cursor)) origin (W.contents (device_of writer.new)) run.new.met.keys run.new.edges) }
+    ensures err { OnErr result (StopsEarly (M.explored machine.now) (M.words machine.now) limit origin (W.contents (device_of writer.new))) }
+    ensures count { failures_of writer.new ≡ write_failures result }
+    ensures unread { read_failures result ≡ 0 }
+{
+    write_head(machine, run, writer)?;
+    write_turns(machine, limit, run, writer)
 }
 
 /// Writes the turns of the nodes, each of which may bring new ones.
@@ -208,6 +230,24 @@ fn write_part<M: Machine, W: Write>(
             Found::Out => return Ok(Some(Ending::Broken)),
         }
     }
+}
+
+/// Writes what is said before all else.
+fn write_head<M: Machine, W: Write>(
+    machine: &M,
+    run: &mut Run<M::Node, M::Cursor>,
+    writer: &mut Counted<W>,
+) -> Result<(), RunFault>
+    requires unfailed { failures_of writer.old ≡ 0 }
+    ensures ok { OnOk result (Appends (W.contents (device_of writer.old)) (W.contents (device_of writer.new)) (M.words machine.now).head) }
+    ensures err { OnErr result (AppendsFront (W.contents (device_of writer.old)) (W.contents (device_of writer.new)) (M.words machine.now).head) }
+    ensures same { (run.new.met ≡ run.old.met) × (run.new.cursor ≡ run.old.cursor) × (run.new.place ≡ run.old.place) × (run.new.edges ≡ run.old.edges) × (run.new.stuck ≡ run.old.stuck) }
+    ensures count { failures_of writer.new ≡ write_failures result }
+    ensures unread { read_failures result ≡ 0 }
+{
+    run.line.clear();
+    machine.append_head(&mut run.line)?;
+    write_text(writer, &run.line)
 }
 
 /// Writes that the node whose turn it is is a stray.

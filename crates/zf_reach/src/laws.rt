@@ -1,6 +1,7 @@
 //! Laws of explorations.
 ghost use Rattle.std.specs.Prelude.{◌≤◌, ℕ, Bool, IsTrue};
 ghost use Rattle.zf_graph.specs.Laws.{EachNodeHasTurn, FindsShortest, HasEachStep, IsSomehowWritten, IsWrittenInOneWay, MeetsOnce, MeetsReachable, MeetsShortly, PartsAreFronts};
+ghost use Rattle.zf_graph.specs.Seeking.{EachIsTold, FoundIsShortest, IsSearchedInOneWay, IsSomehowSearched, MissingIsNowhere};
 
 use crate::machine::Machine;
 
@@ -26,4 +27,20 @@ pub fn finds_shortest<M: Machine>()
 /// Where each node has a turn, or a place at which its turn breaks off, an exploration has a text.
 pub fn some_text<M: Machine>()
     ensures { (m : M) (limit : ℕ) → EachNodeHasTurn (M.explored m) → 1 ≤ limit → IsSomehowWritten (M.explored m) (M.words m) limit }
+{}
+
+/// Where a search finds a node, a shortest way to one that is sought is written; where it finds none, no reachable node is sought.
+pub fn finds_sought<M: Machine>()
+    ensures found { (m : M) (limit : ℕ) → FoundIsShortest (M.explored m) (M.graph m) (M.sought m) (M.words m) (M.verdict m) limit }
+    ensures missing { (m : M) (limit : ℕ) → MissingIsNowhere (M.explored m) (M.graph m) (M.sought m) (M.words m) (M.verdict m) limit }
+{}
+
+/// A search has one text, and ends in one way.
+pub fn one_search<M: Machine>()
+    ensures { (m : M) (limit : ℕ) → IsSearchedInOneWay (M.explored m) (M.sought m) (M.words m) (M.verdict m) limit }
+{}
+
+/// Where each node has a turn, or a place at which its turn breaks off, and each is sought, or another, or it can't be told, a search has a text.
+pub fn some_search<M: Machine>()
+    ensures { (m : M) (limit : ℕ) → EachNodeHasTurn (M.explored m) → EachIsTold (M.explored m) (M.sought m) → 1 ≤ limit → IsSomehowSearched (M.explored m) (M.sought m) (M.words m) (M.verdict m) limit }
 {}

@@ -1,12 +1,15 @@
-//! What is explored: a graph whose edges are searched for, node by node, and the words in which it is written.
+//! What is explored: a graph whose edges are searched for, node by node, what is sought in it, and the words in which it is written.
 ghost use Rattle.std.specs.Prelude.{◌≡◌, ◌<◌, ◌+◌, ◌-◌, ◌^◌, ◌++◌, ℕ, List, min, IfOk, OnOk};
 ghost use Rattle.zf_graph.specs.Explorations.{Explored, Turn};
 ghost use Rattle.zf_graph.specs.Graphs.{Graph};
 ghost use Rattle.zf_graph.specs.Laws.{IsOf, IsSure};
+ghost use Rattle.zf_graph.specs.Seeking.{IsDecisive, Result, Sought};
 ghost use Rattle.zf_graph.specs.Texts.{Words};
-ghost use Rattle.zf_reach.specs.Machines.{AdvancesTo, BeginsAs, ending_of, HasFewer, UnlessOut};
+ghost use Rattle.zf_reach.specs.Machines.{AdvancesTo, BeginsAs, ending_of, HasFewer, IsSeenAs, result_of, UnlessOut};
 
 use crate::ending::Ending;
+use crate::finding::Finding;
+use crate::sight::Sight;
 use std::alloc::AllocError;
 use std::hash::Hash;
 
@@ -44,6 +47,12 @@ pub trait Machine {
     ghost graph: { Self → Graph Self.Node Self.Label };
 
     ghost words: { Self → Words Self.Node Self.Label };
+
+    /// Which nodes are sought.
+    ghost sought: { Self → Sought Self.Node };
+
+    /// What is said at the end of a search.
+    ghost verdict: { Self → Result → (nodes edges : ℕ) → List ℕ };
 
     /// How many parts the edges of a node have.
     ghost parts: { Self → Self.Node → ℕ };
@@ -104,6 +113,18 @@ pub trait Machine {
         ensures answer { IfOk result (λ f. (of : Self.Node) (now : Turn Self.Node Self.Label) → Stands self.now cursor.old of now → AdvancesTo (explored self.now) f of now (Stands self.now cursor.new of) (HasPassed self.now of (part cursor.old + 1)) (stop cursor.new)) }
         ensures fewer { IfOk result (λ f. HasFewer f (ahead cursor.old) (ahead cursor.new)) };
 
+    /// Looks at a node. The search for edges stays where it stands.
+    fn look(&self, cursor: &mut Self::Cursor, of: &Self::Node) -> Result<Sight, AllocError>
+        requires { Fits self.now cursor.old }
+        ensures fits { OnOk result (Fits self.now cursor.new) }
+        ensures sees { IfOk result (λ s. IsSeenAs (sought self.now) s of.now (stop cursor.new)) }
+        ensures stands { OnOk result ((node : Self.Node) (now : Turn Self.Node Self.Label) → Stands self.now cursor.old node now → Stands self.now cursor.new node now) }
+        ensures same { OnOk result ((part cursor.new ≡ part cursor.old) × (ahead cursor.new ≡ ahead cursor.old)) };
+
+    /// Appends what is said before all else.
+    fn append_head(&self, line: &mut Vec<u8>) -> Result<(), AllocError>
+        ensures { OnOk result (line.new.items ≡ line.old.items ++ (words self.now).head) };
+
     /// Appends what is said of a node.
     fn append_node(
         &self,
@@ -143,11 +164,24 @@ pub trait Machine {
     ) -> Result<(), AllocError>
         ensures { OnOk result ((n : ℕ) → edges ≡ min n (2 ^ 64 - 1) → line.new.items ≡ line.old.items ++ (words self.now).last (ending_of ending (stop cursor.now)) nodes n) };
 
+    /// Appends what is said at the end of a search, of so many nodes and edges.
+    fn append_verdict(
+        &self,
+        line: &mut Vec<u8>,
+        finding: Finding,
+        cursor: &Self::Cursor,
+        nodes: usize,
+        edges: u64,
+    ) -> Result<(), AllocError>
+        ensures { OnOk result ((n : ℕ) → edges ≡ min n (2 ^ 64 - 1) → line.new.items ≡ line.old.items ++ verdict self.now (result_of finding (stop cursor.now)) nodes n) };
+
     ghost all_passed: { (m : Self) (of : Self.Node) (now : Turn Self.Node Self.Label) → HasPassed m of (parts m of) now → (explored m).HasTurn of now };
 
     ghost of_graph: { (m : Self) → IsOf (explored m) (graph m) };
 
     ghost sure: { (m : Self) → IsSure (explored m) };
+
+    ghost decisive: { (m : Self) → IsDecisive (explored m) (sought m) };
 
     ghost same_nodes: { (m : Self) → (explored m).eq ≡ Self.Node.eq };
 }

@@ -141,7 +141,7 @@ fn lay_out<M: Machine>(
 }
 
 /// Counts an edge, unless it is one of the root.
-fn count<N: Eq + Hash, C>(run: &mut Run<N, C>)
+pub fn count<N: Eq + Hash, C>(run: &mut Run<N, C>)
     ensures count { run.new.edges ≡ counted run.old.place run.old.edges }
     ensures same { (run.new.met ≡ run.old.met) × (run.new.cursor ≡ run.old.cursor) × (run.new.place ≡ run.old.place) × (run.new.line ≡ run.old.line) }
 {
