@@ -1,30 +1,35 @@
--- In an exploration each state has its steps, or one that can't be told.
-use Rattle.std.proofs.Common.{◌∷◌, ◌≡◌, ◌⊎◌, [], ap, Bool, false, inl, inr, List, map, None, Option, refl, subst, sym, true}
+-- In an exploration each state has its steps, or one that can't be told; in a search for one each is sought, or another, or it can't be told.
+use Rattle.std.proofs.Common.{◌∷◌, ◌≡◌, ◌⊎◌, [], false, inl, inr, List, None, Option, refl, subst, sym, true, ℕ}
 use Rattle.std.specs.List.{AllByRecursion}
 use Rattle.std.specs.Prelude.{AllPairs, Contains}
 use Rattle.zf_term.specs.Definitions.{Schema}
 use Rattle.zf_finite.specs.Finite.{IsFinite}
 use Rattle.zf_value.specs.declared.plain.Value.{Value}
 use Rattle.zf_value.specs.Sets.{value_order}
-use Rattle.zf_walk.proofs.Lists.{AllPairs-head, Contains-cases, Contains-head, Contains-later, Contains-nil}
+use Rattle.zf_walk.proofs.Lists.{AllPairs-head, Contains-cases, Contains-head, Contains-nil}
 use Rattle.zf_walk.specs.declared.judge.Truth.{Truth}
 use Rattle.zf_walk.specs.declared.judge.Truth.TheVariants.{False, Out, True}
 use Rattle.zf_walk.specs.Events.{Event, IsEvent}
 use Rattle.zf_walk.specs.Rows.{ComesAfter}
 use Rattle.zf_meaning.specs.Environments.{Environment}
 use Rattle.zf_enum.proofs.EventLaws.{one_ranges}
-use Rattle.zf_enum.specs.EventLaws.{AreEvents}
 use Rattle.zf_enum.specs.PortionViews.{portion}
 use Rattle.zf_enum.specs.Property.{property}
+use Rattle.zf_graph.proofs.SomeSearch.{somehow_searched}
 use Rattle.zf_graph.proofs.Having.{AreListed, each_turn, IsStrayTold}
 use Rattle.zf_graph.specs.Laws.{EachNodeHasTurn}
+use Rattle.zf_graph.specs.Seeking.{EachIsTold}
 use Rattle.zf_steps.specs.contracts.node.NodePartialEq.TheImpl as nodes
 use Rattle.zf_steps.specs.declared.node.Node.{Node}
 use Rattle.zf_steps.specs.declared.node.Node.TheVariants.{Root, State}
-use Rattle.zf_steps.specs.Explored.{CanExplore, explored_in}
-use Rattle.zf_steps.specs.Steps.{held_by, IsDoubtful, IsEventOf, IsFirstOf, IsStray, parts_of, searched, stop, values_of}
+use Rattle.zf_steps.proofs.Satisfying as steps
+use Rattle.zf_steps.specs.Explored.{CanExplore, explored_in, sought_in}
+use Rattle.zf_steps.specs.Shapes.{sources_of}
+use Rattle.zf_steps.specs.Steps.{held_by, IsEventOf, IsFirstOf, parts_of, searched, stop, values_of}
 use Rattle.zf_steps.specs.SystemLaws.{orderly}
 use Rattle.zf_steps.specs.Systems.{Operation, System}
+use Rattle.zf_steps.specs.Words.{verdict, words}
+use Rattle.zf_found.specs.Laws.{EveryResult, OtherHasNone}
 use Rattle.zf_found.proofs.Ranges.{some_ranges}
 use Rattle.zf_found.proofs.Searches.{some_list}
 
@@ -91,25 +96,49 @@ module _ (m : System) (can : CanExplore m) where
   -- whether a state is a stray
   module _ (values : List Value) where
     abbrev held : List (Option Value)
-    held = held_by m.state.sources values
+    held = held_by m.test.sources values
 
-    stray_by : (events : List (Event Value)) → AreAll m.environment m.state.schema held can.state events
+    stray_by : (events : List (Event Value)) → AreAll m.environment m.test.schema held can.test events
         → IsStrayTold (searched m nodes.ghosts.eq) (orderly m) (State values)
     stray_by [] h = inl (true, λ x f. Contains-nil x (h.each x f))
-    stray_by (x ∷ xs) h = by (told m.environment m.state.schema held can.state x (h.are x (Contains-head x xs)))
-        (first m.environment m.state.schema held can.state x xs h) where
-          with_truth : (t : Truth) → x.truth ≡ t → IsFirstOf m.environment m.state.schema held x
-              → IsFirstOf m.environment m.state.schema held (record { row = x.row; truth = t })
-          with_truth t is f = subst (λ u. IsFirstOf m.environment m.state.schema held (record { row = x.row; truth = u })) is f
+    stray_by (x ∷ xs) h = by (told m.environment m.test.schema held can.test x (h.are x (Contains-head x xs)))
+        (first m.environment m.test.schema held can.test x xs h) where
+          with_truth : (t : Truth) → x.truth ≡ t → IsFirstOf m.environment m.test.schema held x
+              → IsFirstOf m.environment m.test.schema held (record { row = x.row; truth = t })
+          with_truth t is f = subst (λ u. IsFirstOf m.environment m.test.schema held (record { row = x.row; truth = u })) is f
 
-          by : (x.truth ≡ True) ⊎ (x.truth ≡ Out) → IsFirstOf m.environment m.state.schema held x
+          by : (x.truth ≡ True) ⊎ (x.truth ≡ Out) → IsFirstOf m.environment m.test.schema held x
               → IsStrayTold (searched m nodes.ghosts.eq) (orderly m) (State values)
           by (inl is) f = inl (false, (x.row, with_truth True is f))
-          by (inr is) f = inr (stop m m.state (record { row = x.row; truth = Out }), (x.row, with_truth Out is f, refl))
+          by (inr is) f = inr (stop m m.test (record { row = x.row; truth = Out }), (x.row, with_truth Out is f, refl))
 
   stray_told : (a : Node) → IsStrayTold (searched m nodes.ghosts.eq) (orderly m) a
   stray_told Root = inl (false, refl)
-  stray_told (State values) = let l = all m.environment m.state.schema (held_by m.state.sources values) can.state in stray_by values l.0 l.1
+  stray_told (State values) = let l = all m.environment m.test.schema (held_by m.test.sources values) can.test in stray_by values l.0 l.1
 
   pub some_turns : EachNodeHasTurn (explored_in m)
   some_turns = each_turn (searched m nodes.ghosts.eq) (orderly m) stray_told listed
+
+  -- a state that is a stray is another, and one that is none is sought
+  seen : (values : List Value) → IsStrayTold (searched m nodes.ghosts.eq) (orderly m) (State values)
+      → (sought_in m).IsSought (State values) ⊎ ((sought_in m).IsOther (State values) ⊎ ((at : List ℕ) × (sought_in m).IsUntold (State values) at))
+  seen values (inl (true, stray)) = inr (inl stray)
+  seen values (inl (false, none)) = inl none
+  seen values (inr doubt) = inr (inr doubt)
+
+  each_told : (a : Node) → (a ≡ Root) ⊎ ((sought_in m).IsSought a ⊎ ((sought_in m).IsOther a ⊎ ((at : List ℕ) × (sought_in m).IsUntold a at)))
+  each_told Root = inl refl
+  each_told (State values) = inr (seen values (stray_told (State values)))
+
+  pub some_sights : EachIsTold (explored_in m) (sought_in m)
+  some_sights = each_told
+
+-- a schema that is finite has ranges, so a row that agrees with the state is found
+pub other_has_none : OtherHasNone
+other_has_none m state name a values t can test other not h =
+    let finite = subst (λ (o : Operation). IsFinite m.environment.numbers m.environment.globals o.schema) test can.test in
+    let r = some_ranges m.environment a.comps (held_by (sources_of state a.comps) values) finite.bounded in
+    steps.other_has_none m state name a test values r.0 r.1 t not other h
+
+pub some_result : EveryResult
+some_result m limit can some = somehow_searched (explored_in m) (sought_in m) (words m) (verdict m) limit (some_turns m can) (some_sights m can) some

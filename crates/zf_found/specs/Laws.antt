@@ -1,17 +1,24 @@
 -- A search that can begin has all that is asked of it: a component that is out or none, ranges, events, and a number of tests.
-use Rattle.std.specs.Prelude.{◌⊎◌, IsTrue, ℕ, Bool, List, Option}
+use Rattle.std.specs.Prelude.{◌≡◌, ◌≢◌, ◌≤◌, ◌⊎◌, IsTrue, ℕ, Bool, List, Option}
 use Rattle.std.specs.List.{AllByRecursion}
 use Rattle.zf_term.specs.Definitions.{Comp, Schema, sets_of}
 use Rattle.zf_finite.specs.Finite.{one_bounds}
 use Rattle.zf_value.specs.declared.plain.Value.{Value}
+use Rattle.zf_walk.specs.declared.judge.Truth.{Truth}
+use Rattle.zf_walk.specs.declared.judge.Truth.TheVariants.{False}
 use Rattle.zf_walk.specs.Events.{Event}
 use Rattle.zf_meaning.specs.Environments.{Environment}
 use Rattle.zf_enum.specs.EventLaws.{AreEvents, IsBoundOf}
 use Rattle.zf_enum.specs.Portions.{Portion}
 use Rattle.zf_ranges.specs.Ranges.{AreRanges, IsNoneOut, IsFirstOut}
 use Rattle.zf_graph.specs.Laws.{EachNodeHasTurn}
-use Rattle.zf_steps.specs.Explored.{CanExplore, explored_in}
+use Rattle.zf_graph.specs.Seeking.{EachIsTold, IsSomehowSearched}
+use Rattle.zf_steps.specs.declared.node.Node.TheVariants.{State}
+use Rattle.zf_steps.specs.Explored.{CanExplore, explored_in, IsOther, IsSought, sought_in}
+use Rattle.zf_steps.specs.Satisfying.{HasRow, Satisfies}
+use Rattle.zf_steps.specs.Shapes.{test_in}
 use Rattle.zf_steps.specs.Systems.{System}
+use Rattle.zf_steps.specs.Words.{verdict, words}
 use Rattle.zf_lines.specs.declared.fault.Status.{Status}
 use Rattle.zf_lines.specs.Searches.{HasEvents, IsBelow, IsWritten, IsTestsLine}
 
@@ -44,3 +51,20 @@ EveryBound = (e : Environment) (a : Schema) (held : List (Option Value)) (ranges
 -- What is explored of finite schemas has a turn of each node, or a place at which the turn breaks off.
 abbrev pub EveryTurn : Type 0
 EveryTurn = (m : System) → CanExplore m → EachNodeHasTurn (explored_in m)
+
+-- In a search for a state each state is sought, or another, or it can't be told; so the search has a result.
+abbrev pub EverySight : Type 0
+EverySight = (m : System) → CanExplore m → EachIsTold (explored_in m) (sought_in m)
+
+abbrev pub EveryResult : Type 0
+EveryResult = (m : System) (limit : ℕ) → CanExplore m → 1 ≤ limit → IsSomehowSearched (explored_in m) (sought_in m) (words m) (verdict m) limit
+
+-- Where states with these components are tested by a schema, one that is sought satisfies it, and another has no row of it, not even one that can't be told.
+abbrev pub SoughtSatisfies : Type 0
+SoughtSatisfies =
+    (m : System) (state : List Comp) (name : List ℕ) (a : Schema) (values : List Value) → m.test ≡ test_in state name a → IsSought m (State values) → Satisfies m.environment a state values
+
+abbrev pub OtherHasNone : Type 0
+OtherHasNone =
+    (m : System) (state : List Comp) (name : List ℕ) (a : Schema) (values : List Value) (t : Truth) → CanExplore m → m.test ≡ test_in state name a → IsOther m (State values) → t ≢ False
+    → HasRow m.environment a state values t → ⊥

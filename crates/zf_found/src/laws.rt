@@ -1,5 +1,5 @@
 //! Laws of the definitions.
-ghost use Rattle.zf_found.specs.Laws.{OutIsDecided, EveryRange, EveryEvent, EverySearch, EveryNumberOfTests, EveryBound, EveryTurn};
+ghost use Rattle.zf_found.specs.Laws.{OutIsDecided, EveryRange, EveryEvent, EverySearch, EveryNumberOfTests, EveryBound, EveryTurn, EverySight, EveryResult, SoughtSatisfies, OtherHasNone};
 
 /// One component is the first that is out, or none is.
 pub fn out_decided()
@@ -26,4 +26,16 @@ pub fn every_number()
 /// In an exploration each state has its steps, or one that can't be told.
 pub fn every_turn()
     ensures { EveryTurn }
+{}
+
+/// In a search for a state each state is sought, or another, or it can't be told, and the search has a result.
+pub fn every_sight()
+    ensures sights { EverySight }
+    ensures results { EveryResult }
+{}
+
+/// A state that is sought satisfies the schema by which states are tested, and another has no row of it.
+pub fn sought_satisfies()
+    ensures sought { SoughtSatisfies }
+    ensures other { OtherHasNone }
 {}

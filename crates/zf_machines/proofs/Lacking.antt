@@ -3,7 +3,7 @@ use Rattle.std.proofs.Common.{◌≡◌, ◌∷◌, [], ap, inr, List, map, None
 use Rattle.std.specs.List.{AllByRecursion}
 use Rattle.std.specs.Prelude.{MatchOption}
 use Rattle.zf_machines.specs.declared.shape.Lack.{Lack}
-use Rattle.zf_machines.specs.Machines.{CanBeInitial, CanStep, HasShape, LacksFirst, LacksStepFirst, Named, Schemas, state_of}
+use Rattle.zf_machines.specs.Machines.{AllowsSought, CanBeInitial, CanStep, HasShape, LacksBehind, LacksFirst, Named, Schemas, SoughtLacks, state_of}
 use Rattle.zf_steps.specs.Shapes.{LacksStep}
 use Rattle.zf_term.specs.Definitions.{Comp}
 
@@ -15,9 +15,16 @@ pub map_map : {X Y Z : Type 0} (h : Y → Z) (f : X → Y) (xs : List X) → map
 map_map h f [] = refl
 map_map h f (x ∷ xs) = ap (λ ys. h (f x) ∷ ys) (map_map h f xs)
 
--- the initial states have what they need, and what is found of the operations decides
+-- the initial states have what they need, and what is found of the others decides
 pub shape_by : (p : Schemas) (o : Option Lack) → CanBeInitial (state_of p) p.init.schema
-    → MatchOption o (AllByRecursion (CanStep (state_of p)) p.operations) (λ k. LacksStepFirst (state_of p) p.operations k.schema.now k.component.now)
+    → MatchOption o (AllByRecursion (CanStep (state_of p)) p.operations × AllowsSought (state_of p) p.sought) (λ k. LacksBehind (state_of p) p k.schema.now k.component.now)
     → MatchOption o (HasShape p) (λ k. LacksFirst p k.schema.now k.component.now)
-shape_by p None init all = record { init = init; operations = all }
+shape_by p None init all = record { init = init; operations = all.0; sought = all.1 }
 shape_by p (Some k) init lacks = inr (init, lacks)
+
+-- so do the operations, and what is found of what is sought decides
+pub behind_by : (state : List Comp) (p : Schemas) (o : Option Lack) → AllByRecursion (CanStep state) p.operations
+    → MatchOption o (AllowsSought state p.sought) (λ k. SoughtLacks state p.sought k.schema.now k.component.now)
+    → MatchOption o (AllByRecursion (CanStep state) p.operations × AllowsSought state p.sought) (λ k. LacksBehind state p k.schema.now k.component.now)
+behind_by state p None all allows = (all, allows)
+behind_by state p (Some k) all lacks = inr (all, lacks)

@@ -1,5 +1,5 @@
 -- Schemas as the program has them.
-use Rattle.std.specs.Prelude.{map}
+use Rattle.std.specs.Prelude.{map, option_map}
 use Rattle.zf_term.specs.SchemaViews.{schema_of}
 use Rattle.zf_machines.specs.Machines.{Named, Schemas}
 use Rattle.zf_machines.specs.declared.schemas.Named as code
@@ -9,4 +9,4 @@ abbrev pub named_of : code.Named → Named
 named_of s = record { name = s.name.now; schema = schema_of s.schema.now }
 
 abbrev pub schemas_of : codes.Schemas → Schemas
-schemas_of p = record { state = named_of p.state; init = named_of p.init; operations = map named_of p.operations.items }
+schemas_of p = record { state = named_of p.state; init = named_of p.init; operations = map named_of p.operations.items; sought = option_map named_of p.sought }

@@ -11,7 +11,7 @@ ghost use Rattle.zf_meaning.specs.Envs.{environment_of};
 ghost use Rattle.zf_reach.specs.Machines.{ending_of};
 ghost use Rattle.zf_reach.specs.Runs.{StopsEarly};
 ghost use Rattle.zf_steps.specs.Explored.{explored_in};
-ghost use Rattle.zf_steps.specs.Lines.{lines};
+ghost use Rattle.zf_steps.specs.Words.{words};
 ghost use Rattle.zf_steps.specs.Renewing.{CanSearch};
 ghost use Rattle.zf_steps.specs.Systems.{System};
 
@@ -24,16 +24,17 @@ use zf_lines::counted::Counted;
 use zf_lines::fault::RunFault;
 use zf_meaning::env::Env;
 use zf_reach::Ending;
-use zf_steps::explore_flat;
+use zf_steps::{Form, explore_flat};
 use zf_texts::Spelling;
 
-/// The schemas of a machine in an environment, with how elements are spelled.
+/// The schemas of a machine in an environment, with how elements are spelled, and the form in which it is written.
 #[derive(Drop)]
 pub struct Specification<'s, 'e, 'p, 'g, 'a> {
     pub alloc: Global,
     pub arena: &'a Bump,
     pub env: &'e Env<'g, 'a>,
     pub elements: &'s [Spelling],
+    pub form: Form,
     pub schemas: &'s Schemas<'p, 'a>,
 }
 
@@ -47,8 +48,8 @@ pub fn explore_schemas<W: Write>(
     requires limited { 1 ≤ limit }
     requires shape { HasShape (schemas_of specification.now.schemas.now) }
     requires searchable { AllByRecursion (λ n. CanSearch (environment_of specification.now.env.now) n.schema) (all_of (schemas_of specification.now.schemas.now)) }
-    ensures ok { IfOk result (λ ending. (m : System) × IsMachineOf (environment_of specification.now.env.now) specification.now.elements.now (schemas_of specification.now.schemas.now) m × (at text : List ℕ) × IsWritten (explored_in m) (lines m) limit (ending_of ending at) text × Appends (W.contents (device_of writer.old)) (W.contents (device_of writer.new)) text) }
-    ensures err { OnErr result (Appends (W.contents (device_of writer.old)) (W.contents (device_of writer.new)) [] ⊎ ((m : System) × IsMachineOf (environment_of specification.now.env.now) specification.now.elements.now (schemas_of specification.now.schemas.now) m × StopsEarly (explored_in m) (lines m) limit (W.contents (device_of writer.old)) (W.contents (device_of writer.new)))) }
+    ensures ok { IfOk result (λ ending. (m : System) × IsMachineOf (environment_of specification.now.env.now) specification.now.elements.now specification.now.form (schemas_of specification.now.schemas.now) m × (at text : List ℕ) × IsWritten (explored_in m) (words m) limit (ending_of ending at) text × Appends (W.contents (device_of writer.old)) (W.contents (device_of writer.new)) text) }
+    ensures err { OnErr result (Appends (W.contents (device_of writer.old)) (W.contents (device_of writer.new)) [] ⊎ ((m : System) × IsMachineOf (environment_of specification.now.env.now) specification.now.elements.now specification.now.form (schemas_of specification.now.schemas.now) m × StopsEarly (explored_in m) (words m) limit (W.contents (device_of writer.old)) (W.contents (device_of writer.new)))) }
     ensures count { failures_of writer.new ≡ write_failures result }
     ensures unread { read_failures result ≡ 0 }
 {
@@ -56,6 +57,7 @@ pub fn explore_schemas<W: Write>(
         specification.alloc,
         specification.arena,
         specification.elements,
+        specification.form,
         specification.schemas,
     )?;
     explore_flat(&system, specification.env, limit, writer)

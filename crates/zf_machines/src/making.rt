@@ -1,6 +1,6 @@
 //! The machine that schemas make.
 ghost use Rattle.std.specs.Prelude.{◌≡◌, IfOk, map};
-ghost use Rattle.zf_machines.specs.Machines.{HasShape, IsMachineOf};
+ghost use Rattle.zf_machines.specs.Machines.{HasShape, IsMachineOf, test_of};
 ghost use Rattle.zf_meaning.specs.Environments.{Environment};
 ghost use Rattle.zf_machines.specs.SchemaViews.{named_of, schemas_of};
 ghost use Rattle.zf_steps.specs.Shapes as shapes;
@@ -11,7 +11,7 @@ ghost use Rattle.zf_term.specs.SchemaViews.{schema_of};
 use crate::schemas::{Named, Schemas};
 use bumpalo::Bump;
 use std::alloc::{AllocError, Global};
-use zf_steps::{Operation, States, System, init_in, operation_in, state_in, with_strokes};
+use zf_steps::{Form, Operation, States, System, init_in, operation_in, test_in, with_strokes};
 use zf_term::schema::Flat;
 use zf_texts::Spelling;
 
@@ -20,25 +20,38 @@ pub fn machine_of<'s, 'p, 'a>(
     alloc: Global,
     arena: &'a Bump,
     elements: &'s [Spelling],
+    form: Form,
     schemas: &Schemas<'p, 'a>,
 ) -> Result<System<'s, 'p, Flat<'a>>, AllocError>
     requires { HasShape (schemas_of schemas.now) }
-    ensures { IfOk result (λ m. (e : Environment) → IsMachineOf e elements.now (schemas_of schemas.now) (system_of e schema_of m)) }
+    ensures { IfOk result (λ m. (e : Environment) → IsMachineOf e elements.now form (schemas_of schemas.now) (system_of e schema_of m)) }
 {
     let before = schemas.state.schema.components.as_slice();
     let stroked = with_strokes(arena, before)?;
     let after = stroked.as_slice();
     let states = States { before, after };
-    let state = state_in(alloc, arena, schemas.state.name, schemas.state.schema)?;
+    let tested = tested_by(schemas);
+    let test = test_in(alloc, schemas.state.schema, tested.name, tested.schema)?;
     let init = init_in(alloc, arena, states, schemas.init.name, schemas.init.schema)?;
     let operations = operations_in(alloc, arena, states, &schemas.operations)?;
     Ok(System {
         alloc,
         elements,
-        state,
+        form,
+        test,
         init,
         operations,
     })
+}
+
+/// The schema by which states are tested: what is sought, or else that of the state.
+fn tested_by<'p, 'a>(schemas: &Schemas<'p, 'a>) -> Named<'p, 'a>
+    ensures { named_of result ≡ test_of (schemas_of schemas.now) }
+{
+    match &schemas.sought {
+        None => schemas.state,
+        Some(sought) => *sought,
+    }
 }
 
 /// The operations of a machine with these states.

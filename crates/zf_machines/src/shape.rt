@@ -1,14 +1,14 @@
 //! Whether schemas make a machine.
-ghost use Rattle.std.specs.Prelude.{IfOk, MatchOption, map};
+ghost use Rattle.std.specs.Prelude.{IfOk, MatchOption, map, option_map};
 ghost use Rattle.std.specs.List.{AllByRecursion};
-ghost use Rattle.zf_machines.specs.Machines.{CanStep, HasShape, LacksFirst, LacksStepFirst};
+ghost use Rattle.zf_machines.specs.Machines.{AllowsSought, CanStep, HasShape, LacksBehind, LacksFirst, LacksStepFirst, SoughtLacks};
 ghost use Rattle.zf_machines.specs.SchemaViews.{named_of, schemas_of};
 ghost use Rattle.zf_steps.specs.States.{AreStates, before_of};
 
 use crate::schemas::{Named, Schemas};
 use bumpalo::Bump;
 use std::alloc::AllocError;
-use zf_steps::{States, init_lacks, step_lacks, with_strokes};
+use zf_steps::{States, init_lacks, sought_lacks, step_lacks, with_strokes};
 
 /// A schema that lacks a component, both by their names.
 #[derive(Clone, Copy)]
@@ -33,7 +33,37 @@ pub fn lack_of<'p, 'a>(
             let schema = schemas.init.name;
             Ok(Some(Lack { schema, component }))
         }
-        None => Ok(step_lack(states, &schemas.operations)),
+        None => Ok(later_lack(states, schemas)),
+    }
+}
+
+/// The first schema behind that of the initial states that lacks a component.
+fn later_lack<'p, 'a>(states: States<'_, 'a>, schemas: &Schemas<'p, 'a>) -> Option<Lack<'p, 'a>>
+    requires { AreStates states }
+    ensures { MatchOption result (AllByRecursion (CanStep (before_of states.entry)) (schemas_of schemas.now).operations × AllowsSought (before_of states.entry) (schemas_of schemas.now).sought) (λ k. LacksBehind (before_of states.entry) (schemas_of schemas.now) k.schema.now k.component.now) }
+{
+    match step_lack(states, &schemas.operations) {
+        Some(lack) => Some(lack),
+        None => sought_lack(states, schemas.sought),
+    }
+}
+
+/// The first component of the state that what is sought has at another type.
+fn sought_lack<'p, 'a>(
+    states: States<'_, 'a>,
+    sought: Option<Named<'p, 'a>>,
+) -> Option<Lack<'p, 'a>>
+    ensures { MatchOption result (AllowsSought (before_of states.entry) (option_map named_of sought.entry)) (λ k. SoughtLacks (before_of states.entry) (option_map named_of sought.entry) k.schema.now k.component.now) }
+{
+    match sought {
+        None => None,
+        Some(sought) => match sought_lacks(states.before, sought.schema) {
+            None => None,
+            Some(component) => {
+                let schema = sought.name;
+                Some(Lack { schema, component })
+            }
+        },
     }
 }
 

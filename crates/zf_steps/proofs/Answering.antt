@@ -1,25 +1,23 @@
 -- What the searches answer, in the turn of a node.
-use Rattle.std.proofs.Common.{◌+◌, ◌<◌, ◌∙◌, ◌∷◌, ◌≡◌, ◌⊎◌, [], ap, arith, Bool, false, inl, inr, List, None, Option, refl, Some, subst, suc, sym, true, ℕ}
+use Rattle.std.proofs.Common.{◌+◌, ◌<◌, ◌∙◌, ◌≡◌, [], ap, arith, Bool, false, inl, List, Option, refl, Some, subst, suc, sym, true, ℕ}
 use Rattle.std.specs.Prelude.{unwrap_or}
 use Rattle.zf_graph.proofs.Going.{begins_with_none}
-use Rattle.zf_graph.specs.Explorations.{Turn}
 use Rattle.zf_graph.specs.Parts.{AreFirst, BeginsTurn}
 use Rattle.zf_lines.proofs.Fewer.{ahead_count, one_fewer}
-use Rattle.zf_reach.specs.declared.machine.Beginning.{Beginning}
-use Rattle.zf_reach.specs.declared.machine.Beginning.TheVariants as beginnings
 use Rattle.zf_reach.specs.declared.machine.Found as answer
 use Rattle.zf_reach.specs.declared.machine.Found.TheVariants as founds
-use Rattle.zf_reach.specs.Machines.{AdvancesTo, HasFewer}
+use Rattle.zf_reach.specs.declared.sight.Sight.{Sight}
+use Rattle.zf_reach.specs.declared.sight.Sight.TheVariants as sights
+use Rattle.zf_reach.specs.Machines.{AdvancesTo, HasFewer, IsSeenAs}
 use Rattle.zf_value.specs.contracts.plain.ValueOrd.TheImpl.Laws as order_laws
 use Rattle.zf_value.specs.declared.plain.Value.{Value}
 use Rattle.zf_value.specs.Sets.{value_order}
 use Rattle.zf_walk.proofs.Lists.{AllPairs-nil, Contains-nil}
-use Rattle.zf_walk.specs.declared.judge.Truth.{Truth}
 use Rattle.zf_walk.specs.declared.judge.Truth.TheVariants.{Out, True}
 use Rattle.zf_walk.specs.declared.step.Step.TheVariants.{Breaks, End, Holds}
 use Rattle.zf_walk.specs.Conjuncts.{Conjuncts}
 use Rattle.zf_walk.specs.Events.{Event, IsEvent}
-use Rattle.zf_walk.specs.Progress.{Advances, Ahead, IsNoneAhead, SameRanges, Stage, Takes}
+use Rattle.zf_walk.specs.Progress.{Advances, IsNoneAhead, SameRanges, Stage, Takes}
 use Rattle.zf_walk.specs.Rows.{ComesAfter}
 use Rattle.zf_enum.specs.Property.{property}
 use Rattle.zf_steps.proofs.Searching.{all_passed, begins_so, breaks_so, event_in, found_at, goes_on}
@@ -28,7 +26,8 @@ use Rattle.zf_steps.specs.declared.node.Node.{Node}
 use Rattle.zf_steps.specs.declared.node.Node.TheVariants.{State}
 use Rattle.zf_steps.specs.Finders.{BeginsFor}
 use Rattle.zf_steps.specs.declared.stepped.Stepped.{Stepped}
-use Rattle.zf_steps.specs.Machines.{BeginsState, GoesOn, IsBeginning, IsFound, rows_ahead}
+use Rattle.zf_steps.specs.Explored.{sought_in}
+use Rattle.zf_steps.specs.Machines.{BeginsState, begun_as, GoesOn, IsFound, IsSight, rows_ahead}
 use Rattle.zf_steps.specs.Searching.{HasFound, HasPassed}
 use Rattle.zf_steps.specs.Steps.{exploration, held_by, IsEventOf, IsFirstOf, IsStray, parts_of, searched, stopped, values_at}
 use Rattle.zf_steps.specs.Systems.{Operation, System}
@@ -73,30 +72,46 @@ fewer_ahead s old new same (row, last, takes) =
     subst (λ rs. ahead_count value_order rs new.ahead < rows_ahead old) (sym same.ranges)
     (one_fewer value_order order_laws.total-law s old.ranges old.after old.ahead new.ahead (record { row = row; truth = True }) takes)
 
--- ---- the turn of a state begins
+-- ---- a state is looked at
 
 module _ (m : System) (eq : Node → Node → Bool) (values : List Value) (begun new : Stage Value)
-    (begins : BeginsFor m.environment m.state.schema (held_by m.state.sources values) begun) where
+    (begins : BeginsFor m.environment m.test.schema (held_by m.test.sources values) begun) where
   abbrev conjuncts : Conjuncts Value
-  conjuncts = property m.environment m.state.schema.conjuncts
+  conjuncts = property m.environment m.test.schema.conjuncts
 
   abbrev Found : Event Value → Type 0
-  Found x = IsEventOf m.environment m.state.schema (held_by m.state.sources values) x
+  Found x = IsEventOf m.environment m.test.schema (held_by m.test.sources values) x
 
   -- what a search takes first is the first of all
   first_taken : (x : Event Value) → Takes value_order conjuncts begun.ranges begun.after begun.ahead x new.ahead
-      → IsFirstOf m.environment m.state.schema (held_by m.state.sources values) x
+      → IsFirstOf m.environment m.test.schema (held_by m.test.sources values) x
   first_taken x t = record {
-    event = found_at m eq (State values) 0 m.state begun.ranges begins.ranges x
+    event = found_at m eq (State values) 0 m.test begun.ranges begins.ranges x
         (subst (λ n. IsEvent value_order conjuncts begun.ranges n x) begins.named t.event);
-    first = λ y f. let i = event_in m eq (State values) 0 m.state begun.ranges begins.ranges y f in
+    first = λ y f. let i = event_in m eq (State values) 0 m.test begun.ranges begins.ranges y f in
         t.first y (subst (λ n. IsEvent value_order conjuncts begun.ranges n y) (sym begins.named) i) (begins.ahead y i);
   }
 
   none_there : IsNoneAhead value_order conjuncts begun.ranges begun.after begun.ahead → (x : Event Value) → Found x → ⊥
-  none_there none x f = let i = event_in m eq (State values) 0 m.state begun.ranges begins.ranges x f in
+  none_there none x f = let i = event_in m eq (State values) 0 m.test begun.ranges begins.ranges x f in
       none x (subst (λ n. IsEvent value_order conjuncts begun.ranges n x) (sym begins.named) i) (begins.ahead x i)
 
+  module _ (stop : List ℕ) where
+    seen_sought : Advances value_order conjuncts Holds begun new → IsSeenAs (sought_in m) sights.Sought (State values) stop
+    seen_sought (row, last, takes) = (row, first_taken (record { row = row; truth = True }) takes)
+
+    seen_other : Advances value_order conjuncts End begun new → IsSeenAs (sought_in m) sights.Other (State values) stop
+    seen_other (last, none, past) = none_there none
+
+    seen_untold : (given : List Value) → given ≡ unwrap_or new.last [] → stop ≡ stopped m.elements m.test given
+        → Advances value_order conjuncts Breaks begun new → IsSeenAs (sought_in m) sights.Untold (State values) stop
+    seen_untold given gives said (row, last, takes) =
+        let here : given ≡ row = row_of given row new.last gives last in
+        (row, first_taken (record { row = row; truth = Out }) takes, said ∙ ap (stopped m.elements m.test) here)
+
+-- ---- its turn begins
+
+module _ (m : System) (eq : Node → Node → Bool) (values : List Value) where
   nothing_first : (o : Operation) → AreFirst (searched m eq) (State values) o []
   nothing_first o = record {
     ascending = AllPairs-nil (λ (x y : Event Value). ComesAfter value_order x.row y.row);
@@ -107,48 +122,22 @@ module _ (m : System) (eq : Node → Node → Bool) (values : List Value) (begun
   begun_so : (b : Bool) → IsStray m (State values) b → BeginsTurn (searched m eq) (State values) (record { stray = b; edges = [] })
   begun_so b stray = (stray, begins_with_none (searched m eq) (State values) 0 (parts_of m (State values)) nothing_first)
 
-  module _ (stop : List ℕ) where
-    pub begins_regular : Advances value_order conjuncts Holds begun new → BeginsState m eq (State values) beginnings.Regular stop
-    begins_regular (row, last, takes) =
-        let stray : IsStray m (State values) false = (row, first_taken (record { row = row; truth = True }) takes) in
-        (record { stray = false; edges = [] }, (refl, begun_so false stray), (stray, refl))
-
-    pub begins_stray : Advances value_order conjuncts End begun new → BeginsState m eq (State values) beginnings.Stray stop
-    begins_stray (last, none, past) =
-        let stray : IsStray m (State values) true = none_there none in
-        (record { stray = true; edges = [] }, (refl, begun_so true stray), (stray, refl))
-
-    pub begins_out : (given : List Value) → given ≡ unwrap_or new.last [] → stop ≡ stopped m.elements m.state given
-        → Advances value_order conjuncts Breaks begun new → BeginsState m eq (State values) beginnings.Out stop
-    begins_out given gives said (row, last, takes) =
-        let here : given ≡ row = row_of given row new.last gives last in (
-          record { stray = false; edges = [] },
-          (
-            refl,
-            inl (
-              refl,
-              (
-                row,
-                first_taken (record { row = row; truth = Out }) takes,
-                said
-                    ∙ ap (stopped m.elements m.state) here,
-              ),
-            ),
-          ),
-          tt,
-        )
+  pub begins_seen : (stop : List ℕ) (s : Sight) → IsSeenAs (sought_in m) s (State values) stop → BeginsState m eq (State values) (begun_as s) stop
+  begins_seen stop sights.Sought stray = (record { stray = false; edges = [] }, (refl, begun_so false stray), (stray, refl))
+  begins_seen stop sights.Other stray = (record { stray = true; edges = [] }, (refl, begun_so true stray), (stray, refl))
+  begins_seen stop sights.Untold doubt = (record { stray = false; edges = [] }, (refl, inl (refl, doubt)), tt)
 
 -- ---- steps as what they are taken for
 
-pub begins_told : (m : System) (eq : Node → Node → Bool) (values : List Value) (begun new : Stage Value) → BeginsFor m.environment m.state.schema (held_by m.state.sources values) begun
-    → (s : Stepped) → s.row.items ≡ unwrap_or new.last [] → Advances value_order (property m.environment m.state.schema.conjuncts) s.step begun new
-    → (b : Beginning) (stop : List ℕ) → IsBeginning m.elements m.state s b stop → BeginsState m eq (State values) b stop
-begins_told m eq values begun new begins s row h beginnings.Regular stop is =
-    begins_regular m eq values begun new begins stop (subst (λ x. Advances value_order (property m.environment m.state.schema.conjuncts) x begun new) is h)
-begins_told m eq values begun new begins s row h beginnings.Stray stop is =
-    begins_stray m eq values begun new begins stop (subst (λ x. Advances value_order (property m.environment m.state.schema.conjuncts) x begun new) is h)
-begins_told m eq values begun new begins s row h beginnings.Out stop is =
-    begins_out m eq values begun new begins stop s.row.items row is.1 (subst (λ x. Advances value_order (property m.environment m.state.schema.conjuncts) x begun new) is.0 h)
+pub seen_told : (m : System) (eq : Node → Node → Bool) (values : List Value) (begun new : Stage Value) → BeginsFor m.environment m.test.schema (held_by m.test.sources values) begun
+    → (s : Stepped) → s.row.items ≡ unwrap_or new.last [] → Advances value_order (property m.environment m.test.schema.conjuncts) s.step begun new
+    → (sight : Sight) (stop : List ℕ) → IsSight m.elements m.test s sight stop → IsSeenAs (sought_in m) sight (State values) stop
+seen_told m eq values begun new begins s row h sights.Sought stop is =
+    seen_sought m eq values begun new begins stop (subst (λ x. Advances value_order (property m.environment m.test.schema.conjuncts) x begun new) is h)
+seen_told m eq values begun new begins s row h sights.Other stop is =
+    seen_other m eq values begun new begins stop (subst (λ x. Advances value_order (property m.environment m.test.schema.conjuncts) x begun new) is h)
+seen_told m eq values begun new begins s row h sights.Untold stop is =
+    seen_untold m eq values begun new begins stop s.row.items row is.1 (subst (λ x. Advances value_order (property m.environment m.test.schema.conjuncts) x begun new) is.0 h)
 
 pub goes_told : (m : System) (eq : Node → Node → Bool) (number : ℕ) (o : Operation) (old new : Stage Value) → SameRanges old new
     → (s : Stepped) → s.row.items ≡ unwrap_or new.last [] → Advances value_order (property m.environment o.schema.conjuncts) s.step old new

@@ -1,9 +1,14 @@
 pub mod Sure
+pub mod Stopping
+pub mod Satisfying
 pub mod Searching
 pub mod Answering
 pub mod Fitting
 pub mod Shapes
+pub mod Clashing
 pub mod Moving
 pub mod Picked
 pub mod Renewing
 pub mod Pieces
+pub mod Columns
+pub mod Wording

@@ -1,5 +1,5 @@
 -- The machine's searches, before and after its steps.
-use Rattle.std.proofs.Common.{◌+◌, ◌<◌, ◌∙◌, ◌≡◌, [], ap, arith, Bool, Err, false, IfOk, length, List, map, Ok, OnOk, Option, refl, Result, Some, subst, sym, ℕ}
+use Rattle.std.proofs.Common.{◌+◌, ◌<◌, ◌∙◌, ◌≡◌, [], arith, Bool, Err, false, IfOk, length, List, map, Ok, OnOk, Option, refl, Result, Some, subst, sym, ℕ}
 use Rattle.std.proofs.lemmas.List.{length-map}
 use Rattle.std.specs.Prelude.{slice_get, slice_index_or, slice_set}
 use Rattle.zf_graph.proofs.Going.{begins_with_none}
@@ -26,10 +26,9 @@ use Rattle.zf_steps.specs.declared.node.Label.{Label}
 use Rattle.zf_steps.specs.declared.node.Node.{Node}
 use Rattle.zf_steps.specs.declared.node.Node.TheVariants.{Root, State}
 use Rattle.zf_steps.specs.Finders.{BeginsFor}
-use Rattle.zf_steps.specs.Fitting.{AreFor}
-use Rattle.zf_steps.specs.Machines.{BeginsState, Fits, GoesOn, HasPart, IsPartOf, number_of, rows_ahead, rows_ahead_at, search_of, Stands}
+use Rattle.zf_steps.specs.Machines.{BeginsState, Fits, GoesOn, HasPart, number_of, rows_ahead, rows_ahead_at, search_of, Stands}
 use Rattle.zf_steps.specs.Searching.{HasFound, HasPassed}
-use Rattle.zf_steps.specs.Steps.{exploration, held_by, parts_of, searched, values_of}
+use Rattle.zf_steps.specs.Steps.{exploration, held_by, parts_of, searched}
 use Rattle.zf_steps.specs.Systems as systems
 use Rattle.zf_steps.specs.Systems.{System}
 
@@ -63,7 +62,7 @@ module _ {S : Type 0} (IsFor : S → Environment → Schema
     → Type 0) (m : System) (state init : S) (operations : List S) (part : Part) (h : Fits IsFor m state init operations part) where
   pub fits_state : (s : S) → ((e : Environment) (a : Schema) → IsFor state e a → IsFor s e a) → Fits IsFor m s init operations part
   fits_state s kept = record {
-    of_state = kept m.environment m.state.schema h.of_state;
+    of_state = kept m.environment m.test.schema h.of_state;
     of_init = h.of_init;
     of_operations = h.of_operations;
     has_part = h.has_part;

@@ -1,9 +1,8 @@
 -- What a search comes to, in the turn of a node.
-use Rattle.std.proofs.Common.{◌++◌, ◌+◌, ◌∙◌, ◌∷◌, ◌≡◌, ◌⊎◌, [], ap, arith, Bool, inl, inr, List, map, None, Option, refl, Some, subst, suc, sym, take, ℕ}
+use Rattle.std.proofs.Common.{◌++◌, ◌+◌, ◌∙◌, ◌∷◌, ◌≡◌, [], ap, arith, Bool, inl, inr, List, map, None, Option, refl, Some, subst, suc, sym, take, ℕ}
 use Rattle.std.proofs.lemmas.List.{append-nil, append_assoc, map-append}
-use Rattle.std.specs.Prelude.{Contains, slice_get}
+use Rattle.std.specs.Prelude.{slice_get}
 use Rattle.zf_graph.specs.Explorations.{Turn}
-use Rattle.zf_graph.specs.Graphs.{Edge}
 use Rattle.zf_graph.specs.Parts.{AllHold, AreFinds, AreFirst, BeginsParts, BeginsTurn, BreaksParts, BreaksTurn, HasParts}
 use Rattle.zf_graph.specs.Texts.{with_edge}
 use Rattle.zf_graph.proofs.Going.{begins_in_part, breaks_in_part, one_more_part}
@@ -12,11 +11,9 @@ use Rattle.zf_value.specs.declared.plain.Value.{Value}
 use Rattle.zf_value.specs.Sets.{value_order}
 use Rattle.zf_walk.proofs.Lists.{Contains-cases, Contains-either, Contains-nil}
 use Rattle.zf_walk.specs.declared.judge.Truth.TheVariants.{Out, True}
-use Rattle.zf_walk.specs.declared.step.Step.TheVariants.{Breaks, End, Holds}
 use Rattle.zf_walk.specs.Conjuncts.{Conjuncts}
 use Rattle.zf_walk.specs.Events.{Event, IsEvent}
-use Rattle.zf_walk.specs.Progress.{Advances, Ahead, IsNoneAhead, SameRanges, Stage, Takes}
-use Rattle.zf_walk.specs.Rows.{ComesAfter}
+use Rattle.zf_walk.specs.Progress.{Ahead, IsNoneAhead, SameRanges, Stage, Takes}
 use Rattle.zf_enum.proofs.EventLaws.{one_ranges}
 use Rattle.zf_enum.specs.Property.{property}
 use Rattle.zf_ranges.specs.Ranges.{AreRanges}
@@ -25,7 +22,7 @@ use Rattle.zf_steps.specs.declared.node.Label.{Label}
 use Rattle.zf_steps.specs.declared.node.Node.{Node}
 use Rattle.zf_steps.specs.Finders.{BeginsFor}
 use Rattle.zf_steps.specs.Searching.{HasFound, HasPassed}
-use Rattle.zf_steps.specs.Steps.{held_by, IsEventOf, IsFoundAt, parts_of, searched, step, stop, values_of}
+use Rattle.zf_steps.specs.Steps.{held_by, IsFoundAt, parts_of, searched, step, stop, values_of}
 use Rattle.zf_steps.specs.SystemLaws.{never_both}
 use Rattle.zf_steps.specs.Systems.{Operation, System}
 

@@ -4,14 +4,13 @@ use Rattle.std.proofs.lemmas.Bool.{false≢true}
 use Rattle.std.proofs.lemmas.List.{append-nil, map-append, map_more, take_more}
 use Rattle.std.proofs.lemmas.List.Elements.{filter_map-append}
 use Rattle.std.proofs.lemmas.Option.{slice_get-get_or}
-use Rattle.std.specs.List.{AllByRecursion, filter_map}
+use Rattle.std.specs.List.{filter_map}
 use Rattle.std.specs.Prelude.{cond, option_to_list, slice_get}
 use Rattle.zf_graph.proofs.Places.{none_some, one_some}
 use Rattle.zf_term.specs.Definitions.{Comp, Schema}
 use Rattle.zf_term.specs.declared.schema.Component.{Component}
 use Rattle.zf_term.specs.FirstNamed.{first_named}
 use Rattle.zf_term.specs.SchemaViews.{comp_of}
-use Rattle.zf_term.specs.Types.{Ty}
 use Rattle.zf_steps.specs.Shapes.{Has, HasAll, init_in, IsInit, is_other, Lacks, others_from, with_strokes}
 use Rattle.zf_steps.specs.Systems.{Operation}
 use Rattle.zf_steps.proofs.Fitting.{map_map}
@@ -24,10 +23,10 @@ ahead [] i x e = absurd (none_some x e)
 ahead (y ∷ xs) zero x e = ap (λ z. z ∷ xs) (one_some y x e)
 ahead (y ∷ xs) (suc i) x e = ahead xs i x e
 
-ahead_got : {X : Type 0} (xs : List X) (i : ℕ) (x : X) → x ≡ get_or xs i x → i < length xs → drop i xs ≡ x ∷ drop (i + 1) xs
+pub ahead_got : {X : Type 0} (xs : List X) (i : ℕ) (x : X) → x ≡ get_or xs i x → i < length xs → drop i xs ≡ x ∷ drop (i + 1) xs
 ahead_got xs i x at l = ahead xs i x (slice_get-get_or xs i x l ∙ ap Some (sym at)) ∙ ap (λ k. x ∷ drop k xs) (sym (add-one i))
 
-nothing_ahead : {X : Type 0} (xs : List X) (n : ℕ) → length xs ≤ n → drop n xs ≡ []
+pub nothing_ahead : {X : Type 0} (xs : List X) (n : ℕ) → length xs ≤ n → drop n xs ≡ []
 nothing_ahead [] zero l = refl
 nothing_ahead [] (suc n) l = refl
 nothing_ahead (x ∷ xs) zero l = absurd (omega (arith, l))

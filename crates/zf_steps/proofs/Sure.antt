@@ -1,13 +1,24 @@
 -- The laws of what is searched.
+use Rattle.std.proofs.Common.{ℕ}
 use Rattle.zf_graph.specs.Laws.{IsOf, IsSure}
+use Rattle.zf_graph.specs.Seeking.{IsDecisive, IsSearchedInOneWay}
+use Rattle.zf_graph.proofs.OneSearch.{one_search}
 use Rattle.zf_graph.proofs.Turns.{of_graph, sure}
 use Rattle.zf_steps.specs.contracts.node.NodePartialEq.TheImpl as nodes
 use Rattle.zf_steps.specs.Steps.{exploration, searched, steps}
-use Rattle.zf_steps.specs.SystemLaws.{orderly}
+use Rattle.zf_steps.specs.Explored.{explored_in, sought_in}
+use Rattle.zf_steps.specs.SystemLaws.{decisive, orderly}
 use Rattle.zf_steps.specs.Systems.{System}
+use Rattle.zf_steps.specs.Words.{verdict, words}
 
 pub is_of : (m : System) → IsOf (exploration m nodes.ghosts.eq) (steps m nodes.ghosts.eq)
 is_of m = of_graph (searched m nodes.ghosts.eq) (orderly m)
 
 pub is_sure : (m : System) → IsSure (exploration m nodes.ghosts.eq)
 is_sure m = sure (searched m nodes.ghosts.eq) (orderly m)
+
+pub is_decisive : (m : System) → IsDecisive (explored_in m) (sought_in m)
+is_decisive m = decisive m nodes.ghosts.eq
+
+pub is_searched_once : (m : System) (limit : ℕ) → IsSearchedInOneWay (explored_in m) (sought_in m) (words m) (verdict m) limit
+is_searched_once m limit = one_search (explored_in m) (sought_in m) (words m) (verdict m) limit (is_sure m) (is_decisive m)

@@ -1,5 +1,6 @@
 -- The lines of states and steps.
 use Rattle.std.specs.Prelude.{ℕ, ◌-◌, ◌^◌, ◌++◌, List, [], ◌∷◌, codes, cond, decimal, eqb, min, Option, slice_get}
+use Rattle.zf_graph.specs.Seeking.{found, missing, open_ended, Result, untold}
 use Rattle.zf_graph.specs.Texts.{broken, ended, Ending, paused, Words}
 use Rattle.zf_term.specs.Definitions.{Comp}
 use Rattle.zf_texts.specs.BindingTexts.{binding_text}
@@ -21,6 +22,13 @@ ending_line ended = codes "end\n"
 ending_line paused = codes "more\n"
 ending_line (broken at) = codes "out of bounds at: " ++ at ++ codes "\n"
 
+-- how a search ended
+abbrev pub result_line : Result → List ℕ
+result_line found = codes "found\n"
+result_line missing = codes "not found\n"
+result_line open_ended = codes "more\n"
+result_line (untold at) = codes "out of bounds at: " ++ at ++ codes "\n"
+
 -- `2 states, 1 steps`; a number past 64 bits is told as the greatest
 abbrev pub count_line : (states steps : ℕ) → List ℕ
 count_line states steps = decimal states ++ codes " states, " ++ decimal (min steps (2 ^ 64 - 1)) ++ codes " steps\n"
@@ -29,7 +37,7 @@ module _ (m : System) where
   -- `state 2: BINDING`
   abbrev pub state_line : (from number : ℕ) → Node → List ℕ
   state_line from number Root = []
-  state_line from number (State values) = codes "state " ++ decimal number ++ codes ": " ++ binding_text m.elements m.state.schema.comps values ++ codes "\n"
+  state_line from number (State values) = codes "state " ++ decimal number ++ codes ": " ++ binding_text m.elements m.state.comps values ++ codes "\n"
 
   -- `: BINDING` of what else a step has, and nothing where it has nothing
   abbrev pub label_text : List Comp → List Value → List ℕ
@@ -48,6 +56,7 @@ module _ (m : System) where
 
   abbrev pub lines : Words Node Label
   lines = record {
+    head = [];
     node = state_line;
     edge = step_line;
     stray = stray_line;

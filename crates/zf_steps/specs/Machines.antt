@@ -7,6 +7,8 @@ use Rattle.zf_reach.specs.declared.machine.Beginning.{Beginning}
 use Rattle.zf_reach.specs.declared.machine.Beginning.TheVariants as beginnings
 use Rattle.zf_reach.specs.declared.machine.Found.{Found}
 use Rattle.zf_reach.specs.declared.machine.Found.TheVariants as founds
+use Rattle.zf_reach.specs.declared.sight.Sight.{Sight}
+use Rattle.zf_reach.specs.declared.sight.Sight.TheVariants as sights
 use Rattle.zf_reach.specs.Machines.{AdvancesTo, BeginsAs, UnlessOut}
 use Rattle.zf_term.specs.Definitions.{Schema}
 use Rattle.zf_value.specs.declared.plain.Value.{Value}
@@ -58,18 +60,24 @@ HasPart m parts.Initial = Unit {0}
 HasPart m (parts.Operation number) = number < length m.operations
 
 pub record Fits {S : Type 0} (IsFor : S → Environment → Schema → Type 0) (m : System) (state init : S) (operations : List S) (part : Part) : Type 0 where
-  pub of_state : IsFor state m.environment m.state.schema
+  pub of_state : IsFor state m.environment m.test.schema
   pub of_init : IsFor init m.environment m.init.schema
   pub of_operations : AreFor IsFor m.environment (map (λ o. o.schema) m.operations) operations
   pub has_part : HasPart m part
 
 -- ---- what a step of a search is taken for
 
--- as the beginning of a turn, by the search for the state in its schema
-abbrev pub IsBeginning : (elements : List Spelling) → Operation → Stepped → Beginning → (stop : List ℕ) → Type 0
-IsBeginning elements o s beginnings.Regular stop = s.step ≡ steps.Holds
-IsBeginning elements o s beginnings.Stray stop = s.step ≡ steps.End
-IsBeginning elements o s beginnings.Out stop = (s.step ≡ steps.Breaks) × (stop ≡ stopped elements o s.row.items)
+-- as what is seen of a state, by the search for it in the schema by which it is tested
+abbrev pub IsSight : (elements : List Spelling) → Operation → Stepped → Sight → (stop : List ℕ) → Type 0
+IsSight elements o s sights.Sought stop = s.step ≡ steps.Holds
+IsSight elements o s sights.Other stop = s.step ≡ steps.End
+IsSight elements o s sights.Untold stop = (s.step ≡ steps.Breaks) × (stop ≡ stopped elements o s.row.items)
+
+-- how its turn begins then
+abbrev pub begun_as : Sight → Beginning
+begun_as sights.Sought = beginnings.Regular
+begun_as sights.Other = beginnings.Stray
+begun_as sights.Untold = beginnings.Out
 
 -- as what is found of the steps by an operation
 abbrev pub IsFound : (elements : List Spelling) → (number : ℕ) → Operation → Stepped → Found Node Label → (stop : List ℕ) → Type 0

@@ -25,7 +25,7 @@ pub record CanSearch (e : Environment) (a : Schema) : Type 0 where
   pub none_out : IsNoneOut e a.comps
 
 pub record CanSearchAll (m : System) : Type 0 where
-  pub state : CanSearch m.environment m.state.schema
+  pub test : CanSearch m.environment m.test.schema
   pub init : CanSearch m.environment m.init.schema
   pub operations : AllByRecursion (λ o. CanSearch m.environment o.schema) m.operations
 

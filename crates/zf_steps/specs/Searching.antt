@@ -1,5 +1,5 @@
 -- Where the search for the steps of a node stands. No public clause rests on this file.
-use Rattle.std.specs.Prelude.{◌≡◌, ℕ, Bool, List, ◌++◌, map, take, Option, None, Some, slice_get}
+use Rattle.std.specs.Prelude.{◌≡◌, ℕ, Bool, List, ◌++◌, map, take, None, Some, slice_get}
 use Rattle.zf_graph.specs.Explorations.{Turn}
 use Rattle.zf_graph.specs.Graphs.{Edge}
 use Rattle.zf_graph.specs.Parts.{AllHold, HasParts}

@@ -1,5 +1,5 @@
 -- The schemas of a machine: which of their components are those of the state before, and which those of the state after.
-use Rattle.std.specs.Prelude.{◌≡◌, ◌⊎◌, ◌++◌, ◌+◌, ℕ, Bool, not, cond, List, [], ◌∷◌, codes, map, Option, None, Some, is_some, option_map, option_to_list, slice_get}
+use Rattle.std.specs.Prelude.{◌≡◌, ◌⊎◌, ◌++◌, ◌+◌, ℕ, Bool, not, cond, List, [], ◌∷◌, codes, map, Option, Some, is_some, option_map, slice_get}
 use Rattle.std.specs.List.{AllByRecursion, filter_map}
 use Rattle.zf_term.specs.Definitions.{Comp, Schema}
 use Rattle.zf_term.specs.FirstNamed.{first_named}
@@ -55,11 +55,32 @@ abbrev pub others_from : (state : List Comp) → (place : ℕ) → List Comp →
 others_from state place [] = []
 others_from state place (c ∷ cs) = cond (is_other state c.name) (place ∷ []) [] ++ others_from state (place + 1) cs
 
+-- ---- schemas that can be sought
+
+-- where there is a component with the name of this one, it has its type
+abbrev pub Allows : List Comp → Comp → Type 0
+Allows comps c = (place : ℕ) (component : Comp) → first_named (λ d. d.name) c.name comps ≡ Some (place, component) → component.type ≡ c.type
+
+abbrev pub AllowsAll : List Comp → (state : List Comp) → Type 0
+AllowsAll comps state = AllByRecursion (Allows comps) state
+
+-- the first component of the state whose name is there at another type has this name
+abbrev pub Clashes : List Comp → (state : List Comp) → (name : List ℕ) → Type 0
+Clashes comps [] name = ⊥
+Clashes comps (c ∷ cs) name = ((Allows comps c → ⊥) × (name ≡ c.name)) ⊎ (Allows comps c × Clashes comps cs name)
+
+-- What is sought shares with the state only components that have the state's types.
+abbrev pub CanBeSought : (state : List Comp) → Schema → Type 0
+CanBeSought state a = AllowsAll a.comps state
+
+abbrev pub LacksSought : (state : List Comp) → Schema → (name : List ℕ) → Type 0
+LacksSought state a name = Clashes a.comps state name
+
 -- ---- the schemas of a machine
 
--- the schema of the state
-abbrev pub state_in : (name : List ℕ) → Schema → Operation
-state_in name a = record { name = name; schema = a; sources = sources_of a.comps a.comps; after = []; others = []; label = [] }
+-- a schema by which states are tested, with their components
+abbrev pub test_in : (state : List Comp) → (name : List ℕ) → Schema → Operation
+test_in state name a = record { name = name; schema = a; sources = sources_of state a.comps; after = []; others = []; label = state }
 
 -- that of the initial states, whose components are these
 abbrev pub init_in : (wanted : List Comp) → (name : List ℕ) → Schema → Operation

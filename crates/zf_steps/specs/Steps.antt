@@ -3,7 +3,7 @@ use Rattle.std.specs.Prelude.{◌≡◌, ◌⊎◌, ℕ, ◌++◌, Bool, List, [
 use Rattle.std.specs.List.{filter_map}
 use Rattle.zf_graph.specs.Graphs.{Edge, Graph}
 use Rattle.zf_graph.specs.Explorations.{Explored}
-use Rattle.zf_term.specs.Definitions.{Comp, Schema}
+use Rattle.zf_term.specs.Definitions.{Schema}
 use Rattle.zf_texts.specs.BindingTexts.{binding_text}
 use Rattle.zf_texts.specs.declared.spelling.Spelling.{Spelling}
 use Rattle.zf_value.specs.declared.plain.Value.{Value}
@@ -73,17 +73,17 @@ module _ (m : System) where
   abbrev pub stop : Operation → Event Value → List ℕ
   stop o x = stopped m.elements o x.row
 
-  -- Whether a state is a stray, since it satisfies the schema of the state in no way, or that it can't be told. What is before the initial states is none.
+  -- Whether a state is a stray, since it satisfies the schema by which states are tested in no way, or that it can't be told. What is before the initial states is none.
   abbrev pub IsStray : Node → Bool → Type 0
   IsStray Root b = b ≡ Bool.false
-  IsStray (State values) Bool.true = (x : Event Value) → IsEventOf m.environment m.state.schema (held_by m.state.sources values) x → ⊥
-  IsStray (State values) Bool.false = (row : List Value) × IsFirstOf m.environment m.state.schema (held_by m.state.sources values) (record { row = row; truth = truth.True })
+  IsStray (State values) Bool.true = (x : Event Value) → IsEventOf m.environment m.test.schema (held_by m.test.sources values) x → ⊥
+  IsStray (State values) Bool.false = (row : List Value) × IsFirstOf m.environment m.test.schema (held_by m.test.sources values) (record { row = row; truth = truth.True })
 
   abbrev pub IsDoubtful : Node → List ℕ → Type 0
   IsDoubtful Root at = ⊥
   IsDoubtful (State values) at =
-      (row : List Value) × IsFirstOf m.environment m.state.schema (held_by m.state.sources values) (record { row = row; truth = truth.Out })
-      × (at ≡ stop m.state (record { row = row; truth = truth.Out }))
+      (row : List Value) × IsFirstOf m.environment m.test.schema (held_by m.test.sources values) (record { row = row; truth = truth.Out })
+      × (at ≡ stop m.test (record { row = row; truth = truth.Out }))
 
   -- What is searched, where this tells whether two nodes are one.
   abbrev pub searched : (Node → Node → Bool) → Searched Node Label Operation (Event Value)

@@ -1,5 +1,5 @@
 -- What is searched of a specification is in order. No public clause rests on the proofs here, but those of the machine's laws.
-use Rattle.std.proofs.Common.{◌≡◌, ◌⊎◌, ◌∙◌, ap, ap₂, Bool, false, inl, inr, length, List, None, Option, refl, subst, sym, true, ℕ}
+use Rattle.std.proofs.Common.{◌≡◌, ◌⊎◌, ◌∙◌, ap, ap₂, Bool, false, inl, inr, length, List, Option, refl, subst, sym, true, ℕ}
 use Rattle.std.proofs.Math.Seq.{take-length}
 use Rattle.std.proofs.lemmas.Bool.{false≢true}
 use Rattle.std.proofs.lemmas.Cmp.{tied_itself}
@@ -10,6 +10,7 @@ use Rattle.std.specs.declared.cmp.Ordering.TheVariants.{Equal, Greater, Less}
 use Rattle.std.specs.Ordering.{is_eq, ordering_reverse}
 use Rattle.zf_graph.specs.Explorations.{Turn}
 use Rattle.zf_graph.specs.Parts.{HasParts, HasTurn, IsOrderly}
+use Rattle.zf_graph.specs.Seeking.{IsDecisive}
 use Rattle.zf_term.specs.Definitions.{Schema}
 use Rattle.zf_value.specs.contracts.plain.ValueOrd.TheImpl.Laws as order_laws
 use Rattle.zf_value.specs.contracts.plain.ValuePartialEq.TheImpl as equality
@@ -20,19 +21,19 @@ use Rattle.zf_walk.specs.declared.judge.Truth.{Truth}
 use Rattle.zf_walk.specs.declared.judge.Truth.TheVariants.{True, False, Out}
 use Rattle.zf_walk.specs.Conjuncts.{IsTruthOf}
 use Rattle.zf_walk.proofs.Order.{slice-ties}
-use Rattle.zf_walk.specs.Events.{Event, IsEvent}
+use Rattle.zf_walk.specs.Events.{Event}
 use Rattle.zf_walk.specs.Rows.{ComesAfter}
 use Rattle.zf_meaning.specs.Environments.{Environment}
 use Rattle.zf_enum.specs.Property.{property}
 use Rattle.zf_enum.specs.PropertyLaws.{one_truth_in}
 use Rattle.zf_term.specs.ResolvedTrees.{ResolvedTree}
-use Rattle.zf_ranges.specs.Ranges.{AreRanges}
 use Rattle.zf_steps.specs.contracts.node.NodePartialEq.TheImpl as nodes
 use Rattle.zf_steps.specs.declared.node.Label.{Label}
 use Rattle.zf_steps.specs.declared.node.Node.{Node}
 use Rattle.zf_steps.specs.declared.node.Node.TheVariants.{Root, State}
+use Rattle.zf_steps.specs.Explored.{IsOther, IsSought, sought_in}
 use Rattle.zf_steps.specs.Searching.{HasPassed}
-use Rattle.zf_steps.specs.Steps.{IsDoubtful, IsEventOf, IsFirstOf, IsStray, parts_of, searched, stop}
+use Rattle.zf_steps.specs.Steps.{exploration, IsDoubtful, IsEventOf, IsFirstOf, IsStray, parts_of, searched, stop}
 use Rattle.zf_steps.specs.Systems.{System}
 
 -- no row comes after one that comes after it
@@ -112,13 +113,29 @@ module _ (m : System) where
   one_doubt : (a : Node) (at by : List ℕ) → IsDoubtful m a at → IsDoubtful m a by → at ≡ by
   one_doubt Root at by h k = absurd h
   one_doubt (State values) at by (row, first, said) (other, first', said') =
-      said ∙ ap (stop m m.state) (one_first m.environment m.state.schema _ _ _ first first') ∙ sym said'
+      said ∙ ap (stop m m.test) (one_first m.environment m.test.schema _ _ _ first first') ∙ sym said'
 
   no_doubt : (a : Node) (b : Bool) (at : List ℕ) → IsStray m a b → IsDoubtful m a at → ⊥
   no_doubt Root b at h k = k
   no_doubt (State values) true at h (row, first, said) = h _ first.event
   no_doubt (State values) false at h (row, first, said) =
-      let same = one_first m.environment m.state.schema _ _ _ h.1 first in let told : True ≡ Out = ap (λ (x : Event Value). x.truth) same in cc
+      let same = one_first m.environment m.test.schema _ _ _ h.1 first in let told : True ≡ Out = ap (λ (x : Event Value). x.truth) same in cc
+
+  -- what is looked at is seen in one way
+  no_both : (a : Node) → IsOther m a → IsSought m a → ⊥
+  no_both Root h k = k
+  no_both (State values) h k = let same : true ≡ false = one_stray (State values) true false h k in false≢true (sym same)
+
+  no_other : (a : Node) (at : List ℕ) → IsDoubtful m a at → IsOther m a → ⊥
+  no_other Root at h k = h
+  no_other (State values) at h k = no_doubt (State values) true at k h
+
+  no_sought : (a : Node) (at : List ℕ) → IsDoubtful m a at → IsSought m a → ⊥
+  no_sought Root at h k = h
+  no_sought (State values) at h k = no_doubt (State values) false at k h
+
+  pub decisive : (eq : Node → Node → Bool) → IsDecisive (exploration m eq) (sought_in m)
+  decisive eq = record { not_both = no_both; not_other = no_other; not_sought = no_sought; one_text = one_doubt; root = λ h. h; root_told = λ at h. h }
 
   -- a turn that has the steps of all parts is whole
   pub all_parts : (eq : Node → Node → Bool) (a : Node) (now : Turn Node Label) → HasPassed m eq a (length (parts_of m a)) now → HasTurn (searched m eq) a now

@@ -1,8 +1,9 @@
--- What is explored of a specification: the schema of the state, that of the initial states, and the operations.
+-- What is explored of a specification: the schema of the state, one by which states are tested, that of the initial states, and the operations.
 use Rattle.std.specs.Prelude.{ℕ, List, [], Option, None, map}
 use Rattle.zf_term.specs.Definitions.{Comp, Schema}
 use Rattle.zf_texts.specs.declared.spelling.Spelling.{Spelling}
 use Rattle.zf_meaning.specs.Environments.{Environment}
+use Rattle.zf_steps.specs.declared.form.Form.{Form}
 use Rattle.zf_steps.specs.declared.system.Operation as code
 use Rattle.zf_steps.specs.declared.system.System as codes
 
@@ -15,11 +16,13 @@ pub record Operation : Type 0 where
   pub others : List ℕ
   pub label : List Comp
 
--- in an environment, with how elements are spelled
+-- in an environment, with how elements are spelled, and the form in which it is written
 pub record System : Type 0 where
   pub environment : Environment
   pub elements : List Spelling
-  pub state : Operation
+  pub form : Form
+  pub state : Schema
+  pub test : Operation
   pub init : Operation
   pub operations : List Operation
 
@@ -36,7 +39,9 @@ abbrev pub system_of : {F : Type 0} → Environment → (F → Schema) → codes
 system_of environment schema s = record {
   environment = environment;
   elements = s.elements.now;
-  state = operation_of schema s.state;
+  form = s.form;
+  state = schema s.test.label.now;
+  test = operation_of schema s.test;
   init = operation_of schema s.init;
   operations = map (operation_of schema) s.operations.items;
 }

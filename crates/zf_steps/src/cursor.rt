@@ -1,11 +1,12 @@
 //! The searches of an exploration, and what a step of one comes to.
-ghost use Rattle.std.specs.Prelude.{IfOk, OnOk};
+ghost use Rattle.std.specs.Prelude.{◌≡◌, IfOk, OnOk};
 ghost use Rattle.zf_meaning.specs.Environments.{Environment};
-ghost use Rattle.zf_reach.specs.Machines.{HasFewer};
+ghost use Rattle.zf_reach.specs.Machines.{HasFewer, IsSeenAs};
 ghost use Rattle.zf_steps.specs.contracts.node.NodePartialEq.TheImpl as nodes;
 ghost use Rattle.zf_steps.specs.declared.node.Node.TheVariants.{State};
+ghost use Rattle.zf_steps.specs.Explored.{sought_in};
 ghost use Rattle.zf_steps.specs.Finders.{BeginsFor, IsForIn, stage_in};
-ghost use Rattle.zf_steps.specs.Machines.{BeginsState, GoesOn, IsBeginning, IsFound, rows_ahead};
+ghost use Rattle.zf_steps.specs.Machines.{BeginsState, begun_as, GoesOn, IsFound, IsSight, rows_ahead};
 ghost use Rattle.zf_steps.specs.Steps.{held_by};
 ghost use Rattle.zf_steps.specs.Systems.{operation_of, system_of};
 ghost use Rattle.zf_term.specs.Definitions.{Schema};
@@ -17,7 +18,7 @@ use crate::rows::{held_by, lay_out_stop, values_at};
 use crate::stepped::Stepped;
 use crate::system::{Operation, System};
 use std::alloc::{AllocError, Global};
-use zf_reach::{Beginning, Found};
+use zf_reach::{Beginning, Found, Sight};
 use zf_value::value::Value;
 use zf_walk::Step;
 
@@ -30,7 +31,7 @@ pub enum Part {
     Operation(usize),
 }
 
-/// The searches of the schema of the state, of that of the initial states, and of the operations, and which of them is gone on with.
+/// The searches of the schema by which states are tested, of that of the initial states, and of the operations, and which of them is gone on with.
 #[derive(Drop)]
 pub struct Cursor<S> {
     pub state: S,
@@ -56,6 +57,22 @@ pub fn hold<F: Schematic, S: Finder>(
     begin(search, &held)
 }
 
+/// Looks at a state.
+pub fn look_at<E: Surrounding, F: Schematic, S: Finder>(
+    system: &System<'_, '_, F>,
+    values: &[Value],
+    search: &mut S,
+    stop: &mut Vec<u8>,
+) -> Result<Sight, AllocError>
+    requires { IsForIn S.place search.old (system_of E.environment F.schema system.now).environment (system_of E.environment F.schema system.now).test.schema }
+    ensures kept { (e : Environment) (a : Schema) → IsForIn S.place search.old e a → IsForIn S.place search.new e a }
+    ensures sees { IfOk result (λ s. IsSeenAs (sought_in (system_of E.environment F.schema system.now)) s (State values.now) stop.new.items) }
+{
+    hold(system.alloc, &system.test, search, values)?;
+    let stepped = advance(search)?;
+    sight_of(system, &stepped, stop)
+}
+
 /// Begins the turn of a state.
 pub fn begin_state<E: Surrounding, F: Schematic, S: Finder>(
     system: &System<'_, '_, F>,
@@ -63,35 +80,40 @@ pub fn begin_state<E: Surrounding, F: Schematic, S: Finder>(
     search: &mut S,
     stop: &mut Vec<u8>,
 ) -> Result<Beginning, AllocError>
-    requires { IsForIn S.place search.old (system_of E.environment F.schema system.now).environment (system_of E.environment F.schema system.now).state.schema }
+    requires { IsForIn S.place search.old (system_of E.environment F.schema system.now).environment (system_of E.environment F.schema system.now).test.schema }
     ensures kept { (e : Environment) (a : Schema) → IsForIn S.place search.old e a → IsForIn S.place search.new e a }
     ensures begins { IfOk result (λ b. BeginsState (system_of E.environment F.schema system.now) nodes.ghosts.eq (State values.now) b stop.new.items) }
 {
-    hold(system.alloc, &system.state, search, values)?;
-    let stepped = advance(search)?;
-    beginning_of(system, &stepped, stop)
+    let sight = look_at::<E, F, S>(system, values, search, stop)?;
+    Ok(begun_as(sight))
 }
 
-/// How the turn of a state begins, by the first step of the search for it in its schema.
-fn beginning_of<F: Schematic>(
+/// How the turn of a state begins that is seen so.
+fn begun_as(sight: Sight) -> Beginning
+    ensures { result ≡ begun_as sight }
+{
+    match sight {
+        Sight::Sought => Beginning::Regular,
+        Sight::Other => Beginning::Stray,
+        Sight::Untold => Beginning::Out,
+    }
+}
+
+/// What is seen of a state, by the first step of the search for it in the schema by which it is tested.
+fn sight_of<F: Schematic>(
     system: &System<'_, '_, F>,
     stepped: &Stepped,
     stop: &mut Vec<u8>,
-) -> Result<Beginning, AllocError>
-    ensures { IfOk result (λ b. IsBeginning system.now.elements.now (operation_of F.schema system.now.state) stepped.now b stop.new.items) }
+) -> Result<Sight, AllocError>
+    ensures { IfOk result (λ s. IsSight system.now.elements.now (operation_of F.schema system.now.test) stepped.now s stop.new.items) }
 {
     match stepped.step {
-        Step::Holds => Ok(Beginning::Regular),
+        Step::Holds => Ok(Sight::Sought),
         Step::Breaks => {
-            lay_out_stop(
-                stop,
-                system.elements,
-                &system.state,
-                &stepped.row.as_slice(),
-            )?;
-            Ok(Beginning::Out)
+            lay_out_stop(stop, system.elements, &system.test, &stepped.row.as_slice())?;
+            Ok(Sight::Untold)
         }
-        Step::End => Ok(Beginning::Stray),
+        Step::End => Ok(Sight::Other),
     }
 }
 

@@ -8,9 +8,9 @@ ghost use Rattle.zf_reach.specs.Machines.{ending_of};
 ghost use Rattle.zf_reach.specs.Runs.{StopsEarly};
 ghost use Rattle.zf_steps.specs.Explored.{explored_in};
 ghost use Rattle.zf_steps.specs.Finders.{IsForIn};
-ghost use Rattle.zf_steps.specs.Lines.{lines};
 ghost use Rattle.zf_steps.specs.Machines.{Fits};
 ghost use Rattle.zf_steps.specs.Systems.{system_of};
+ghost use Rattle.zf_steps.specs.Words.{words};
 
 use crate::cursor::Cursor;
 use crate::finder::Finder;
@@ -34,8 +34,8 @@ pub fn explore_by<E: Surrounding + Drop, F: Schematic + Drop, S: Finder + Drop, 
     requires unfailed { failures_of writer.old ≡ 0 }
     requires limited { 1 ≤ limit }
     requires fits { Fits (IsForIn S.place) (system_of E.environment F.schema system.now) cursor.state cursor.init cursor.operations.items cursor.part }
-    ensures ok { IfOk result (λ ending. (at text : List ℕ) × IsWritten (explored_in (system_of E.environment F.schema system.now)) (lines (system_of E.environment F.schema system.now)) limit (ending_of ending at) text × Appends (W.contents (device_of writer.old)) (W.contents (device_of writer.new)) text) }
-    ensures err { OnErr result (StopsEarly (explored_in (system_of E.environment F.schema system.now)) (lines (system_of E.environment F.schema system.now)) limit (W.contents (device_of writer.old)) (W.contents (device_of writer.new))) }
+    ensures ok { IfOk result (λ ending. (at text : List ℕ) × IsWritten (explored_in (system_of E.environment F.schema system.now)) (words (system_of E.environment F.schema system.now)) limit (ending_of ending at) text × Appends (W.contents (device_of writer.old)) (W.contents (device_of writer.new)) text) }
+    ensures err { OnErr result (StopsEarly (explored_in (system_of E.environment F.schema system.now)) (words (system_of E.environment F.schema system.now)) limit (W.contents (device_of writer.old)) (W.contents (device_of writer.new))) }
     ensures count { failures_of writer.new ≡ write_failures result }
     ensures unread { read_failures result ≡ 0 }
 {

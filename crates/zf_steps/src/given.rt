@@ -1,7 +1,9 @@
 //! What an exploration asks of a schema and of an environment. It names neither type, so that the machine's statements stay small; nor does a value of the environment's stand in them.
 ghost use Rattle.std.specs.Prelude.{◌≡◌, ◌++◌, OnOk};
-ghost use Rattle.zf_texts.specs.BindingTexts.{binding_text};
+ghost use Rattle.zf_steps.specs.Labels.{row_text};
 
+use crate::labels::append_column;
+use crate::layout::Layout;
 use std::alloc::AllocError;
 use std::marker::Brand;
 use zf_meaning::row::Row;
@@ -27,14 +29,15 @@ pub trait Schematic {
 
     ghost schema: { Self → Schema };
 
-    /// Appends the line of a row, without the end of the line. A refusal leaves a part of it.
+    /// Appends a row, on one line without its end, or as a column. A refusal leaves a part of it.
     fn append_row<R: Row>(
         &self,
         text: &mut Vec<u8>,
         elements: &[Spelling],
+        layout: Layout,
         row: &R,
     ) -> Result<(), AllocError>
-        ensures { OnOk result (text.new.items ≡ text.old.items ++ binding_text elements.now (schema self.now).comps (R.values row.now)) };
+        ensures { OnOk result (text.new.items ≡ text.old.items ++ row_text elements.now layout (schema self.now).comps (R.values row.now)) };
 }
 
 impl<'a> Schematic for Flat<'a> {
@@ -46,8 +49,12 @@ impl<'a> Schematic for Flat<'a> {
         &self,
         text: &mut Vec<u8>,
         elements: &[Spelling],
+        layout: Layout,
         row: &R,
     ) -> Result<(), AllocError> {
-        append_binding(text, self, elements, row)
+        match layout {
+            Layout::Line => append_binding(text, self, elements, row),
+            Layout::Column => append_column(text, self, elements, row),
+        }
     }
 }

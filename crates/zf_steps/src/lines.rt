@@ -3,10 +3,11 @@ ghost use Rattle.std.specs.Prelude.{◌≡◌, ◌-◌, ◌^◌, ◌++◌, ℕ, 
 ghost use Rattle.zf_graph.specs.Texts.{broken};
 ghost use Rattle.zf_reach.specs.Machines.{ending_of};
 ghost use Rattle.zf_steps.specs.declared.node.Node.TheVariants.{State};
-ghost use Rattle.zf_steps.specs.Lines.{count_line, ending_line, label_text, operation_text, state_line, step_line};
+ghost use Rattle.zf_steps.specs.Lines.{count_line, ending_line, label_text, operation_text, state_line, step_line, stuck_line};
 ghost use Rattle.zf_steps.specs.Systems.{operation_of, system_of};
 
 use crate::given::{Schematic, Surrounding};
+use crate::layout::Layout;
 use crate::node::Label;
 use crate::system::{Operation, System};
 use itoa::Buffer;
@@ -27,9 +28,9 @@ pub fn append_state<E: Surrounding, F: Schematic>(
     append_number(line, number)?;
     line.extend_from_slice(b": ")?;
     system
-        .state
-        .schema
-        .append_row(line, system.elements, &values)?;
+        .test
+        .label
+        .append_row(line, system.elements, Layout::Line, &values)?;
     line.extend_from_slice(b"\n")
 }
 
@@ -90,7 +91,7 @@ fn append_named<E: Surrounding, F: Schematic>(
 }
 
 /// Appends `: BINDING` of what else a step has, and nothing where it has nothing.
-fn append_label<E: Surrounding, F: Schematic>(
+pub fn append_label<E: Surrounding, F: Schematic>(
     line: &mut Vec<u8>,
     system: &System<'_, '_, F>,
     operation: &Operation<'_, F>,
@@ -102,7 +103,9 @@ fn append_label<E: Surrounding, F: Schematic>(
         return Ok(());
     }
     line.extend_from_slice(b": ")?;
-    operation.label.append_row(line, system.elements, &values)
+    operation
+        .label
+        .append_row(line, system.elements, Layout::Line, &values)
 }
 
 /// Appends `end`, `more`, or what can't be told.
@@ -135,6 +138,30 @@ pub fn append_counts(line: &mut Vec<u8>, nodes: usize, edges: u64) -> Result<(),
     line.extend_from_slice(b" steps\n")
 }
 
+/// Appends how it ended, and the counts.
+pub fn append_last_lines(
+    line: &mut Vec<u8>,
+    ending: Ending,
+    stop: &[u8],
+    nodes: usize,
+    edges: u64,
+) -> Result<(), AllocError>
+    ensures { OnOk result ((n : ℕ) → edges ≡ min n (2 ^ 64 - 1) → line.new.items ≡ line.old.items ++ ending_line (ending_of ending stop.now) ++ count_line nodes n) }
+{
+    append_ending(line, ending, stop)?;
+    append_counts(line, nodes, edges)
+}
+
+/// Appends `stuck 2`, and nothing where there is no state.
+pub fn append_stuck_line(line: &mut Vec<u8>, number: usize) -> Result<(), AllocError>
+    ensures { OnOk result (line.new.items ≡ line.old.items ++ stuck_line number) }
+{
+    if number == 0 {
+        return Ok(());
+    }
+    append_numbered(line, b"stuck ", number)
+}
+
 /// Appends a word, a number and a newline.
 pub fn append_numbered(line: &mut Vec<u8>, word: &[u8], number: usize) -> Result<(), AllocError>
     ensures { OnOk result (line.new.items ≡ line.old.items ++ word.now ++ decimal number ++ codes "\n") }
@@ -144,7 +171,8 @@ pub fn append_numbered(line: &mut Vec<u8>, word: &[u8], number: usize) -> Result
     line.extend_from_slice(b"\n")
 }
 
-fn append_number(line: &mut Vec<u8>, number: usize) -> Result<(), AllocError>
+/// Appends a number.
+pub fn append_number(line: &mut Vec<u8>, number: usize) -> Result<(), AllocError>
     ensures { OnOk result (line.new.items ≡ line.old.items ++ decimal number) }
 {
     line.extend_from_slice(Buffer::new().format(number).as_bytes())

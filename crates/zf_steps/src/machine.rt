@@ -1,13 +1,21 @@
 //! A specification as a machine that is explored.
-use crate::cursor::{Cursor, Part, begin_state, go_on, hold};
+use crate::cursor::{Cursor, Part, begin_state, go_on, hold, look_at};
 use crate::finder::Finder;
+use crate::form::Form;
 use crate::given::{Schematic, Surrounding};
-use crate::lines::{append_counts, append_ending, append_numbered, append_state, append_step};
+use crate::lines::{
+    append_last_lines, append_numbered, append_state, append_step, append_stuck_line,
+};
 use crate::node::{Label, Node};
+use crate::results::append_verdict_lines;
+use crate::statements::{
+    append_edge_statement, append_graph_head, append_graph_last, append_graph_verdict,
+    append_node_statement, append_stray_statement, append_stuck_statement,
+};
 use crate::system::System;
 use std::alloc::AllocError;
 use std::marker::PhantomData;
-use zf_reach::{Beginning, Ending, Found, Machine};
+use zf_reach::{Beginning, Ending, Finding, Found, Machine, Sight};
 
 /// A system in an environment, explored by such searches.
 #[derive(Drop)]
@@ -23,13 +31,14 @@ impl<'m, 's, 'p, E: Surrounding + Drop, F: Schematic + Drop, S: Finder + Drop> M
     ghost use Rattle.std.specs.Prelude.{length};
     ghost use Rattle.zf_graph.proofs.Turns.{of_graph, sure};
     ghost use Rattle.zf_steps.specs.contracts.node.NodePartialEq.TheImpl as nodes;
+    ghost use Rattle.zf_steps.specs.Explored.{sought_in};
     ghost use Rattle.zf_steps.specs.Finders.{IsForIn, stage_in};
-    ghost use Rattle.zf_steps.specs.Lines.{lines};
     ghost use Rattle.zf_steps.specs.Machines.{Fits, number_of, rows_ahead_at, search_of, Stands};
     ghost use Rattle.zf_steps.specs.Searching.{HasPassed};
     ghost use Rattle.zf_steps.specs.Steps.{exploration, parts_of, searched, steps};
-    ghost use Rattle.zf_steps.specs.SystemLaws.{all_parts, orderly};
+    ghost use Rattle.zf_steps.specs.SystemLaws.{all_parts, decisive, orderly};
     ghost use Rattle.zf_steps.specs.Systems.{system_of};
+    ghost use Rattle.zf_steps.specs.Words.{verdict, words};
 
     type Node = Node;
 
@@ -41,7 +50,11 @@ impl<'m, 's, 'p, E: Surrounding + Drop, F: Schematic + Drop, S: Finder + Drop> M
 
     ghost graph = { λ m. steps (system_of E.environment F.schema m.system.now) nodes.ghosts.eq };
 
-    ghost words = { λ m. lines (system_of E.environment F.schema m.system.now) };
+    ghost words = { λ m. words (system_of E.environment F.schema m.system.now) };
+
+    ghost sought = { λ m. sought_in (system_of E.environment F.schema m.system.now) };
+
+    ghost verdict = { λ m. verdict (system_of E.environment F.schema m.system.now) };
 
     ghost parts = { λ m a. length (parts_of (system_of E.environment F.schema m.system.now) a) };
 
@@ -62,6 +75,8 @@ impl<'m, 's, 'p, E: Surrounding + Drop, F: Schematic + Drop, S: Finder + Drop> M
     ghost of_graph = { λ m. of_graph (searched (system_of E.environment F.schema m.system.now) nodes.ghosts.eq) (orderly (system_of E.environment F.schema m.system.now)) };
 
     ghost sure = { λ m. sure (searched (system_of E.environment F.schema m.system.now) nodes.ghosts.eq) (orderly (system_of E.environment F.schema m.system.now)) };
+
+    ghost decisive = { λ m. decisive (system_of E.environment F.schema m.system.now) nodes.ghosts.eq };
 
     ghost same_nodes = { λ m. refl };
 
@@ -125,21 +140,44 @@ impl<'m, 's, 'p, E: Surrounding + Drop, F: Schematic + Drop, S: Finder + Drop> M
         }
     }
 
+    fn look(&self, cursor: &mut Cursor<S>, of: &Node) -> Result<Sight, AllocError> {
+        match of {
+            Node::Root => Ok(Sight::Other),
+            Node::State(values) => look_at::<E, F, S>(
+                self.system,
+                values.as_slice(),
+                &mut cursor.state,
+                &mut cursor.stop,
+            ),
+        }
+    }
+
+    fn append_head(&self, line: &mut Vec<u8>) -> Result<(), AllocError> {
+        match self.system.form {
+            Form::Lines => Ok(()),
+            Form::Graph => append_graph_head(line),
+        }
+    }
+
     fn append_node(
         &self,
         line: &mut Vec<u8>,
-        _from: usize,
+        from: usize,
         number: usize,
         of: &Node,
     ) -> Result<(), AllocError> {
         match of {
             Node::Root => Ok(()),
-            Node::State(values) => append_state::<E, F>(
-                line,
-                self.system,
-                number,
-                values.as_slice(),
-            ),
+            Node::State(values) => match self.system.form {
+                Form::Lines => append_state::<E, F>(line, self.system, number, values.as_slice()),
+                Form::Graph => append_node_statement::<E, F>(
+                    line,
+                    self.system,
+                    from,
+                    number,
+                    values.as_slice(),
+                ),
+            },
         }
     }
 
@@ -150,18 +188,24 @@ impl<'m, 's, 'p, E: Surrounding + Drop, F: Schematic + Drop, S: Finder + Drop> M
         label: &Label,
         number: usize,
     ) -> Result<(), AllocError> {
-        append_step::<E, F>(line, self.system, from, label, number)
+        match self.system.form {
+            Form::Lines => append_step::<E, F>(line, self.system, from, label, number),
+            Form::Graph => append_edge_statement::<E, F>(line, self.system, from, label, number),
+        }
     }
 
     fn append_stray(&self, line: &mut Vec<u8>, number: usize) -> Result<(), AllocError> {
-        append_numbered(line, b"stray ", number)
+        match self.system.form {
+            Form::Lines => append_numbered(line, b"stray ", number),
+            Form::Graph => append_stray_statement(line, number),
+        }
     }
 
     fn append_stuck(&self, line: &mut Vec<u8>, number: usize) -> Result<(), AllocError> {
-        if number == 0 {
-            return Ok(());
+        match self.system.form {
+            Form::Lines => append_stuck_line(line, number),
+            Form::Graph => append_stuck_statement(line, number),
         }
-        append_numbered(line, b"stuck ", number)
     }
 
     fn append_last(
@@ -172,7 +216,23 @@ impl<'m, 's, 'p, E: Surrounding + Drop, F: Schematic + Drop, S: Finder + Drop> M
         nodes: usize,
         edges: u64,
     ) -> Result<(), AllocError> {
-        append_ending(line, ending, &cursor.stop)?;
-        append_counts(line, nodes, edges)
+        match self.system.form {
+            Form::Lines => append_last_lines(line, ending, &cursor.stop, nodes, edges),
+            Form::Graph => append_graph_last(line, ending, &cursor.stop, nodes, edges),
+        }
+    }
+
+    fn append_verdict(
+        &self,
+        line: &mut Vec<u8>,
+        finding: Finding,
+        cursor: &Cursor<S>,
+        nodes: usize,
+        edges: u64,
+    ) -> Result<(), AllocError> {
+        match self.system.form {
+            Form::Lines => append_verdict_lines(line, finding, &cursor.stop, nodes, edges),
+            Form::Graph => append_graph_verdict(line, finding, &cursor.stop, nodes, edges),
+        }
     }
 }

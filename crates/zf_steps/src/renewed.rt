@@ -177,7 +177,7 @@ pub fn searches_of<'p, 'e, 'g, 'a>(
 {
     let operations = searches_among(system.alloc, env, &system.operations)?;
     Ok(Cursor {
-        state: Renewed::new(system.alloc, system.state.schema, env),
+        state: Renewed::new(system.alloc, system.test.schema, env),
         init: Renewed::new(system.alloc, system.init.schema, env),
         operations,
         part: Part::Initial,

@@ -4,6 +4,7 @@ ghost use Rattle.zf_steps.specs.Steps.{held_by, source_value, stopped, values_at
 ghost use Rattle.zf_steps.specs.Systems.{operation_of};
 
 use crate::given::Schematic;
+use crate::layout::Layout;
 use crate::system::Operation;
 use std::alloc::{AllocError, Global};
 use zf_meaning::row::Row;
@@ -83,5 +84,7 @@ pub fn lay_out_stop<F: Schematic, R: Row>(
     text.clear();
     text.extend_from_slice(operation.name)?;
     text.extend_from_slice(b": ")?;
-    operation.schema.append_row(text, elements, row)
+    operation
+        .schema
+        .append_row(text, elements, Layout::Line, row)
 }

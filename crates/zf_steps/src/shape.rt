@@ -73,6 +73,35 @@ pub fn step_lacks<'a>(states: States<'_, 'a>, schema: &Flat<'a>) -> Option<&'a [
     }
 }
 
+/// The name of the first component of the state whose name the schema has at another type.
+pub fn sought_lacks<'a>(state: &[Component<'a>], schema: &Flat<'a>) -> Option<&'a [u8]>
+    ensures { MatchOption result (spec.CanBeSought (map comp_of state.now) (schema_of schema.now)) (λ name. spec.LacksSought (map comp_of state.now) (schema_of schema.now) name.now) }
+{
+    clashing(schema.components.as_slice(), state)
+}
+
+/// The name of the first component of the state whose name one of these has at another type.
+fn clashing<'a>(components: &[Component<'a>], state: &[Component<'a>]) -> Option<&'a [u8]>
+    ensures { MatchOption result (spec.AllowsAll (map comp_of components.now) (map comp_of state.now)) (λ name. spec.Clashes (map comp_of components.now) (map comp_of state.now) name.now) }
+{
+    for component in state {
+        if !allows(components, component) {
+            return Some(component.name.as_slice());
+        }
+    }
+    None
+}
+
+/// Whether the component with the name of this one, if there is one, has its type.
+fn allows<'a>(components: &[Component<'a>], wanted: &Component<'a>) -> bool
+    ensures { IsTrue result ↔ spec.Allows (map comp_of components.now) (comp_of wanted.now) }
+{
+    match component_of(components, wanted.name.as_slice()) {
+        Some((_, component)) => component.ztype.same(&wanted.ztype),
+        None => true,
+    }
+}
+
 /// The name of the first component that is wanted and isn't there.
 fn lacking<'a>(components: &[Component<'a>], wanted: &[Component<'a>]) -> Option<&'a [u8]>
     ensures { MatchOption result (spec.HasAll (map comp_of components.now) (map comp_of wanted.now)) (λ name. spec.Lacks (map comp_of components.now) (map comp_of wanted.now) name.now) }
@@ -107,23 +136,25 @@ fn place_of(components: &[Component<'_>], name: &[u8]) -> Option<usize>
 
 // ---- the schemas
 
-/// The schema of the state.
-pub fn state_in<'p, 'a>(
+/// The schema by which the states of this one are tested.
+pub fn test_in<'p, 'a>(
     alloc: Global,
-    arena: &'a Bump,
+    state: &'p Flat<'a>,
     name: &'p [u8],
     schema: &'p Flat<'a>,
 ) -> Result<Operation<'p, Flat<'a>>, AllocError>
-    ensures { IfOk result (λ o. operation_of schema_of o ≡ spec.state_in name.now (schema_of schema.now)) }
+    ensures made { IfOk result (λ o. operation_of schema_of o ≡ spec.test_in (schema_of state.now).comps name.now (schema_of schema.now)) }
+    ensures label { IfOk result (λ o. schema_of o.label.now ≡ schema_of state.now) }
 {
+    let before = state.components.as_slice();
     let components = schema.components.as_slice();
     Ok(Operation {
         name,
         schema,
-        sources: sources_of(alloc, components, components)?,
+        sources: sources_of(alloc, before, components)?,
         after: Vec::new(alloc),
         others: Vec::new(alloc),
-        label: label_of(arena, components, &[])?,
+        label: state,
     })
 }
 

@@ -1,4 +1,5 @@
 //! What is explored of a specification.
+use crate::form::Form;
 use std::alloc::Global;
 use zf_texts::Spelling;
 
@@ -13,16 +14,17 @@ pub struct Operation<'p, F> {
     pub after: Vec<usize>,
     /// The places of those of neither.
     pub others: Vec<usize>,
-    /// A schema of the latter alone.
+    /// A schema of the latter alone. That of the test is the schema in whose components states are written.
     pub label: &'p F,
 }
 
-/// The schema of the state, of which each component is one of the state before, that of the initial states, and the operations; with how elements are spelled.
+/// The schema by which each state is tested, that of the initial states, and the operations; with how elements are spelled, and the form in which all this is written.
 #[derive(Drop)]
 pub struct System<'s, 'p, F> {
     pub alloc: Global,
     pub elements: &'s [Spelling],
-    pub state: Operation<'p, F>,
+    pub form: Form,
+    pub test: Operation<'p, F>,
     pub init: Operation<'p, F>,
     pub operations: Vec<Operation<'p, F>>,
 }

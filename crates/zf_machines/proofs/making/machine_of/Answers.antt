@@ -1,8 +1,8 @@
 use Rattle.std.proofs.Common.{◌∙◌, ◌≡◌, ap, List, map, refl, subst}
 use Rattle.zf_machines.proofs.Lacking.{map_map}
-use Rattle.zf_machines.specs.Machines.{Named}
-use Rattle.zf_machines.specs.SchemaViews.{named_of}
-use Rattle.zf_steps.specs.Shapes.{IsInit, operation_in}
+use Rattle.zf_machines.specs.Machines.{Named, state_of}
+use Rattle.zf_machines.specs.SchemaViews.{named_of, schemas_of}
+use Rattle.zf_steps.specs.Shapes.{IsInit, operation_in, test_in}
 use Rattle.zf_steps.specs.Systems.{operation_of}
 use Rattle.zf_term.specs.declared.schema.Component.{Component}
 use Rattle.zf_term.specs.SchemaViews.{comp_of, schema_of}
@@ -14,7 +14,9 @@ returns c e =
     let whole = c.as_slice-before.ensures in record {
       environment = refl;
       spelled = refl;
-      state = c.in_ok-state.ensures;
+      formed = refl;
+      state = c.in_ok-test.ensures.label;
+      test = c.in_ok-test.ensures.made ∙ ap (λ (n : Named). test_in (state_of (schemas_of p)) n.name n.schema) c.tested_by-tested.ensures;
       init = subst (λ (ks : List Component). IsInit (map comp_of ks) p.init.name.now (schema_of p.init.schema.now) (operation_of schema_of c.in_ok-init.init)) whole c.in_ok-init.ensures;
       operations = subst (λ (ks : List Component). map (operation_of schema_of) c.in_ok-operations.operations.items ≡ map (λ (o : Named). operation_in (map comp_of ks) o.name o.schema) (map named_of p.operations.items)) whole
           (c.in_ok-operations.ensures ∙ ap (map (λ o. operation_in (map comp_of c.as_slice-before.result.now) (named_of o).name (named_of o).schema)) c.deref.ensures.value

@@ -9,10 +9,10 @@ use Rattle.zf_reach.specs.Machines.{ending_of}
 use Rattle.zf_reach.specs.Runs.{StopsEarly}
 use Rattle.zf_steps.proofs.flat.explore_flat.Goals as goal
 use Rattle.zf_steps.specs.Explored.{explored_in}
-use Rattle.zf_steps.specs.Lines.{lines}
 use Rattle.zf_steps.specs.Machines.{Fits}
 use Rattle.zf_steps.specs.Renewing.{IsFor}
 use Rattle.zf_steps.specs.Systems.{system_of}
+use Rattle.zf_steps.specs.Words.{words}
 use Rattle.zf_term.specs.SchemaViews.{schema_of}
 
 pub returns-in_err-cursor-clause-err : goal.returns-in_err-cursor-clause-err
@@ -25,10 +25,10 @@ explore_all-requires-clause-fits g c =
 
 pub returns-clause-ok : goal.returns-clause-ok
 returns-clause-ok g c =
-    subst (λ e. IfOk c.explore_all.result (λ ending. (at text : List ℕ) × IsWritten (explored_in (system_of e schema_of c.args.system.now)) (lines (system_of e schema_of c.args.system.now)) c.args.limit (ending_of ending at) text
+    subst (λ e. IfOk c.explore_all.result (λ ending. (at text : List ℕ) × IsWritten (explored_in (system_of e schema_of c.args.system.now)) (words (system_of e schema_of c.args.system.now)) c.args.limit (ending_of ending at) text
     × Appends (g.W.Write.contents (device_of c.args.writer.now)) (g.W.Write.contents (device_of c.explore_all.new.writer)) text)) c.in_ok-cursor.ensures.of_state.environment c.explore_all.ensures.ok
 
 pub returns-clause-err : goal.returns-clause-err
 returns-clause-err g c =
-    subst (λ e. OnErr c.explore_all.result (StopsEarly (explored_in (system_of e schema_of c.args.system.now)) (lines (system_of e schema_of c.args.system.now)) c.args.limit
+    subst (λ e. OnErr c.explore_all.result (StopsEarly (explored_in (system_of e schema_of c.args.system.now)) (words (system_of e schema_of c.args.system.now)) c.args.limit
     (g.W.Write.contents (device_of c.args.writer.now)) (g.W.Write.contents (device_of c.explore_all.new.writer)))) c.in_ok-cursor.ensures.of_state.environment c.explore_all.ensures.err

@@ -18,7 +18,7 @@ searches_among-requires c =
 pub returns : goal.returns
 returns c =
     let m = system_of (environment_of c.args.env.now) schema_of c.args.system.now in record {
-      of_state = c.new.ensures c.requires.state;
+      of_state = c.new.ensures c.requires.test;
       of_init = c.new-2.ensures c.requires.init;
       of_operations = subst (λ schemas. AreFor IsFor m.environment schemas c.in_ok-operations.operations.items)
           (ap (map (λ o. (operation_of schema_of o).schema)) c.deref.ensures.value

@@ -1,4 +1,4 @@
-use Rattle.std.proofs.Common.{◌∙◌, ap, filter_map, map, refl}
+use Rattle.std.proofs.Common.{◌∙◌, ap, map, refl}
 use Rattle.zf_term.specs.Definitions.{Comp}
 use Rattle.zf_term.specs.SchemaViews.{comp_of}
 use Rattle.zf_steps.specs.Shapes.{comps_at, others_from, place_of, places_of, sources_of, with_strokes}

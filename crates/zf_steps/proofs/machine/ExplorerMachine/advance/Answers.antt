@@ -1,5 +1,5 @@
 -- The search of a part goes on.
-use Rattle.std.proofs.Common.{◌+◌, ◌<◌, arith, length, rules}
+use Rattle.std.proofs.Common.{◌<◌, arith, length, rules}
 use Rattle.zf_steps.proofs.Fitting.{stands_at}
 use Rattle.zf_steps.proofs.machine.ExplorerMachine.advance.Goals as goal
 use Rattle.zf_steps.proofs.Moving.{advances_initial, advances_operation, always_on_ok, as_many, fewer_operation, fits_operation, of_operation, operation_at, weaker_if_ok}

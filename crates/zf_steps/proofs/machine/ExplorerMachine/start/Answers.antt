@@ -1,5 +1,5 @@
 -- The search of a part begins.
-use Rattle.std.proofs.Common.{◌+◌, ◌<◌, ◌∙◌, ap, arith, length, rules, sym}
+use Rattle.std.proofs.Common.{◌<◌, ◌∙◌, ap, arith, length, rules, sym}
 use Rattle.zf_lines.proofs.Fronts.{weaker_on_ok}
 use Rattle.zf_steps.proofs.Fitting.{stands_at}
 use Rattle.zf_steps.proofs.machine.ExplorerMachine.start.Goals as goal

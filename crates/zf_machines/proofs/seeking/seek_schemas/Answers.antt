@@ -1,0 +1,29 @@
+-- The search of the machine that the schemas make.
+use Rattle.zf_meaning.specs.Envs.{environment_of}
+use Rattle.zf_machines.proofs.seeking.seek_schemas.Goals as goal
+use Rattle.zf_machines.proofs.Sole.{can_search_all}
+use Rattle.zf_machines.specs.SchemaViews.{schemas_of}
+use Rattle.zf_reach.proofs.Fronts.{always_on_err, weaker_on_err}
+use Rattle.zf_steps.proofs.Moving.{weaker_if_ok}
+use Rattle.zf_steps.specs.Systems.{system_of}
+use Rattle.zf_term.specs.SchemaViews.{schema_of}
+use Rattle.std.proofs.Common.{inl, inr}
+use Rattle.std.proofs.KnownBytes.{Appends-nil}
+
+pub returns-in_err-system-clause-err : goal.returns-in_err-system-clause-err
+returns-in_err-system-clause-err g c = always_on_err _ (inl (Appends-nil _))
+
+pub seek_flat-requires-clause-searchable : goal.seek_flat-requires-clause-searchable
+seek_flat-requires-clause-searchable g c =
+    let e = environment_of c.args.specification.now.env.now in
+    can_search_all e c.args.specification.now.elements.now c.args.specification.now.form (schemas_of c.args.specification.now.schemas.now) (system_of e schema_of c.in_ok-system.system) (c.in_ok-system.ensures e) c.requires.searchable
+
+pub returns-clause-ok : goal.returns-clause-ok
+returns-clause-ok g c =
+    let e = environment_of c.args.specification.now.env.now in
+    weaker_if_ok c.seek_flat.result (λ finding h. (system_of e schema_of c.in_ok-system.system, c.in_ok-system.ensures e, h.0, h.1, h.2, h.3)) c.seek_flat.ensures.ok
+
+pub returns-clause-err : goal.returns-clause-err
+returns-clause-err g c =
+    let e = environment_of c.args.specification.now.env.now in
+    weaker_on_err c.seek_flat.result (λ stops. inr (system_of e schema_of c.in_ok-system.system, c.in_ok-system.ensures e, stops)) c.seek_flat.ensures.err

@@ -1,0 +1,49 @@
+//! A search for a state of the machine that schemas make.
+ghost use Rattle.std.specs.Prelude.{◌≡◌, ◌≤◌, ◌⊎◌, ℕ, List, [], IfOk, OnErr};
+ghost use Rattle.std.specs.List.{AllByRecursion};
+ghost use Rattle.std.specs.Io.KnownBytes.{Appends};
+ghost use Rattle.zf_graph.specs.Seeking.{IsSearched};
+ghost use Rattle.zf_lines.specs.Counts.{device_of, failures_of};
+ghost use Rattle.zf_lines.specs.Faults.{read_failures, write_failures};
+ghost use Rattle.zf_machines.specs.Machines.{all_of, HasShape, IsMachineOf};
+ghost use Rattle.zf_machines.specs.SchemaViews.{schemas_of};
+ghost use Rattle.zf_meaning.specs.Envs.{environment_of};
+ghost use Rattle.zf_reach.specs.Machines.{result_of};
+ghost use Rattle.zf_reach.specs.Runs.{StopsSearch};
+ghost use Rattle.zf_steps.specs.Explored.{explored_in, sought_in};
+ghost use Rattle.zf_steps.specs.Words.{verdict, words};
+ghost use Rattle.zf_steps.specs.Renewing.{CanSearch};
+ghost use Rattle.zf_steps.specs.Systems.{System};
+
+use crate::exploring::Specification;
+use crate::making::machine_of;
+use std::io::Write;
+use zf_lines::counted::Counted;
+use zf_lines::fault::RunFault;
+use zf_reach::Finding;
+use zf_steps::seek_flat;
+
+/// Searches the machine for a state that is sought, and writes a shortest way to the first that is met. It looks at so many states, and at one more.
+pub fn seek_schemas<W: Write>(
+    specification: &Specification<'_, '_, '_, '_, '_>,
+    limit: usize,
+    writer: &mut Counted<W>,
+) -> Result<Finding, RunFault>
+    requires unfailed { failures_of writer.old ≡ 0 }
+    requires limited { 1 ≤ limit }
+    requires shape { HasShape (schemas_of specification.now.schemas.now) }
+    requires searchable { AllByRecursion (λ n. CanSearch (environment_of specification.now.env.now) n.schema) (all_of (schemas_of specification.now.schemas.now)) }
+    ensures ok { IfOk result (λ finding. (m : System) × IsMachineOf (environment_of specification.now.env.now) specification.now.elements.now specification.now.form (schemas_of specification.now.schemas.now) m × (at text : List ℕ) × IsSearched (explored_in m) (sought_in m) (words m) (verdict m) limit (result_of finding at) text × Appends (W.contents (device_of writer.old)) (W.contents (device_of writer.new)) text) }
+    ensures err { OnErr result (Appends (W.contents (device_of writer.old)) (W.contents (device_of writer.new)) [] ⊎ ((m : System) × IsMachineOf (environment_of specification.now.env.now) specification.now.elements.now specification.now.form (schemas_of specification.now.schemas.now) m × StopsSearch (explored_in m) (sought_in m) (words m) (verdict m) limit (W.contents (device_of writer.old)) (W.contents (device_of writer.new)))) }
+    ensures count { failures_of writer.new ≡ write_failures result }
+    ensures unread { read_failures result ≡ 0 }
+{
+    let system = machine_of(
+        specification.alloc,
+        specification.arena,
+        specification.elements,
+        specification.form,
+        specification.schemas,
+    )?;
+    seek_flat(&system, specification.env, limit, writer)
+}

@@ -1,0 +1,15 @@
+-- What is said in either form.
+use Rattle.std.proofs.Common.{◌++◌, ◌∙◌, ◌≡◌, [], ap, append-nil, List, refl, sym, ℕ}
+use Rattle.zf_steps.specs.declared.form.Form.{Form}
+use Rattle.zf_steps.specs.declared.form.Form.TheVariants as forms
+use Rattle.zf_steps.specs.declared.node.Node.TheVariants.{Root}
+use Rattle.zf_steps.specs.Systems.{System}
+use Rattle.zf_steps.specs.Words.{words, words_in}
+
+no_words : (f : Form) (m : System) (from number : ℕ) → (words_in f m).node from number Root ≡ []
+no_words forms.Lines m from number = refl
+no_words forms.Graph m from number = refl
+
+-- nothing is said of what is before the initial states
+pub nothing_of_root : (m : System) (from number : ℕ) (line : List ℕ) → line ≡ line ++ (words m).node from number Root
+nothing_of_root m from number line = let nothing : (l : List ℕ) → l ++ [] ≡ l = append-nil in sym (nothing line) ∙ ap (λ t. line ++ t) (sym (no_words m.form m from number))

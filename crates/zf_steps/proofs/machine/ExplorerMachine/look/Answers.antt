@@ -1,0 +1,12 @@
+-- A state is looked at.
+use Rattle.std.proofs.Common.{◌∙◌, ap, IfOk, subst, sym}
+use Rattle.zf_reach.specs.Machines.{IsSeenAs}
+use Rattle.zf_steps.proofs.machine.ExplorerMachine.look.Goals as goal
+use Rattle.zf_steps.specs.declared.node.Node.TheVariants.{State}
+use Rattle.zf_steps.specs.Explored.{sought_in}
+use Rattle.zf_steps.specs.Systems.{system_of}
+
+pub returns-in-State-clause-sees : goal.returns-in-State-clause-sees
+returns-in-State-clause-sees g c =
+    subst (λ a. IfOk c.look_at.result (λ s. IsSeenAs (sought_in (system_of g.E.Surrounding.environment g.F.Schematic.schema c.args.self.now.system.now)) s a c.look_at.new.stop.items))
+    (ap State c.as_slice.ensures ∙ sym c.in-State.is) c.look_at.ensures.sees

@@ -1,0 +1,8 @@
+-- What is still ahead decides.
+use Rattle.std.proofs.Common.{drop, map}
+use Rattle.zf_term.specs.SchemaViews.{comp_of}
+use Rattle.zf_steps.proofs.Clashing.{IsAhead}
+use Rattle.zf_steps.proofs.shape.clashing.Given as goal
+
+abbrev pub invariant-loop-component : goal.invariant-loop-component
+invariant-loop-component l = IsAhead (map comp_of l.components) (map comp_of l.state) (map comp_of (drop l.component-index l.state))

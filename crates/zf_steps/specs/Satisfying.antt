@@ -1,0 +1,36 @@
+-- What it means that a state is sought: some row of the schema that is sought agrees with the state in the components that they share.
+use Rattle.std.specs.Prelude.{List, [], ◌∷◌}
+use Rattle.zf_term.specs.Definitions.{Comp, Schema, sets_of}
+use Rattle.zf_value.specs.declared.plain.Value.{Value}
+use Rattle.zf_walk.specs.declared.judge.Truth.{Truth}
+use Rattle.zf_walk.specs.declared.judge.Truth.TheVariants.{True}
+use Rattle.zf_walk.specs.Conjuncts.{IsTruthOf}
+use Rattle.zf_meaning.specs.Environments.{Environment}
+use Rattle.zf_enum.specs.Property.{property}
+use Rattle.zf_ranges.specs.DeclaredSets.{IsInSets}
+use Rattle.zf_ranges.specs.Ranges.{IsHeld}
+use Rattle.zf_steps.specs.Shapes.{place_of}
+use Rattle.zf_steps.specs.Steps.{source_value}
+
+-- a value for each component, which lies in its declared sets
+abbrev pub IsRowIn : Environment → List Comp → List Value → Type 0
+IsRowIn e [] [] = Unit {0}
+IsRowIn e [] (v ∷ row) = ⊥
+IsRowIn e (c ∷ cs) [] = ⊥
+IsRowIn e (c ∷ cs) (v ∷ row) = IsInSets e (sets_of c.sets) v × IsRowIn e cs row
+
+-- each component that is one of the state's by its name has the value that it has in the state
+abbrev pub AgreesWith : (state : List Comp) → (values : List Value) → List Comp → List Value → Type 0
+AgreesWith state values [] row = Unit {0}
+AgreesWith state values (c ∷ cs) [] = ⊥
+AgreesWith state values (c ∷ cs) (v ∷ row) = IsHeld (source_value values (place_of state c.name)) v × AgreesWith state values cs row
+
+-- some row of the schema agrees with the state and has this truth
+pub record HasRow (e : Environment) (a : Schema) (state : List Comp) (values : List Value) (t : Truth) : Type 0 where
+  pub row : List Value
+  pub within : IsRowIn e a.comps row
+  pub agrees : AgreesWith state values a.comps row
+  pub truth_of : IsTruthOf (property e a.conjuncts) row t
+
+abbrev pub Satisfies : Environment → Schema → (state : List Comp) → (values : List Value) → Type 0
+Satisfies e a state values = HasRow e a state values True

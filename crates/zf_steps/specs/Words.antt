@@ -1,0 +1,25 @@
+-- The words of an exploration, and the last ones of a search, in the form that is asked for.
+use Rattle.std.specs.Prelude.{ℕ, ◌++◌, List}
+use Rattle.zf_graph.specs.Seeking.{Result}
+use Rattle.zf_graph.specs.Texts.{Words}
+use Rattle.zf_steps.specs.declared.form.Form.{Form}
+use Rattle.zf_steps.specs.declared.form.Form.TheVariants as forms
+use Rattle.zf_steps.specs.declared.node.Label.{Label}
+use Rattle.zf_steps.specs.declared.node.Node.{Node}
+use Rattle.zf_steps.specs.Lines.{count_line, lines, result_line}
+use Rattle.zf_steps.specs.Statements.{graph, graph_last}
+use Rattle.zf_steps.specs.Systems.{System}
+
+abbrev pub words_in : Form → System → Words Node Label
+words_in forms.Lines m = lines m
+words_in forms.Graph m = graph m
+
+abbrev pub words : System → Words Node Label
+words m = words_in m.form m
+
+abbrev pub verdict_in : Form → Result → (states steps : ℕ) → List ℕ
+verdict_in forms.Lines result states steps = result_line result ++ count_line states steps
+verdict_in forms.Graph result states steps = graph_last (result_line result) (count_line states steps)
+
+abbrev pub verdict : System → Result → (states steps : ℕ) → List ℕ
+verdict m = verdict_in m.form
