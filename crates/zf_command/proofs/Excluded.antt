@@ -40,9 +40,9 @@ no_bad_setting words rows s (inl (word, among, bad)) (read, numbered, shared) =
 no_bad_setting words rows s (inr bad) (read, numbered, shared) = no_bad_numbers rows s.numbers s.size bad numbered shared
 
 not_explored : (rows : List Row) (x : Exploration) → RefusesExploration rows → IsExploration rows x → ⊥
-not_explored rows x (inl none) ((of_state, of_init, operations, some), set, bound, detailed) = some (operations ∙ none)
-not_explored rows x (inr (inl bad)) (named, set, bound, detailed) = no_bad_setting (size_words (words_after rows)) rows x.setting bad set
-not_explored rows x (inr (inr bad)) (named, set, bound, detailed) = no_bad_limit STATES_MAX (first_of (codes "limit") rows) x.limit bad bound
+not_explored rows x (inl none) ((of_state, of_init, operations, some, of_sought), set, bound, drawn, detailed) = some (operations ∙ none)
+not_explored rows x (inr (inl bad)) (named, set, bound, drawn, detailed) = no_bad_setting (size_words (words_after rows)) rows x.setting bad set
+not_explored rows x (inr (inr bad)) (named, set, bound, drawn, detailed) = no_bad_limit STATES_MAX (first_of (codes "limit") rows) x.limit bad bound
 
 -- `reach` is no other subcommand
 begins_with_r : Text → Bool

@@ -1,7 +1,7 @@
 -- The command line, as the literals that `clap` reads words by: `--version`, `check [-t] [--details] FILE`,
 -- `show [--after TEXT] [--with TEXT] [--numbers N] [--size N] [--limit N] [--tests] [--details] FILE SCHEMA [NAME=SIZE]...`
 -- `why [--with TEXT] [--numbers N] [--size N] [--details] FILE SCHEMA [NAME=SIZE]...`
--- and `reach [--limit N] [--numbers N] [--size N] [--details] FILE STATE INIT OPERATION... [NAME=SIZE]...`.
+-- and `reach [--find SCHEMA] [--dot] [--limit N] [--numbers N] [--size N] [--details] FILE STATE INIT OPERATION... [NAME=SIZE]...`.
 use Rattle.std.specs.Prelude.{◌≡◌, Some, codes, true, false}
 use Rattle.clap.specs.Words.{App, Rule, Text, app_of, new_app, new_rule, rule_of, with_rule, with_subcommand}
 use Rattle.clap.specs.declared.builder.ArgAction.TheVariants.{Append, SetTrue}
@@ -33,9 +33,9 @@ details_rule = record (new_rule (codes "details")) { short = Some 100; long = So
 abbrev pub option_rule : Text → Rule
 option_rule name = record (new_rule name) { long = Some name; value_names = 1 }
 
--- `[--tests]`
-abbrev pub tests_rule : Rule
-tests_rule = record (new_rule (codes "tests")) { long = Some (codes "tests"); action = Some SetTrue }
+-- `[--NAME]`
+abbrev pub flag_rule : Text → Rule
+flag_rule name = record (new_rule name) { long = Some name; action = Some SetTrue }
 
 -- `check [-t] [--details] FILE`
 abbrev pub check_app : App
@@ -49,7 +49,7 @@ with_sizes app = with_rule (with_rule app (option_rule (codes "numbers"))) (opti
 abbrev pub show_options : App
 show_options =
     let bound = with_sizes (with_rule (with_rule (new_app (codes "show")) (option_rule (codes "after"))) (option_rule (codes "with"))) in
-    with_rule (with_rule (with_rule bound (option_rule (codes "limit"))) tests_rule) details_rule
+    with_rule (with_rule (with_rule bound (option_rule (codes "limit"))) (flag_rule (codes "tests"))) details_rule
 
 -- `show [--after TEXT] [--with TEXT] [--numbers N] [--size N] [--limit N] [--tests] [--details] FILE SCHEMA [NAME=SIZE]...`
 abbrev pub show_app : App
@@ -65,9 +65,11 @@ why_app = with_rule (with_rule (with_rule why_options (required_rule (codes "FIL
 
 -- the options of `reach`
 abbrev pub reach_options : App
-reach_options = with_rule (with_sizes (with_rule (new_app (codes "reach")) (option_rule (codes "limit")))) details_rule
+reach_options =
+    let written = with_rule (with_rule (new_app (codes "reach")) (option_rule (codes "find"))) (flag_rule (codes "dot")) in
+    with_rule (with_sizes (with_rule written (option_rule (codes "limit")))) details_rule
 
--- `reach [--limit N] [--numbers N] [--size N] [--details] FILE STATE INIT OPERATION... [NAME=SIZE]...`
+-- `reach [--find SCHEMA] [--dot] [--limit N] [--numbers N] [--size N] [--details] FILE STATE INIT OPERATION... [NAME=SIZE]...`
 abbrev pub reach_app : App
 reach_app =
     let with_state = with_rule (with_rule reach_options (required_rule (codes "FILE"))) (required_rule (codes "STATE")) in

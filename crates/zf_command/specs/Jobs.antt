@@ -109,17 +109,18 @@ abbrev pub IsShown : List Row → Request → Type 0
 IsShown rows r =
     (r.after ≡ first_of (codes "after") rows) × IsLimit LIMIT_MAX (first_of (codes "limit") rows) r.limit × (r.tests ≡ is_flagged (codes "tests") rows)
 
--- the names of the schemas that `reach` is asked for, with at least one operation
+-- the names of the schemas that `reach` is asked for, with at least one operation; the one that is sought is the value of `--find`
 abbrev pub AreNames : List Row → Exploration → Type 0
 AreNames rows x =
     (x.state ≡ value_of (codes "STATE") rows) × (x.initial ≡ value_of (codes "INIT") rows)
-    × (x.operations ≡ other_words (words_after rows)) × (x.operations ≢ [])
+    × (x.operations ≡ other_words (words_after rows)) × (x.operations ≢ []) × (x.sought ≡ first_of (codes "find") rows)
 
 -- what `reach` is asked for
 abbrev pub IsExploration : List Row → Exploration → Type 0
 IsExploration rows x =
     AreNames rows x × IsSetting (size_words (words_after rows)) rows x.setting
-    × IsLimit STATES_MAX (first_of (codes "limit") rows) x.limit × (x.details ≡ is_flagged (codes "details") rows)
+    × IsLimit STATES_MAX (first_of (codes "limit") rows) x.limit × (x.graph ≡ is_flagged (codes "dot") rows)
+    × (x.details ≡ is_flagged (codes "details") rows)
 
 -- the job is `check`, `why` or `reach` where the subcommand has this name, else `show`, read from the matches of its arguments
 abbrev pub IsJob : Text → List Row → Job → Type 0

@@ -129,8 +129,10 @@ fn exploration_in(alloc: Global, matches: &ArgMatches<'_>) -> Result<Exploration
         state: value_in(alloc, matches, "STATE")?,
         initial: value_in(alloc, matches, "INIT")?,
         operations,
+        sought: option_in(alloc, matches, "find")?,
         setting,
         limit,
+        graph: is_flagged(matches, "dot"),
         details: is_flagged(matches, "details"),
     })
 }

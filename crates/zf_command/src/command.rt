@@ -1,12 +1,15 @@
 //! The command that `clap` is given, one small function for each argument.
 ghost use Rattle.std.specs.Prelude.{◌≡◌, IfOk, codes};
-ghost use Rattle.zf_command.specs.Apps.{IsArg, IsCommand, IsTop, check_app, details_rule, operations_rule, option_rule, reach_app, required_rule, show_app, sizes_rule, tests_rule, types_rule, why_app, zf_app, zf_top};
+ghost use Rattle.zf_command.specs.Apps.{IsArg, IsCommand, IsTop, check_app, details_rule, flag_rule, operations_rule, option_rule, reach_app, required_rule, show_app, sizes_rule, types_rule, why_app, zf_app, zf_top};
 
 use clap::{Arg, ArgAction, Command};
 use std::alloc::{AllocError, Global};
 
 /// What `--version` tells.
 const VERSION: &str = "1.0";
+
+/// What `--details` does in most commands.
+const FAULTS_TOLD: &str = "Writes after each fault what it is about";
 
 /// `zf`
 pub fn zf<'a>(alloc: Global) -> Result<Command<'a>, AllocError>
@@ -44,7 +47,7 @@ fn check_command<'a>(alloc: Global) -> Result<Command<'a>, AllocError>
     let command = Command::new(alloc, "check")
         .about("Writes the faults of a specification, one a line")
         .arg(types_arg(alloc))?
-        .arg(details_arg(alloc))?
+        .arg(details_arg(alloc, FAULTS_TOLD))?
         .arg(file_arg(alloc))?;
     Ok(command)
 }
@@ -64,7 +67,7 @@ fn show_command<'a>(alloc: Global) -> Result<Command<'a>, AllocError>
         .arg(size_arg(alloc))?
         .arg(limit_arg(alloc, "Writes at most so many bindings, 1 to 1000000000"))?
         .arg(tests_arg(alloc))?
-        .arg(details_arg(alloc))?
+        .arg(details_arg(alloc, FAULTS_TOLD))?
         .arg(file_arg(alloc))?
         .arg(name_arg(alloc, "SCHEMA", "The name of the schema"))?
         .arg(sizes_arg(alloc))?;
@@ -83,23 +86,31 @@ fn why_command<'a>(alloc: Global) -> Result<Command<'a>, AllocError>
         ))?
         .arg(numbers_arg(alloc))?
         .arg(size_arg(alloc))?
-        .arg(details_arg(alloc))?
+        .arg(details_arg(
+            alloc,
+            "Writes after each fault what it is about, after a relation what its sides come to",
+        ))?
         .arg(file_arg(alloc))?
         .arg(name_arg(alloc, "SCHEMA", "The name of the schema"))?
         .arg(sizes_arg(alloc))?;
     Ok(command)
 }
 
-/// `reach [--limit N] [--numbers N] [--size N] [--details] FILE STATE INIT OPERATION... [NAME=SIZE]...`
+/// `reach [--find SCHEMA] [--dot] [--limit N] [--numbers N] [--size N] [--details] FILE STATE INIT OPERATION... [NAME=SIZE]...`
 fn reach_command<'a>(alloc: Global) -> Result<Command<'a>, AllocError>
     ensures { IfOk result (λ c. IsCommand c reach_app) }
 {
     let command = Command::new(alloc, "reach")
         .about("Writes the states that can be reached and the steps between them, one a line")
-        .arg(limit_arg(alloc, "Writes at most so many states, 1 to 1000000"))?
+        .arg(find_arg(alloc))?
+        .arg(dot_arg(alloc))?
+        .arg(limit_arg(
+            alloc,
+            "Writes at most so many states, or meets with --find, 1 to 1000000",
+        ))?
         .arg(numbers_arg(alloc))?
         .arg(size_arg(alloc))?
-        .arg(details_arg(alloc))?
+        .arg(details_arg(alloc, FAULTS_TOLD))?
         .arg(file_arg(alloc))?
         .arg(name_arg(alloc, "STATE", "The name of the schema of the state"))?
         .arg(name_arg(
@@ -120,14 +131,14 @@ fn types_arg<'a>(alloc: Global) -> Arg<'a>
         .help("Writes also what is defined, with its types")
 }
 
-fn details_arg<'a>(alloc: Global) -> Arg<'a>
+fn details_arg<'a>(alloc: Global, help: &'a str) -> Arg<'a>
     ensures { IsArg result details_rule }
 {
     Arg::new(alloc, "details")
         .short('d')
         .long("details")
         .action(ArgAction::SetTrue)
-        .help("Writes after each fault what it is about")
+        .help(help)
 }
 
 fn after_arg<'a>(alloc: Global) -> Arg<'a>
@@ -176,12 +187,30 @@ fn limit_arg<'a>(alloc: Global, help: &'a str) -> Arg<'a>
 }
 
 fn tests_arg<'a>(alloc: Global) -> Arg<'a>
-    ensures { IsArg result tests_rule }
+    ensures { IsArg result (flag_rule (codes "tests")) }
 {
     Arg::new(alloc, "tests")
         .long("tests")
         .action(ArgAction::SetTrue)
         .help("Writes also how many tests of predicates were finished")
+}
+
+fn find_arg<'a>(alloc: Global) -> Arg<'a>
+    ensures { IsArg result (option_rule (codes "find")) }
+{
+    Arg::new(alloc, "find")
+        .long("find")
+        .value_name("SCHEMA")
+        .help("Writes a shortest way to a state that satisfies SCHEMA")
+}
+
+fn dot_arg<'a>(alloc: Global) -> Arg<'a>
+    ensures { IsArg result (flag_rule (codes "dot")) }
+{
+    Arg::new(alloc, "dot")
+        .long("dot")
+        .action(ArgAction::SetTrue)
+        .help("Writes a graph for Graphviz")
 }
 
 fn file_arg<'a>(alloc: Global) -> Arg<'a>

@@ -50,9 +50,13 @@ pub struct Exploration {
     pub initial: Word,
     /// The names of the operations.
     pub operations: Items<Word>,
+    /// The name of the schema of which a state is sought.
+    pub sought: Option<Word>,
     pub setting: Setting,
-    /// How many states it writes at most.
+    /// How many states it writes at most, or meets where one is sought.
     pub limit: Option<u64>,
+    /// Whether it writes a graph.
+    pub graph: bool,
     /// Whether it tells what faults are about.
     pub details: bool,
 }
@@ -67,7 +71,7 @@ pub enum Job {
     Show(Request),
     /// A binding of a schema, or why it has none; begun after no binding, without a limit and a count of tests.
     Why(Request),
-    /// The states that can be reached, and the steps between them.
+    /// The states that can be reached and the steps between them, or a shortest way to one that is sought.
     Reach(Exploration),
 }
 
