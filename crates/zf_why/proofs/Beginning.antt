@@ -1,5 +1,5 @@
 -- Where a search over some predicates can begin, so can one over some of them.
-use Rattle.zf_why.proofs.Prelude.{◌++◌, ◌<◌, ◌∷◌, ◌≡◌, ◌≤◌, [], arith, Bool, true, false, length, List, Some, subst, suc, sym, zero, ℕ, AllByRecursion, slice_get, Comp, sets_of, ResolvedTree, Environment, property, IsNoneOut, chosen_of, CanAsk, CanBegin, HaveRanges, schema_with}
+use Rattle.zf_why.proofs.Prelude.{◌++◌, ◌<◌, ◌∷◌, ◌≡◌, ◌≤◌, [], arith, Bool, length, List, Some, subst, suc, sym, zero, ℕ, AllByRecursion, slice_get, Comp, sets_of, ResolvedTree, Environment, property, IsNoneOut, chosen_of, CanAsk, CanBegin, schema_with}
 use Rattle.zf_extent.specs.Extents.{offending}
 use Rattle.zf_finite.specs.Finite.{all_set_offenders, IsFinite, one_bounds, unless_ended}
 use Rattle.zf_walk.specs.Progress.{AreDueWithin}

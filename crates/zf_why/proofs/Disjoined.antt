@@ -1,6 +1,5 @@
 -- The sides of a disjunction of schemas: what holds of its sides holds of it, and a search over them can begin.
-use Rattle.zf_why.proofs.Prelude.{◌++◌, ◌≡◌, ◌≤◌, ◌∙◌, ◌∷◌, ◌⊎◌, [], ap, arith, inl, inr, length, List, map, None, Option, refl, Some, subst, sym, ℕ, AllByRecursion, Comp, conjunct_of, ResolvedTree, Value, Environment, CanAsk, CanBegin, HasRow, IsAllowed, RuleOut}
-use Rattle.std.specs.Prelude.{max}
+use Rattle.zf_why.proofs.Prelude.{◌++◌, ◌≡◌, ◌∙◌, ◌∷◌, [], ap, arith, inl, inr, length, List, map, None, Option, refl, Some, subst, sym, ℕ, AllByRecursion, Comp, conjunct_of, ResolvedTree, Value, Environment, CanAsk, CanBegin, IsAllowed, RuleOut}
 use Rattle.zf_data.specs.Chunks.{all_of}
 use Rattle.zf_tree.specs.declared.operator.Operator.{Operator}
 use Rattle.zf_tree.specs.declared.operator.Operator.TheVariants.{Connective}
@@ -8,7 +7,6 @@ use Rattle.zf_tree.specs.declared.symbol.Connective.TheVariants.{And, Or}
 use Rattle.zf_term.specs.declared.conjunct.Batch.{Batch}
 use Rattle.zf_term.specs.declared.conjunct.Conjunct.{Conjunct}
 use Rattle.zf_term.specs.declared.conjunct.Conjunct.TheVariants as conjunct
-use Rattle.zf_term.specs.declared.resolved.Resolved.{Resolved}
 use Rattle.zf_term.specs.Definitions.{all_joined, both_hold, joined, one_holds}
 use Rattle.zf_term.specs.ResolvedTrees.{binary}
 use Rattle.zf_term.specs.SchemaViews.{batch_of}

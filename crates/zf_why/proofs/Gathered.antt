@@ -1,5 +1,5 @@
 -- The conjuncts of a side, gathered batch after batch, and their lines.
-use Rattle.zf_why.proofs.Prelude.{◌++◌, ◌+◌, ◌<◌, ◌≤◌, ◌∙◌, ◌∷◌, ◌≡◌, [], ap, append-nil, append_assoc, Bool, drop, get_or, length, List, map, Option, refl, Some, subst, suc, sym, zero, ℕ, slice_get, Comp, conjunct_of, ResolvedTree, Value, Environment, chosen_of, IsCore}
+use Rattle.zf_why.proofs.Prelude.{◌++◌, ◌+◌, ◌<◌, ◌≤◌, ◌∙◌, ◌∷◌, ◌≡◌, [], ap, append-nil, append_assoc, Bool, drop, get_or, length, List, map, Option, Some, suc, sym, zero, ℕ, slice_get, Comp, conjunct_of, ResolvedTree, Value, Environment, chosen_of, IsCore}
 use Rattle.std.proofs.Common.{Global, Vec}
 use Rattle.std.proofs.lemmas.List.{drop_all, map-append}
 use Rattle.std.specs.Prelude.{IfOk, Err, Ok, Result}

@@ -8,3 +8,5 @@ pub mod Explained
 pub mod Disjoined
 pub mod Gathered
 pub mod Tellings
+pub mod NamesHeld
+pub mod HeldOutcomes

@@ -1,5 +1,5 @@
 -- Lists by their places.
-use Rattle.zf_why.proofs.Prelude.{◌++◌, ◌+◌, ◌<◌, ◌≤◌, ◌∙◌, ◌∷◌, ◌≡◌, [], ap, arith, Bool, drop, false, get_or, length, List, map, None, Option, refl, Some, subst, suc, sym, take, true, zero, ℕ, AllByRecursion, slice_get, chosen_of}
+use Rattle.zf_why.proofs.Prelude.{◌++◌, ◌+◌, ◌<◌, ◌≤◌, ◌∙◌, ◌∷◌, ◌≡◌, [], ap, arith, Bool, drop, false, get_or, length, List, map, refl, Some, subst, suc, sym, take, true, zero, ℕ, AllByRecursion, slice_get, chosen_of}
 use Rattle.std.proofs.lemmas.List.{take_all, take_more}
 use Rattle.std.specs.Prelude.{replicate}
 use Rattle.zf_cores.proofs.Choosing.{seen_chosen, stays_out}

@@ -1,5 +1,5 @@
 -- What is picked one after another.
-use Rattle.zf_why.proofs.Prelude.{◌++◌, ◌+◌, ◌<◌, ◌∷◌, ◌≡◌, ◌⊎◌, [], ◌≤◌, add-one, ap, arith, Bool, true, false, inl, inr, length, List, None, not, Option, refl, Some, subst, suc, sym, take, zero, ℕ, slice_get, ArePicked, IsChosen, IsLeft, HasChosen, OneOf}
+use Rattle.zf_why.proofs.Prelude.{◌++◌, ◌+◌, ◌<◌, ◌∷◌, ◌≡◌, ◌⊎◌, [], ◌≤◌, add-one, ap, arith, Bool, true, false, inl, inr, length, List, not, refl, Some, subst, suc, take, zero, ℕ, slice_get, ArePicked, IsChosen, IsLeft, HasChosen, OneOf}
 use Rattle.std.proofs.lemmas.List.{take_all}
 use Rattle.std.specs.Prelude.{IfSome}
 use Rattle.zf_why.proofs.Lists.{some_at}

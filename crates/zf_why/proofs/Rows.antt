@@ -1,5 +1,5 @@
 -- The rows of ranges are the rows of the components whose ranges they are.
-use Rattle.zf_why.proofs.Prelude.{◌∷◌, ◌≡◌, [], inl, inr, List, Option, subst, sym, Contains, Contains-cases, Contains-head, Contains-later, Contains-nil, Comp, IsMember, Value, Environment, AreRanges, later_held, IsRowOf}
+use Rattle.zf_why.proofs.Prelude.{◌∷◌, [], inl, inr, List, Option, subst, sym, Contains, Contains-cases, Contains-head, Contains-later, Contains-nil, Comp, IsMember, Value, Environment, AreRanges, later_held, IsRowOf}
 use Rattle.zf_walk.specs.Rows as walk
 
 member_of : (xs : List Value) (v : Value) → Contains xs v → IsMember v xs

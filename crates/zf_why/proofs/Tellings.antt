@@ -1,5 +1,5 @@
 -- What is told of chosen conjuncts, one after another.
-use Rattle.zf_why.proofs.Prelude.{◌++◌, ◌+◌, ◌<◌, ◌≤◌, ◌∙◌, ◌∷◌, ◌≡◌, [], add-one, ap, append-nil, append_assoc, arith, Bool, drop, false, inl, inr, length, List, map, None, Option, refl, Some, subst, suc, sym, true, zero, ℕ, AllByRecursion, slice_get, slice_set, Comp, conjunct_of, ResolvedTree, Value, Environment, CanAsk, CanBegin, HasRow, IsAllowed, RuleOut, chosen_of, IsChosen, IsCore, AreAlone}
+use Rattle.zf_why.proofs.Prelude.{◌++◌, ◌+◌, ◌≤◌, ◌∙◌, ◌∷◌, ◌≡◌, [], add-one, ap, append-nil, append_assoc, Bool, drop, false, inl, inr, length, List, map, None, Option, refl, Some, subst, suc, sym, true, zero, ℕ, AllByRecursion, slice_get, slice_set, Comp, conjunct_of, ResolvedTree, Value, Environment, CanAsk, CanBegin, IsAllowed, RuleOut, chosen_of, IsChosen, AreAlone}
 use Rattle.std.proofs.lemmas.List.{drop_all}
 use Rattle.zf_term.specs.declared.conjunct.Batch.{Batch}
 use Rattle.zf_term.specs.declared.conjunct.Conjunct.{Conjunct}
@@ -99,11 +99,11 @@ module _ (e : Environment) (cs : List Comp) (held : List (Option Value)) where
 
   -- whether the conjunct at a place is a disjunction
   pub told_at :
-      (xs : List Conjunct) (i : ℕ) (x : Conjunct) (given others : List ResolvedTree) (told : Told) → slice_get xs i ≡ Some x → others ≡ given
-      → IsTold e cs held others (is_disjunction x) (conjunct_of x) told → IsTold e cs held given (disjunction_at xs i) (conjunct_of x) told
-  told_at xs i x given others told at same is =
-      subst (λ (b : Bool). IsTold e cs held given b (conjunct_of x) told) (sym (ap is_one at))
-      (subst (λ (qs : List ResolvedTree). IsTold e cs held qs (is_disjunction x) (conjunct_of x) told) same is)
+      (details : Bool) (xs : List Conjunct) (i : ℕ) (x : Conjunct) (given others : List ResolvedTree) (told : Told) → slice_get xs i ≡ Some x → others ≡ given
+      → IsTold e cs held details others (is_disjunction x) (conjunct_of x) told → IsTold e cs held details given (disjunction_at xs i) (conjunct_of x) told
+  told_at details xs i x given others told at same is =
+      subst (λ (b : Bool). IsTold e cs held details given b (conjunct_of x) told) (sym (ap is_one at))
+      (subst (λ (qs : List ResolvedTree). IsTold e cs held details qs (is_disjunction x) (conjunct_of x) told) same is)
 
 -- ---- which conjuncts are disjunctions
 

@@ -26,8 +26,8 @@ RefutedTogetherBy e a held core =
 
 -- Where a range is empty, the components of all such ranges; else, where a conjunct rules out everything alone, what is told of all that do; else what is told of a minimal set
 -- of conjuncts that can't hold together, of each beside the others. These places of the conjuncts have disjunctions of schemas.
-abbrev pub Explains : Environment → Schema → (held : List (Option Value)) → (disjunctions : ℕ → Bool) → Cause → Type 0
-Explains e a held disjunctions (Empty empty) = EmptiedBy e a held empty.items
-Explains e a held disjunctions (Alone told) = (alone : List Bool) × RefutedBy e a held alone × AreTold e a.comps held nothing_beside disjunctions a.conjuncts alone told.items
-Explains e a held disjunctions (Together told) =
-    (core : List Bool) × RefutedTogetherBy e a held core × AreTold e a.comps held (others_beside a.conjuncts core) disjunctions a.conjuncts core told.items
+abbrev pub Explains : Environment → Schema → (held : List (Option Value)) → (details : Bool) → (disjunctions : ℕ → Bool) → Cause → Type 0
+Explains e a held details disjunctions (Empty empty) = EmptiedBy e a held empty.items
+Explains e a held details disjunctions (Alone told) = (alone : List Bool) × RefutedBy e a held alone × AreTold e a.comps held details nothing_beside disjunctions a.conjuncts alone told.items
+Explains e a held details disjunctions (Together told) =
+    (core : List Bool) × RefutedTogetherBy e a held core × AreTold e a.comps held details (others_beside a.conjuncts core) disjunctions a.conjuncts core told.items

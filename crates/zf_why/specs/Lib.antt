@@ -1,7 +1,10 @@
 pub mod Rows
 pub mod Cores
 pub mod Disjunctions
+pub mod Operands
 pub mod Told
 pub mod Causes
 pub mod Searching
 pub mod Besides
+pub mod Unheld
+pub mod HeldRows

@@ -1,7 +1,7 @@
 -- What the search for a row needs and answers. No public clause rests on this file.
 use Rattle.std.specs.Prelude.{◌≡◌, ◌≤◌, Bool, List, [], length, IsTrue, Option, ℕ}
 use Rattle.std.specs.List.{AllByRecursion}
-use Rattle.zf_term.specs.Definitions.{Comp, Schema, Defined, sets_of}
+use Rattle.zf_term.specs.Definitions.{Comp, Schema, sets_of}
 use Rattle.zf_term.specs.ResolvedTrees.{ResolvedTree}
 use Rattle.zf_extent.specs.Extents.{offending}
 use Rattle.zf_finite.specs.Finite.{all_set_offenders, one_bounds, unless_ended}

@@ -1,6 +1,6 @@
--- What is told of conjuncts that are to blame: their lines, and of a disjunction of schemas those of both sides.
-use Rattle.std.specs.Prelude.{◌≡◌, ℕ, suc, Bool, true, false, List, [], ◌∷◌, ◌++◌, map, slice_set, Option, Some, None}
-use Rattle.zf_term.specs.Definitions.{Comp, Schema, one_holds}
+-- What is told of conjuncts that are to blame: their lines, of a disjunction of schemas those of both sides, and with details the outcomes of operands.
+use Rattle.std.specs.Prelude.{◌≡◌, ℕ, suc, Bool, true, false, List, [], ◌∷◌, map, slice_set, Option, Some, None}
+use Rattle.zf_term.specs.Definitions.{Comp, one_holds}
 use Rattle.zf_term.specs.ResolvedTrees.{ResolvedTree}
 use Rattle.zf_term.specs.Shapes.{term_line}
 use Rattle.zf_value.specs.declared.plain.Value.{Value}
@@ -9,6 +9,7 @@ use Rattle.zf_cores.specs.Choices.{chosen_of}
 use Rattle.zf_why.specs.declared.told.Sides.{Sides}
 use Rattle.zf_why.specs.declared.told.Told.{Told}
 use Rattle.zf_why.specs.Cores.{IsCore}
+use Rattle.zf_why.specs.Operands.{AreOperands}
 
 -- the lines of a minimal set of these predicates that can't hold together with the given ones
 abbrev pub AreBlamed : Environment → List Comp → (held : List (Option Value)) → (given ps : List ResolvedTree) → (lines : List ℕ) → Type 0
@@ -31,9 +32,10 @@ AreSidesOf e cs held given p false (Some sides) = ⊥
 AreSidesOf e cs held given p false None = Unit {0}
 
 -- what is told of a predicate that can't hold together with the given ones
-pub record IsTold (e : Environment) (cs : List Comp) (held : List (Option Value)) (given : List ResolvedTree) (is_disjunction : Bool) (p : ResolvedTree) (told : Told) : Type 0 where
+pub record IsTold (e : Environment) (cs : List Comp) (held : List (Option Value)) (details : Bool) (given : List ResolvedTree) (is_disjunction : Bool) (p : ResolvedTree) (told : Told) : Type 0 where
   pub line : told.line ≡ term_line p
   pub sides : AreSidesOf e cs held given p is_disjunction told.sides
+  pub operands : AreOperands e held details p told.operands
 
 -- what R says of each that is chosen, from this place on
 abbrev pub AreTellings : (R : ℕ → ResolvedTree → Told → Type 0) → (place : ℕ) → List ResolvedTree → (chosen : List Bool) → List Told → Type 0
@@ -44,8 +46,8 @@ AreTellings R i (p ∷ ps) (true ∷ chosen) [] = ⊥
 AreTellings R i (p ∷ ps) (true ∷ chosen) (t ∷ told) = R i p t × AreTellings R (suc i) ps chosen told
 
 -- what is told of each predicate that is chosen, beside others, where these places have disjunctions
-abbrev pub AreTold : Environment → List Comp → (held : List (Option Value)) → (beside : ℕ → List ResolvedTree) → (disjunctions : ℕ → Bool) → List ResolvedTree → (chosen : List Bool) → List Told → Type 0
-AreTold e cs held beside disjunctions = AreTellings (λ i p told. IsTold e cs held (beside i) (disjunctions i) p told) 0
+abbrev pub AreTold : Environment → List Comp → (held : List (Option Value)) → (details : Bool) → (beside : ℕ → List ResolvedTree) → (disjunctions : ℕ → Bool) → List ResolvedTree → (chosen : List Bool) → List Told → Type 0
+AreTold e cs held details beside disjunctions = AreTellings (λ i p told. IsTold e cs held details (beside i) (disjunctions i) p told) 0
 
 -- each is told by itself
 abbrev pub nothing_beside : ℕ → List ResolvedTree

@@ -15,6 +15,7 @@ ghost use Rattle.zf_why.specs.Searching.{CanBegin};
 
 use crate::beside::Beside;
 use crate::cause::Cause;
+use crate::question::Question;
 use crate::setting::Setting;
 use crate::telling::{told_alone, told_together};
 use bumpalo::Bump;
@@ -23,7 +24,6 @@ use zf_cores::minimal;
 use zf_meaning::env::Env;
 use zf_term::conjunct::Conjunct;
 use zf_term::schema::Flat;
-use zf_value::value::Value;
 
 /// Why a schema has no binding in which these values are held.
 pub fn why<'s, 'g, 'a>(
@@ -31,20 +31,21 @@ pub fn why<'s, 'g, 'a>(
     arena: &'a Bump,
     flat: &'s Flat<'a>,
     env: &'s Env<'g, 'a>,
-    held: &'s [Option<Value>],
+    question: &Question<'s>,
 ) -> Result<Cause, AllocError>
     requires finite { IsFinite (environment_of env.now).numbers (environment_of env.now).globals (schema_of flat.now) }
     requires due { AreDueWithin (property (environment_of env.now) (schema_of flat.now).conjuncts) (length (schema_of flat.now).comps) }
     requires none_out { IsNoneOut (environment_of env.now) (schema_of flat.now).comps }
-    requires none { RuleOut (environment_of env.now) (schema_of flat.now).comps held.now (schema_of flat.now).conjuncts }
-    ensures { IfOk result (Explains (environment_of env.now) (schema_of flat.now) held.now (disjunction_at flat.now.conjuncts)) }
+    requires none { RuleOut (environment_of env.now) (schema_of flat.now).comps question.now.held.now (schema_of flat.now).conjuncts }
+    ensures { IfOk result (Explains (environment_of env.now) (schema_of flat.now) question.now.held.now question.now.details (disjunction_at flat.now.conjuncts)) }
 {
     let setting = Setting {
         alloc,
         arena,
         components: flat.components.as_slice(),
         env,
-        held,
+        held: question.held,
+        details: question.details,
     };
     let empty = empty_ranges(&setting)?;
     if has_one(&empty) {

@@ -4,11 +4,16 @@
 mod beside;
 mod cause;
 mod explaining;
+mod held_row;
+mod operands;
+mod question;
 mod setting;
 mod side;
 mod telling;
 mod told;
+mod unheld;
 
 pub use cause::Cause;
 pub use explaining::why;
-pub use told::{Sides, Told};
+pub use question::Question;
+pub use told::{Operands, Sides, Told};

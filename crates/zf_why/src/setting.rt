@@ -23,7 +23,7 @@ use zf_term::schema::{Component, Flat};
 use zf_value::value::Value;
 use zf_walk::Step;
 
-/// The components of a schema in an environment, of which some values are held.
+/// The components of a schema in an environment, of which some values are held, and whether details are told.
 #[derive(Drop)]
 pub struct Setting<'s, 'g, 'a> {
     pub alloc: Global,
@@ -31,6 +31,7 @@ pub struct Setting<'s, 'g, 'a> {
     pub components: &'s [Component<'a>],
     pub env: &'s Env<'g, 'a>,
     pub held: &'s [Option<Value>],
+    pub details: bool,
 }
 
 impl<'s, 'g, 'a> Setting<'s, 'g, 'a> {

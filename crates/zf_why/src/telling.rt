@@ -8,15 +8,18 @@ ghost use Rattle.zf_cores.specs.Choices.{IsChosen, chosen_of};
 ghost use Rattle.zf_why.specs.Rows.{RuleOut};
 ghost use Rattle.zf_why.specs.Cores.{AreAlone, IsCore};
 ghost use Rattle.zf_why.specs.Disjunctions.{disjunction_at, is_disjunction};
+ghost use Rattle.zf_why.specs.Operands.{AreOperands};
 ghost use Rattle.zf_why.specs.Told.{AreBlamed, AreSidesOf, AreTold, IsTold, nothing_beside, others_beside};
 ghost use Rattle.zf_why.specs.Searching.{CanBegin};
 
 use crate::explaining::core;
+use crate::operands::operands_told;
 use crate::setting::{Setting, push_chosen};
 use crate::side::side_of;
-use crate::told::{Sides, Told};
+use crate::told::{Operands, Sides, Told};
 use std::alloc::{AllocError, Global};
 use zf_data::arena::{Chunked, Items};
+use zf_resolved::conjunct::resolved;
 use zf_term::conjunct::Conjunct;
 
 /// What is told of the chosen conjuncts, which are those that rule out everything alone.
@@ -27,7 +30,7 @@ pub fn told_alone<'a>(
 ) -> Result<Vec<Told>, AllocError>
     requires begins { CanBegin (environment_of setting.now.env.now) (map comp_of setting.now.components.now) (map conjunct_of conjuncts.now) }
     requires alone { AreAlone (environment_of setting.now.env.now) (map comp_of setting.now.components.now) setting.now.held.now (map conjunct_of conjuncts.now) chosen.now }
-    ensures { IfOk result (λ told. AreTold (environment_of setting.now.env.now) (map comp_of setting.now.components.now) setting.now.held.now nothing_beside (disjunction_at conjuncts.now) (map conjunct_of conjuncts.now) chosen.now told.items) }
+    ensures { IfOk result (λ told. AreTold (environment_of setting.now.env.now) (map comp_of setting.now.components.now) setting.now.held.now setting.now.details nothing_beside (disjunction_at conjuncts.now) (map conjunct_of conjuncts.now) chosen.now told.items) }
 {
     let mut told = Vec::new(setting.alloc);
     for place in 0..conjuncts.len() {
@@ -47,7 +50,7 @@ pub fn told_together<'a>(
 ) -> Result<Vec<Told>, AllocError>
     requires begins { CanBegin (environment_of setting.now.env.now) (map comp_of setting.now.components.now) (map conjunct_of conjuncts.now) }
     requires core { IsCore (environment_of setting.now.env.now) (map comp_of setting.now.components.now) setting.now.held.now [] (map conjunct_of conjuncts.now) chosen.now }
-    ensures { IfOk result (λ told. AreTold (environment_of setting.now.env.now) (map comp_of setting.now.components.now) setting.now.held.now (others_beside (map conjunct_of conjuncts.now) chosen.now) (disjunction_at conjuncts.now) (map conjunct_of conjuncts.now) chosen.now told.items) }
+    ensures { IfOk result (λ told. AreTold (environment_of setting.now.env.now) (map comp_of setting.now.components.now) setting.now.held.now setting.now.details (others_beside (map conjunct_of conjuncts.now) chosen.now) (disjunction_at conjuncts.now) (map conjunct_of conjuncts.now) chosen.now told.items) }
 {
     let mut told = Vec::new(setting.alloc);
     for place in 0..conjuncts.len() {
@@ -86,11 +89,30 @@ fn told_of<'t, 's, 'g, 'a>(
 ) -> Result<Told, AllocError>
     requires begins { CanBegin (environment_of setting.now.env.now) (map comp_of setting.now.components.now) (map conjunct_of given.now ++ conjunct_of conjunct.now ∷ []) }
     requires none { RuleOut (environment_of setting.now.env.now) (map comp_of setting.now.components.now) setting.now.held.now (map conjunct_of given.now ++ conjunct_of conjunct.now ∷ []) }
-    ensures { IfOk result (λ told. IsTold (environment_of setting.now.env.now) (map comp_of setting.now.components.now) setting.now.held.now (map conjunct_of given.now) (is_disjunction conjunct.now) (conjunct_of conjunct.now) told) }
+    ensures { IfOk result (λ told. IsTold (environment_of setting.now.env.now) (map comp_of setting.now.components.now) setting.now.held.now setting.now.details (map conjunct_of given.now) (is_disjunction conjunct.now) (conjunct_of conjunct.now) told) }
 {
     let line = conjunct.line();
-    let sides = sides_told(setting, given, conjunct)?;
-    Ok(Told { line, sides })
+    let sides = sides_told(&*setting, &*given, &*conjunct)?;
+    let operands = details_told(setting, conjunct)?;
+    Ok(Told {
+        line,
+        sides,
+        operands,
+    })
+}
+
+/// What its operands come to, where details are asked for.
+fn details_told<'a>(
+    setting: &Setting<'_, '_, 'a>,
+    conjunct: &Conjunct<'a>,
+) -> Result<Option<Operands>, AllocError>
+    ensures { IfOk result (AreOperands (environment_of setting.now.env.now) setting.now.held.now setting.now.details (conjunct_of conjunct.now)) }
+{
+    if !setting.details {
+        return Ok(None);
+    }
+    let term = resolved(conjunct, setting.arena)?;
+    operands_told(&term, setting.held, setting.env)
 }
 
 /// Of a disjunction of schemas what is told of both sides, each of which can't hold together with the given ones.

@@ -1,4 +1,4 @@
-use Rattle.zf_why.proofs.Prelude.{arith, length, map, not, subst, sym, Bool, List, take, ◌+◌, comp_of, conjunct_of, environment_of, AreAlone, HasRow, ResolvedTree, RuleOut, ◌∷◌, []}
+use Rattle.zf_why.proofs.Prelude.{arith, map, not, subst, sym, Bool, List, take, ◌+◌, comp_of, conjunct_of, environment_of, AreAlone, HasRow, RuleOut, ◌∷◌, []}
 use Rattle.std.proofs.lemmas.List.{length-map}
 use Rattle.zf_why.proofs.Beginning.{one_begins}
 use Rattle.zf_why.proofs.Lists.{seen_at}

@@ -1,5 +1,5 @@
-use Rattle.zf_why.proofs.Prelude.{◌++◌, ◌≡◌, Bool, length, List, map, subst, sym, true, comp_of, conjunct_of, environment_of, HasRow, IsMinimal, ResolvedTree, chosen_of}
-use Rattle.std.specs.Prelude.{IfOk, replicate}
+use Rattle.zf_why.proofs.Prelude.{◌++◌, Bool, List, map, subst, sym, comp_of, conjunct_of, environment_of, HasRow, IsMinimal, ResolvedTree, chosen_of}
+use Rattle.std.specs.Prelude.{IfOk}
 use Rattle.std.proofs.lemmas.List.{length-map}
 use Rattle.zf_why.proofs.Lists.{all_seen}
 use Rattle.zf_why.proofs.explaining.core.Goals as goal

@@ -1,4 +1,4 @@
-use Rattle.zf_why.proofs.Prelude.{map, take, comp_of, environment_of, AreEmpty, ArePicked, HasNoValue, HasValue}
+use Rattle.zf_why.proofs.Prelude.{map, take, comp_of, environment_of, ArePicked, HasNoValue, HasValue}
 use Rattle.zf_why.proofs.explaining.empty_ranges.Given as goal
 
 abbrev pub invariant-loop-place : goal.invariant-loop-place

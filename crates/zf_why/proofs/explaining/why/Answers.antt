@@ -1,4 +1,4 @@
-use Rattle.zf_why.proofs.Prelude.{◌∙◌, ◌∷◌, ◌≡◌, [], ap, Bool, List, map, Option, refl, Some, subst, sym, slice_get, ℕ, Comp, Environment, ResolvedTree, Value, comp_of, conjunct_of, environment_of, AreAlone, AreEmpty, CanBegin, HasChosen, HasNoValue, HasRow, HasValue, IsCore, RuleOut}
+use Rattle.zf_why.proofs.Prelude.{◌∙◌, ◌∷◌, ◌≡◌, [], ap, Bool, List, map, Option, refl, subst, sym, ℕ, Comp, Environment, ResolvedTree, Value, comp_of, conjunct_of, environment_of, AreAlone, AreEmpty, CanBegin, HasChosen, HasNoValue, HasRow, HasValue, IsCore, RuleOut}
 use Rattle.zf_term.specs.declared.conjunct.Conjunct.{Conjunct}
 use Rattle.zf_why.specs.declared.told.Told.{Told}
 use Rattle.zf_why.specs.Disjunctions.{disjunction_at}
@@ -33,13 +33,13 @@ core-requires c =
     let conjuncts = sym (ap (map conjunct_of) (c.as_slice-3.ensures ∙ c.in_ok-all.ensures)) in
     record {
       begins = of_equal (λ (ds : List Comp) (qs : List ResolvedTree). CanBegin e ds qs) components conjuncts (can_begin e cs ps c.requires.finite c.requires.due c.requires.none_out);
-      none = of_equal (λ (ds : List Comp) (qs : List ResolvedTree). RuleOut e ds c.args.held.now qs) components conjuncts c.requires.none;
+      none = of_equal (λ (ds : List Comp) (qs : List ResolvedTree). RuleOut e ds c.args.question.now.held.now qs) components conjuncts c.requires.none;
     }
 
 pub returns-then-has_one : goal.returns-then-has_one
 returns-then-has_one c =
     let e = environment_of c.args.env.now in (
-      subst (λ (ds : List Comp). AreEmpty e ds c.args.held.now c.in_ok-empty.empty.items) (ap (map comp_of) c.as_slice.ensures) c.in_ok-empty.ensures,
+      subst (λ (ds : List Comp). AreEmpty e ds c.args.question.now.held.now c.in_ok-empty.empty.items) (ap (map comp_of) c.as_slice.ensures) c.in_ok-empty.ensures,
       subst HasChosen c.deref.ensures.value c.if-has_one.ensures,
     )
 
@@ -48,7 +48,7 @@ told_alone-requires c =
     let e = environment_of c.args.env.now in
     let cs = map comp_of c.args.flat.now.components in
     let ps = map conjunct_of c.args.flat.now.conjuncts in
-    let held = c.args.held.now in
+    let held = c.args.question.now.held.now in
     let components = ap (map comp_of) c.as_slice.ensures in
     let first = ap (map conjunct_of) (c.as_slice-2.ensures ∙ c.in_ok-all.ensures) in
     let second = ap (map conjunct_of) (c.as_slice-then-has_one-2.ensures ∙ c.in_ok-all.ensures) in
@@ -59,18 +59,18 @@ told_alone-requires c =
     }
 
 -- what is told, of the conjuncts of the schema
-told_of_all : (e : Environment) (held : List (Option Value)) (beside : List ResolvedTree → List Bool → ℕ → List ResolvedTree) (ds cs : List Comp) (ys xs : List Conjunct) (m n : List Bool) (told : List Told) → ds ≡ cs → ys ≡ xs → m ≡ n
-    → AreTold e ds held (beside (map conjunct_of ys) m) (disjunction_at ys) (map conjunct_of ys) m told → AreTold e cs held (beside (map conjunct_of xs) n) (disjunction_at xs) (map conjunct_of xs) n told
-told_of_all e held beside ds cs ys xs m n told p q r h =
-    subst (λ (k : List Bool). AreTold e cs held (beside (map conjunct_of xs) k) (disjunction_at xs) (map conjunct_of xs) k told) r
-    (subst (λ (zs : List Conjunct). AreTold e cs held (beside (map conjunct_of zs) m) (disjunction_at zs) (map conjunct_of zs) m told) q
-    (subst (λ (bs : List Comp). AreTold e bs held (beside (map conjunct_of ys) m) (disjunction_at ys) (map conjunct_of ys) m told) p h))
+told_of_all : (e : Environment) (held : List (Option Value)) (details : Bool) (beside : List ResolvedTree → List Bool → ℕ → List ResolvedTree) (ds cs : List Comp) (ys xs : List Conjunct) (m n : List Bool) (told : List Told) → ds ≡ cs → ys ≡ xs → m ≡ n
+    → AreTold e ds held details (beside (map conjunct_of ys) m) (disjunction_at ys) (map conjunct_of ys) m told → AreTold e cs held details (beside (map conjunct_of xs) n) (disjunction_at xs) (map conjunct_of xs) n told
+told_of_all e held details beside ds cs ys xs m n told p q r h =
+    subst (λ (k : List Bool). AreTold e cs held details (beside (map conjunct_of xs) k) (disjunction_at xs) (map conjunct_of xs) k told) r
+    (subst (λ (zs : List Conjunct). AreTold e cs held details (beside (map conjunct_of zs) m) (disjunction_at zs) (map conjunct_of zs) m told) q
+    (subst (λ (bs : List Comp). AreTold e bs held details (beside (map conjunct_of ys) m) (disjunction_at ys) (map conjunct_of ys) m told) p h))
 
 pub returns-then-has_one-2 : goal.returns-then-has_one-2
 returns-then-has_one-2 c =
     let e = environment_of c.args.env.now in
     let cs = map comp_of c.args.flat.now.components in
-    let held = c.args.held.now in
+    let held = c.args.question.now.held.now in
     let components = ap (map comp_of) c.as_slice.ensures in
     let empty = subst (λ (ds : List Comp). AreEmpty e ds held c.in_ok-empty.empty.items) components c.in_ok-empty.ensures in
     let none = subst (λ (m : List Bool). HasChosen m → ⊥) c.deref.ensures.value c.if-has_one.ensures in (
@@ -80,7 +80,7 @@ returns-then-has_one-2 c =
         of_equal (λ (ds : List Comp) (qs : List ResolvedTree). AreAlone e ds held qs c.in_ok-alone.alone.items) components (ap (map conjunct_of) (c.as_slice-2.ensures ∙ c.in_ok-all.ensures)) c.in_ok-alone.ensures,
         subst HasChosen c.deref-2.ensures.value c.if-has_one-2.ensures,
       ),
-      told_of_all e held (λ ps m. nothing_beside) _ _ _ _ _ _ c.in_ok-each.each.items components (c.as_slice-then-has_one-2.ensures ∙ c.in_ok-all.ensures) c.deref-then-has_one-2.ensures.value c.in_ok-each.ensures,
+      told_of_all e held c.args.question.now.details (λ ps m. nothing_beside) _ _ _ _ _ _ c.in_ok-each.each.items components (c.as_slice-then-has_one-2.ensures ∙ c.in_ok-all.ensures) c.deref-then-has_one-2.ensures.value c.in_ok-each.ensures,
     )
 
 pub told_together-requires : goal.told_together-requires
@@ -88,7 +88,7 @@ told_together-requires c =
     let e = environment_of c.args.env.now in
     let cs = map comp_of c.args.flat.now.components in
     let ps = map conjunct_of c.args.flat.now.conjuncts in
-    let held = c.args.held.now in
+    let held = c.args.question.now.held.now in
     let components = ap (map comp_of) c.as_slice.ensures in
     let first = ap (map conjunct_of) (c.as_slice-3.ensures ∙ c.in_ok-all.ensures) in
     let second = ap (map conjunct_of) (c.as_slice-4.ensures ∙ c.in_ok-all.ensures) in
@@ -103,7 +103,7 @@ returns c =
     let e = environment_of c.args.env.now in
     let cs = map comp_of c.args.flat.now.components in
     let ps = map conjunct_of c.args.flat.now.conjuncts in
-    let held = c.args.held.now in
+    let held = c.args.question.now.held.now in
     let components = ap (map comp_of) c.as_slice.ensures in
     let empty = subst (λ (ds : List Comp). AreEmpty e ds held c.in_ok-empty.empty.items) components c.in_ok-empty.ensures in
     let filled = subst (λ (m : List Bool). HasChosen m → ⊥) c.deref.ensures.value c.if-has_one.ensures in
@@ -115,5 +115,5 @@ returns c =
         of_equal (λ (ds : List Comp) (qs : List ResolvedTree). IsCore e ds held [] qs c.in_ok-core.core.items) components (ap (map conjunct_of) (c.as_slice-3.ensures ∙ c.in_ok-all.ensures)) c.in_ok-core.ensures,
         some_row e cs held (all_left (HasNoValue e held) (HasValue e held) cs c.in_ok-empty.empty.items empty filled),
       ),
-      told_of_all e held others_beside _ _ _ _ _ _ c.in_ok-told.told.items components (c.as_slice-4.ensures ∙ c.in_ok-all.ensures) c.deref-3.ensures.value c.in_ok-told.ensures,
+      told_of_all e held c.args.question.now.details others_beside _ _ _ _ _ _ c.in_ok-told.told.items components (c.as_slice-4.ensures ∙ c.in_ok-all.ensures) c.deref-3.ensures.value c.in_ok-told.ensures,
     )

@@ -1,4 +1,4 @@
-use Rattle.zf_why.proofs.Prelude.{◌++◌, ◌+◌, ◌∙◌, ◌∷◌, ◌≡◌, [], ap, arith, drop, length, List, map, Some, subst, sym, ℕ, slice_get, conjunct_of, chosen_of}
+use Rattle.zf_why.proofs.Prelude.{◌++◌, ◌+◌, ◌∙◌, ◌∷◌, ◌≡◌, [], ap, arith, drop, List, map, Some, subst, sym, ℕ, slice_get, conjunct_of, chosen_of}
 use Rattle.std.proofs.Common.{Global, Vec}
 use Rattle.std.proofs.lemmas.List.{length-map}
 use Rattle.zf_term.specs.Shapes.{term_line}

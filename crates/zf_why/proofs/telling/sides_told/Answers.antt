@@ -1,4 +1,4 @@
-use Rattle.zf_why.proofs.Prelude.{◌∙◌, ◌≡◌, ap, List, map, ResolvedTree, comp_of, conjunct_of, environment_of}
+use Rattle.zf_why.proofs.Prelude.{◌∙◌, ap, List, map, comp_of, conjunct_of, environment_of}
 use Rattle.zf_data.specs.Chunks.{all_of}
 use Rattle.zf_term.specs.declared.conjunct.Batch.{Batch}
 use Rattle.zf_term.specs.SchemaViews.{batch_of}

@@ -16,7 +16,7 @@ loop-place-init c =
     let e = environment_of s.env.now in
     let cs = map comp_of s.components.now in
     let xs = c.args.conjuncts.now in
-    let R = (λ (i : ℕ) (p : ResolvedTree) (t : Told). IsTold e cs s.held.now (others_beside (map conjunct_of xs) c.args.chosen.now i) (disjunction_at xs i) p t) in
+    let R = (λ (i : ℕ) (p : ResolvedTree) (t : Told). IsTold e cs s.held.now s.details (others_beside (map conjunct_of xs) c.args.chosen.now i) (disjunction_at xs i) p t) in
     subst (AreToldUpTo R (map conjunct_of xs) c.args.chosen.now 0) (sym c.new-told.ensures.items) (none_told R (map conjunct_of xs) c.args.chosen.now)
 
 pub told_of-requires : goal.told_of-requires
@@ -46,7 +46,7 @@ loop-place-preserved c =
     let m = c.args.chosen.now in
     let i = c.loop-place.place in
     let old = c.loop-place.told.items in
-    let R = (λ (i : ℕ) (p : ResolvedTree) (t : Told). IsTold e cs s.held.now (others_beside (map conjunct_of xs) c.args.chosen.now i) (disjunction_at xs i) p t) in
+    let R = (λ (i : ℕ) (p : ResolvedTree) (t : Told). IsTold e cs s.held.now s.details (others_beside (map conjunct_of xs) c.args.chosen.now i) (disjunction_at xs i) p t) in
     let goes = (λ (v w : List Told) (is : v ≡ w) (h : AreToldUpTo R (map conjunct_of xs) m (i + 1) w). subst (AreToldUpTo R (map conjunct_of xs) m (i + 1)) (sym is) h) in
     let seen = λ (v w : Vec Told Global) (is : v ≡ w). ap (λ (u : Vec Told Global). u.items) is in
     elim c.if-chosen-place.branch [
@@ -56,7 +56,7 @@ loop-place-preserved c =
           goes _ _ (seen _ _ w.told-is ∙ w.in_ok-push.ensures.items)
           (one_told R (map conjunct_of xs) m i (conjunct_of x) w.in_ok-one.one old (read_mapped conjunct_of xs i x at)
           (read_at m i _ _ (omega (arith, c.requires.core.each, length-map xs conjunct_of, c.loop-place-test.true)) w.if-chosen-place.true)
-          (told_at e cs s.held.now xs i x (others_beside (map conjunct_of xs) m i) (map conjunct_of w.as_slice.result.now) w.in_ok-one.one at (others_seen xs w.as_slice.result.now (slice_set m i false) (w.as_slice.ensures ∙ w.in_ok-others.ensures)) w.in_ok-one.ensures)
+          (told_at e cs s.held.now s.details xs i x (others_beside (map conjunct_of xs) m i) (map conjunct_of w.as_slice.result.now) w.in_ok-one.one at (others_seen xs w.as_slice.result.now (slice_set m i false) (w.as_slice.ensures ∙ w.in_ok-others.ensures)) w.in_ok-one.ensures)
           c.loop-place.invariant)
       | else-chosen-place w ↦
           let x = some_at xs i c.loop-place-test.true in
@@ -69,5 +69,5 @@ pub returns : goal.returns
 returns c =
     let s = c.args.setting.now in
     let xs = c.args.conjuncts.now in
-    let R = (λ (i : ℕ) (p : ResolvedTree) (t : Told). IsTold (environment_of s.env.now) (map comp_of s.components.now) s.held.now (others_beside (map conjunct_of xs) c.args.chosen.now i) (disjunction_at xs i) p t) in
+    let R = (λ (i : ℕ) (p : ResolvedTree) (t : Told). IsTold (environment_of s.env.now) (map comp_of s.components.now) s.held.now s.details (others_beside (map conjunct_of xs) c.args.chosen.now i) (disjunction_at xs i) p t) in
     all_told R (map conjunct_of xs) c.args.chosen.now c.loop-place.place c.loop-place.told.items (omega (arith, length-map xs conjunct_of, c.loop-place-test.false)) c.loop-place.invariant

@@ -1,0 +1,91 @@
+//! The outcomes of the operands of a relation.
+ghost use Rattle.std.specs.Prelude.{IfOk, Some, map};
+ghost use Rattle.zf_term.specs.ResolvedViews.{links, resolved_link_of, resolved_of};
+ghost use Rattle.zf_meaning.specs.Envs.{environment_of};
+ghost use Rattle.zf_meaning.specs.InRow.{in_row};
+ghost use Rattle.zf_why.specs.HeldRows.{AreOutcomesIn};
+ghost use Rattle.zf_why.specs.Operands as spec;
+ghost use Rattle.zf_why.specs.Operands.{AreOperandsOf};
+
+use crate::held_row::HeldRow;
+use crate::told::Operands;
+use crate::unheld::names_held;
+use std::alloc::AllocError;
+use zf_meaning::env::Env;
+use zf_meaning::row::Row;
+use zf_meaning::value::value_of;
+use zf_term::resolved::{Resolved, ResolvedLink};
+use zf_value::value::{Form, Value};
+
+/// Of a relation that names held components alone what both operands come to.
+pub fn operands_told<'a>(
+    term: &Resolved<'a>,
+    held: &[Option<Value>],
+    env: &Env<'_, 'a>,
+) -> Result<Option<Operands>, AllocError>
+    ensures { IfOk result (AreOperandsOf (environment_of env.now) held.now (resolved_of term.now)) }
+{
+    if !names_held(term, held) {
+        return Ok(None);
+    }
+    let other = Value { form: Form::Int(0) };
+    let row = HeldRow {
+        held,
+        other: &other,
+    };
+    relation_in(term, &row, env)
+}
+
+/// What the operands of a relation come to in a row.
+#[cycle(relation)]
+#[tactic(auto, using(zf_term::proofs::ResolvedSeen::seen))]
+fn relation_in<'a, R: Row>(
+    term: &Resolved<'a>,
+    row: &R,
+    env: &Env<'_, 'a>,
+) -> Result<Option<Operands>, AllocError>
+    ensures { IfOk result (AreOutcomesIn (in_row (environment_of env.now) (R.values row.now)) (spec.operands_of (resolved_of term.now))) }
+{
+    match term {
+        Resolved::Bracket(_, inner) => relation_in(inner.get(), row, env),
+        Resolved::Chain(_, first, further) => chain_in(first.get(), further.as_slice(), row, env),
+        Resolved::Name(_, _) => Ok(None),
+        Resolved::Number(_, _) => Ok(None),
+        Resolved::Constant(_, _) => Ok(None),
+        Resolved::EmptySet(_, _) => Ok(None),
+        Resolved::Listed(_, _, _) => Ok(None),
+        Resolved::Builder(_, _, _, _) => Ok(None),
+        Resolved::Unary(_, _, _) => Ok(None),
+        Resolved::Binary(_, _, _, _) => Ok(None),
+        Resolved::Quantified(_, _, _, _, _) => Ok(None),
+    }
+}
+
+/// What both operands of a chain come to, if it has two.
+fn chain_in<'a, R: Row>(
+    first: &Resolved<'a>,
+    further: &[ResolvedLink<'a>],
+    row: &R,
+    env: &Env<'_, 'a>,
+) -> Result<Option<Operands>, AllocError>
+    ensures { IfOk result (AreOutcomesIn (in_row (environment_of env.now) (R.values row.now)) (spec.with_first (resolved_of first.now) (spec.only_link (links (map resolved_link_of further.now))))) }
+{
+    if further.len() != 1 {
+        return Ok(None);
+    }
+    both_in(first, &further[0].right, row, env)
+}
+
+/// What two operands come to.
+fn both_in<'a, R: Row>(
+    left: &Resolved<'a>,
+    right: &Resolved<'a>,
+    row: &R,
+    env: &Env<'_, 'a>,
+) -> Result<Option<Operands>, AllocError>
+    ensures { IfOk result (AreOutcomesIn (in_row (environment_of env.now) (R.values row.now)) (Some (resolved_of left.now, resolved_of right.now))) }
+{
+    let left = value_of(left, &*row, &*env)?;
+    let right = value_of(right, &*row, &*env)?;
+    Ok(Some(Operands { left, right }))
+}
