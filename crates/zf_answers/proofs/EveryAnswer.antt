@@ -110,9 +110,9 @@ shown r source limited g a e p search =
 first_row : (e : Environment) (comps : List Comp) (text : Option (List ℕ)) (after : Option (List Value)) → text ≡ None → IsNamedRow e comps text after → after ≡ None
 first_row e comps text after none named = subst (λ t. IsNamedRow e comps t after) none named
 
-explained : (r : Request) (file source : List ℕ) → IsBare r → CanBeTold (TellsWhy file source) r source
+explained : (r : Request) (file source : List ℕ) → IsBare r → CanBeTold (TellsWhy r.details file source) r source
 explained r file source plain g a e p search =
-    some_told file source g a e p (first_row e a.comps r.after p.after plain.0 search.named) (bounded_in r source g a e p search)
+    some_told r.details file source g a e p (first_row e a.comps r.after p.after plain.0 search.named) (bounded_in r source g a e p search)
 
 some_of_job : (job : Job) (file source : List ℕ) → IsLimited job → (g : List Defined) (faults : List Fault) → Checks source g faults
     → (text : List ℕ) × (status : Status) × JobAnswer job file source text status
@@ -121,7 +121,7 @@ some_of_job (Check types details) file source limited g faults checks =
     (some.0 ++ (if types then listing g else []), check_status faults, (g, faults, checks, (some.0, some.1, refl), refl))
 some_of_job (Show r) file source limited g faults checks = some_at_types (ShowsEvents r) r file source (shown r source limited) g faults checks
 some_of_job (Reach x) file source limited g faults checks = explorations.some_at_types x file source limited g faults checks
-some_of_job (Why r) file source plain g faults checks = some_at_types (TellsWhy file source) r file source (explained r file source plain) g faults checks
+some_of_job (Why r) file source plain g faults checks = some_at_types (TellsWhy r.details file source) r file source (explained r file source plain) g faults checks
 
 pub every_request_is_answered : EverySourceIsRead → EveryRequestIsAnswered
 every_request_is_answered every_source job file source limited = by (every_source source)

@@ -1,16 +1,18 @@
 -- An answer of an exploration by its stages: at each it is refused, or goes on with what the next one stands on; and there is one.
-use Rattle.zf_answers.proofs.Prelude.{◌∙◌, ◌∷◌, ◌≡◌, ◌⊎◌, [], ap, append-nil, Bool, inl, inr, List, Option, refl, subst, sym, ℕ, same_Some, AllByRecursion, AreAlike, AreComplete, Checks, Comp, declared_out_line, Defined, Environment, given_sets, IsEnvironment, IsFinite, IsNoneOut, NotFinite, not_finite_lines, numbers_of, Schema, size_fault_lines, slice_get, spellings, stated, Status, AreSmall}
+use Rattle.zf_answers.proofs.Prelude.{◌∙◌, ◌∷◌, ◌≡◌, ◌⊎◌, [], ap, append-nil, Bool, inl, inr, List, None, Option, refl, Some, subst, sym, ℕ, same_Some, AllByRecursion, AreAlike, AreComplete, Checks, Comp, declared_out_line, Defined, Environment, given_sets, IsEnvironment, IsFinite, IsNoneOut, NotFinite, not_finite_lines, numbers_of, Schema, size_fault_lines, slice_get, spellings, stated, Status, AreSmall}
 use Rattle.std.specs.List.{AllZip}
+use Rattle.std.specs.Prelude.{◌++◌, option_to_list}
 use Rattle.zf_command.specs.declared.job.Exploration.{Exploration}
 use Rattle.zf_graph.proofs.OneWay.{one_way}
+use Rattle.zf_graph.specs.Seeking as seeking
 use Rattle.zf_graph.specs.Texts as graph
 use Rattle.zf_machines.proofs.Sole.{one_machine}
 use Rattle.zf_machines.specs.Machines.{all_of, HasShape, Named, Schemas}
-use Rattle.zf_steps.proofs.Sure.{is_sure}
-use Rattle.zf_steps.specs.Explored.{explored_in}
-use Rattle.zf_steps.specs.Lines.{lines}
+use Rattle.zf_steps.proofs.Sure.{is_searched_once, is_sure}
+use Rattle.zf_steps.specs.Explored.{explored_in, sought_in}
 use Rattle.zf_steps.specs.Systems.{System}
-use Rattle.zf_engine.specs.Explorations.{ending_status, Explores, ExplorationAnswer, HasInfinite, HasOut, HasSchemas, IsBounded, IsOfSchema, IsSchemaOf, IsSettled, LacksComponent, LacksSchema, names_of, RefusesExploration, states_limit}
+use Rattle.zf_steps.specs.Words.{verdict, words}
+use Rattle.zf_engine.specs.Explorations.{TellsMachine, AreSchemasOf, ending_status, Explores, ExplorationAnswer, form_of, HasInfinite, HasOut, HasSchemas, IsBounded, IsOfSchema, IsSchemaOf, IsSettled, LacksComponent, LacksSchema, names_of, RefusesExploration, result_status, Seeks, states_limit}
 use Rattle.zf_engine.specs.Settings.{TellsFaults, TellsInfinite, TellsMisfit, TellsNoSchema, TellsNumbers, TellsOut}
 use Rattle.zf_messages.specs.Texts.{no_component_line}
 use Rattle.zf_answers.proofs.Machines.{not_all_and_first, not_shape_and_lack, one_first, one_lacking}
@@ -27,7 +29,7 @@ IsOne details file source one two s t = (s ≡ t) × AreAlike details file sourc
 
 module _ (x : Exploration) (file source text : List ℕ) (status : Status) where
   abbrev pub AtSets : List Defined → Schemas → Environment → Type 0
-  AtSets g p e = HasOut e p text status ⊎ (AllByRecursion (λ n. IsNoneOut e n.schema.comps) (all_of p) × Explores x g p e text status)
+  AtSets g p e = HasOut e p text status ⊎ (AllByRecursion (λ n. IsNoneOut e n.schema.comps) (all_of p) × TellsMachine x.sought x g p e text status)
 
   abbrev pub AtFiniteness : List Defined → Schemas → Type 0
   AtFiniteness g p =
@@ -44,7 +46,7 @@ module _ (x : Exploration) (file source text : List ℕ) (status : Status) where
   AtShape g p = LacksComponent p text status ⊎ (HasShape p × AtNumbers g p)
 
   abbrev pub AtSchemas : List Defined → Type 0
-  AtSchemas g = LacksSchema x g text status ⊎ ((p : Schemas) × AllZip (IsSchemaOf g) (names_of x) (all_of p) × AtShape g p)
+  AtSchemas g = LacksSchema x g text status ⊎ ((p : Schemas) × AreSchemasOf g x p × AtShape g p)
 
   abbrev pub AtTypes : Type 0
   AtTypes = TellsFaults x.details file source text status ⊎ ((g : List Defined) × Checks source g [] × AtSchemas g)
@@ -74,11 +76,19 @@ module _ (x : Exploration) (file source text : List ℕ) (status : Status) where
 
 -- ---- the schemas of names
 
-pub named_all : (g : List Defined) (names : List (List ℕ)) (ns : List Named) → AllZip (IsSchemaOf g) names ns → AllByRecursion (IsOfSchema g) names
-named_all g [] [] named = tt
-named_all g [] (n ∷ ns) named = absurd named
-named_all g (name ∷ names) [] named = absurd named
-named_all g (name ∷ names) (n ∷ ns) named = ((n.schema, named.0.1), named_all g names ns named.1)
+-- each name is that of a schema, where these are the schemas of some, and those of others
+both_named : (g : List Defined) (names others : List (List ℕ)) (ns ms : List Named) → AllZip (IsSchemaOf g) names ns → AllZip (IsSchemaOf g) others ms → AllByRecursion (IsOfSchema g) (names ++ others)
+both_named g [] [] [] [] named more = tt
+both_named g [] [] [] (m ∷ ms) named more = tt
+both_named g [] (name ∷ others) [] [] named more = absurd more
+both_named g [] (name ∷ others) [] (m ∷ ms) named more = ((m.schema, more.0.1), both_named g [] others [] ms tt more.1)
+both_named g [] others (n ∷ ns) ms named more = absurd named
+both_named g (name ∷ names) others [] ms named more = absurd named
+both_named g (name ∷ names) others (n ∷ ns) ms named more = ((n.schema, named.0.1), both_named g names others ns ms named.1 more)
+
+pub named_all : (g : List Defined) (x : Exploration) (p : Schemas) → AreSchemasOf g x p → AllByRecursion (IsOfSchema g) (names_of x)
+named_all g x p are =
+    ((p.state.schema, are.state.1), ((p.init.schema, are.init.1), both_named g x.operations (option_to_list x.sought) p.operations (option_to_list p.sought) are.operations are.sought))
 
 abbrev called : List ℕ → Schema → Named
 called name a = record { name = name; schema = a }
@@ -96,14 +106,22 @@ one_named_all g (name ∷ names) (n ∷ ns) [] x y = absurd y
 one_named_all g (name ∷ names) (n ∷ ns) (m ∷ ms) x y =
     ap (λ (l : Named). l ∷ ns) (one_schema g name n m x.0 y.0) ∙ ap (λ (ls : List Named). m ∷ ls) (one_named_all g names ns ms x.1 y.1)
 
-abbrev schemas_of : Named → Named → List Named → Schemas
-schemas_of state init operations = record { state = state; init = init; operations = operations }
+one_sought : (n m : Option Named) → option_to_list n ≡ option_to_list m → n ≡ m
+one_sought None None same = refl
+one_sought None (Some m) same = cc
+one_sought (Some n) None same = cc
+one_sought (Some n) (Some m) same = let one : n ≡ m = cc in ap Some one
 
-pub one_schemas : (x : Exploration) (g : List Defined) (p q : Schemas) → AllZip (IsSchemaOf g) (names_of x) (all_of p) → AllZip (IsSchemaOf g) (names_of x) (all_of q) → p ≡ q
+abbrev schemas_of : Named → Named → List Named → Option Named → Schemas
+schemas_of state init operations sought = record { state = state; init = init; operations = operations; sought = sought }
+
+pub one_schemas : (x : Exploration) (g : List Defined) (p q : Schemas) → AreSchemasOf g x p → AreSchemasOf g x q → p ≡ q
 one_schemas x g p q is also =
-    ap (λ (n : Named). schemas_of n p.init p.operations) (one_schema g x.state p.state q.state is.0 also.0)
-    ∙ ap (λ (n : Named). schemas_of q.state n p.operations) (one_schema g x.initial p.init q.init is.1.0 also.1.0)
-    ∙ ap (λ (ns : List Named). schemas_of q.state q.init ns) (one_named_all g x.operations p.operations q.operations is.1.1 also.1.1)
+    ap (λ (n : Named). schemas_of n p.init p.operations p.sought) (one_schema g x.state p.state q.state is.state also.state)
+    ∙ ap (λ (n : Named). schemas_of q.state n p.operations p.sought) (one_schema g x.initial p.init q.init is.init also.init)
+    ∙ ap (λ (ns : List Named). schemas_of q.state q.init ns p.sought) (one_named_all g x.operations p.operations q.operations is.operations also.operations)
+    ∙ ap (λ (n : Option Named). schemas_of q.state q.init q.operations n)
+    (one_sought p.sought q.sought (one_named_all g (option_to_list x.sought) (option_to_list p.sought) (option_to_list q.sought) is.sought also.sought))
 
 -- ---- what is told of one that fails excludes that it passes
 
@@ -119,12 +137,25 @@ no_schema_apart details g text status name told named = told.none named.0 named.
 -- ---- two answers
 
 -- the machine of the schemas has one text
-pub one_explored : (x : Exploration) (g : List Defined) (p : Schemas) (e : Environment) (one two : List ℕ) (s t : Status) → Explores x g p e one s → Explores x g p e two t → (s ≡ t) × (one ≡ two)
+one_explored : (x : Exploration) (g : List Defined) (p : Schemas) (e : Environment) (one two : List ℕ) (s t : Status) → Explores x g p e one s → Explores x g p e two t → (s ≡ t) × (one ≡ two)
 one_explored x g p e one two s t u v =
-    let same = one_machine e (spellings g) p u.machine v.machine u.is_of v.is_of in
-    let written = subst (λ (m : System). graph.IsWritten (explored_in m) (lines m) (states_limit x) u.ending one) same u.written in
-    let both = one_way (explored_in v.machine) (lines v.machine) (states_limit x) (is_sure v.machine) u.ending v.ending one two written v.written in
+    let same = one_machine e (spellings g) (form_of x) p u.machine v.machine u.is_of v.is_of in
+    let written = subst (λ (m : System). graph.IsWritten (explored_in m) (words m) (states_limit x) u.ending one) same u.written in
+    let both = one_way (explored_in v.machine) (words v.machine) (states_limit x) (is_sure v.machine) u.ending v.ending one two written v.written in
     (u.ends ∙ ap ending_status both.0 ∙ sym v.ends, both.1)
+
+-- so has a search
+one_sought_for : (x : Exploration) (g : List Defined) (p : Schemas) (e : Environment) (one two : List ℕ) (s t : Status) → Seeks x g p e one s → Seeks x g p e two t → (s ≡ t) × (one ≡ two)
+one_sought_for x g p e one two s t u v =
+    let same = one_machine e (spellings g) (form_of x) p u.machine v.machine u.is_of v.is_of in
+    let written = subst (λ (m : System). seeking.IsSearched (explored_in m) (sought_in m) (words m) (verdict m) (states_limit x) u.result one) same u.written in
+    let both = is_searched_once v.machine (states_limit x) u.result v.result one two written v.written in
+    (u.ends ∙ ap result_status both.0 ∙ sym v.ends, both.1)
+
+pub one_told : (sought : Option (List ℕ)) (x : Exploration) (g : List Defined) (p : Schemas) (e : Environment) (one two : List ℕ) (s t : Status)
+    → TellsMachine sought x g p e one s → TellsMachine sought x g p e two t → (s ≡ t) × (one ≡ two)
+one_told None x g p e one two s t u v = one_explored x g p e one two s t u v
+one_told (Some name) x g p e one two s t u v = one_sought_for x g p e one two s t u v
 
 module _ (x : Exploration) (file source one two : List ℕ) (s t : Status) where
   abbrev One : Type 0
@@ -146,7 +177,7 @@ module _ (x : Exploration) (file source one two : List ℕ) (s t : Status) where
         one_first (λ (n : Named). IsNoneOut e n.schema.comps) (λ n. TellsOut e n.schema.comps one s) (λ n. TellsOut e n.schema.comps two t) (out_apart e one s) (out_apart e two t) (one_out e) (all_of p) u v
     one_at_sets e (inl u) (inr v) = absurd (not_all_and_first (λ (n : Named). IsNoneOut e n.schema.comps) (λ n. TellsOut e n.schema.comps one s) (out_apart e one s) (all_of p) v.0 u)
     one_at_sets e (inr u) (inl v) = absurd (not_all_and_first (λ (n : Named). IsNoneOut e n.schema.comps) (λ n. TellsOut e n.schema.comps two t) (out_apart e two t) (all_of p) u.0 v)
-    one_at_sets e (inr u) (inr v) = let same = one_explored x g p e one two s t u.1 v.1 in same_told same.0 same.1
+    one_at_sets e (inr u) (inr v) = let same = one_told x.sought x g p e one two s t u.1 v.1 in same_told same.0 same.1
 
     -- ---- finite schemas
     abbrev numbers : Option ℕ
@@ -199,8 +230,8 @@ module _ (x : Exploration) (file source one two : List ℕ) (s t : Status) where
   one_at_schemas g (inl u) (inl v) =
       one_first (IsOfSchema g) (TellsNoSchema x.details g one s) (TellsNoSchema x.details g two t) (no_schema_apart x.details g one s) (no_schema_apart x.details g two t)
       (λ name f h. same_told (f.bad ∙ sym h.bad) (f.told ∙ sym h.told)) (names_of x) u v
-  one_at_schemas g (inl u) (inr v) = absurd (not_all_and_first (IsOfSchema g) (TellsNoSchema x.details g one s) (no_schema_apart x.details g one s) (names_of x) (named_all g (names_of x) (all_of v.0) v.1) u)
-  one_at_schemas g (inr u) (inl v) = absurd (not_all_and_first (IsOfSchema g) (TellsNoSchema x.details g two t) (no_schema_apart x.details g two t) (names_of x) (named_all g (names_of x) (all_of u.0) u.1) v)
+  one_at_schemas g (inl u) (inr v) = absurd (not_all_and_first (IsOfSchema g) (TellsNoSchema x.details g one s) (no_schema_apart x.details g one s) (names_of x) (named_all g x v.0 v.1) u)
+  one_at_schemas g (inr u) (inl v) = absurd (not_all_and_first (IsOfSchema g) (TellsNoSchema x.details g two t) (no_schema_apart x.details g two t) (names_of x) (named_all g x u.0 u.1) v)
   one_at_schemas g (inr u) (inr v) = one_at_shape g v.0 (subst (λ (q : Schemas). AtShape x file source one s g q) (one_schemas x g u.0 v.0 u.1 v.1) u.2) v.2
 
   one_at_types : AtTypes x file source one s → AtTypes x file source two t → One

@@ -21,10 +21,12 @@ mod SomeExploration
 pub mod EveryAnswer
 pub mod FirstLines
 mod Reached
+mod Sought
 pub mod EarlyStops
 pub mod Joined
 pub mod RunsFollow
 pub mod NamedLines
 mod OneCause
+mod SomeOperands
 mod SomeCause
 mod Reasons

@@ -147,14 +147,14 @@ read_unread : (job : Job) (file source one two : List ℕ) (s t : Status) → Un
 read_unread (Check types details) file source one two s t (fault, about, refused, told, bad) (g, es, p, are, done) = unread source fault p.boxes refused p.reads
 read_unread (Show r) file source one two s t (fault, about, refused, told, bad) answer = read_request (ShowsEvents r) r file source two t fault refused answer
 read_unread (Reach x) file source one two s t (fault, about, refused, told, bad) answer = read_exploration x file source two t fault refused answer
-read_unread (Why r) file source one two s t (fault, about, refused, told, bad) answer = read_request (TellsWhy file source) r file source two t fault refused answer
+read_unread (Why r) file source one two s t (fault, about, refused, told, bad) answer = read_request (TellsWhy r.details file source) r file source two t fault refused answer
 
 one_unread : (details : Bool) (file source one two : List ℕ) (s t : Status) → UnreadAnswer details file source one s → UnreadAnswer details file source two t → IsOne details file source one two s t
 one_unread details file source one two s t (e, x, refused, told, bad) (f, y, other_refused, other_told, other_bad) =
     (bad ∙ sym other_bad, one_refused details file source one two e f x y refused other_refused told other_told)
 
 one_reason : (r : Request) (file source one two : List ℕ) (g : List Defined) (a : Schema) (e : Environment) (p : Portion) → HasSchema source r.name g a → IsEnvironment g (stated g r.setting) (numbers_of r.setting) e
-    → AreOneReason file source g a e p one two → AreAlike r.details file source one two
+    → AreOneReason r.details file source g a e p one two → AreAlike r.details file source one two
 one_reason r file source one two g a e p has is (inl same) = AreAlike.same same
 one_reason r file source one two g a e p has is (inr (inl (alone, x, told, other_told))) = AreAlike.sides r.name g a (stated g r.setting) (numbers_of r.setting) e p.held alone has is x told other_told
 one_reason r file source one two g a e p has is (inr (inr (first, second, x, y, told, other_told))) = AreAlike.reasons r.name g a (stated g r.setting) (numbers_of r.setting) e p.held first second has is x y told other_told
@@ -166,8 +166,8 @@ one_job_answer (Show r) file source one two s t x y =
     (staged (ShowsEvents r) r file source one s x) (staged (ShowsEvents r) r file source two t y)
 one_job_answer (Reach e) file source one two s t x y = one_exploration_answer e file source one two s t x y
 one_job_answer (Why r) file source one two s t x y =
-    one_at_types (TellsWhy file source) r file source one two s t (λ g a e p has is u v. let told = one_told file source g a e p one two s t u v in (told.statuses, one_reason r file source one two g a e p has is told.reasons))
-    (staged (TellsWhy file source) r file source one s x) (staged (TellsWhy file source) r file source two t y)
+    one_at_types (TellsWhy r.details file source) r file source one two s t (λ g a e p has is u v. let told = one_told r.details file source g a e p one two s t u v in (told.statuses, one_reason r file source one two g a e p has is told.reasons))
+    (staged (TellsWhy r.details file source) r file source one s x) (staged (TellsWhy r.details file source) r file source two t y)
 
 pub one_answer : (job : Job) (file source one two : List ℕ) (s t : Status) → Answer job file source one s → Answer job file source two t → IsOne (wants_details job) file source one two s t
 one_answer job file source one two s t (inl x) (inl y) = one_unread (wants_details job) file source one two s t x y

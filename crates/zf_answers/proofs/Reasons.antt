@@ -16,7 +16,7 @@ use Rattle.zf_term.specs.ResolvedTrees.{ResolvedTree}
 
 -- ---- as `show` would have it, with one binding at most
 
-module _ (file source : List ℕ) (g : List Defined) (a : Schema) (e : Environment) (p : Portion) where
+module _ (details : Bool) (file source : List ℕ) (g : List Defined) (a : Schema) (e : Environment) (p : Portion) where
   abbrev line : List Value → List ℕ
   line = binding_line (spellings g) a.comps
 
@@ -60,9 +60,9 @@ module _ (file source : List ℕ) (g : List Defined) (a : Schema) (e : Environme
   -- two texts are one, or tell the same conjuncts with other sides, or two minimal sets of conjuncts
   abbrev pub AreOneReason : (one two : List ℕ) → Type 0
   AreOneReason one two = (one ≡ two)
-      ⊎ (((alone : List Bool) × RefutedBy e a p.held alone × TellsConjuncts file source a e p.held nothing_beside alone one × TellsConjuncts file source a e p.held nothing_beside alone two)
+      ⊎ (((alone : List Bool) × RefutedBy e a p.held alone × TellsConjuncts details file source a e p.held nothing_beside alone one × TellsConjuncts details file source a e p.held nothing_beside alone two)
       ⊎ ((first : List Bool) × (second : List Bool) × RefutedTogetherBy e a p.held first × RefutedTogetherBy e a p.held second
-      × TellsConjuncts file source a e p.held (others_beside a.conjuncts first) first one × TellsConjuncts file source a e p.held (others_beside a.conjuncts second) second two))
+      × TellsConjuncts details file source a e p.held (others_beside a.conjuncts first) first one × TellsConjuncts details file source a e p.held (others_beside a.conjuncts second) second two))
 
   pub record AreOneTold (one two : List ℕ) (s t : Status) : Type 0 where
     pub statuses : s ≡ t
@@ -91,7 +91,7 @@ module _ (file source : List ℕ) (g : List Defined) (a : Schema) (e : Environme
     apart_other_way : s ≡ PastBounds → t ≡ Done → s ≡ t → AreOneTold one two s t
     apart_other_way past done same = absurd (let z : PastBounds ≡ Done = sym past ∙ same ∙ done in cc)
 
-    pub one_told : TellsWhy file source g a e p one s → TellsWhy file source g a e p two t → AreOneTold one two s t
+    pub one_told : TellsWhy details file source g a e p one s → TellsWhy details file source g a e p two t → AreOneTold one two s t
     one_told (TellsWhy.satisfied ev listed true told done) (TellsWhy.satisfied other other_listed other_true other_told other_done) =
         same_row (λ row. line row ++ codes "satisfied\n") ev.row other.row (seen_first ev s listed true done) (seen_first other t other_listed other_true other_done) told other_told
     one_told (TellsWhy.satisfied ev listed true told done) (TellsWhy.doubtful other other_listed out other_told past) =
@@ -119,7 +119,7 @@ module _ (file source : List ℕ) (g : List Defined) (a : Schema) (e : Environme
     one_told (TellsWhy.refuted m none cause told done) (TellsWhy.refuted n other_none other_cause other_told other_done) =
         record {
           statuses = done ∙ sym other_done;
-          reasons = inr (inl (n, other_cause, subst (λ (z : List Bool). TellsConjuncts file source a e p.held nothing_beside z one) (same_alone e a p.held m n cause other_cause) told, other_told));
+          reasons = inr (inl (n, other_cause, subst (λ (z : List Bool). TellsConjuncts details file source a e p.held nothing_beside z one) (same_alone e a p.held m n cause other_cause) told, other_told));
         }
     one_told (TellsWhy.refuted m none cause told done) (TellsWhy.refuted_together n other_none other_cause other_told other_done) = absurd (not_both e a p.held m n cause other_cause)
     one_told (TellsWhy.refuted_together m none cause told done) (TellsWhy.satisfied other other_listed true other_told other_done) =
@@ -133,7 +133,7 @@ module _ (file source : List ℕ) (g : List Defined) (a : Schema) (e : Environme
   -- ---- there is something to tell
 
   abbrev pub CanTell : Type 0
-  CanTell = (text : List ℕ) × (status : Status) × TellsWhy file source g a e p text status
+  CanTell = (text : List ℕ) × (status : Status) × TellsWhy details file source g a e p text status
 
   alone_of : (front : List (Event Value)) (n : ℕ) → n ≡ length front + 1 → n ≤ 1 → front ≡ []
   alone_of [] n is l = refl
@@ -164,10 +164,10 @@ module _ (file source : List ℕ) (g : List Defined) (a : Schema) (e : Environme
       Contains-nil ev.0 ((l.members ev.0).1 (subst (λ after. IsEvent value_order (property e a.conjuncts) h.ranges after ev.0) (sym first) ev.1, tt))
 
   -- without sides
-  some_conjuncts : (beside : ℕ → List ResolvedTree) (m : List Bool) → (text : List ℕ) × TellsConjuncts file source a e p.held beside m text
+  some_conjuncts : (beside : ℕ → List ResolvedTree) (m : List Bool) → (text : List ℕ) × TellsConjuncts details file source a e p.held beside m text
   some_conjuncts beside m =
-      let told = some_told_lines e a.comps p.held beside a.conjuncts m in
-      (told_lines file source told.0 ++ codes "no binding\n", ((λ i. false), told.0, told.1, refl))
+      let told = some_told_lines e a.comps p.held details beside a.conjuncts m in
+      (told_lines file source (spellings e.globals) told.0 ++ codes "no binding\n", ((λ i. false), told.0, told.1, refl))
 
   by_cause : HasEvents e a p None [] → HasSome (EmptiedBy e a p.held) ⊎ (HasSome (RefutedBy e a p.held) ⊎ HasSome (RefutedTogetherBy e a p.held)) → CanTell
   by_cause none (inl (m, cause)) = (empty_lines file (chosen_of a.comps m) ++ codes "no binding\n", Done, TellsWhy.emptied m none cause refl refl)

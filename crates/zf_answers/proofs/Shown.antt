@@ -74,7 +74,7 @@ pub events_are_shown : EventsAreShown
 events_are_shown r file source g a e p text status granted answer = of_answer (ShowsEvents r) r file source g a e p text status granted answer
 
 pub reason_is_told : ReasonIsTold
-reason_is_told r file source g a e p text status granted answer = of_answer (TellsWhy file source) r file source g a e p text status granted answer
+reason_is_told r file source g a e p text status granted answer = of_answer (TellsWhy r.details file source) r file source g a e p text status granted answer
 
 pub is_shown_in_one_way : IsShownInOneWay
 is_shown_in_one_way r file source g a e p one two s t granted x y =

@@ -19,6 +19,7 @@ use Rattle.zf_why.specs.Causes.{EmptiedBy, RefutedBy, RefutedTogetherBy}
 use Rattle.zf_why.proofs.Decided.{event_of, row_at}
 use Rattle.zf_why.proofs.Explained.{held_later, some_row}
 use Rattle.zf_why.proofs.Picking.{all_left}
+use Rattle.zf_answers.proofs.SomeOperands.{some_operands}
 
 -- ---- choices
 
@@ -117,5 +118,8 @@ some_tellings R each i (p ∷ ps) (true ∷ m) =
     let rest = some_tellings R each (suc i) ps m in
     (first.0 ∷ rest.0, (first.1, rest.1))
 
-pub some_told_lines : (e : Environment) (cs : List Comp) (held : List (Option Value)) (beside : ℕ → List ResolvedTree) (ps : List ResolvedTree) (m : List Bool) → HasSome (AreTold e cs held beside (λ i. false) ps m)
-some_told_lines e cs held beside = some_tellings (λ i p told. IsTold e cs held (beside i) false p told) (λ i p. (record { line = term_line p; sides = None }, record { line = refl; sides = tt })) 0
+pub some_told_lines : (e : Environment) (cs : List Comp) (held : List (Option Value)) (details : Bool) (beside : ℕ → List ResolvedTree) (ps : List ResolvedTree) (m : List Bool)
+    → HasSome (AreTold e cs held details beside (λ i. false) ps m)
+some_told_lines e cs held details beside =
+    some_tellings (λ i p told. IsTold e cs held details (beside i) false p told)
+    (λ i p. let operands = some_operands e held details p in (record { line = term_line p; sides = None; operands = operands.0 }, record { line = refl; sides = tt; operands = operands.1 })) 0

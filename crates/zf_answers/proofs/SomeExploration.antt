@@ -1,18 +1,22 @@
 -- Each exploration has an answer: it is refused at a stage, or what its machine can reach is told.
 use Rattle.zf_answers.proofs.Prelude.{◌∷◌, ◌≡◌, ◌≤◌, ◌⊎◌, [], ap, arith, inl, inr, List, map, None, Option, refl, Some, subst, sym, ℕ, AllByRecursion, AreSmall, BadRequest, BadSpec, causes, Checks, declared_out_line, Defined, Environment, first, finite_without_cause, given_sets, HasLimit, IsFinite, IsFirstOut, IsNoneOut, no_schema_lines, NotFinite, not_finite_lines, numbers_of, numbers_too_large_line, PastBounds, size_fault_lines, spellings, stated, Status}
 use Rattle.std.specs.List.{AllZip}
+use Rattle.std.specs.Prelude.{◌++◌, option_to_list}
 use Rattle.zf_command.specs.declared.job.Exploration.{Exploration}
 use Rattle.zf_found.proofs.Ranges.{first_out_or_none}
-use Rattle.zf_found.proofs.Turns.{some_turns}
+use Rattle.zf_found.proofs.Turns.{some_result, some_turns}
 use Rattle.zf_graph.proofs.Existing.{somehow_written}
+use Rattle.zf_machines.proofs.Sole.{of_operations, of_test}
 use Rattle.zf_machines.specs.Machines.{all_of, HasShape, IsMachineOf, Named, Schemas, state_of}
+use Rattle.zf_steps.specs.declared.form.Form.{Form}
 use Rattle.zf_steps.specs.Explored.{CanExplore, explored_in}
-use Rattle.zf_steps.specs.Lines.{lines}
 use Rattle.zf_steps.specs.Shapes.{IsInit, operation_in}
 use Rattle.zf_steps.specs.Systems.{Operation, System}
+use Rattle.zf_steps.specs.Words.{words}
+use Rattle.zf_texts.specs.declared.spelling.Spelling.{Spelling}
 use Rattle.zf_total.proofs.Environments.{some_environment}
 use Rattle.zf_total.proofs.StatedSizes.{complete_or_refused}
-use Rattle.zf_engine.specs.Explorations.{ending_status, ExplorationAnswer, HasSchemas, IsBounded, IsOfSchema, IsSchemaOf, IsSearchable, IsSettled, names_of, RefusesExploration, states_limit}
+use Rattle.zf_engine.specs.Explorations.{TellsMachine, AreSchemasOf, ending_status, ExplorationAnswer, Explores, form_of, HasSchemas, IsBounded, IsOfSchema, IsSchemaOf, IsSearchable, IsSettled, names_of, RefusesExploration, result_status, Seeks, states_limit}
 use Rattle.zf_engine.specs.Settings.{TellsInfinite, TellsNoSchema, TellsOut}
 use Rattle.zf_messages.specs.Texts.{no_component_line}
 use Rattle.zf_answers.proofs.EveryName.{named_or_none, none_beside}
@@ -33,13 +37,18 @@ operations_finite : (e : Environment) (p : Schemas) (ns : List Named) → AllByR
 operations_finite e p [] finite = tt
 operations_finite e p (n ∷ ns) finite = (finite.0, operations_finite e p ns finite.1)
 
-can_explore : (e : Environment) (p : Schemas) (m : System) → IsMachineOf e (spellings e.globals) p m → AllByRecursion (λ n. IsFinite e.numbers e.globals n.schema) (all_of p) → CanExplore m
-can_explore e p m is finite = record {
-  state = subst (λ (f : Environment). IsFinite f.numbers f.globals m.state.schema) (sym is.environment) (subst (λ (o : Operation). IsFinite e.numbers e.globals o.schema) (sym is.state) finite.0);
+can_explore : (e : Environment) (elements : List Spelling) (form : Form) (p : Schemas) (m : System) → IsMachineOf e elements form p m → AllByRecursion (λ n. IsFinite e.numbers e.globals n.schema) (all_of p) → CanExplore m
+can_explore e elements form p m is finite = record {
+  test = subst (λ (f : Environment). IsFinite f.numbers f.globals m.test.schema) (sym is.environment)
+      (subst (λ (o : Operation). IsFinite e.numbers e.globals o.schema) (sym is.test) (of_test (λ (n : Named). IsFinite e.numbers e.globals n.schema) p finite));
   init = subst (λ (f : Environment). IsFinite f.numbers f.globals m.init.schema) (sym is.environment) (initial_finite e p m.init is.init finite.1.0);
   operations = subst (λ (f : Environment). AllByRecursion (λ (o : Operation). IsFinite f.numbers f.globals o.schema) m.operations) (sym is.environment)
-      (subst (λ os. AllByRecursion (λ (o : Operation). IsFinite e.numbers e.globals o.schema) os) (sym is.operations) (operations_finite e p p.operations finite.1.1));
+      (subst (λ os. AllByRecursion (λ (o : Operation). IsFinite e.numbers e.globals o.schema) os) (sym is.operations) (operations_finite e p p.operations (of_operations (λ (n : Named). IsFinite e.numbers e.globals n.schema) p finite)));
 }
+
+pub can_be_explored : (x : Exploration) (source : List ℕ) (g : List Defined) (p : Schemas) (e : Environment) → IsSearchable x source g p e → (m : System) → IsMachineOf e (spellings g) (form_of x) p m → CanExplore m
+can_be_explored x source g p e is m of =
+    can_explore e (spellings g) (form_of x) p m of (subst (λ (h : List Defined). AllByRecursion (λ (n : Named). IsFinite e.numbers h n.schema) (all_of p)) (sym is.bounded.environment.0) is.bounded.finite)
 
 some_limit : (limit : Option ℕ) (x : Exploration) → x.limit ≡ limit → HasLimit limit → 1 ≤ states_limit x
 some_limit None x is h = rw is (omega arith)
@@ -54,14 +63,29 @@ module _ (x : Exploration) (file source : List ℕ) (limited : HasLimit x.limit)
 
   module _ (g : List Defined) where
     module _ (p : Schemas) where
+      module _ (e : Environment) (is : IsSearchable x source g p e) where
+        made : (m : System) × IsMachineOf e (spellings g) (form_of x) p m
+        made = some_machine e (spellings g) (form_of x) p is.bounded.settled.shape
+
+        can : CanExplore made.0
+        can = can_be_explored x source g p e is made.0 made.1
+
+        reached : (text : List ℕ) × (status : Status) × Explores x g p e text status
+        reached =
+            let some = somehow_written (explored_in made.0) (words made.0) (states_limit x) (some_turns made.0 can) (some_limit x.limit x refl limited) in
+            (some.1, ending_status some.0, record { machine = made.0; is_of = made.1; ending = some.0; written = some.2; ends = refl })
+
+        sought : (text : List ℕ) × (status : Status) × Seeks x g p e text status
+        sought =
+            let some = some_result made.0 (states_limit x) can (some_limit x.limit x refl limited) in
+            (some.1, result_status some.0, record { machine = made.0; is_of = made.1; result = some.0; written = some.2; ends = refl })
+
+        told : (name : Option (List ℕ)) → (text : List ℕ) × (status : Status) × TellsMachine name x g p e text status
+        told None = reached
+        told (Some name) = sought
+
       some_explored : (e : Environment) → IsSearchable x source g p e → IsAnswered
-      some_explored e is =
-          let m = some_machine e (spellings g) p is.bounded.settled.shape in
-          let same = is.bounded.environment.0 in
-          let of : IsMachineOf e (spellings e.globals) p m.0 = subst (λ (h : List Defined). IsMachineOf e (spellings h) p m.0) (sym same) m.1 in
-          let finite = subst (λ (h : List Defined). AllByRecursion (λ (n : Named). IsFinite e.numbers h n.schema) (all_of p)) (sym same) is.bounded.finite in
-          let some = somehow_written (explored_in m.0) (lines m.0) (states_limit x) (some_turns m.0 (can_explore e p m.0 of finite)) (some_limit x.limit x refl limited) in
-          (some.1, ending_status some.0, ExplorationAnswer.explored g p e is (record { machine = m.0; is_of = m.1; ending = some.0; written = some.2; ends = refl }))
+      some_explored e is = let some = told e is x.sought in (some.0, some.1, ExplorationAnswer.explored g p e is some.2)
 
       -- one of the schemas has a declared set that is out, and this is told of it
       out_or_none : (e : Environment) (n : Named) → IsNoneOut e n.schema.comps ⊎ ((b : List ℕ × Status) × TellsOut e n.schema.comps b.0 b.1)
@@ -123,11 +147,24 @@ module _ (x : Exploration) (file source : List ℕ) (limited : HasLimit x.limit)
     each_named [] all = ([], tt)
     each_named (name ∷ names) all = let others = each_named names all.1 in (record { name = name; schema = all.0.0 } ∷ others.0, ((refl, all.0.1), others.1))
 
-    schemas : AllByRecursion (IsOfSchema g) (names_of x) → (p : Schemas) × AllZip (IsSchemaOf g) (names_of x) (all_of p)
+    each_before : (names others : List (List ℕ)) → AllByRecursion (IsOfSchema g) (names ++ others) → AllByRecursion (IsOfSchema g) names
+    each_before [] others all = tt
+    each_before (name ∷ names) others all = (all.0, each_before names others all.1)
+
+    each_behind : (names others : List (List ℕ)) → AllByRecursion (IsOfSchema g) (names ++ others) → AllByRecursion (IsOfSchema g) others
+    each_behind [] others all = all
+    each_behind (name ∷ names) others all = each_behind names others all.1
+
+    one_named : (name : Option (List ℕ)) → AllByRecursion (IsOfSchema g) (option_to_list name) → (n : Option Named) × AllZip (IsSchemaOf g) (option_to_list name) (option_to_list n)
+    one_named None all = (None, tt)
+    one_named (Some name) all = (Some (record { name = name; schema = all.0.0 }), ((refl, all.0.1), tt))
+
+    schemas : AllByRecursion (IsOfSchema g) (names_of x) → (p : Schemas) × AreSchemasOf g x p
     schemas all =
-        let operations = each_named x.operations all.1.1 in (
-          record { state = record { name = x.state; schema = all.0.0 }; init = record { name = x.initial; schema = all.1.0.0 }; operations = operations.0 },
-          ((refl, all.0.1), ((refl, all.1.0.1), operations.1)),
+        let operations = each_named x.operations (each_before x.operations (option_to_list x.sought) all.1.1) in
+        let sought = one_named x.sought (each_behind x.operations (option_to_list x.sought) all.1.1) in (
+          record { state = record { name = x.state; schema = all.0.0 }; init = record { name = x.initial; schema = all.1.0.0 }; operations = operations.0; sought = sought.0 },
+          record { state = (refl, all.0.1); init = (refl, all.1.0.1); operations = operations.1; sought = sought.1 },
         )
 
     some_at_schemas : Checks source g [] → IsAnswered

@@ -1,5 +1,5 @@
 -- What is claimed of the answers.
-use Rattle.std.specs.Prelude.{◌≡◌, ◌≢◌, ◌⊎◌, ℕ, Bool, false, List, [], ◌∷◌, ◌++◌, codes, Option}
+use Rattle.std.specs.Prelude.{◌≡◌, ◌≢◌, ◌⊎◌, ℕ, Bool, false, List, [], ◌∷◌, ◌++◌, Option}
 use Rattle.std.specs.List.{flat_map}
 use Rattle.zf_command.specs.declared.job.Job.{Job}
 use Rattle.zf_command.specs.declared.job.Job.TheVariants.{Show, Why}
@@ -76,7 +76,7 @@ EventsAreShown =
 abbrev pub ReasonIsTold : Type 0
 ReasonIsTold =
     (r : Request) (file source : List ℕ) (globals : List Defined) (a : Schema) (e : Environment) (p : Portion) (text : List ℕ) (status : Status)
-    → IsGranted r source globals a e p → Answer (Why r) file source text status → TellsWhy file source globals a e p text status
+    → IsGranted r source globals a e p → Answer (Why r) file source text status → TellsWhy r.details file source globals a e p text status
 
 -- ---- one answer
 
@@ -116,12 +116,12 @@ pub data AreAlike (details : Bool) (file source one two : List ℕ) : Type 0 whe
   no_binding : (first second : ℕ) → one ≡ not_a_binding_line first → two ≡ not_a_binding_line second → AreAlike details file source one two
   no_values : (first second : ℕ) → one ≡ not_held_line first → two ≡ not_held_line second → AreAlike details file source one two
   sides : (name : List ℕ) (globals : List Defined) (a : Schema) (sizes : List Size) (numbers : Option ℕ) (e : Environment) (held : List (Option Value)) (alone : List Bool) → HasSchema source name globals a
-      → IsEnvironment globals sizes numbers e → RefutedBy e a held alone → TellsConjuncts file source a e held nothing_beside alone one
-      → TellsConjuncts file source a e held nothing_beside alone two → AreAlike details file source one two
+      → IsEnvironment globals sizes numbers e → RefutedBy e a held alone → TellsConjuncts details file source a e held nothing_beside alone one
+      → TellsConjuncts details file source a e held nothing_beside alone two → AreAlike details file source one two
   reasons : (name : List ℕ) (globals : List Defined) (a : Schema) (sizes : List Size) (numbers : Option ℕ) (e : Environment) (held : List (Option Value)) (first second : List Bool) → HasSchema source name globals a
       → IsEnvironment globals sizes numbers e → RefutedTogetherBy e a held first → RefutedTogetherBy e a held second
-      → TellsConjuncts file source a e held (others_beside a.conjuncts first) first one
-      → TellsConjuncts file source a e held (others_beside a.conjuncts second) second two → AreAlike details file source one two
+      → TellsConjuncts details file source a e held (others_beside a.conjuncts first) first one
+      → TellsConjuncts details file source a e held (others_beside a.conjuncts second) second two → AreAlike details file source one two
 
 -- A source has one text for a job, but for what is left open.
 abbrev pub OneText : Type 0

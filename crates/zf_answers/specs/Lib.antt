@@ -1,6 +1,7 @@
 pub mod Bindings
 pub mod Laws
 pub mod Reached
+pub mod Sought
 pub mod Runs
 pub mod NamedLines
 pub mod Limits

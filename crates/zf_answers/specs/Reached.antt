@@ -1,4 +1,4 @@
--- What `reach` answers: the text of what the machine of its schemas can reach.
+-- What `reach` answers: the text of what the machine of its schemas can reach, or of a search for a state.
 use Rattle.std.specs.Prelude.{◌≡◌, ◌↔◌, ◌-◌, ℕ, List, ◌++◌, Contains, length, Some, slice_get}
 use Rattle.zf_command.specs.declared.job.Exploration.{Exploration}
 use Rattle.zf_command.specs.declared.job.Job.TheVariants.{Reach}
@@ -11,24 +11,25 @@ use Rattle.zf_meaning.specs.Environments.{Environment}
 use Rattle.zf_steps.specs.contracts.node.NodePartialEq.TheImpl as nodes
 use Rattle.zf_steps.specs.declared.node.Label.{Label}
 use Rattle.zf_steps.specs.declared.node.Node.{Node}
+use Rattle.zf_steps.specs.declared.form.Form.{Form}
 use Rattle.zf_steps.specs.Explored.{explored_in}
-use Rattle.zf_steps.specs.Lines.{lines}
 use Rattle.zf_steps.specs.Steps.{steps}
 use Rattle.zf_steps.specs.Systems.{System}
+use Rattle.zf_steps.specs.Words.{words}
 use Rattle.zf_term.specs.Definitions.{Defined}
 use Rattle.zf_texts.specs.declared.spelling.Spelling.{Spelling}
 use Rattle.zf_engine.specs.Answers.{Answer}
-use Rattle.zf_engine.specs.Explorations.{Explores, IsSearchable}
+use Rattle.zf_engine.specs.Explorations.{TellsMachine, IsSearchable}
 
--- Where nothing stands in the way of an exploration, every answer is the text of what the machine of its schemas can reach.
+-- Where nothing stands in the way of an exploration, every answer is the text of what the machine of its schemas can reach, or, where a state is sought, that of the search.
 abbrev pub WhatIsReachedIsTold : Type 0
 WhatIsReachedIsTold =
     (x : Exploration) (file source : List ℕ) (g : List Defined) (p : Schemas) (e : Environment) (text : List ℕ) (status : Status)
-    → IsSearchable x source g p e → Answer (Reach x) file source text status → Explores x g p e text status
+    → IsSearchable x source g p e → Answer (Reach x) file source text status → TellsMachine x.sought x g p e text status
 
 -- Schemas make one machine in an environment.
 abbrev pub SchemasMakeOneMachine : Type 0
-SchemasMakeOneMachine = (e : Environment) (elements : List Spelling) (p : Schemas) (m n : System) → IsMachineOf e elements p m → IsMachineOf e elements p n → m ≡ n
+SchemasMakeOneMachine = (e : Environment) (elements : List Spelling) (form : Form) (p : Schemas) (m n : System) → IsMachineOf e elements form p m → IsMachineOf e elements form p n → m ≡ n
 
 -- ---- what is reachable
 
@@ -41,7 +42,7 @@ pub record MeetsAll (m : System) (text : List ℕ) : Type 0 where
   pub turns : List (Turn Node Label)
   pub met : List (Met Node Label)
   pub explores : ExploresAll (explored_in m) turns met
-  pub written : text ≡ text_up_to (explored_in m) (lines m) turns met no_turn ++ (lines m).last ended (length met - 1) (inner_edges turns no_turn)
+  pub written : text ≡ text_up_to (explored_in m) (words m) turns met no_turn ++ (words m).last ended (length met - 1) (inner_edges turns no_turn)
   -- those that are met are exactly the reachable ones,
   pub reachable : (b : Node) → IsMet met b ↔ IsReachable (graph_in m) b
   -- each is met once, and along a way than which none is shorter,
@@ -52,4 +53,4 @@ pub record MeetsAll (m : System) (text : List ℕ) : Type 0 where
 
 -- So where an exploration ends with `end`, the states that have a line are exactly the reachable ones.
 abbrev pub ReachableAreMet : Type 0
-ReachableAreMet = (m : System) (limit : ℕ) (text : List ℕ) → IsWritten (explored_in m) (lines m) limit ended text → MeetsAll m text
+ReachableAreMet = (m : System) (limit : ℕ) (text : List ℕ) → IsWritten (explored_in m) (words m) limit ended text → MeetsAll m text

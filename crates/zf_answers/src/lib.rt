@@ -1,4 +1,4 @@
-//! Laws over what is answered, above the answers of the engine: each source has one answer, that of `show` has each binding once, that of `why` the first one, or why there is none, and that of `reach` what can be reached.
+//! Laws over what is answered, above the answers of the engine: each source has one answer, that of `show` has each binding once, that of `why` the first one, or why there is none, and that of `reach` what can be reached, or a shortest way to a state that is sought.
 #![tactic(auto)]
 
 ghost use Rattle.zf_answers.specs.Laws.{EachBindingIsShown, EventsAreShown, EveryHeldLineIsJudged, EveryLineIsJudged, EveryRequestIsAnswered, EverySourceIsRead, IsShownInOneWay, OneStatus, OneText, PlainLines, ReasonIsTold};
@@ -6,6 +6,7 @@ ghost use Rattle.zf_answers.specs.Limits.{LimitsAre};
 ghost use Rattle.zf_answers.specs.NamedLines.{OneRowOfALine, RefusedLinesAreOfNoRow};
 ghost use Rattle.zf_answers.specs.Reached.{ReachableAreMet, SchemasMakeOneMachine, WhatIsReachedIsTold};
 ghost use Rattle.zf_answers.specs.Runs.{FirstLinesAreAFront, PartsAreFronts, RunsMakeOne};
+ghost use Rattle.zf_answers.specs.Sought.{WhatIsSoughtIsTold};
 
 /// What `show` answers, where nothing stands in its way: the line of each binding, once, in ascending order.
 pub fn each_binding_is_shown()
@@ -24,6 +25,11 @@ pub fn reachable_is_told()
     ensures told { WhatIsReachedIsTold }
     ensures machine { SchemasMakeOneMachine }
     ensures reachable { ReachableAreMet }
+{}
+
+/// What `reach` answers where a state is sought: with `found`, a shortest way to a state that satisfies the schema; with `not found`, no reachable one does.
+pub fn sought_is_found()
+    ensures { WhatIsSoughtIsTold }
 {}
 
 /// A source has one status for a job, and one text, but for what is left open: without details, nothing beside an offence is.

@@ -66,14 +66,14 @@ module _ (s : Subject) (can : CanBeSearched s) (g : Goal) (b d : Stage Value) (b
   pub first_satisfied : (values : List Value) (text : List ℕ) → values ≡ unwrap_or d.last [] → Advances value_order (conjuncts_of g) Holds b d
       → text ≡ line_in s values ++ codes "satisfied\n" → TellsFirst s text Done
   first_satisfied values text given step told =
-      λ file source.
+      λ details file source.
       let t = holds (environment_in s) (schema_in s) s.held.now g b d begun step in
       TellsWhy.satisfied (record { row = t.0; truth = True }) t.2 refl (told ∙ ap (λ l. l ++ codes "satisfied\n") (line_of values t.0 given t.1)) refl
 
   pub first_out : (values : List Value) (text : List ℕ) → values ≡ unwrap_or d.last [] → Advances value_order (conjuncts_of g) Breaks b d
       → text ≡ codes "out of bounds at: " ++ line_in s values ++ [] → TellsFirst s text PastBounds
   first_out values text given step told =
-      λ file source.
+      λ details file source.
       let t = breaks (environment_in s) (schema_in s) s.held.now g b d begun step in
       TellsWhy.doubtful (record { row = t.0; truth = Out }) t.2 refl
       (told ∙ ap (λ l. codes "out of bounds at: " ++ l) (append-nil (line_in s values) ∙ line_of values t.0 given t.1)) refl

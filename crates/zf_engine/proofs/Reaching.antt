@@ -1,17 +1,18 @@
 -- The steps before the first state make answers: refusals, in their order.
-use Rattle.zf_engine.proofs.Prelude.{◌+◌, ◌++◌, ◌<◌, ◌∙◌, ◌∷◌, ◌≡◌, [], ap, Err, get_or, inl, inr, length, List, Ok, Option, Result, subst, sym, take, ℕ, Defined, Environment, Status, AnswersExploration, Checks, IfAnswered, IsUnexplored, IsUnfit, numbers_of, Reaches, stated, Stop, Tells, TellsMisfit, TellsNumbers}
+use Rattle.zf_engine.proofs.Prelude.{◌+◌, ◌++◌, ◌<◌, ◌∙◌, ◌∷◌, ◌≡◌, [], ap, Err, get_or, inl, inr, length, List, map, None, Ok, Option, Result, Some, subst, sym, take, ℕ, Defined, Environment, Status, AnswersExploration, Checks, IfAnswered, IsUnexplored, IsUnfit, numbers_of, Reaches, stated, Stop, Tells, TellsMisfit, TellsNumbers}
 use Rattle.std.specs.List.{AllByRecursion, AllZip}
-use Rattle.std.specs.Prelude.{OnOk}
+use Rattle.std.specs.Prelude.{MatchOption, OnOk, option_map, option_to_list}
 use Rattle.std.proofs.lemmas.List.{take_more}
 use Rattle.zf_command.specs.declared.job.Exploration.{Exploration}
 use Rattle.zf_command.specs.declared.job.Job.TheVariants.{Reach}
 use Rattle.zf_finite.specs.Finite.{IsFinite}
 use Rattle.zf_lines.specs.declared.fault.RunFault.{RunFault}
-use Rattle.zf_machines.specs.Machines.{all_of, HasShape, Schemas}
+use Rattle.zf_machines.specs.Firsts.{FirstFails}
+use Rattle.zf_machines.specs.Machines.{all_of, HasShape, Named, Schemas}
 use Rattle.zf_meaning.specs.GlobalOutcomes.{IsEnvironment}
 use Rattle.zf_meaning.specs.Sizes.{given_sets, AreComplete}
 use Rattle.zf_ranges.specs.Ranges.{IsNoneOut}
-use Rattle.zf_engine.specs.Explorations.{HasInfinite, HasOut, HasSchemas, IsBounded, IsSchemaOf, IsSearchable, IsSettled, LacksComponent, LacksSchema, names_of, RefusesExploration}
+use Rattle.zf_engine.specs.Explorations.{AreSchemasOf, HasInfinite, HasOut, HasSchemas, IsBounded, IsOfSchema, IsSchemaOf, IsSearchable, IsSettled, LacksComponent, LacksSchema, names_of, RefusesExploration}
 use Rattle.zf_engine.specs.Numbers.{AreSmall}
 use Rattle.zf_engine.proofs.Parts.{reach_refused, told_written}
 use Rattle.zf_engine.proofs.Refusing.{weaker}
@@ -30,10 +31,49 @@ pub zip_more : {A B : Type 0} (R : A → B → Type 0) (xs : List A) (ys : List 
 zip_more R xs ys i x y at l all here =
     subst (λ zs. AllZip R zs (ys ++ y ∷ [])) (sym (take_more xs i x l ∙ ap (λ z. take i xs ++ z ∷ []) (sym at))) (zip_push R (take i xs) ys x y all here)
 
--- what holds of the first two, and of the others where there is an answer
-pub all_on_ok : {A : Type 0} (P : A → Type 0) (x y : A) (zs : List A) (result : Result (Unit {0}) Stop) → P x → P y → OnOk result (AllByRecursion P zs) → OnOk result (AllByRecursion P (x ∷ y ∷ zs))
-all_on_ok P x y zs (Ok u) px py all = (px, (py, all))
-all_on_ok P x y zs (Err stop) px py all = tt
+zip_joined : {A B : Type 0} (R : A → B → Type 0) (xs us : List A) (ys vs : List B) → AllZip R xs ys → AllZip R us vs → AllZip R (xs ++ us) (ys ++ vs)
+zip_joined R [] us [] vs all more = more
+zip_joined R [] us (y ∷ ys) vs all more = absurd all
+zip_joined R (x ∷ xs) us [] vs all more = absurd all
+zip_joined R (x ∷ xs) us (y ∷ ys) vs all more = (all.0, zip_joined R xs us ys vs all.1 more)
+
+-- the schemas beside their names, in their order
+pub in_order : (g : List Defined) (x : Exploration) (p : Schemas) → AreSchemasOf g x p → AllZip (IsSchemaOf g) (names_of x) (all_of p)
+in_order g x p are = (are.state, (are.init, zip_joined (IsSchemaOf g) x.operations (option_to_list x.sought) p.operations (option_to_list p.sought) are.operations are.sought))
+
+-- ---- some, and then others
+
+all_joined : {A : Type 0} (P : A → Type 0) (xs ys : List A) → AllByRecursion P xs → AllByRecursion P ys → AllByRecursion P (xs ++ ys)
+all_joined P [] ys all more = more
+all_joined P (x ∷ xs) ys all more = (all.0, all_joined P xs ys all.1 more)
+
+-- what holds of the first ones, and of the last where there is an answer
+pub all_on_ok : {A : Type 0} (P : A → Type 0) (x y : A) (zs us : List A) (result : Result (Unit {0}) Stop) → P x → P y → AllByRecursion P zs → OnOk result (AllByRecursion P us)
+    → OnOk result (AllByRecursion P (x ∷ y ∷ (zs ++ us)))
+all_on_ok P x y zs us (Ok u) px py all last = (px, (py, all_joined P zs us all last))
+all_on_ok P x y zs us (Err stop) px py all last = tt
+
+-- one of them fails
+pub fails_before : {A : Type 0} (P F : A → Type 0) (xs ys : List A) → FirstFails P F xs → FirstFails P F (xs ++ ys)
+fails_before P F [] ys h = absurd h
+fails_before P F (x ∷ xs) ys (inl here) = inl here
+fails_before P F (x ∷ xs) ys (inr later) = inr (later.0, fails_before P F xs ys later.1)
+
+pub fails_behind : {A : Type 0} (P F : A → Type 0) (xs ys : List A) → AllByRecursion P xs → FirstFails P F ys → FirstFails P F (xs ++ ys)
+fails_behind P F [] ys all h = h
+fails_behind P F (x ∷ xs) ys all h = inr (all.0, fails_behind P F xs ys all.1 h)
+
+-- each of the names that stand beside a schema is of one
+pub all_named : (g : List Defined) (names : List (List ℕ)) (ns : List Named) → AllZip (IsSchemaOf g) names ns → AllByRecursion (IsOfSchema g) names
+all_named g [] [] named = tt
+all_named g [] (n ∷ ns) named = absurd named
+all_named g (name ∷ names) [] named = absurd named
+all_named g (name ∷ names) (n ∷ ns) named = ((n.schema, named.0.1), all_named g names ns named.1)
+
+-- what may be there, as a list
+pub listed : {X A : Type 0} (f : X → A) (o : Option X) (xs : List X) → MatchOption o (xs ≡ []) (λ x. xs ≡ x ∷ []) → map f xs ≡ option_to_list (option_map f o)
+listed f None xs is = ap (map f) is
+listed f (Some x) xs is = ap (map f) is
 
 -- ---- refusals
 
@@ -52,7 +92,7 @@ module _ (x : Exploration) (file source : List ℕ) (g : List Defined) (checks :
   pub lacks_schema : (stop : Stop) → IfAnswered stop (LacksSchema x g) → AnswersExploration x file source stop
   lacks_schema stop h = weaker stop (λ text status t. inr (RefusesExploration.no_schema g checks t)) h
 
-  module _ (p : Schemas) (named : AllZip (IsSchemaOf g) (names_of x) (all_of p)) where
+  module _ (p : Schemas) (named : AreSchemasOf g x p) where
     has_schemas : HasSchemas x source g p
     has_schemas = record { checks = checks; named = named }
 

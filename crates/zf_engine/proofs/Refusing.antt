@@ -1,5 +1,5 @@
 -- The steps before the first binding make answers: refusals, in their order.
-use Rattle.zf_engine.proofs.Prelude.{◌==◌, ◌∙◌, ◌∷◌, ◌≡◌, ◌≢◌, ◌⊎◌, [], ap, arith, Bool, Err, false, IfErr, IfOk, inl, inr, length, List, map, Ok, Option, refl, Result, Some, subst, sym, true, ℕ, eqb-true, Value, Comp, Defined, Schema, AreWellTyped, Environment, spellings, Spelling, Portion, Status, AreHeld, Checks, HasSchema, IsAsked, IsNamed, IsNamedRow, Request, RefusesRequest, numbers_of, stated, UnreadAnswer, AnswersRequest, IfAnswered, IsRefused, IsUnfit, IsFaultLine, AreSmall, TellsInfinite, TellsMisfit, TellsNoSchema, TellsNumbers, TellsNoRow, TellsNoValues, TellsOut, TellsPlace, TellsPlaceHeld, Cited, Stop, Answered, OutOfMemory}
+use Rattle.zf_engine.proofs.Prelude.{◌==◌, ◌∙◌, ◌∷◌, ◌≡◌, ◌⊎◌, [], ap, arith, Bool, Err, false, IfErr, IfOk, inl, inr, length, List, map, Ok, Option, refl, Result, Some, subst, sym, true, ℕ, eqb-true, Value, Comp, Defined, Schema, AreWellTyped, Environment, spellings, Spelling, Portion, Status, AreHeld, Checks, HasSchema, IsAsked, IsNamed, IsNamedRow, Request, RefusesRequest, numbers_of, stated, UnreadAnswer, AnswersRequest, IfAnswered, IsRefused, IsUnfit, IsFaultLine, AreSmall, TellsInfinite, TellsMisfit, TellsNoSchema, TellsNumbers, TellsNoRow, TellsNoValues, TellsOut, TellsPlace, TellsPlaceHeld, Cited, Stop, Answered, OutOfMemory}
 use Rattle.zf_finite.specs.Finite.{IsFinite}
 use Rattle.zf_scan.specs.declared.fault.TextFault.{TextFault}
 use Rattle.zf_scan.specs.CutViews.{IsWantOfMemory}

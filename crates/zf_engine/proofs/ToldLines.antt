@@ -1,13 +1,15 @@
 -- The lines of what is told, one after another.
-use Rattle.zf_engine.proofs.Prelude.{◌++◌, ◌+◌, ◌<◌, ◌∙◌, ◌≡◌, ◌≤◌, ◌∷◌, [], ap, append-nil, arith, get_or, length, List, Option, refl, Result, Some, suc, sym, zero, ℕ}
+use Rattle.zf_engine.proofs.Prelude.{◌++◌, ◌+◌, ◌<◌, ◌∙◌, ◌≡◌, ◌≤◌, ◌∷◌, [], ap, append-nil, arith, get_or, length, List, refl, Result, suc, sym, zero, ℕ}
 use Rattle.std.proofs.Common.{append_assoc}
 use Rattle.std.specs.Prelude.{codes, drop, OnOk, Ok, Err}
 use Rattle.std.specs.List.{flat_map}
 use Rattle.std.proofs.lemmas.List.{drop_all}
 use Rattle.zf_term.proofs.Walk.{dropped}
+use Rattle.zf_texts.specs.declared.spelling.Spelling.{Spelling}
+use Rattle.zf_why.specs.declared.told.Operands.{Operands}
 use Rattle.zf_why.specs.declared.told.Sides.{Sides}
 use Rattle.zf_why.specs.declared.told.Told.{Told}
-use Rattle.zf_engine.specs.Reasons.{side_lines, sides_lines, sides_lines_of, source_line, told_line}
+use Rattle.zf_engine.specs.Reasons.{operands_lines, operands_lines_of, outcome_text, side_lines, sides_lines, sides_lines_of, source_line, told_line}
 
 module _ {A : Type 0} (f : A → List ℕ) where
   pub one_more : (xs : List A) (i : ℕ) (x : A) (before after whole : List ℕ) → x ≡ get_or xs i x → i < length xs → after ≡ before ++ f x
@@ -29,14 +31,14 @@ pub one_read : (f : ℕ → List ℕ) (xs : List ℕ) (i d : ℕ) (before after 
 one_read f xs i d before after whole l step is = one_more f xs i (get_or xs i d) before after whole (same_read xs i d (get_or xs i d) l) l step is
 
 module _ (file source : List ℕ) where
-  pub sides_told : {R E : Type 0} (r : Result R E) (t : Told) (s : Sides) (old mid new : List ℕ) → t.sides ≡ Some s → mid ≡ old ++ source_line file source t.line
-      → OnOk r (new ≡ mid ++ sides_lines file source s) → OnOk r (new ≡ old ++ told_line file source t)
-  sides_told (Err x) t s old mid new some first h = tt
-  sides_told (Ok x) t s old mid new some first h =
-      h
-      ∙ ap (λ ls. ls ++ sides_lines file source s) first
-      ∙ append_assoc old (source_line file source t.line) (sides_lines file source s)
-      ∙ ap (λ (o : Option Sides). old ++ (source_line file source t.line ++ sides_lines_of file source o)) (sym some)
+  pub all_told : {R E : Type 0} (r : Result R E) (ss : List Spelling) (t : Told) (old first mid new : List ℕ) → first ≡ old ++ source_line file source t.line → mid ≡ first ++ sides_lines_of file source t.sides
+      → OnOk r (new ≡ mid ++ operands_lines_of ss t.operands) → OnOk r (new ≡ old ++ told_line file source ss t)
+  all_told (Err x) ss t old first mid new one two h = tt
+  all_told (Ok x) ss t old first mid new one two h =
+      let line = source_line file source t.line in
+      let sides = sides_lines_of file source t.sides in
+      let operands = operands_lines_of ss t.operands in
+      h ∙ ap (λ ls. ls ++ operands) (two ∙ ap (λ ls. ls ++ sides) one ∙ append_assoc old line sides) ∙ append_assoc old (line ++ sides) operands
 
   pub both_told : {R E : Type 0} (r : Result R E) (s : Sides) (ns ms : List ℕ) (old first mid new : List ℕ) → ns ≡ s.left.items → ms ≡ s.right.items
       → first ≡ old ++ side_lines file source ns → mid ≡ first ++ codes "    or\n" → OnOk r (new ≡ mid ++ side_lines file source ms) → OnOk r (new ≡ old ++ sides_lines file source s)
@@ -48,3 +50,17 @@ module _ (file source : List ℕ) where
       ∙ ap (λ ls. mid ++ side_lines file source ls) right
       ∙ ap (λ ls. ls ++ behind) (two ∙ ap (λ ls. ls ++ codes "    or\n") (one ∙ ap (λ ls. old ++ side_lines file source ls) left) ∙ append_assoc old before (codes "    or\n"))
       ∙ append_assoc old (before ++ codes "    or\n") behind
+
+-- what both operands come to, piece by piece
+pub operands_told : (ss : List Spelling) (o : Operands) (old one two three four new : List ℕ) → one ≡ old ++ codes "    left: " → two ≡ one ++ outcome_text ss o.left → three ≡ two ++ codes "\n    right: "
+    → four ≡ three ++ outcome_text ss o.right → new ≡ four ++ codes "\n" → new ≡ old ++ operands_lines ss o
+operands_told ss o old one two three four new a b c d e =
+    let first = codes "    left: " in
+    let left = outcome_text ss o.left in
+    let middle = codes "\n    right: " in
+    let right = outcome_text ss o.right in
+    let last = codes "\n" in
+    let at_two = b ∙ ap (λ ls. ls ++ left) a ∙ append_assoc old first left in
+    let at_three = c ∙ ap (λ ls. ls ++ middle) at_two ∙ append_assoc old (first ++ left) middle in
+    let at_four = d ∙ ap (λ ls. ls ++ right) at_three ∙ append_assoc old (first ++ left ++ middle) right in
+    e ∙ ap (λ ls. ls ++ last) at_four ∙ append_assoc old (first ++ left ++ middle ++ right) last

@@ -152,7 +152,7 @@ pub data ShowBegins (r : Request) (source text : List ℕ) : Type 0 where
 -- ---- `why`
 
 abbrev pub WhyAnswer : Request → (file source text : List ℕ) → Status → Type 0
-WhyAnswer r file source text status = RequestAnswer (TellsWhy file source) r file source text status
+WhyAnswer r file source text status = RequestAnswer (TellsWhy r.details file source) r file source text status
 
 -- ---- jobs
 

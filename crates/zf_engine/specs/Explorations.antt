@@ -1,5 +1,5 @@
--- What `reach` answers: its schemas, by which it is refused, and the text of what can be reached.
-use Rattle.std.specs.Prelude.{◌≡◌, ◌≢◌, ℕ, List, [], ◌∷◌, Option, unwrap_or}
+-- What `reach` answers: its schemas, by which it is refused, and the text of what can be reached, or of a search for a state.
+use Rattle.std.specs.Prelude.{◌≡◌, ◌++◌, ℕ, List, [], ◌∷◌, cond, Option, None, Some, option_to_list, unwrap_or}
 use Rattle.std.specs.List.{AllByRecursion, AllZip}
 use Rattle.zf_command.specs.declared.job.Exploration.{Exploration}
 use Rattle.zf_command.specs.declared.limit.TheConstants.{STATES_MAX}
@@ -10,11 +10,14 @@ use Rattle.zf_meaning.specs.GlobalOutcomes.{IsEnvironment}
 use Rattle.zf_meaning.specs.Sizes.{given_sets, AreComplete}
 use Rattle.zf_ranges.specs.Ranges.{IsNoneOut}
 use Rattle.zf_texts.specs.Spellings.{spellings}
+use Rattle.zf_graph.specs.Seeking as seeking
 use Rattle.zf_graph.specs.Texts as graph
 use Rattle.zf_graph.specs.Texts.{broken, ended, Ending, paused}
-use Rattle.zf_steps.specs.Explored.{explored_in}
-use Rattle.zf_steps.specs.Lines.{lines}
+use Rattle.zf_steps.specs.declared.form.Form.{Form}
+use Rattle.zf_steps.specs.declared.form.Form.TheVariants.{Graph, Lines}
+use Rattle.zf_steps.specs.Explored.{explored_in, sought_in}
 use Rattle.zf_steps.specs.Systems.{System}
+use Rattle.zf_steps.specs.Words.{verdict, words}
 use Rattle.zf_machines.specs.Firsts.{FirstFails}
 use Rattle.zf_machines.specs.Machines.{all_of, HasShape, IsMachineOf, LacksFirst, Named, Schemas}
 use Rattle.zf_lines.specs.declared.fault.Status.{Status}
@@ -25,9 +28,9 @@ use Rattle.zf_messages.specs.Texts.{no_component_line}
 
 -- ---- what is asked for
 
--- the names of the schemas, in their order
+-- the names of the schemas, in their order; that of which a state is sought is the last
 abbrev pub names_of : Exploration → List (List ℕ)
-names_of x = x.state ∷ x.initial ∷ x.operations
+names_of x = x.state ∷ x.initial ∷ (x.operations ++ option_to_list x.sought)
 
 -- the name is that of a schema
 abbrev pub IsOfSchema : List Defined → List ℕ → Type 0
@@ -37,10 +40,17 @@ IsOfSchema g name = (a : Schema) × IsNamed g name a
 abbrev pub IsSchemaOf : List Defined → List ℕ → Named → Type 0
 IsSchemaOf g name n = (n.name ≡ name) × IsNamed g name n.schema
 
+-- these are the schemas of the names
+pub record AreSchemasOf (g : List Defined) (x : Exploration) (p : Schemas) : Type 0 where
+  pub state : IsSchemaOf g x.state p.state
+  pub init : IsSchemaOf g x.initial p.init
+  pub operations : AllZip (IsSchemaOf g) x.operations p.operations
+  pub sought : AllZip (IsSchemaOf g) (option_to_list x.sought) (option_to_list p.sought)
+
 -- the source is well typed, and these are its schemas of the names
 pub record HasSchemas (x : Exploration) (source : List ℕ) (g : List Defined) (p : Schemas) : Type 0 where
   pub checks : Checks source g []
-  pub named : AllZip (IsSchemaOf g) (names_of x) (all_of p)
+  pub named : AreSchemasOf g x p
 
 -- they have the components of a machine, and the numbers and the sizes fit
 pub record IsSettled (x : Exploration) (source : List ℕ) (g : List Defined) (p : Schemas) : Type 0 where
@@ -60,9 +70,13 @@ pub record IsSearchable (x : Exploration) (source : List ℕ) (g : List Defined)
   pub bounded : IsBounded x source g p e
   pub none_out : AllByRecursion (λ n. IsNoneOut e n.schema.comps) (all_of p)
 
--- how many states are written at most
+-- how many states are written at most, or met where one is sought
 abbrev pub states_limit : Exploration → ℕ
 states_limit x = unwrap_or x.limit STATES_MAX
+
+-- lines, or a graph
+abbrev pub form_of : Exploration → Form
+form_of x = cond x.graph Graph Lines
 
 -- ---- refusals
 
@@ -104,17 +118,37 @@ ending_status (broken at) = PastBounds
 -- the text of what the machine of these schemas can reach
 pub record Explores (x : Exploration) (g : List Defined) (p : Schemas) (e : Environment) (text : List ℕ) (status : Status) : Type 0 where
   pub machine : System
-  pub is_of : IsMachineOf e (spellings g) p machine
+  pub is_of : IsMachineOf e (spellings g) (form_of x) p machine
   pub ending : Ending
-  pub written : graph.IsWritten (explored_in machine) (lines machine) (states_limit x) ending text
+  pub written : graph.IsWritten (explored_in machine) (words machine) (states_limit x) ending text
   pub ends : status ≡ ending_status ending
+
+-- so it is where it can't be told whether a state is one that is sought
+abbrev pub result_status : seeking.Result → Status
+result_status seeking.found = Done
+result_status seeking.missing = Done
+result_status seeking.open_ended = Done
+result_status (seeking.untold at) = PastBounds
+
+-- the text of a search for a state that satisfies the schema which is sought: a shortest way to one, or that there is none
+pub record Seeks (x : Exploration) (g : List Defined) (p : Schemas) (e : Environment) (text : List ℕ) (status : Status) : Type 0 where
+  pub machine : System
+  pub is_of : IsMachineOf e (spellings g) (form_of x) p machine
+  pub result : seeking.Result
+  pub written : seeking.IsSearched (explored_in machine) (sought_in machine) (words machine) (verdict machine) (states_limit x) result text
+  pub ends : status ≡ result_status result
+
+-- which of both, where this schema is sought, if one is
+abbrev pub TellsMachine : (sought : Option (List ℕ)) → Exploration → List Defined → Schemas → Environment → (text : List ℕ) → Status → Type 0
+TellsMachine None x g p e text status = Explores x g p e text status
+TellsMachine (Some name) x g p e text status = Seeks x g p e text status
 
 -- The answer of `reach` for a source that is read.
 pub data ExplorationAnswer (x : Exploration) (file source text : List ℕ) (status : Status) : Type 0 where
   refused : RefusesExploration x file source text status → ExplorationAnswer x file source text status
-  explored : (g : List Defined) (p : Schemas) (e : Environment) → IsSearchable x source g p e → Explores x g p e text status → ExplorationAnswer x file source text status
+  explored : (g : List Defined) (p : Schemas) (e : Environment) → IsSearchable x source g p e → TellsMachine x.sought x g p e text status → ExplorationAnswer x file source text status
 
--- the first lines that it writes: some turns, and the beginning of the next one
+-- the first lines that it writes, where no state is sought: some turns, and the beginning of the next one
 pub data ExplorationBegins (x : Exploration) (source text : List ℕ) : Type 0 where
-  turns : (g : List Defined) (p : Schemas) (e : Environment) (m : System) → IsSearchable x source g p e → IsMachineOf e (spellings g) p m
-      → graph.IsBegun (explored_in m) (lines m) (states_limit x) text → ExplorationBegins x source text
+  turns : (g : List Defined) (p : Schemas) (e : Environment) (m : System) → x.sought ≡ None → IsSearchable x source g p e → IsMachineOf e (spellings g) (form_of x) p m
+      → graph.IsBegun (explored_in m) (words m) (states_limit x) text → ExplorationBegins x source text

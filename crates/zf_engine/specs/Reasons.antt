@@ -5,14 +5,19 @@ use Rattle.zf_term.specs.Definitions.{Comp, Defined, Schema, sets_of}
 use Rattle.zf_term.specs.ResolvedTrees.{ResolvedTree}
 use Rattle.zf_finite.specs.Finite.{first_plain}
 use Rattle.zf_value.specs.declared.plain.Value.{Value}
+use Rattle.zf_value.specs.declared.value.Outcome.{Outcome}
+use Rattle.zf_value.specs.declared.value.Outcome.TheVariants as outcome
 use Rattle.zf_walk.specs.declared.judge.Truth.TheVariants.{True, Out}
 use Rattle.zf_walk.specs.Events.{Event}
 use Rattle.zf_meaning.specs.Environments.{Environment}
 use Rattle.zf_enum.specs.Portions.{Portion}
+use Rattle.zf_texts.specs.declared.spelling.Spelling.{Spelling}
 use Rattle.zf_texts.specs.Spellings.{spellings}
+use Rattle.zf_texts.specs.ValueTexts.{value_text}
 use Rattle.zf_cores.specs.Choices.{chosen_of}
 use Rattle.zf_why.specs.declared.cause.Cause.{Cause}
 use Rattle.zf_why.specs.declared.cause.Cause.TheVariants.{Empty, Alone, Together}
+use Rattle.zf_why.specs.declared.told.Operands.{Operands}
 use Rattle.zf_why.specs.declared.told.Sides.{Sides}
 use Rattle.zf_why.specs.declared.told.Told.{Told}
 use Rattle.zf_why.specs.Causes.{EmptiedBy, RefutedBy, RefutedTogetherBy}
@@ -46,41 +51,55 @@ abbrev pub sides_lines_of : (file source : List ℕ) → Option Sides → List �
 sides_lines_of file source None = []
 sides_lines_of file source (Some s) = sides_lines file source s
 
--- a conjunct's line, that of its first symbol, and behind it those of its sides, if it is told by both
-abbrev pub told_line : (file source : List ℕ) → Told → List ℕ
-told_line file source t = source_line file source t.line ++ sides_lines_of file source t.sides
+-- what an expression comes to, as `show` writes values
+abbrev pub outcome_text : List Spelling → Outcome → List ℕ
+outcome_text ss (outcome.Is v) = value_text ss v
+outcome_text ss outcome.Undefined = codes "undefined"
+outcome_text ss outcome.Out = codes "out of bounds"
+
+-- both operands of a relation
+abbrev pub operands_lines : List Spelling → Operands → List ℕ
+operands_lines ss o = codes "    left: " ++ outcome_text ss o.left ++ codes "\n    right: " ++ outcome_text ss o.right ++ codes "\n"
+
+abbrev pub operands_lines_of : List Spelling → Option Operands → List ℕ
+operands_lines_of ss None = []
+operands_lines_of ss (Some o) = operands_lines ss o
+
+-- a conjunct's line, that of its first symbol, and behind it those of its sides, if it is told by both, and of its operands, if they are told
+abbrev pub told_line : (file source : List ℕ) → List Spelling → Told → List ℕ
+told_line file source ss t = source_line file source t.line ++ sides_lines_of file source t.sides ++ operands_lines_of ss t.operands
 
 -- a line each, in their order
 abbrev pub empty_lines : (file : List ℕ) → List Comp → List ℕ
 empty_lines file cs = flat_map (empty_line file) cs
 
-abbrev pub told_lines : (file source : List ℕ) → List Told → List ℕ
-told_lines file source told = flat_map (told_line file source) told
+abbrev pub told_lines : (file source : List ℕ) → List Spelling → List Told → List ℕ
+told_lines file source ss told = flat_map (told_line file source ss) told
 
 -- the components without a value, or what is told of the conjuncts that are to blame
-abbrev pub cause_lines : (file source : List ℕ) → Schema → Cause → List ℕ
-cause_lines file source a (Empty empty) = empty_lines file (chosen_of a.comps empty.items)
-cause_lines file source a (Alone told) = told_lines file source told.items
-cause_lines file source a (Together told) = told_lines file source told.items
+abbrev pub cause_lines : (file source : List ℕ) → List Spelling → Schema → Cause → List ℕ
+cause_lines file source ss a (Empty empty) = empty_lines file (chosen_of a.comps empty.items)
+cause_lines file source ss a (Alone told) = told_lines file source ss told.items
+cause_lines file source ss a (Together told) = told_lines file source ss told.items
 
 -- ---- the answer
 
 -- The text tells these conjuncts, each beside others. Which minimal sets are told of the sides of a disjunction is open. So are the places of the conjuncts that are told by their sides:
 -- those of the disjunctions of schemas, as `why` of `zf_why` has it, which a schema's predicates do not show.
-abbrev pub TellsConjuncts : (file source : List ℕ) → Schema → Environment → (held : List (Option Value)) → (beside : ℕ → List ResolvedTree) → (chosen : List Bool) → (text : List ℕ) → Type 0
-TellsConjuncts file source a e held beside chosen text =
-    (disjunctions : ℕ → Bool) × (told : List Told) × AreTold e a.comps held beside disjunctions a.conjuncts chosen told × (text ≡ told_lines file source told ++ codes "no binding\n")
+abbrev pub TellsConjuncts : (details : Bool) → (file source : List ℕ) → Schema → Environment → (held : List (Option Value)) → (beside : ℕ → List ResolvedTree) → (chosen : List Bool) → (text : List ℕ) → Type 0
+TellsConjuncts details file source a e held beside chosen text =
+    (disjunctions : ℕ → Bool) × (told : List Told) × AreTold e a.comps held details beside disjunctions a.conjuncts chosen told × (text ≡ told_lines file source (spellings e.globals) told ++ codes "no binding\n")
 
 -- The text and the status of a search for bindings of a schema among these globals: its first event, as a binding or as one that is out of bounds; or, where there is none, a cause.
 -- Which minimal set of conjuncts is told, where there are several, is open.
-pub data TellsWhy (file source : List ℕ) (globals : List Defined) (a : Schema) (e : Environment) (p : Portion) (text : List ℕ) (status : Status) : Type 0 where
+pub data TellsWhy (details : Bool) (file source : List ℕ) (globals : List Defined) (a : Schema) (e : Environment) (p : Portion) (text : List ℕ) (status : Status) : Type 0 where
   satisfied : (event : Event Value) → HasEvents e a p (Some event.row) (event ∷ []) → event.truth ≡ True
-      → text ≡ binding_line (spellings globals) a.comps event.row ++ codes "satisfied\n" → status ≡ Done → TellsWhy file source globals a e p text status
+      → text ≡ binding_line (spellings globals) a.comps event.row ++ codes "satisfied\n" → status ≡ Done → TellsWhy details file source globals a e p text status
   doubtful : (event : Event Value) → HasEvents e a p (Some event.row) (event ∷ []) → event.truth ≡ Out
-      → text ≡ out_line (binding_line (spellings globals) a.comps) event.row → status ≡ PastBounds → TellsWhy file source globals a e p text status
+      → text ≡ out_line (binding_line (spellings globals) a.comps) event.row → status ≡ PastBounds → TellsWhy details file source globals a e p text status
   emptied : (empty : List Bool) → HasEvents e a p None [] → EmptiedBy e a p.held empty
-      → text ≡ empty_lines file (chosen_of a.comps empty) ++ codes "no binding\n" → status ≡ Done → TellsWhy file source globals a e p text status
-  refuted : (alone : List Bool) → HasEvents e a p None [] → RefutedBy e a p.held alone → TellsConjuncts file source a e p.held nothing_beside alone text → status ≡ Done
-      → TellsWhy file source globals a e p text status
-  refuted_together : (core : List Bool) → HasEvents e a p None [] → RefutedTogetherBy e a p.held core → TellsConjuncts file source a e p.held (others_beside a.conjuncts core) core text → status ≡ Done
-      → TellsWhy file source globals a e p text status
+      → text ≡ empty_lines file (chosen_of a.comps empty) ++ codes "no binding\n" → status ≡ Done → TellsWhy details file source globals a e p text status
+  refuted : (alone : List Bool) → HasEvents e a p None [] → RefutedBy e a p.held alone → TellsConjuncts details file source a e p.held nothing_beside alone text → status ≡ Done
+      → TellsWhy details file source globals a e p text status
+  refuted_together : (core : List Bool) → HasEvents e a p None [] → RefutedTogetherBy e a p.held core → TellsConjuncts details file source a e p.held (others_beside a.conjuncts core) core text → status ≡ Done
+      → TellsWhy details file source globals a e p text status

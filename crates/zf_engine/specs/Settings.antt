@@ -1,5 +1,5 @@
 -- What `show`, `why` and `reach` share: what a source defines, the sizes and the greatest number that are stated, and what is told where these or a schema are refused.
-use Rattle.std.specs.Prelude.{◌≡◌, ◌≢◌, ℕ, Bool, not, if◌then◌else◌, List, [], ◌∷◌, ◌++◌, map, Option, Some, None, slice_get}
+use Rattle.std.specs.Prelude.{◌≡◌, ◌≢◌, ℕ, Bool, not, List, [], ◌++◌, map, Option, Some, None, slice_get}
 use Rattle.std.specs.List.{filter, list_any}
 use Rattle.std.specs.Str.{bytes_eq}
 use Rattle.zf_command.specs.declared.job.Setting.{Setting}

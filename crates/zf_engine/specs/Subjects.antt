@@ -1,5 +1,5 @@
 -- What `why` finds of a schema in an environment. No public clause rests on this file.
-use Rattle.std.specs.Prelude.{◌≡◌, ℕ, List, [], ◌++◌, codes, length, None}
+use Rattle.std.specs.Prelude.{◌≡◌, ℕ, Bool, List, [], ◌++◌, codes, length, None}
 use Rattle.zf_term.specs.Definitions.{Schema}
 use Rattle.zf_term.specs.SchemaViews.{schema_of}
 use Rattle.zf_finite.specs.Finite.{IsFinite}
@@ -49,12 +49,12 @@ abbrev pub IsBegunOf : Subject → Goal → Stage Value → Type 0
 IsBegunOf s g b = Begins (environment_in s) (schema_in s) (portion_in s) g b
 
 -- the answer for it
-abbrev pub TellsOf : Subject → (file source text : List ℕ) → Status → Type 0
-TellsOf s file source text status = TellsWhy file source (environment_in s).globals (schema_in s) (environment_in s) (portion_in s) text status
+abbrev pub TellsOf : Subject → (details : Bool) → (file source text : List ℕ) → Status → Type 0
+TellsOf s details file source text status = TellsWhy details file source (environment_in s).globals (schema_in s) (environment_in s) (portion_in s) text status
 
--- that of its first event, which names neither file nor source
+-- that of its first event, which names neither file nor source and has no details
 abbrev pub TellsFirst : Subject → (text : List ℕ) → Status → Type 0
-TellsFirst s text status = (file source : List ℕ) → TellsOf s file source text status
+TellsFirst s text status = (details : Bool) (file source : List ℕ) → TellsOf s details file source text status
 
 -- it has no event
 pub record HasNone (s : Subject) : Type 0 where
@@ -62,9 +62,9 @@ pub record HasNone (s : Subject) : Type 0 where
   pub none : RuleOut (environment_in s) (schema_in s).comps s.held.now (schema_in s).conjuncts
 
 -- the text says why
-abbrev pub TellsNone : Subject → (file source text : List ℕ) → Type 0
-TellsNone s file source text =
-    (cause : Cause) × Explains (environment_in s) (schema_in s) s.held.now (disjunction_at s.schema.now.conjuncts) cause × (text ≡ cause_lines file source (schema_in s) cause ++ codes "no binding\n")
+abbrev pub TellsNone : Subject → (details : Bool) → (file source text : List ℕ) → Type 0
+TellsNone s details file source text =
+    (cause : Cause) × Explains (environment_in s) (schema_in s) s.held.now details (disjunction_at s.schema.now.conjuncts) cause × (text ≡ cause_lines file source s.elements.now (schema_in s) cause ++ codes "no binding\n")
 
 -- a cause of empty ranges speaks of each component
 abbrev pub IsOfSchema : Schema → Cause → Type 0

@@ -1,8 +1,8 @@
-//! What can be reached from the initial states.
-ghost use Rattle.std.specs.Prelude.{◌≡◌, ◌≤◌, [], IfErr, IfOk, OnOk, map};
+//! What can be reached from the initial states, or a shortest way to a state that is sought.
+ghost use Rattle.std.specs.Prelude.{◌≡◌, ◌≤◌, [], IfErr, IfOk, OnOk, map, option_map, option_to_list};
 ghost use Rattle.std.specs.List.{AllByRecursion, AllZip};
 ghost use Rattle.zf_engine.specs.Explorations as spec;
-ghost use Rattle.zf_engine.specs.Explorations.{HasInfinite, HasOut, IsOfSchema, IsSchemaOf, IsSearchable, LacksComponent, LacksSchema, names_of};
+ghost use Rattle.zf_engine.specs.Explorations.{AreSchemasOf, HasInfinite, HasOut, IsOfSchema, IsSchemaOf, IsSearchable, LacksComponent, LacksSchema};
 ghost use Rattle.zf_engine.specs.Settings.{Checks, TellsInfinite, TellsNoSchema, TellsOut};
 ghost use Rattle.zf_engine.specs.Stops.{AnswersExploration, IfAnswered, Reaches};
 ghost use Rattle.zf_finite.specs.Finite.{IsFinite};
@@ -14,7 +14,7 @@ ghost use Rattle.zf_machines.specs.Machines.{all_of, HasShape};
 ghost use Rattle.zf_machines.specs.SchemaViews.{named_of, schemas_of};
 ghost use Rattle.zf_meaning.specs.Envs.{environment_of};
 ghost use Rattle.zf_ranges.specs.Ranges.{IsNoneOut};
-ghost use Rattle.zf_reach.specs.Machines.{ending_of};
+ghost use Rattle.zf_reach.specs.Machines.{ending_of, result_of};
 ghost use Rattle.zf_term.specs.DefinitionViews.{globals_of};
 ghost use Rattle.zf_term.specs.SchemaViews.{schema_of};
 
@@ -32,11 +32,12 @@ use zf_command::limit::STATES_MAX;
 use zf_data::Word;
 use zf_lines::counted::Counted;
 use zf_lines::fault::{RunFault, Status};
-use zf_machines::{Named, Schemas, Specification, explore_schemas, lack_of};
+use zf_machines::{Named, Schemas, Specification, explore_schemas, lack_of, seek_schemas};
 use zf_meaning::env::Env;
 use zf_messages::{Report, texts};
 use zf_ranges::component::ranges;
-use zf_reach::Ending;
+use zf_reach::{Ending, Finding};
+use zf_steps::Form;
 use zf_term::globals::Globals;
 use zf_term::schema::Flat;
 use zf_texts::spellings_of;
@@ -109,7 +110,7 @@ fn reach_globals<'a, W: Write>(
     }
 }
 
-/// Writes what the machine of these schemas can reach.
+/// Writes what the machine of these schemas can reach, or a shortest way to a state that is sought.
 fn reach_schemas<'a, W: Write>(
     task: Task<'_>,
     arena: &'a Bump,
@@ -130,13 +131,34 @@ fn reach_schemas<'a, W: Write>(
         arena,
         env,
         elements: &elements,
+        form: form_of(task.exploration),
         schemas,
     };
-    let ending = explore_schemas(&specification, states_limit(task.exploration), writer)?;
-    Ok(ending_status(ending))
+    let limit = states_limit(task.exploration);
+    match &task.exploration.sought {
+        None => {
+            let ending = explore_schemas(&specification, limit, writer)?;
+            Ok(ending_status(ending))
+        }
+        Some(_) => {
+            let finding = seek_schemas(&specification, limit, writer)?;
+            Ok(finding_status(finding))
+        }
+    }
 }
 
-/// How many states are written at most.
+/// Whether it is written as lines or as a graph.
+fn form_of(exploration: &Exploration) -> Form
+    ensures { result ≡ spec.form_of exploration.now }
+{
+    if exploration.graph {
+        Form::Graph
+    } else {
+        Form::Lines
+    }
+}
+
+/// How many states are written at most, or met where one is sought.
 fn states_limit(exploration: &Exploration) -> usize
     requires { HasLimit exploration.now.limit }
     ensures is { result ≡ spec.states_limit exploration.now }
@@ -153,6 +175,18 @@ fn ending_status(ending: Ending) -> Status
         Ending::Ended => Status::Done,
         Ending::Paused => Status::Done,
         Ending::Broken => Status::PastBounds,
+    }
+}
+
+/// The status by how a search for a state ends.
+fn finding_status(finding: Finding) -> Status
+    ensures { result ≡ spec.result_status (result_of finding []) }
+{
+    match finding {
+        Finding::Found => Status::Done,
+        Finding::Missing => Status::Done,
+        Finding::OpenEnded => Status::Done,
+        Finding::Untold => Status::PastBounds,
     }
 }
 
@@ -186,18 +220,34 @@ fn settled_in<'p, 'a>(
 // ---- the schemas of the names
 
 fn schemas_in<'p, 'a>(task: Task<'p>, globals: &'p Globals<'a>) -> Result<Schemas<'p, 'a>, Stop>
-    ensures named { IfOk result (λ p. AllZip (IsSchemaOf (globals_of globals.now)) (names_of task.entry.exploration.now) (all_of (schemas_of p))) }
+    ensures named { IfOk result (λ p. AreSchemasOf (globals_of globals.now) task.entry.exploration.now (schemas_of p)) }
     ensures stop { IfErr result (λ s. IfAnswered s (LacksSchema task.entry.exploration.now (globals_of globals.now))) }
 {
     let exploration = task.exploration;
     let state = named_in(task, globals, &exploration.state)?;
     let init = named_in(task, globals, &exploration.initial)?;
     let operations = operations_in(task, globals, exploration.operations.as_slice())?;
+    let sought = named_sought(task, globals)?;
     Ok(Schemas {
         state,
         init,
         operations,
+        sought,
     })
+}
+
+/// The schema of which a state is sought, if one is.
+fn named_sought<'p, 'a>(
+    task: Task<'p>,
+    globals: &'p Globals<'a>,
+) -> Result<Option<Named<'p, 'a>>, Stop>
+    ensures named { IfOk result (λ s. AllZip (IsSchemaOf (globals_of globals.now)) (option_to_list task.entry.exploration.now.sought) (option_to_list (option_map named_of s))) }
+    ensures stop { IfErr result (λ s. IfAnswered s (λ text status. FirstFails (IsOfSchema (globals_of globals.now)) (TellsNoSchema task.entry.exploration.now.details (globals_of globals.now) text status) (option_to_list task.entry.exploration.now.sought))) }
+{
+    match &task.exploration.sought {
+        None => Ok(None),
+        Some(name) => Ok(Some(named_in(task, globals, name)?)),
+    }
 }
 
 /// The schema of a name, with the name.
@@ -262,29 +312,25 @@ fn check_all_finite<'a>(
         state,
         init,
         operations,
+        sought,
     } = schemas;
     check_finite(task.alloc, task.report, env, state.name, state.schema)?;
     check_finite(task.alloc, task.report, env, init.name, init.schema)?;
-    check_finite_operations(task, env, operations)
+    check_finite_among(task, env, operations)?;
+    check_finite_among(task, env, sought.as_slice())
 }
 
-fn check_finite_operations<'a>(
+fn check_finite_among<'a>(
     task: Task<'_>,
     env: &Env<'_, 'a>,
-    operations: &[Named<'_, 'a>],
+    schemas: &[Named<'_, 'a>],
 ) -> Result<(), Stop>
     requires { task.report.details ≡ task.exploration.now.details }
-    ensures ok { OnOk result (AllByRecursion (λ n. IsFinite (environment_of env.now).numbers (environment_of env.now).globals n.schema) (map named_of operations.now)) }
-    ensures stop { IfErr result (λ s. IfAnswered s (λ text status. FirstFails (λ n. IsFinite (environment_of env.now).numbers (environment_of env.now).globals n.schema) (λ n. TellsInfinite (environment_of env.now).numbers (environment_of env.now).globals n.schema task.entry.exploration.now.details task.entry.report.file.now text status) (map named_of operations.now))) }
+    ensures ok { OnOk result (AllByRecursion (λ n. IsFinite (environment_of env.now).numbers (environment_of env.now).globals n.schema) (map named_of schemas.now)) }
+    ensures stop { IfErr result (λ s. IfAnswered s (λ text status. FirstFails (λ n. IsFinite (environment_of env.now).numbers (environment_of env.now).globals n.schema) (λ n. TellsInfinite (environment_of env.now).numbers (environment_of env.now).globals n.schema task.entry.exploration.now.details task.entry.report.file.now text status) (map named_of schemas.now))) }
 {
-    for operation in operations {
-        check_finite(
-            task.alloc,
-            task.report,
-            env,
-            operation.name,
-            operation.schema,
-        )?;
+    for named in schemas {
+        check_finite(task.alloc, task.report, env, named.name, named.schema)?;
     }
     Ok(())
 }
@@ -303,20 +349,21 @@ fn check_all_declared<'a>(
 {
     check_declared(alloc, env, schemas.state.schema)?;
     check_declared(alloc, env, schemas.init.schema)?;
-    check_declared_operations(alloc, env, &schemas.operations)
+    check_declared_among(alloc, env, &schemas.operations)?;
+    check_declared_among(alloc, env, schemas.sought.as_slice())
 }
 
-fn check_declared_operations<'a>(
+fn check_declared_among<'a>(
     alloc: Global,
     env: &Env<'_, 'a>,
-    operations: &[Named<'_, 'a>],
+    schemas: &[Named<'_, 'a>],
 ) -> Result<(), Stop>
-    requires { AllByRecursion (λ n. IsFinite (environment_of env.now).numbers (environment_of env.now).globals n.schema) (map named_of operations.now) }
-    ensures ok { OnOk result (AllByRecursion (λ n. IsNoneOut (environment_of env.now) n.schema.comps) (map named_of operations.now)) }
-    ensures stop { IfErr result (λ s. IfAnswered s (λ text status. FirstFails (λ n. IsNoneOut (environment_of env.now) n.schema.comps) (λ n. TellsOut (environment_of env.now) n.schema.comps text status) (map named_of operations.now))) }
+    requires { AllByRecursion (λ n. IsFinite (environment_of env.now).numbers (environment_of env.now).globals n.schema) (map named_of schemas.now) }
+    ensures ok { OnOk result (AllByRecursion (λ n. IsNoneOut (environment_of env.now) n.schema.comps) (map named_of schemas.now)) }
+    ensures stop { IfErr result (λ s. IfAnswered s (λ text status. FirstFails (λ n. IsNoneOut (environment_of env.now) n.schema.comps) (λ n. TellsOut (environment_of env.now) n.schema.comps text status) (map named_of schemas.now))) }
 {
-    for operation in operations {
-        check_declared(alloc, env, operation.schema)?;
+    for named in schemas {
+        check_declared(alloc, env, named.schema)?;
     }
     Ok(())
 }

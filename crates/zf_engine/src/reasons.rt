@@ -11,22 +11,25 @@ use zf_finite::first_plain;
 use zf_messages::Report;
 use zf_messages::texts::fault_line;
 use zf_term::schema::{Component, Flat};
-use zf_why::{Cause, Sides, Told};
+use zf_texts::{Spelling, append_value};
+use zf_value::value::Outcome;
+use zf_why::{Cause, Operands, Sides, Told};
 
 /// The lines of a cause.
 pub fn cause_lines(
     alloc: Global,
     report: Report<'_>,
     flat: &Flat<'_>,
+    elements: &[Spelling],
     cause: &Cause,
 ) -> Result<Vec<u8>, AllocError>
     requires { IsOfSchema (schema_of flat.now) cause.now }
-    ensures { IfOk result (λ v. v.items ≡ spec.cause_lines report.entry.file.now report.entry.source.now (schema_of flat.now) cause.now) }
+    ensures { IfOk result (λ v. v.items ≡ spec.cause_lines report.entry.file.now report.entry.source.now elements.now (schema_of flat.now) cause.now) }
 {
     match cause {
         Cause::Empty(empty) => empty_lines(alloc, report, flat.components.as_slice(), empty),
-        Cause::Alone(told) => told_lines(alloc, report, told),
-        Cause::Together(told) => told_lines(alloc, report, told),
+        Cause::Alone(told) => told_lines(alloc, report, elements, told),
+        Cause::Together(told) => told_lines(alloc, report, elements, told),
     }
 }
 
@@ -66,27 +69,45 @@ fn append_empty(
 }
 
 /// The lines of what is told of conjuncts.
-fn told_lines(alloc: Global, report: Report<'_>, told: &[Told]) -> Result<Vec<u8>, AllocError>
-    ensures { IfOk result (λ v. v.items ≡ spec.told_lines report.entry.file.now report.entry.source.now told.now) }
+fn told_lines(
+    alloc: Global,
+    report: Report<'_>,
+    elements: &[Spelling],
+    told: &[Told],
+) -> Result<Vec<u8>, AllocError>
+    ensures { IfOk result (λ v. v.items ≡ spec.told_lines report.entry.file.now report.entry.source.now elements.now told.now) }
 {
     let mut lines = Vec::new(alloc);
     for one in told {
-        append_told(alloc, &mut lines, report, one)?;
+        append_told(alloc, &mut lines, report, elements, one)?;
     }
     Ok(lines)
 }
 
-/// `FILE:LINE: SOURCE LINE`, and those of both sides of a disjunction.
+/// `FILE:LINE: SOURCE LINE`, and those of both sides of a disjunction or of both operands.
 fn append_told(
     alloc: Global,
     lines: &mut Vec<u8>,
     report: Report<'_>,
+    elements: &[Spelling],
     told: &Told,
 ) -> Result<(), AllocError>
-    ensures { OnOk result (lines.new.items ≡ lines.old.items ++ spec.told_line report.entry.file.now report.entry.source.now told.now) }
+    ensures { OnOk result (lines.new.items ≡ lines.old.items ++ spec.told_line report.entry.file.now report.entry.source.now elements.now told.now) }
 {
     append_line(alloc, lines, report, told.line)?;
-    match &told.sides {
+    append_sides_of(alloc, lines, report, &told.sides)?;
+    append_operands_of(lines, elements, &told.operands)
+}
+
+fn append_sides_of(
+    alloc: Global,
+    lines: &mut Vec<u8>,
+    report: Report<'_>,
+    sides: &Option<Sides>,
+) -> Result<(), AllocError>
+    ensures { OnOk result (lines.new.items ≡ lines.old.items ++ spec.sides_lines_of report.entry.file.now report.entry.source.now sides.now) }
+{
+    match sides {
         None => Ok(()),
         Some(sides) => append_sides(alloc, lines, report, sides),
     }
@@ -118,6 +139,49 @@ fn append_side(
         append_line(alloc, lines, report, *number)?;
     }
     Ok(())
+}
+
+fn append_operands_of(
+    lines: &mut Vec<u8>,
+    elements: &[Spelling],
+    operands: &Option<Operands>,
+) -> Result<(), AllocError>
+    ensures { OnOk result (lines.new.items ≡ lines.old.items ++ spec.operands_lines_of elements.now operands.now) }
+{
+    match operands {
+        None => Ok(()),
+        Some(operands) => append_operands(lines, elements, operands),
+    }
+}
+
+/// What both operands come to.
+fn append_operands(
+    lines: &mut Vec<u8>,
+    elements: &[Spelling],
+    operands: &Operands,
+) -> Result<(), AllocError>
+    ensures { OnOk result (lines.new.items ≡ lines.old.items ++ spec.operands_lines elements.now operands.now) }
+{
+    lines.extend_from_slice(b"    left: ")?;
+    append_outcome(lines, elements, &operands.left)?;
+    lines.extend_from_slice(b"\n    right: ")?;
+    append_outcome(lines, elements, &operands.right)?;
+    lines.extend_from_slice(b"\n")?;
+    Ok(())
+}
+
+fn append_outcome(
+    lines: &mut Vec<u8>,
+    elements: &[Spelling],
+    outcome: &Outcome,
+) -> Result<(), AllocError>
+    ensures { OnOk result (lines.new.items ≡ lines.old.items ++ spec.outcome_text elements.now outcome.now) }
+{
+    match outcome {
+        Outcome::Is(value) => append_value(lines, elements, value),
+        Outcome::Undefined => lines.extend_from_slice(b"undefined"),
+        Outcome::Out => lines.extend_from_slice(b"out of bounds"),
+    }
 }
 
 /// `FILE:LINE: SOURCE LINE`

@@ -30,7 +30,7 @@ use zf_term::schema::Flat;
 use zf_texts::{Spelling, append_binding, spellings_of};
 use zf_value::value::Value;
 use zf_walk::Step;
-use zf_why::why;
+use zf_why::{Question, why};
 
 /// A schema in an environment, of which some values are held.
 #[derive(Drop)]
@@ -99,6 +99,7 @@ fn why_schema<'a>(
     report: Report<'_>,
 ) -> Result<(Vec<u8>, Status), Stop>
     requires plain { IsBare request.now }
+    requires details { report.details ≡ request.now.details }
     requires asked { IsAsked request.now report.source.now (environment_of env.now).globals (schema_of schema.now) (environment_of env.now) }
     ensures answer { IfOk result (λ p. Answer (Why request.now) report.entry.file.now report.entry.source.now p.0.items p.1) }
     ensures stop { IfErr result (λ s. IfAnswered s (Answer (Why request.now) report.entry.file.now report.entry.source.now)) }
@@ -123,7 +124,7 @@ fn why_held(
 ) -> Result<(Vec<u8>, Status), Stop>
     requires { CanBeSearched subject.now }
     ensures none_out { OnOk result (IsNoneOut (environment_in subject.now) (schema_in subject.now).comps) }
-    ensures told { IfOk result (λ p. TellsOf subject.now report.entry.file.now report.entry.source.now p.0.items p.1) }
+    ensures told { IfOk result (λ p. TellsOf subject.now report.entry.details report.entry.file.now report.entry.source.now p.0.items p.1) }
     ensures stop { IfErr result (λ s. IfAnswered s (TellsOut (environment_in subject.now) (schema_in subject.now).comps)) }
 {
     match first_in(alloc, subject)? {
@@ -199,16 +200,14 @@ fn none_text(
     requires searched { CanBeSearched subject.now }
     requires none_out { IsNoneOut (environment_in subject.now) (schema_in subject.now).comps }
     requires none { HasNone subject.now }
-    ensures { IfOk result (λ v. TellsNone subject.now report.entry.file.now report.entry.source.now v.items) }
+    ensures { IfOk result (λ v. TellsNone subject.now report.entry.details report.entry.file.now report.entry.source.now v.items) }
 {
-    let cause = why(
-        alloc,
-        subject.arena,
-        subject.schema,
-        subject.env,
-        subject.held,
-    )?;
-    let mut text = cause_lines(alloc, report, subject.schema, &cause)?;
+    let question = Question {
+        held: subject.held,
+        details: report.details,
+    };
+    let cause = why(alloc, subject.arena, subject.schema, subject.env, &question)?;
+    let mut text = cause_lines(alloc, report, subject.schema, subject.elements, &cause)?;
     text.extend_from_slice(b"no binding\n")?;
     Ok(text)
 }

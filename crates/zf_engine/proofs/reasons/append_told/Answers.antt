@@ -1,5 +1,6 @@
-use Rattle.zf_engine.proofs.ToldLines.{sides_told}
+use Rattle.zf_engine.proofs.ToldLines.{all_told}
 use Rattle.zf_engine.proofs.reasons.append_told.Goals as goal
 
-pub returns-in-Some : goal.returns-in-Some
-returns-in-Some c = sides_told c.args.report.file.now c.args.report.source.now c.append_sides.result c.args.told.now c.in-Some.sides _ _ _ c.in-Some.is c.in_ok-append_line.ensures c.append_sides.ensures
+pub returns : goal.returns
+returns c =
+    all_told c.args.report.file.now c.args.report.source.now c.append_operands_of.result c.args.elements.now c.args.told.now _ _ _ _ c.in_ok-append_line.ensures c.in_ok-append_sides_of.ensures c.append_operands_of.ensures

@@ -37,7 +37,7 @@ held_of c = subst (AreHeld (environment_of c.args.env.now) (schema_of c.args.sch
 pub returns-clause-answer : goal.returns-clause-answer
 returns-clause-answer c =
     why_found c.args.request.now c.args.report.file.now c.args.report.source.now (schema_of c.args.schema.now) (environment_of c.args.env.now) c.deref-3.result.now c.requires.plain c.requires.asked (held_of c)
-    _ c.why_held.ensures.none_out c.why_held.ensures.told
+    _ c.args.report.details c.requires.details c.why_held.ensures.none_out c.why_held.ensures.told
 
 pub returns-clause-stop : goal.returns-clause-stop
 returns-clause-stop c =
