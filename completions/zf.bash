@@ -50,12 +50,12 @@ _zf() {
     unset 'words[-1]'
 
     for word in "${words[@]}"; do
-        if [[ $skip == yes ]]; then
+        if [[ $skip != no ]]; then
             skip=no
         elif [[ $options == yes && $word == -- ]]; then
             options=no
-        elif [[ $options == yes && $word =~ ^--(after|with|limit|numbers|size)$ ]]; then
-            skip=yes
+        elif [[ $options == yes && $word =~ ^--(after|with|limit|numbers|size|find)$ ]]; then
+            skip=$word
         elif [[ $options == yes && $word == -?* ]]; then
             continue
         elif [[ -z $command ]]; then
@@ -65,13 +65,24 @@ _zf() {
         fi
     done
 
-    # the value of an option is the author's
+    # the schema that is sought is one of the file, which may stand behind it
+    if [[ $command == reach && ($skip == --find || $options == yes && $current == --find=*) ]]; then
+        current=${current#--find=}
+        for word in "${COMP_WORDS[@]:COMP_CWORD + 1}"; do
+            [[ $word == -* ]] || places+=("$word")
+        done
+        while read -r word; do
+            [[ $word != "$current"* ]] || COMPREPLY+=("$word")
+        done < <(__zf_listed "$1" Schema "${places[0]}")
+        return 0
+    fi
+    # the value of any other option is the author's
     [[ $skip == no ]] || return 0
     if [[ $options == yes && $current == -* ]]; then
         case $command in
             check) mapfile -t COMPREPLY < <(compgen -W '-t -d --details -h --help' -- "$current") ;;
             show) mapfile -t COMPREPLY < <(compgen -W '--after --with --limit --numbers --size --tests -d --details -h --help' -- "$current") ;;
-            reach) mapfile -t COMPREPLY < <(compgen -W '--limit --numbers --size -d --details -h --help' -- "$current") ;;
+            reach) mapfile -t COMPREPLY < <(compgen -W '--find --dot --limit --numbers --size -d --details -h --help' -- "$current") ;;
             why) mapfile -t COMPREPLY < <(compgen -W '--with --numbers --size -d --details -h --help' -- "$current") ;;
             '') mapfile -t COMPREPLY < <(compgen -W '-h --help -V --version' -- "$current") ;;
         esac

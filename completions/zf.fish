@@ -6,7 +6,7 @@ function __zf_places
     for word in (commandline --tokenize --current-process --cut-at-cursor)
         if test $skip = yes
             set skip no
-        else if contains -- $word --after --with --limit --numbers --size
+        else if contains -- $word --after --with --limit --numbers --size --find
             set skip yes
         else if not string match --quiet -- '-?*' $word
             echo $word
@@ -78,9 +78,11 @@ complete -c zf -n '__zf_stands_after why 2' -s h -l help -d 'Print help'
 complete -c zf -n '__zf_stands_after why 2' -x -l with -d 'Ask only of the bindings with these values'
 complete -c zf -n '__zf_stands_after why 2' -x -l numbers -d 'The greatest number'
 complete -c zf -n '__zf_stands_after why 2' -x -l size -d 'The size of each other given set'
-complete -c zf -n '__zf_stands_after why 2' -s d -l details -d 'Write after each fault what it is about'
+complete -c zf -n '__zf_stands_after why 2' -s d -l details -d 'Write after each fault what it is about, after a relation what its sides come to'
 complete -c zf -n '__zf_stands_after reach 2' -s h -l help -d 'Print help'
-complete -c zf -n '__zf_stands_after reach 2' -x -l limit -d 'Write at most so many states'
+complete -c zf -n '__zf_stands_after reach 2' -x -l find -a '(__zf_listed Schema)' -d 'Write only a shortest way to a state that satisfies this schema'
+complete -c zf -n '__zf_stands_after reach 2' -l dot -d 'Write a graph for Graphviz'
+complete -c zf -n '__zf_stands_after reach 2' -x -l limit -d 'Meet at most so many states'
 complete -c zf -n '__zf_stands_after reach 2' -x -l numbers -d 'The greatest number'
 complete -c zf -n '__zf_stands_after reach 2' -x -l size -d 'The size of each other given set'
 complete -c zf -n '__zf_stands_after reach 2' -s d -l details -d 'Write after each fault what it is about'
