@@ -1,0 +1,2 @@
+pub mod OneString
+pub mod Reading
