@@ -1,5 +1,5 @@
 -- The lines of a search, one after another: what is written so far, and how it ends.
-use Rattle.zf_lines.proofs.Prelude.{◌++◌, ◌+◌, ◌<◌, ◌∙◌, ◌∷◌, ◌≡◌, ◌⊎◌, [], ap, arith, inl, inr, length, length-append, List, None, Option, refl, Some, subst, sym, ℕ, Appends-nil, Appends-trans, Appends, option_map, Conjuncts, Event, Ahead, AreAllAhead, IsNoneAhead, Takes, Out, True, value_order, Value, IsEnd, AppendsFront, AreEventsUpTo, Hold, IsBegun, IsBelow, lines, HasLimit}
+use Rattle.zf_lines.proofs.Prelude.{◌++◌, ◌+◌, ◌<◌, ◌∙◌, ◌∷◌, ◌≡◌, ◌⊎◌, [], ap, arith, inl, inr, length, length-append, List, None, Option, refl, Some, subst, sym, ℕ, Appends-nil, Appends-trans, Appends, option_map, Conjuncts, Event, Ahead, AreAllAhead, IsNoneAhead, Takes, Out, True, value_order, Value, IsEnd, AppendsFront, AreEventsUpTo, Hold, IsBegun, IsBelow, lines, HasLimit, Wording}
 use Rattle.std.proofs.lemmas.List.Elements.{All-push}
 use Rattle.zf_value.specs.contracts.plain.ValueOrd.TheImpl.Laws as order_laws
 use Rattle.zf_lines.specs.declared.ending.Ending.TheVariants as endings
@@ -15,10 +15,10 @@ one_counted : (limit left after : Option ℕ) (n m : ℕ) → m ≡ n + 1 → li
 one_counted limit left None n m q e f = e ∙ ap (option_map (λ k. k + n)) f
 one_counted limit left (Some k) n m q e f = let same : (k + 1) + n ≡ k + m = omega (arith, q) in e ∙ ap (option_map (λ k. k + n)) f ∙ ap (λ (j : ℕ). Some j) same
 
-module _ (line : List Value → List ℕ) (limit : Option ℕ) (s : Conjuncts Value) (ranges : List (List Value)) (after : Option (List Value)) where
+module _ (words : Wording Value) (limit : Option ℕ) (s : Conjuncts Value) (ranges : List (List Value)) (after : Option (List Value)) where
   -- no line, or the lines up to this row
   abbrev pub IsFirst : (last : Option (List Value)) → List (Event Value) → Type 0
-  IsFirst last events = (events ≡ []) ⊎ (AreEventsUpTo value_order s ranges after last events × IsBegun line limit events last (lines line events))
+  IsFirst last events = (events ≡ []) ⊎ (AreEventsUpTo value_order s ranges after last events × IsBegun words limit events last (lines words events))
 
   -- the lines of the events that are behind are written; so many bindings may still be
   pub record HasLines (ahead : Ahead Value) (left : Option ℕ) (last : Option (List Value)) (old new : Option (List ℕ)) : Type 0 where
@@ -27,7 +27,7 @@ module _ (line : List Value → List ℕ) (limit : Option ℕ) (s : Conjuncts Va
     pub behind : Behind value_order s ranges after ahead events
     pub first : IsFirst last events
     pub counted : limit ≡ option_map (λ n. n + length events) left
-    pub written : Appends old new (lines line events)
+    pub written : Appends old new (lines words events)
 
   pub no_lines : (ahead : Ahead Value) (last : Option (List Value)) (old : Option (List ℕ)) → AreAllAhead value_order s ranges after ahead → HasLines ahead limit last old old
   no_lines ahead last old all = record {
@@ -60,24 +60,24 @@ module _ (line : List Value → List ℕ) (limit : Option ℕ) (s : Conjuncts Va
       pub first_more : IsFirst (Some row) grown
       first_more = inr (
         up_to_last value_order s ranges after order_laws.total-law h.events taken (subst (λ a. Behind value_order s ranges after a grown) t.passed all_behind),
-        subst (λ text. IsBegun line limit grown (Some row) text) (sym (one_more_line line h.events taken))
-            (begun line limit h.events taken (lines line h.events) all_hold (below limit left (length h.events) h.counted some) refl),
+        subst (λ text. IsBegun words limit grown (Some row) text) (sym (one_more_line words h.events taken))
+            (begun words limit h.events taken (lines words h.events) all_hold (below limit left (length h.events) h.counted some) refl),
       )
 
-      pub one_line : (less : Option ℕ) (later : Option (List ℕ)) → left ≡ option_map (λ n. n + 1) less → Appends new later (line row) → HasLines next less (Some row) old later
+      pub one_line : (less : Option ℕ) (later : Option (List ℕ)) → left ≡ option_map (λ n. n + 1) less → Appends new later (words.line row) → HasLines next less (Some row) old later
       one_line less later e w = record {
         events = grown;
         hold = all_hold;
         behind = all_behind;
         first = first_more;
         counted = one_counted limit left less (length h.events) (length grown) (length-append h.events (taken ∷ [])) h.counted e;
-        written = subst (Appends old later) (sym (one_more_line line h.events taken)) (Appends-trans old new later (lines line h.events) (line row) h.written w);
+        written = subst (Appends old later) (sym (one_more_line words h.events taken)) (Appends-trans old new later (lines words h.events) (words.line row) h.written w);
       }
 
       -- a front of its line is written
-      pub part_of_line : (later : Option (List ℕ)) → AppendsFront new later (line row) → AppendsFront old later (lines line grown)
+      pub part_of_line : (later : Option (List ℕ)) → AppendsFront new later (words.line row) → AppendsFront old later (lines words grown)
       part_of_line later w =
-          subst (AppendsFront old later) (sym (one_more_line line h.events taken)) (front_behind old new later (lines line h.events) (line row) h.written w)
+          subst (AppendsFront old later) (sym (one_more_line words h.events taken)) (front_behind old new later (lines words h.events) (words.line row) h.written w)
 
     -- the next one is out
     pub out_behind : (row : List Value) → Takes value_order s ranges after ahead (record { row = row; truth = Out }) next
@@ -108,5 +108,5 @@ module _ (line : List Value → List ℕ) (limit : Option ℕ) (s : Conjuncts Va
 
   -- the lines so far are the first ones
   pub lines_so_far : (ahead : Ahead Value) (left : Option ℕ) (last : Option (List Value)) (old new : Option (List ℕ)) (h : HasLines ahead left last old new)
-      → AppendsFront old new (lines line h.events)
-  lines_so_far ahead left last old new h = front_whole old new (lines line h.events) h.written
+      → AppendsFront old new (lines words h.events)
+  lines_so_far ahead left last old new h = front_whole old new (lines words h.events) h.written

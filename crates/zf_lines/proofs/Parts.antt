@@ -1,34 +1,34 @@
 -- Parts of lines, and columns of them.
-use Rattle.zf_lines.proofs.Prelude.{◌++◌, ◌+◌, ◌<◌, ◌∙◌, ◌∷◌, ◌≡◌, ◌≤◌, [], ap, append_assoc, arith, codes, drop, get_or, inl, inr, length, length-append, List, map, None, Option, refl, Some, subst, suc, sym, take, zero, ℕ, set, length-map, length-set, length-take-le, map_more, take_all, get_or_from_slice_get, slice_get_read, IfSome, IsSomeAnd, option_map, slice_get, slice_index_or, unwrap_or, Value, Comp, comp_of, ahead-further, texts-drop, component_text, component_texts, goes_on, Spelling, AreColumns, head_of, Keeps, part_at}
+use Rattle.zf_lines.proofs.Prelude.{◌++◌, ◌+◌, ◌<◌, ◌∙◌, ◌∷◌, ◌≡◌, ◌≤◌, [], ap, append_assoc, arith, codes, drop, get_or, inl, inr, length, length-append, List, map, None, Option, refl, Some, subst, suc, sym, take, zero, ℕ, set, length-map, length-set, length-take-le, map_more, take_all, get_or_from_slice_get, slice_get_read, IfSome, IsSomeAnd, option_map, slice_get, slice_index_or, unwrap_or, Value, Comp, comp_of, ahead-further, texts-drop, component_in, components_in, goes_on, Format, name_in, Spelling, AreColumns, head_of, Keeps, part_at}
 use Rattle.zf_term.specs.declared.schema.Component.{Component}
-use Rattle.zf_texts.specs.ValueTexts.{value_text, comma_before}
+use Rattle.zf_texts.specs.ValueTexts.{comma_before, value_in}
 use Rattle.zf_lines.specs.declared.column.Column.{Column}
 use Rattle.zf_lines.proofs.Keeping.{at_push, at_set}
 
-module _ (head : List ℕ) (ss : List Spelling) (last : Option (List Value)) (i : ℕ) where
+module _ (head : List ℕ) (f : Format) (ss : List Spelling) (last : Option (List Value)) (i : ℕ) where
   -- the same value stands at both places
   pub same_part : (range : List Value) (place : ℕ) → IsSomeAnd last (λ row. i < length row) → IfSome last (λ row. slice_get row i ≡ slice_get range place)
-      → part_at head ss range place ≡ part_at head ss (unwrap_or last []) i
+      → part_at head f ss range place ≡ part_at head f ss (unwrap_or last []) i
   same_part range place long is = go last long is where
     go : (last : Option (List Value)) → IsSomeAnd last (λ row. i < length row) → IfSome last (λ row. slice_get row i ≡ slice_get range place)
-        → part_at head ss range place ≡ part_at head ss (unwrap_or last []) i
+        → part_at head f ss range place ≡ part_at head f ss (unwrap_or last []) i
     go None long is = absurd long
-    go (Some row) long is = ap (λ (o : Option Value). unwrap_or (option_map (λ v. head ++ value_text ss v) o) []) (sym is)
+    go (Some row) long is = ap (λ (o : Option Value). unwrap_or (option_map (λ v. head ++ value_in f ss v) o) []) (sym is)
 
   -- the part is worked out
-  pub new_part : (v : Value) → IsSomeAnd last (λ row. i < length row) → IfSome last (λ row. slice_get row i ≡ Some v) → head ++ value_text ss v ≡ part_at head ss (unwrap_or last []) i
+  pub new_part : (v : Value) → IsSomeAnd last (λ row. i < length row) → IfSome last (λ row. slice_get row i ≡ Some v) → head ++ value_in f ss v ≡ part_at head f ss (unwrap_or last []) i
   new_part v long is = go last long is where
-    go : (last : Option (List Value)) → IsSomeAnd last (λ row. i < length row) → IfSome last (λ row. slice_get row i ≡ Some v) → head ++ value_text ss v ≡ part_at head ss (unwrap_or last []) i
+    go : (last : Option (List Value)) → IsSomeAnd last (λ row. i < length row) → IfSome last (λ row. slice_get row i ≡ Some v) → head ++ value_in f ss v ≡ part_at head f ss (unwrap_or last []) i
     go None long is = absurd long
-    go (Some row) long is = ap (λ (o : Option Value). unwrap_or (option_map (λ v. head ++ value_text ss v) o) []) (sym is)
+    go (Some row) long is = ap (λ (o : Option Value). unwrap_or (option_map (λ v. head ++ value_in f ss v) o) []) (sym is)
 
 -- a part is that of a component with its value
-pub part_of_component : (ss : List Spelling) (n : ℕ) (c : Comp) (values : List Value) (i : ℕ) (v : Value) (head : List ℕ) → head ≡ head_of n c → slice_get values i ≡ Some v
-    → part_at head ss values i ≡ comma_before n ++ component_text ss c v
-part_of_component ss n c values i v head is at =
-    let worked : part_at head ss values i ≡ head ++ value_text ss v = ap (λ (o : Option Value). unwrap_or (option_map (λ w. head ++ value_text ss w) o) []) at in
-    let begun : head ++ value_text ss v ≡ (comma_before n ++ (c.name ++ codes " == ")) ++ value_text ss v = ap (λ h. h ++ value_text ss v) is in
-    worked ∙ begun ∙ append_assoc (comma_before n) (c.name ++ codes " == ") (value_text ss v)
+pub part_of_component : (f : Format) (ss : List Spelling) (n : ℕ) (c : Comp) (values : List Value) (i : ℕ) (v : Value) (head : List ℕ) → head ≡ head_of f n c → slice_get values i ≡ Some v
+    → part_at head f ss values i ≡ comma_before n ++ component_in f ss c v
+part_of_component f ss n c values i v head is at =
+    let worked : part_at head f ss values i ≡ head ++ value_in f ss v = ap (λ (o : Option Value). unwrap_or (option_map (λ w. head ++ value_in f ss w) o) []) at in
+    let begun : head ++ value_in f ss v ≡ (comma_before n ++ name_in f c.name) ++ value_in f ss v = ap (λ h. h ++ value_in f ss v) is in
+    worked ∙ begun ∙ append_assoc (comma_before n) (name_in f c.name) (value_in f ss v)
 
 at_length : {A : Type 0} (xs : List A) (i : ℕ) (x : A) → slice_get xs i ≡ Some x → i < length xs
 at_length [] zero x e = (cc)
@@ -52,22 +52,22 @@ pub some_long : (last : Option (List Value)) (i : ℕ) → i < length (unwrap_or
 some_long None i l = absurd (omega (arith, l))
 some_long (Some row) i l = l
 
-module _ (ss : List Spelling) (ranges : List (List Value)) where
-  pub no_columns : AreColumns ss [] ranges []
+module _ (f : Format) (ss : List Spelling) (ranges : List (List Value)) where
+  pub no_columns : AreColumns f ss [] ranges []
   no_columns = record { all = refl; heads = λ i c column at here. absurd (never i c at); kept = λ i column here. absurd (never i column here) } where
     never : {A : Type 0} (i : ℕ) (x : A) → slice_get {X = A} [] i ≡ Some x → ⊥
     never zero x e = (cc)
     never (suc i) x e = (cc)
 
   -- one component more
-  pub one_more_column : (cs : List Comp) (columns : List Column) (c : Comp) (column : Column) (n : ℕ) → length cs ≡ n → column.head ≡ head_of n c → ((f : ℕ → List ℕ) → Keeps f column)
-      → AreColumns ss cs ranges columns → AreColumns ss (cs ++ c ∷ []) ranges (columns ++ column ∷ [])
+  pub one_more_column : (cs : List Comp) (columns : List Column) (c : Comp) (column : Column) (n : ℕ) → length cs ≡ n → column.head ≡ head_of f n c → ((f : ℕ → List ℕ) → Keeps f column)
+      → AreColumns f ss cs ranges columns → AreColumns f ss (cs ++ c ∷ []) ranges (columns ++ column ∷ [])
   one_more_column cs columns c column n long head none h = record {
     all = length-append columns (column ∷ []) ∙ ap (λ m. m + 1) h.all ∙ sym (length-append cs (c ∷ []));
     heads = heads;
-    kept = λ i d here. elim (at_push columns column d i here) [ inl before ↦ h.kept i d before | inr last ↦ subst (λ (x : Column). Keeps (part_at x.head ss (slice_index_or ranges i [])) x) last.1 (none (part_at column.head ss (slice_index_or ranges i []))) ];
+    kept = λ i d here. elim (at_push columns column d i here) [ inl before ↦ h.kept i d before | inr last ↦ subst (λ (x : Column). Keeps (part_at x.head f ss (slice_index_or ranges i [])) x) last.1 (none (part_at column.head f ss (slice_index_or ranges i []))) ];
   } where
-    heads : (i : ℕ) (b : Comp) (d : Column) → slice_get (cs ++ c ∷ []) i ≡ Some b → slice_get (columns ++ column ∷ []) i ≡ Some d → d.head ≡ head_of i b
+    heads : (i : ℕ) (b : Comp) (d : Column) → slice_get (cs ++ c ∷ []) i ≡ Some b → slice_get (columns ++ column ∷ []) i ≡ Some d → d.head ≡ head_of f i b
     heads i b d at here = elim (at_push cs c b i at) [
       | inl before ↦ elim (at_push columns column d i here) [
         | inl stays ↦ h.heads i b d before stays
@@ -75,13 +75,13 @@ module _ (ss : List Spelling) (ranges : List (List Value)) where
       ]
       | inr last ↦ elim (at_push columns column d i here) [
         | inl before ↦ let l : i < length columns = at_length columns i d before in absurd (omega (arith, l, last.0, h.all))
-        | inr here ↦ ap (λ (x : Column). x.head) (sym here.1) ∙ head ∙ ap (λ m. head_of m c) (sym long ∙ sym last.0) ∙ ap (head_of i) last.1
+        | inr here ↦ ap (λ (x : Column). x.head) (sym here.1) ∙ head ∙ ap (λ m. head_of f m c) (sym long ∙ sym last.0) ∙ ap (head_of f i) last.1
       ]
     ]
 
   -- one column changes
   pub column_changed : (cs : List Comp) (columns : List Column) (i : ℕ) (old new : Column) → slice_get columns i ≡ Some old → new.head ≡ old.head
-      → Keeps (part_at old.head ss (slice_index_or ranges i [])) new → AreColumns ss cs ranges columns → AreColumns ss cs ranges (set columns i new)
+      → Keeps (part_at old.head f ss (slice_index_or ranges i [])) new → AreColumns f ss cs ranges columns → AreColumns f ss cs ranges (set columns i new)
   column_changed cs columns i old new at same keeps h = record {
     all = length-set columns i new ∙ h.all;
     heads = λ n c d there here. elim (at_set columns i new d n here) [
@@ -90,36 +90,36 @@ module _ (ss : List Spelling) (ranges : List (List Value)) where
     ];
     kept = λ n d here. elim (at_set columns i new d n here) [
       | inl stays ↦ h.kept n d stays
-      | inr is ↦ subst (λ (x : Column). Keeps (part_at x.head ss (slice_index_or ranges n [])) x) is.1
-          (subst (λ m. Keeps (part_at new.head ss (slice_index_or ranges m [])) new) (sym is.0)
-          (subst (λ t. Keeps (part_at t ss (slice_index_or ranges i [])) new) (sym same) keeps))
+      | inr is ↦ subst (λ (x : Column). Keeps (part_at x.head f ss (slice_index_or ranges n [])) x) is.1
+          (subst (λ m. Keeps (part_at new.head f ss (slice_index_or ranges m [])) new) (sym is.0)
+          (subst (λ t. Keeps (part_at t f ss (slice_index_or ranges i [])) new) (sym same) keeps))
     ];
   }
 
-  pub column_there : (comps : List Component) (columns : List Column) (column : Column) (i : ℕ) → AreColumns ss (map comp_of comps) ranges columns → i < length comps → column ≡ get_or columns i column
+  pub column_there : (comps : List Component) (columns : List Column) (column : Column) (i : ℕ) → AreColumns f ss (map comp_of comps) ranges columns → i < length comps → column ≡ get_or columns i column
       → slice_get columns i ≡ Some column
   column_there comps columns column i h deep is = slice_get_read columns (length columns) i column refl (omega (arith, deep, h.all, length-map comps comp_of)) is
 
   -- what was ahead is ahead behind one more part
   pub part_ahead : (comps : List Component) (columns : List Column) (column : Column) (vs : List Value) (i : ℕ) (line new whole : List ℕ)
-      → AreColumns ss (map comp_of comps) ranges columns → slice_get columns i ≡ Some column → i < length comps → i < length vs
-      → line ++ goes_on i (component_texts ss (map comp_of (drop i comps)) (drop i vs)) ≡ whole → new ≡ line ++ part_at column.head ss vs i
-      → new ++ goes_on (i + 1) (component_texts ss (map comp_of (drop (i + 1) comps)) (drop (i + 1) vs)) ≡ whole
+      → AreColumns f ss (map comp_of comps) ranges columns → slice_get columns i ≡ Some column → i < length comps → i < length vs
+      → line ++ goes_on i (components_in f ss (map comp_of (drop i comps)) (drop i vs)) ≡ whole → new ≡ line ++ part_at column.head f ss vs i
+      → new ++ goes_on (i + 1) (components_in f ss (map comp_of (drop (i + 1) comps)) (drop (i + 1) vs)) ≡ whole
   part_ahead comps columns column vs i line new whole h there deep long ahead is =
       let c = at_some comps i deep in
       let v = at_some vs i long in
-      let next = texts-drop ss comps comps vs i c.0 v.0 refl (sym (get_or_from_slice_get comps i c.0 c.0 c.1)) deep v.1 in
+      let next = texts-drop f ss comps comps vs i c.0 v.0 refl (sym (get_or_from_slice_get comps i c.0 c.0 c.1)) deep v.1 in
       let head = h.heads i (comp_of c.0) column (at_map comp_of comps i c.0 c.1) there in
-      ahead-further line (line ++ comma_before i) new whole (component_text ss (comp_of c.0) v.0) i _ (ap (λ l. line ++ goes_on i l) (sym next) ∙ ahead) refl
-      (is ∙ ap (λ t. line ++ t) (part_of_component ss i (comp_of c.0) vs i v.0 column.head head v.1) ∙ sym (append_assoc line (comma_before i) (component_text ss (comp_of c.0) v.0)))
+      ahead-further line (line ++ comma_before i) new whole (component_in f ss (comp_of c.0) v.0) i _ (ap (λ l. line ++ goes_on i l) (sym next) ∙ ahead) refl
+      (is ∙ ap (λ t. line ++ t) (part_of_component f ss i (comp_of c.0) vs i v.0 column.head head v.1) ∙ sym (append_assoc line (comma_before i) (component_in f ss (comp_of c.0) v.0)))
 
-  pub more_columns : (comps : List Component) (i : ℕ) (c : Component) (columns new : List Column) (column : Column) → c ≡ get_or comps i c → i < length comps → column.head ≡ head_of i (comp_of c)
-      → ((f : ℕ → List ℕ) → Keeps f column) → new ≡ columns ++ column ∷ [] → AreColumns ss (map comp_of (take i comps)) ranges columns → AreColumns ss (map comp_of (take (i + 1) comps)) ranges new
+  pub more_columns : (comps : List Component) (i : ℕ) (c : Component) (columns new : List Column) (column : Column) → c ≡ get_or comps i c → i < length comps → column.head ≡ head_of f i (comp_of c)
+      → ((f : ℕ → List ℕ) → Keeps f column) → new ≡ columns ++ column ∷ [] → AreColumns f ss (map comp_of (take i comps)) ranges columns → AreColumns f ss (map comp_of (take (i + 1) comps)) ranges new
   more_columns comps i c columns new column at l head none is h =
       let grown : map comp_of (take (i + 1) comps) ≡ map comp_of (take i comps) ++ comp_of c ∷ [] = map_more comp_of comps i c l ∙ ap (λ x. map comp_of (take i comps) ++ comp_of x ∷ []) (sym at) in
       let long : length (map comp_of (take i comps)) ≡ i = length-map (take i comps) comp_of ∙ length-take-le i comps (omega (arith, l)) in
-      subst (λ cs. AreColumns ss cs ranges new) (sym grown)
-      (subst (AreColumns ss (map comp_of (take i comps) ++ comp_of c ∷ []) ranges) (sym is) (one_more_column (map comp_of (take i comps)) columns (comp_of c) column i long head none h))
+      subst (λ cs. AreColumns f ss cs ranges new) (sym grown)
+      (subst (AreColumns f ss (map comp_of (take i comps) ++ comp_of c ∷ []) ranges) (sym is) (one_more_column (map comp_of (take i comps)) columns (comp_of c) column i long head none h))
 
-  pub all_columns : (comps : List Component) (i : ℕ) (columns : List Column) → length comps ≤ i → AreColumns ss (map comp_of (take i comps)) ranges columns → AreColumns ss (map comp_of comps) ranges columns
-  all_columns comps i columns l h = subst (λ cs. AreColumns ss (map comp_of cs) ranges columns) (take_all i comps l) h
+  pub all_columns : (comps : List Component) (i : ℕ) (columns : List Column) → length comps ≤ i → AreColumns f ss (map comp_of (take i comps)) ranges columns → AreColumns f ss (map comp_of comps) ranges columns
+  all_columns comps i columns l h = subst (λ cs. AreColumns f ss (map comp_of cs) ranges columns) (take_all i comps l) h

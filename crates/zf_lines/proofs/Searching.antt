@@ -1,5 +1,5 @@
 -- What the steps of a search say of its schema, wherever it stands.
-use Rattle.zf_lines.proofs.Prelude.{◌++◌, ◌<◌, ◌∙◌, ◌≡◌, [], ap, append-nil, append_assoc, Bool, codes, false, inl, inr, List, Option, refl, Some, subst, sym, ℕ, Appends, unwrap_or, Conjuncts, Event, Advances, IsNoneAhead, SameRanges, Stage, Takes, Out, True, Breaks, End, Holds, value_order, Value, Schema, Environment, property, conjuncts_of, Goal, ending_status, EndsBy, IsEnd, last_text, AppendsFront, AreEventsUpTo, IsWritten, lines, out_line, FindsEvents, IsAtStart, StopsLines, TellsTests, WritesAll}
+use Rattle.zf_lines.proofs.Prelude.{◌++◌, ◌<◌, ◌∙◌, ◌≡◌, [], ap, append-nil, append_assoc, Bool, false, inl, inr, List, Option, refl, Some, subst, sym, ℕ, Appends, unwrap_or, Conjuncts, Event, Advances, IsNoneAhead, SameRanges, Stage, Takes, Out, True, Breaks, End, Holds, value_order, Value, Schema, Environment, property, conjuncts_of, Goal, ending_status, EndsBy, IsEnd, last_text, AppendsFront, AreEventsUpTo, IsWritten, lines, FindsEvents, IsAtStart, StopsLines, TellsTests, Wording, WritesAll}
 use Rattle.zf_plan.proofs.Alike.{advances}
 use Rattle.zf_lines.specs.declared.ending.Ending as ending
 use Rattle.zf_lines.specs.declared.ending.Ending.TheVariants as endings
@@ -37,15 +37,15 @@ module _ (a : Schema) (g : Goal) (b : Stage Value) (start : IsAtStart a g b) whe
     pub none_left : Advances value_order (conjuncts_of g) End c d → IsNoneAhead value_order stated b.ranges b.after c.ahead
     none_left h = let t = advances value_order (conjuncts_of g) stated start.same End c d h in at_start (λ rs n. IsNoneAhead value_order stated rs n c.ahead) t.1
 
-  module _ (line : List Value → List ℕ) (limit : Option ℕ) where
+  module _ (words : Wording Value) (limit : Option ℕ) where
     -- the lines that stop early
-    pub stops : (last : Option (List Value)) (events : List (Event Value)) (old new : Option (List ℕ)) → IsFirst line limit stated b.ranges b.after last events
-        → AppendsFront old new (lines line events) → StopsLines line limit g.environment a b old new
-    stops last events old new (inl none) front = (lines line events, inl (ap (lines line) none), front)
-    stops last events old new (inr (known, begun)) front = (lines line events, inr (events, last, known, begun), front)
+    pub stops : (last : Option (List Value)) (events : List (Event Value)) (old new : Option (List ℕ)) → IsFirst words limit stated b.ranges b.after last events
+        → AppendsFront old new (lines words events) → StopsLines words limit g.environment a b old new
+    stops last events old new (inl none) front = (lines words events, inl (ap (lines words) none), front)
+    stops last events old new (inr (known, begun)) front = (lines words events, inr (events, last, known, begun), front)
 
     pub ends_by : (c : Stage Value) (by : ending.Ending) (events held : List (Event Value)) (last : Option (List Value)) (old new : Option (List ℕ)) → c.last ≡ last
-        → AreEventsUpTo value_order stated b.ranges b.after last events → IsEnd limit events held last by → Appends old new (lines line held) → EndsBy line limit g.environment a b by c old new
+        → AreEventsUpTo value_order stated b.ranges b.after last events → IsEnd limit events held last by → Appends old new (lines words held) → EndsBy words limit g.environment a b by c old new
     ends_by c by events held last old new is known ended written = record {
       events = events;
       held = held;
@@ -56,32 +56,32 @@ module _ (a : Schema) (g : Goal) (b : Stage Value) (start : IsAtStart a g b) whe
 
 -- ---- the whole search, from the lines and their end
 
-module _ (line : List Value → List ℕ) (limit : Option ℕ) (e : Environment) (a : Schema) (b : Stage Value) where
-  end_text : (by : ending.Ending) (c : Stage Value) (values : List Value) (old new : Option (List ℕ)) (h : EndsBy line limit e a b by c old new) → values ≡ unwrap_or c.last []
-      → IsWritten line limit h.events c.last (lines line h.held ++ last_text line by values) (ending_status by)
+module _ (words : Wording Value) (limit : Option ℕ) (e : Environment) (a : Schema) (b : Stage Value) where
+  end_text : (by : ending.Ending) (c : Stage Value) (values : List Value) (old new : Option (List ℕ)) (h : EndsBy words limit e a b by c old new) → values ≡ unwrap_or c.last []
+      → IsWritten words limit h.events c.last (lines words h.held ++ last_text words by values) (ending_status by)
   end_text endings.More c values old new h given = let m = h.ended in
-      IsWritten.pauses m.0 m.1 m.2 m.3 m.4 m.5 (ap (λ (es : List (Event Value)). lines line es ++ codes "more\n") m.6) refl
+      IsWritten.pauses m.0 m.1 m.2 m.3 m.4 m.5 (ap (λ (es : List (Event Value)). lines words es ++ words.more) m.6) refl
   end_text endings.Out c values old new h given = let m = h.ended in
-      IsWritten.breaks h.held m.0 m.1 m.2 m.3 m.4 m.5 (ap (λ (row : List Value). lines line h.held ++ out_line line row) (given ∙ ap (λ (o : Option (List Value)). unwrap_or o []) m.2)) refl
+      IsWritten.breaks h.held m.0 m.1 m.2 m.3 m.4 m.5 (ap (λ (row : List Value). lines words h.held ++ words.out row) (given ∙ ap (λ (o : Option (List Value)). unwrap_or o []) m.2)) refl
   end_text endings.End c values old new h given = let m = h.ended in
-      IsWritten.ends m.0 m.1 m.2 (ap (λ (es : List (Event Value)). lines line es ++ codes "end\n") m.3) refl
+      IsWritten.ends m.0 m.1 m.2 (ap (λ (es : List (Event Value)). lines words es ++ words.end) m.3) refl
 
   -- with what is written of the number of tests
-  pub all_text : (tests : Bool) (by : ending.Ending) (c : Stage Value) (values : List Value) (counted : List ℕ) (old new : Option (List ℕ)) (h : EndsBy line limit e a b by c old new) (ending : List ℕ)
-      → values ≡ unwrap_or c.last [] → TellsTests tests e a b c.last counted → ending ≡ last_text line by values ++ counted
-      → WritesAll line limit tests e a b (lines line h.held ++ ending) (ending_status by)
+  pub all_text : (tests : Bool) (by : ending.Ending) (c : Stage Value) (values : List Value) (counted : List ℕ) (old new : Option (List ℕ)) (h : EndsBy words limit e a b by c old new) (ending : List ℕ)
+      → values ≡ unwrap_or c.last [] → TellsTests words tests e a b c.last counted → ending ≡ last_text words by values ++ counted
+      → WritesAll words limit tests e a b (lines words h.held ++ ending) (ending_status by)
   all_text tests by c values counted old new h ending given number is = record {
     last = c.last;
     events = h.events;
-    written = lines line h.held ++ last_text line by values;
+    written = lines words h.held ++ last_text words by values;
     counted = counted;
     listed = h.listed;
     ends = end_text by c values old new h given;
     numbered = number;
-    whole = ap (λ t. lines line h.held ++ t) is ∙ sym (append_assoc (lines line h.held) (last_text line by values) counted);
+    whole = ap (λ t. lines words h.held ++ t) is ∙ sym (append_assoc (lines words h.held) (last_text words by values) counted);
   }
 
   -- where it isn't asked for
-  pub untold_text : (by : ending.Ending) (c : Stage Value) (values : List Value) (old new : Option (List ℕ)) (h : EndsBy line limit e a b by c old new) (ending : List ℕ)
-      → values ≡ unwrap_or c.last [] → ending ≡ last_text line by values → WritesAll line limit false e a b (lines line h.held ++ ending) (ending_status by)
-  untold_text by c values old new h ending given is = all_text false by c values [] old new h ending given refl (is ∙ sym (append-nil (last_text line by values)))
+  pub untold_text : (by : ending.Ending) (c : Stage Value) (values : List Value) (old new : Option (List ℕ)) (h : EndsBy words limit e a b by c old new) (ending : List ℕ)
+      → values ≡ unwrap_or c.last [] → ending ≡ last_text words by values → WritesAll words limit false e a b (lines words h.held ++ ending) (ending_status by)
+  untold_text by c values old new h ending given is = all_text false by c values [] old new h ending given refl (is ∙ sym (append-nil (last_text words by values)))

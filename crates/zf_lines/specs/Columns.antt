@@ -1,19 +1,21 @@
 -- What is kept of the lines that were printed. No public clause rests on this file.
-use Rattle.std.specs.Prelude.{◌≡◌, ℕ, List, [], ◌++◌, codes, length, Option, Some, option_map, slice_get, slice_index_or, unwrap_or}
+use Rattle.std.specs.Prelude.{◌≡◌, ℕ, List, [], ◌++◌, length, Option, Some, option_map, slice_get, slice_index_or, unwrap_or}
+use Rattle.zf_format.specs.declared.format.Format.{Format}
 use Rattle.zf_term.specs.Definitions.{Comp}
 use Rattle.zf_value.specs.declared.plain.Value.{Value}
 use Rattle.zf_texts.specs.declared.spelling.Spelling.{Spelling}
-use Rattle.zf_texts.specs.ValueTexts.{value_text, comma_before}
+use Rattle.zf_texts.specs.BindingTexts.{name_in}
+use Rattle.zf_texts.specs.ValueTexts.{comma_before, value_in}
 use Rattle.zf_lines.specs.declared.column.Column.{Column}
 use Rattle.zf_lines.specs.declared.column.Kept.{Kept}
 
 -- what stands before the value of a component, behind so many others
-abbrev pub head_of : ℕ → Comp → List ℕ
-head_of count c = comma_before count ++ (c.name ++ codes " == ")
+abbrev pub head_of : Format → ℕ → Comp → List ℕ
+head_of f count c = comma_before count ++ name_in f c.name
 
 -- the part of a line for the value at a place
-abbrev pub part_at : List ℕ → List Spelling → List Value → ℕ → List ℕ
-part_at head ss values place = unwrap_or (option_map (λ v. head ++ value_text ss v) (slice_get values place)) []
+abbrev pub part_at : List ℕ → Format → List Spelling → List Value → ℕ → List ℕ
+part_at head f ss values place = unwrap_or (option_map (λ v. head ++ value_in f ss v) (slice_get values place)) []
 
 -- each text that is kept is that of its place
 unfoldable pub AreTexts : (ℕ → List ℕ) → List (Option Kept) → Type 0
@@ -23,7 +25,7 @@ abbrev pub Keeps : (ℕ → List ℕ) → Column → Type 0
 Keeps f column = AreTexts f column.slots.items
 
 -- a column for each component, with parts of lines for the values of its range
-pub record AreColumns (ss : List Spelling) (cs : List Comp) (ranges : List (List Value)) (columns : List Column) : Type 0 where
+pub record AreColumns (f : Format) (ss : List Spelling) (cs : List Comp) (ranges : List (List Value)) (columns : List Column) : Type 0 where
   pub all : length columns ≡ length cs
-  pub heads : (i : ℕ) (c : Comp) (column : Column) → slice_get cs i ≡ Some c → slice_get columns i ≡ Some column → column.head ≡ head_of i c
-  pub kept : (i : ℕ) (column : Column) → slice_get columns i ≡ Some column → Keeps (part_at column.head ss (slice_index_or ranges i [])) column
+  pub heads : (i : ℕ) (c : Comp) (column : Column) → slice_get cs i ≡ Some c → slice_get columns i ≡ Some column → column.head ≡ head_of f i c
+  pub kept : (i : ℕ) (column : Column) → slice_get columns i ≡ Some column → Keeps (part_at column.head f ss (slice_index_or ranges i [])) column

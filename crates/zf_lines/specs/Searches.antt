@@ -7,7 +7,6 @@ use Rattle.zf_walk.specs.Conjuncts.{Conjuncts}
 use Rattle.zf_walk.specs.Rows.{ComesAfter}
 use Rattle.zf_walk.specs.Events.{Event, IsEvent}
 use Rattle.zf_walk.specs.Tests.{IsUpTo, cut}
-use Rattle.zf_term.specs.Definitions.{Schema}
 use Rattle.zf_value.specs.declared.plain.Value.{Value}
 use Rattle.zf_value.specs.Sets.{value_order}
 use Rattle.zf_meaning.specs.Environments.{Environment}
@@ -15,7 +14,10 @@ use Rattle.zf_enum.specs.Events.{AreTests}
 use Rattle.zf_enum.specs.Portions.{Portion}
 use Rattle.zf_enum.specs.Property.{property}
 use Rattle.zf_ranges.specs.Ranges.{AreRanges}
-use Rattle.zf_lines.specs.Texts.{tests_line}
+use Rattle.zf_format.specs.declared.format.Format.{Format}
+use Rattle.zf_term.specs.Definitions.{Comp, Schema}
+use Rattle.zf_texts.specs.declared.spelling.Spelling.{Spelling}
+use Rattle.zf_lines.specs.Texts.{end_line, more_line, out_line, row_line, tests_line}
 use Rattle.zf_lines.specs.declared.fault.Status.{Status}
 use Rattle.zf_lines.specs.declared.fault.Status.TheVariants.{Done, PastBounds}
 
@@ -27,13 +29,21 @@ pub record AreEventsUpTo {V : Type 0} (cmp : V → V → Ordering) (s : Conjunct
 abbrev pub Hold : {V : Type 0} → List (Event V) → Type 0
 Hold events = All (λ e. e.truth ≡ True) events
 
--- one line an event
-abbrev pub lines : {V : Type 0} → (List V → List ℕ) → List (Event V) → List ℕ
-lines line events = flat_map (λ e. line e.row) events
+-- in which lines a search is told: each of its rows, and last that a row is out of bounds, that the limit is reached, or that no row is left; and the number of tests
+pub record Wording (V : Type 0) : Type 0 where
+  pub line : List V → List ℕ
+  pub out : List V → List ℕ
+  pub more : List ℕ
+  pub end : List ℕ
+  pub tests : ℕ → List ℕ
 
--- the last line where the next event is out
-abbrev pub out_line : {V : Type 0} → (List V → List ℕ) → List V → List ℕ
-out_line line row = codes "out of bounds at: " ++ line row
+-- that of the rows of a schema's components
+abbrev pub row_wording : Format → List Spelling → List Comp → Wording Value
+row_wording f ss comps = record { line = row_line f ss comps; out = out_line f ss comps; more = more_line f; end = end_line f; tests = tests_line f }
+
+-- one line an event
+abbrev pub lines : {V : Type 0} → Wording V → List (Event V) → List ℕ
+lines w events = flat_map (λ e. w.line e.row) events
 
 -- a limit is at least 1
 abbrev pub HasLimit : Option ℕ → Type 0
@@ -46,27 +56,27 @@ IsBelow None n = Unit {0}
 IsBelow (Some limit) n = n < limit
 
 -- The text and the status of events up to the last one that is written: the limit is reached, or the last one is out, or no event is left.
-pub data IsWritten {V : Type 0} (line : List V → List ℕ) (limit : Option ℕ) (events : List (Event V)) (last : Option (List V)) (text : List ℕ) (status : Status) : Type 0 where
+pub data IsWritten {V : Type 0} (w : Wording V) (limit : Option ℕ) (events : List (Event V)) (last : Option (List V)) (text : List ℕ) (status : Status) : Type 0 where
   pauses : (front : List (Event V)) (e : Event V) → events ≡ front ++ e ∷ [] → last ≡ Some e.row → Hold events → limit ≡ Some (length events)
-      → text ≡ lines line events ++ codes "more\n" → status ≡ Done → IsWritten line limit events last text status
+      → text ≡ lines w events ++ w.more → status ≡ Done → IsWritten w limit events last text status
   breaks : (front : List (Event V)) (e : Event V) → events ≡ front ++ e ∷ [] → last ≡ Some e.row → Hold front → e.truth ≡ Out → IsBelow limit (length front)
-      → text ≡ lines line front ++ out_line line e.row → status ≡ PastBounds → IsWritten line limit events last text status
-  ends : last ≡ None → Hold events → IsBelow limit (length events) → text ≡ lines line events ++ codes "end\n" → status ≡ Done
-      → IsWritten line limit events last text status
+      → text ≡ lines w front ++ w.out e.row → status ≡ PastBounds → IsWritten w limit events last text status
+  ends : last ≡ None → Hold events → IsBelow limit (length events) → text ≡ lines w events ++ w.end → status ≡ Done
+      → IsWritten w limit events last text status
 
 -- the first lines of it: those of events up to a row, all of which hold and are no more than the limit
 abbrev pub IsNotAbove : Option ℕ → ℕ → Type 0
 IsNotAbove None n = Unit {0}
 IsNotAbove (Some limit) n = n ≤ limit
 
-pub record IsBegun {V : Type 0} (line : List V → List ℕ) (limit : Option ℕ) (events : List (Event V)) (last : Option (List V)) (text : List ℕ) : Type 0 where
+pub record IsBegun {V : Type 0} (w : Wording V) (limit : Option ℕ) (events : List (Event V)) (last : Option (List V)) (text : List ℕ) : Type 0 where
   pub front : List (Event V)
   pub event : Event V
   pub listed : events ≡ front ++ event ∷ []
   pub up_to : last ≡ Some event.row
   pub hold : Hold events
   pub within : IsNotAbove limit (length events)
-  pub written : text ≡ lines line events
+  pub written : text ≡ lines w events
 
 -- ---- of a schema
 
@@ -77,6 +87,6 @@ pub record HasEvents (e : Environment) (a : Schema) (p : Portion) (whole : Optio
   pub listed : AreEventsUpTo value_order (property e a.conjuncts) ranges p.after whole events
 
 -- the line of the number of tests up to a whole row, or of all, if it is asked for
-abbrev pub IsTestsLine : (tests : Bool) → Environment → Schema → Portion → (whole : Option (List Value)) → List ℕ → Type 0
-IsTestsLine false e a p whole text = text ≡ []
-IsTestsLine true e a p whole text = (number : ℕ) × AreTests e a p whole number × (text ≡ tests_line (cut number))
+abbrev pub IsTestsLine : Wording Value → (tests : Bool) → Environment → Schema → Portion → (whole : Option (List Value)) → List ℕ → Type 0
+IsTestsLine w false e a p whole text = text ≡ []
+IsTestsLine w true e a p whole text = (number : ℕ) × AreTests e a p whole number × (text ≡ w.tests (cut number))

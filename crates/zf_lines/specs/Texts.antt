@@ -1,12 +1,35 @@
--- The lines of bindings and of the number of tests. Each ends in a newline byte.
+-- The lines of a search, in each format. Each ends in a newline byte.
 use Rattle.std.specs.Prelude.{ℕ, List, ◌++◌, codes, decimal}
+use Rattle.zf_format.specs.declared.format.Format.{Format}
+use Rattle.zf_format.specs.declared.format.Format.TheVariants.{Lines, Objects}
 use Rattle.zf_term.specs.Definitions.{Comp}
 use Rattle.zf_value.specs.declared.plain.Value.{Value}
 use Rattle.zf_texts.specs.declared.spelling.Spelling.{Spelling}
-use Rattle.zf_texts.specs.BindingTexts.{binding_text}
+use Rattle.zf_texts.specs.BindingTexts.{row_text}
+
+abbrev pub row_line : Format → List Spelling → List Comp → List Value → List ℕ
+row_line f ss comps row = row_text f ss comps row ++ codes "\n"
 
 abbrev pub binding_line : List Spelling → List Comp → List Value → List ℕ
-binding_line ss comps row = binding_text ss comps row ++ codes "\n"
+binding_line = row_line Lines
 
-abbrev pub tests_line : ℕ → List ℕ
-tests_line number = codes "tests: " ++ decimal number ++ codes "\n"
+abbrev pub object_line : List Spelling → List Comp → List Value → List ℕ
+object_line = row_line Objects
+
+-- ---- the last line: the limit is reached, no row is left, or the next one is out of bounds
+
+abbrev pub more_line : Format → List ℕ
+more_line Lines = codes "more\n"
+more_line Objects = codes "{\"more\": true}\n"
+
+abbrev pub end_line : Format → List ℕ
+end_line Lines = codes "end\n"
+end_line Objects = codes "{\"end\": true}\n"
+
+abbrev pub out_line : Format → List Spelling → List Comp → List Value → List ℕ
+out_line Lines ss comps row = codes "out of bounds at: " ++ row_line Lines ss comps row
+out_line Objects ss comps row = codes "{\"out of bounds at\": " ++ row_text Objects ss comps row ++ codes "}\n"
+
+abbrev pub tests_line : Format → ℕ → List ℕ
+tests_line Lines number = codes "tests: " ++ decimal number ++ codes "\n"
+tests_line Objects number = codes "{\"tests\": " ++ decimal number ++ codes "}\n"

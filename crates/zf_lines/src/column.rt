@@ -1,13 +1,16 @@
 //! The parts of lines that were printed, so that each is worked out once.
 ghost use Rattle.std.specs.Prelude.{◌≡◌, ◌<◌, ◌++◌, ℕ, List, length, IfOk, OnOk, IfSome};
-ghost use Rattle.zf_lines.specs.Columns.{AreColumns, Keeps, head_of};
-ghost use Rattle.zf_term.specs.SchemaViews.{comp_of, schema_of};
-ghost use Rattle.zf_texts.specs.declared.spelling.Spelling as spelling;
+ghost use Rattle.zf_lines.specs.Columns.{AreColumns, Keeps};
+ghost use Rattle.zf_term.specs.SchemaViews.{schema_of};
+ghost use Rattle.zf_texts.specs.BindingTexts.{name_in};
+ghost use Rattle.zf_texts.specs.ValueTexts.{comma_before};
 ghost use Rattle.zf_value.specs.declared.plain.Value as value;
 
+use crate::style::Style;
 use std::alloc::{AllocError, Global};
 use zf_data::Text;
-use zf_term::schema::{Component, Flat};
+use zf_term::schema::Flat;
+use zf_texts::append_name;
 
 /// How many bytes all that is kept of a search may take.
 const ROOM: usize = 2_097_152;
@@ -104,28 +107,27 @@ impl Column {
 }
 
 /// A column for each component, without parts.
-pub fn columns_of(alloc: Global, flat: &Flat<'_>) -> Result<Vec<Column>, AllocError>
-    ensures { IfOk result (λ made. (ss : List spelling.Spelling) (ranges : List (List value.Value)) → AreColumns ss (schema_of flat.now).comps ranges made.items) }
+pub fn columns_of(style: &Style<'_>, flat: &Flat<'_>) -> Result<Vec<Column>, AllocError>
+    ensures { IfOk result (λ made. (ranges : List (List value.Value)) → AreColumns style.now.format style.now.elements.now (schema_of flat.now).comps ranges made.items) }
 {
     let components = flat.components.as_slice();
     let room = ROOM / components.len().max(1);
-    let mut columns = Vec::with_capacity(alloc, components.len())?;
+    let mut columns = Vec::with_capacity(style.alloc, components.len())?;
     for place in 0..components.len() {
-        let head = head_of(alloc, place, &components[place])?;
-        columns.push(Column::new(alloc, head, room))?;
+        let head = head_of(style, place, components[place].name.as_slice())?;
+        columns.push(Column::new(style.alloc, head, room))?;
     }
     Ok(columns)
 }
 
 /// What stands before the value of a component, behind so many others.
-fn head_of(alloc: Global, count: usize, component: &Component<'_>) -> Result<Text, AllocError>
-    ensures { IfOk result (λ text. text ≡ head_of count (comp_of component.now)) }
+fn head_of(style: &Style<'_>, count: usize, name: &[u8]) -> Result<Text, AllocError>
+    ensures { IfOk result (λ text. text ≡ comma_before count ++ name_in style.now.format name.now) }
 {
-    let mut text = Text::new(alloc);
+    let mut head = Vec::new(style.alloc);
     if count > 0 {
-        text.append(b", ")?;
+        head.extend_from_slice(b", ")?;
     }
-    text.append(component.name.as_slice())?;
-    text.append(b" == ")?;
-    Ok(text)
+    append_name(&mut head, style.format, name)?;
+    Text::of(style.alloc, &head)
 }

@@ -1,5 +1,5 @@
 -- What is read so far of a line of some components: each is named next or not, and holds a value where it is.
-use Rattle.zf_texts.proofs.Prelude.{◌++◌, ◌+◌, ◌-◌, ◌<◌, ◌∙◌, ◌∷◌, ◌≡◌, ◌≤◌, [], ap, arith, Bool, codes, drop, false, get_or, length, List, map, None, Option, refl, Some, subst, suc, sym, take, true, ℕ, append-nil, append_assoc, length-drop, take_all, MatchBool, slice_get, Value, Comp, comp_of, Component, Environment, IsOfType, component_text, AreClear, Ends, is_in_word, HoldNext, IsHeldLine, IsNamedNext, IsNoHeldLine, BeginsWithName, EndsAs, HoldsIfNamed, IsHeldAt, IsNamedAt, BeginsWithoutName, GoesOn, HoldsNothing, IsNoComponent, IsNoItem, IsNotNamed, comma_before, value_text, Spelling}
+use Rattle.zf_texts.proofs.Prelude.{Lines, ◌++◌, ◌+◌, ◌-◌, ◌<◌, ◌∙◌, ◌∷◌, ◌≡◌, ◌≤◌, [], ap, arith, Bool, codes, drop, false, get_or, length, List, map, None, Option, refl, Some, subst, suc, sym, take, true, ℕ, append-nil, append_assoc, length-drop, take_all, MatchBool, slice_get, Value, Comp, comp_of, Component, Environment, IsOfType, component_text, AreClear, Ends, is_in_word, HoldNext, IsHeldLine, IsNamedNext, IsNoHeldLine, BeginsWithName, EndsAs, HoldsIfNamed, IsHeldAt, IsNamedAt, BeginsWithoutName, GoesOn, HoldsNothing, IsNoComponent, IsNoItem, IsNotNamed, comma_before, value_text, Spelling}
 use Rattle.std.proofs.lemmas.Option.{same_Some}
 use Rattle.zf_texts.proofs.OneFront.{ends_as}
 use Rattle.zf_texts.proofs.OneRow.{one_component}
@@ -80,7 +80,7 @@ module _ (ss : List Spelling) (e : Environment) where
   none_of_held c cs n bytes more v of_type is ends none clear [] h = h
   none_of_held c cs n bytes more v of_type is ends none clear (None ∷ held) h = h.0 (told_named ss c n bytes more v is)
   none_of_held c cs n bytes more v of_type is ends none clear (Some w ∷ held) (rest, other, are, h) =
-      let one = one_component ss e clear c v w more rest of_type other ends (ends_more c cs n rest held h) (cancel (comma_before n) _ _ (sym is ∙ are)) in
+      let one = one_component Lines ss e clear c v w more rest of_type other ends (ends_more c cs n rest held h) (cancel (comma_before n) _ _ (sym is ∙ are)) in
       none clear held (subst (λ l. HoldNext ss e cs (n + 1) l held) (sym one.1) h)
 
   none_unread : (c : Comp) (cs : List Comp) (n : ℕ) (bytes : List ℕ) → HoldsNothing ss e c n bytes → HoldNone (c ∷ cs) n bytes

@@ -1,5 +1,5 @@
 -- What is still to be printed of several parts.
-use Rattle.zf_texts.proofs.Prelude.{drop_more, slice_get, Value, Comp, comp_of, Defined, Component, component_text, component_texts, spellings, with_spelling, goes_on, later_parts, comma_before, Spelling}
+use Rattle.zf_texts.proofs.Prelude.{drop_more, slice_get, Value, Comp, comp_of, Defined, Component, component_in, components_in, Format, spellings, with_spelling, goes_on, later_parts, comma_before, Spelling}
 use Rattle.std.proofs.Common.{◌≡◌, ℕ, zero, suc, ◌+◌, ◌<◌, ◌≤◌, List, [], ◌∷◌, ◌++◌, length, map, drop, get_or, refl, sym, ap, ◌∙◌, arith, Some, None, append_assoc, append-nil, add-one}
 
 pub goes_on-nil : (n : ℕ) → goes_on n [] ≡ []
@@ -52,9 +52,9 @@ spellings-some (b ∷ g) (suc i) d h = spellings-some g i d h
 
 -- ---- the components of a line
 
-pub texts-nil : (ss : List Spelling) (cs : List Comp) → component_texts ss cs [] ≡ []
-texts-nil ss [] = refl
-texts-nil ss (c ∷ cs) = refl
+pub texts-nil : (f : Format) (ss : List Spelling) (cs : List Comp) → components_in f ss cs [] ≡ []
+texts-nil f ss [] = refl
+texts-nil f ss (c ∷ cs) = refl
 
 pub comps-drop : (cs : List Component) (i : ℕ) (c : Component) → c ≡ get_or cs i c → i < length cs → map comp_of (drop i cs) ≡ comp_of c ∷ map comp_of (drop (i + 1) cs)
 comps-drop cs i c at l = ap (map comp_of) (drop_more cs i c l ∙ ap (λ y. y ∷ drop (i + 1) cs) (sym at))
@@ -88,8 +88,8 @@ line-ended text whole n ts none h =
     let nothing : (l : List ℕ) → l ++ [] ≡ l = append-nil in
     sym (nothing text) ∙ ap (λ l. text ++ l) (sym (ap (goes_on n) none ∙ goes_on-nil n)) ∙ h
 
-pub texts-drop : (ss : List Spelling) (all cs : List Component) (vs : List Value) (i : ℕ) (c : Component) (v : Value) → cs ≡ all → c ≡ get_or cs i c → i < length cs → slice_get vs i ≡ Some v
-    → component_texts ss (map comp_of (drop i all)) (drop i vs) ≡ component_text ss (comp_of c) v ∷ component_texts ss (map comp_of (drop (i + 1) all)) (drop (i + 1) vs)
-texts-drop ss all cs vs i c v same at l g =
-    ap (λ m. component_texts ss (map comp_of (drop i m)) (drop i vs)) (sym same) ∙ ap (λ m. component_texts ss m (drop i vs)) (comps-drop cs i c at l)
-    ∙ ap (component_texts ss (comp_of c ∷ map comp_of (drop (i + 1) cs))) (values-drop vs i v g) ∙ ap (λ m. component_text ss (comp_of c) v ∷ component_texts ss (map comp_of (drop (i + 1) m)) (drop (i + 1) vs)) same
+pub texts-drop : (f : Format) (ss : List Spelling) (all cs : List Component) (vs : List Value) (i : ℕ) (c : Component) (v : Value) → cs ≡ all → c ≡ get_or cs i c → i < length cs → slice_get vs i ≡ Some v
+    → components_in f ss (map comp_of (drop i all)) (drop i vs) ≡ component_in f ss (comp_of c) v ∷ components_in f ss (map comp_of (drop (i + 1) all)) (drop (i + 1) vs)
+texts-drop f ss all cs vs i c v same at l g =
+    ap (λ m. components_in f ss (map comp_of (drop i m)) (drop i vs)) (sym same) ∙ ap (λ m. components_in f ss m (drop i vs)) (comps-drop cs i c at l)
+    ∙ ap (components_in f ss (comp_of c ∷ map comp_of (drop (i + 1) cs))) (values-drop vs i v g) ∙ ap (λ m. component_in f ss (comp_of c) v ∷ components_in f ss (map comp_of (drop (i + 1) m)) (drop (i + 1) vs)) same

@@ -1,5 +1,5 @@
 -- What follows a part that was read, of a tuple or of a set.
-use Rattle.zf_texts.proofs.Prelude.{◌++◌, ◌+◌, ◌∙◌, ◌∷◌, ◌≡◌, [], ap, arith, codes, length, Less, List, map, refl, subst, suc, sym, ℕ, append_assoc, length-append, Every, IsAscending, value_order, SET_MAX, Value, no_types, Ty, type, Tys, Environment, IsOfType, AreMembers, EndsAs, goes_on, AreNoMembers, AreNoParts, IsNoItem, IsNoNext, IsNoValue, later_parts, comma_before, value_text, Spelling}
+use Rattle.zf_texts.proofs.Prelude.{Lines, ◌++◌, ◌+◌, ◌∙◌, ◌∷◌, ◌≡◌, [], ap, arith, codes, length, Less, List, map, refl, subst, suc, sym, ℕ, append_assoc, length-append, Every, IsAscending, value_order, SET_MAX, Value, no_types, Ty, type, Tys, Environment, IsOfType, AreMembers, EndsAs, goes_on, AreNoMembers, AreNoParts, IsNoItem, IsNoNext, IsNoValue, later_parts, comma_before, value_text, Spelling}
 use Rattle.zf_texts.proofs.OneFront.{ends_as, ends_later, one_front}
 use Rattle.zf_texts.proofs.Printing.{goes_on-nil, front, goes_on-later}
 use Rattle.zf_texts.proofs.Spelled.{cancel}
@@ -33,7 +33,7 @@ module _ (ss : List Spelling) (e : Environment) where
   unfolding AreNoParts
   parts_next t ts n m bytes mid more v next b x k ends none clear vs rest (w, ws, is, h, hs) q =
       let here = cancel (comma_before n) mid _ (sym b ∙ parts_split n vs w ws bytes (codes ")" ++ rest) is q) in
-      let one = one_front ss e clear t v w more _ k h ends (ends_part t (map text ws) rest) (sym x ∙ here) in
+      let one = one_front Lines ss e clear t v w more _ k h ends (ends_part t (map text ws) rest) (sym x ∙ here) in
       none clear ws rest hs (one.1 ∙ ap (λ l. l ++ (codes ")" ++ rest)) (sym (goes_on-later n m (map text ws) next)))
 
   pub parts_unclosed : (n : ℕ) (bytes : List ℕ) → IsNoItem (codes ")") bytes → AreNoParts ss e no_types n bytes
@@ -86,7 +86,7 @@ module _ (ss : List Spelling) (e : Environment) where
   members_next t vs bytes mid more v ahead b x k ends none clear [] rest h q = ahead rest (none_closed (length vs) [] bytes rest refl q)
   members_next t vs bytes mid more v ahead b x k ends none clear (w ∷ ws) rest h q =
       let here = cancel (comma_before (length vs)) mid _ (sym b ∙ parts_split (length vs) (w ∷ ws) w ws bytes (codes "}" ++ rest) refl q) in
-      let one = one_front ss e clear t v w more _ k (every_behind t vs (w ∷ ws) h.values).0 ends (ends_member t (map text ws) rest) (sym x ∙ here) in
+      let one = one_front Lines ss e clear t v w more _ k (every_behind t vs (w ∷ ws) h.values).0 ends (ends_member t (map text ws) rest) (sym x ∙ here) in
       let whole : vs ++ w ∷ ws ≡ (vs ++ v ∷ []) ++ ws = pushed vs ws w ∙ ap (λ y. (vs ++ y ∷ []) ++ ws) (sym one.0) in
       let long : length (vs ++ v ∷ []) ≡ length vs + length (v ∷ []) = length-append vs (v ∷ []) in
       none clear ws rest (subst (AreMembers e t) whole h) (one.1 ∙ ap (λ l. l ++ (codes "}" ++ rest)) (sym (goes_on-later (length vs) (length (vs ++ v ∷ [])) (map text ws) (omega arith))))
@@ -95,7 +95,7 @@ module _ (ss : List Spelling) (e : Environment) where
   pub not_next : (t : Ty) (vs : List Value) (bytes more : List ℕ) (v : Value) → bytes ≡ text v ++ more → IsOfType e t v → EndsAs t more → (IsAscending (vs ++ v ∷ []) → ⊥) → IsNoNext ss e t vs bytes
   unfolding IsNoNext
   not_next t vs bytes more v x k ends none clear w rest h up end q =
-      let one = one_front ss e clear t v w more rest k h ends end (sym x ∙ q) in
+      let one = one_front Lines ss e clear t v w more rest k h ends end (sym x ∙ q) in
       none (subst (λ y. IsAscending (vs ++ y ∷ [])) (sym one.0) up)
 
   pub no_value_no_next : (t : Ty) (vs : List Value) (bytes : List ℕ) → IsNoValue ss e t bytes → IsNoNext ss e t vs bytes

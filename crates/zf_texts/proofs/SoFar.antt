@@ -1,5 +1,5 @@
 -- What is read so far of the components of a line, the parts of a tuple, the members of a set.
-use Rattle.zf_texts.proofs.Prelude.{◌++◌, ◌+◌, ◌<◌, ◌∙◌, ◌∷◌, ◌≡◌, [], ap, arith, codes, length, List, map, refl, subst, suc, sym, ℕ, append-nil, append_assoc, length-append, Every, IsAscending, SET_MAX, Value, Comp, no_types, Ty, type, Tys, Environment, AreOfTypes, IsOfType, IsRow, binding_text, component_text, component_texts, IsNoLine, AreMembers, EndsAs, goes_on, AreNoMembers, AreNoParts, IsNoComponent, IsNoItem, IsNoRest, later_parts, parted, comma_before, value_text, Spelling}
+use Rattle.zf_texts.proofs.Prelude.{Lines, ◌++◌, ◌+◌, ◌<◌, ◌∙◌, ◌∷◌, ◌≡◌, [], ap, arith, codes, length, List, map, refl, subst, suc, sym, ℕ, append-nil, append_assoc, length-append, Every, IsAscending, SET_MAX, Value, Comp, no_types, Ty, type, Tys, Environment, AreOfTypes, IsOfType, IsRow, binding_text, component_text, component_texts, IsNoLine, AreMembers, EndsAs, goes_on, AreNoMembers, AreNoParts, IsNoComponent, IsNoItem, IsNoRest, later_parts, parted, comma_before, value_text, Spelling}
 use Rattle.zf_texts.proofs.OneFront.{ends_as}
 use Rattle.zf_texts.proofs.OneRow.{one_component, ends_parts}
 use Rattle.zf_texts.proofs.Printing.{goes_on-nil, goes_on-first, front, goes_on-later}
@@ -33,7 +33,7 @@ module _ (ss : List Spelling) (e : Environment) where
   unfolding IsNoRest
   row_next c cs n m bytes mid more v next b x k ends never clear vs (w, ws, is, h, hs) q =
       let here = cancel (comma_before n) mid _ (sym b ∙ row_split c cs n vs w ws bytes is q) in
-      let one = one_component ss e clear c v w more _ k h ends (ends_as c.type _ (ends_parts (component_texts ss cs ws))) (sym x ∙ here) in
+      let one = one_component Lines ss e clear c v w more _ k h ends (ends_as c.type _ (ends_parts (component_texts ss cs ws))) (sym x ∙ here) in
       never clear ws hs (one.1 ∙ sym (goes_on-later n m (component_texts ss cs ws) next))
 
   pub row_behind : (n : ℕ) (bytes : List ℕ) → 0 < length bytes → IsNoRest ss e [] n bytes

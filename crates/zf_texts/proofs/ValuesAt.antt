@@ -1,5 +1,5 @@
 -- Values of each form at a place of a line, and where none stands.
-use Rattle.zf_texts.proofs.Prelude.{◌++◌, ◌+◌, ◌<◌, ◌∙◌, ◌≡◌, [], ap, codes, drop, length, List, map, refl, Some, subst, sym, ℕ, ℤ, append_assoc, signed_decimal, w64, FitsSigned, slice_get, Elem, Int, SetOf, Tuple, Value, Comp, basic, int, power, product, Ty, Tys, Environment, IsExistingElement, component_text, IsClear, spelled, spelled_if, AreMembersAt, ArePartsAt, IsItem, IsSpelledType, IsValueAt, IsWordAt, AreNoMembers, AreNoParts, IsNoComponent, IsNoItem, IsNoSpelledType, IsNoValue, SpellsNone, parted, value_text, Spelling}
+use Rattle.zf_texts.proofs.Prelude.{Lines, ◌++◌, ◌+◌, ◌<◌, ◌∙◌, ◌≡◌, [], ap, codes, drop, length, List, map, refl, Some, subst, sym, ℕ, ℤ, append_assoc, signed_decimal, w64, FitsSigned, slice_get, Elem, Int, SetOf, Tuple, Value, Comp, basic, int, power, product, Ty, Tys, Environment, IsExistingElement, component_text, IsClear, spelled, spelled_if, AreMembersAt, ArePartsAt, IsItem, IsSpelledType, IsValueAt, IsWordAt, AreNoMembers, AreNoParts, IsNoComponent, IsNoItem, IsNoSpelledType, IsNoValue, SpellsNone, parted, value_text, Spelling}
 use Rattle.zf_texts.proofs.Spelled.{cancel, spelled_word}
 use Rattle.zf_texts.proofs.TextsSeen.{of-Int, of-Elem, of-Tuple, of-SetOf}
 use Rattle.zf_texts.proofs.WordRuns.{AreInWord, one_run, signed_in_word}
@@ -20,7 +20,7 @@ module _ (ss : List Spelling) (e : Environment) where
   -- ---- numbers
 
   number_text : (v : Value) (n : ℤ) → v ≡ Int n → value_text ss v ≡ signed_decimal n
-  number_text v n is = ap (value_text ss) is ∙ of-Int ss n
+  number_text v n is = ap (value_text ss) is ∙ of-Int Lines ss n
 
   pub number_at : (bytes : List ℕ) (place : ℕ) (word : List ℕ) (n m : ℤ) → m ≡ n → FitsSigned w64 n → word ≡ signed_decimal n → IsWordAt bytes place word → IsValueAt ss e int bytes place (Int m) (place + length word)
   number_at bytes place word n m same fits is h = record {
@@ -39,7 +39,7 @@ module _ (ss : List Spelling) (e : Environment) where
   -- ---- elements
 
   element_text : (n i : ℕ) (v : Value) (s : Spelling) → v ≡ Elem n i → slice_get ss n ≡ Some s → value_text ss v ≡ spelled s i
-  element_text n i v s is found = ap (value_text ss) is ∙ of-Elem ss n i ∙ ap (λ o. spelled_if o i) found
+  element_text n i v s is found = ap (value_text ss) is ∙ of-Elem Lines ss n i ∙ ap (λ o. spelled_if o i) found
 
   pub element_at : (name bytes : List ℕ) (place : ℕ) (word : List ℕ) (n k i : ℕ) (s : Spelling) → IsSpelledType ss e name n k s → i < k → word ≡ spelled s i → IsWordAt bytes place word → IsValueAt ss e (basic name) bytes place (Elem n i) (place + length word)
   element_at name bytes place word n k i s h less is at = record {
@@ -71,12 +71,12 @@ module _ (ss : List Spelling) (e : Environment) where
   -- ---- tuples
 
   tuple_text : (v : Value) (vs : List Value) (rest : List ℕ) → v ≡ Tuple vs → value_text ss v ++ rest ≡ codes "(" ++ (parted (map (value_text ss) vs) ++ (codes ")" ++ rest))
-  tuple_text v vs rest is = ap (λ l. l ++ rest) (ap (value_text ss) is ∙ of-Tuple ss vs) ∙ ap (λ l. codes "(" ++ l) (append_assoc (parted (map (value_text ss) vs)) (codes ")") rest)
+  tuple_text v vs rest is = ap (λ l. l ++ rest) (ap (value_text ss) is ∙ of-Tuple Lines ss vs) ∙ ap (λ l. codes "(" ++ l) (append_assoc (parted (map (value_text ss) vs)) (codes ")") rest)
 
   pub tuple_at : (ts : Tys) (bytes : List ℕ) (place start end : ℕ) (vs ws : List Value) → ws ≡ vs → IsItem bytes place (codes "(") start → ArePartsAt ss e ts bytes start vs end → IsValueAt ss e (product ts) bytes place (Tuple ws) end
   tuple_at ts bytes place start end vs ws same h k = record {
     value = (vs, ap Tuple same, k.values);
-    stands = subst (λ l. IsItem bytes place l end) (sym (ap (λ l. value_text ss (Tuple l)) same ∙ of-Tuple ss vs)) (joined bytes place start end (codes "(") (parted (map (value_text ss) vs) ++ codes ")") h k.stand);
+    stands = subst (λ l. IsItem bytes place l end) (sym (ap (λ l. value_text ss (Tuple l)) same ∙ of-Tuple Lines ss vs)) (joined bytes place start end (codes "(") (parted (map (value_text ss) vs) ++ codes ")") h k.stand);
     ends = tt;
   }
 
@@ -91,12 +91,12 @@ module _ (ss : List Spelling) (e : Environment) where
   -- ---- sets
 
   set_text : (v : Value) (vs : List Value) (rest : List ℕ) → v ≡ SetOf vs → value_text ss v ++ rest ≡ codes "{" ++ (parted (map (value_text ss) vs) ++ (codes "}" ++ rest))
-  set_text v vs rest is = ap (λ l. l ++ rest) (ap (value_text ss) is ∙ of-SetOf ss vs) ∙ ap (λ l. codes "{" ++ l) (append_assoc (parted (map (value_text ss) vs)) (codes "}") rest)
+  set_text v vs rest is = ap (λ l. l ++ rest) (ap (value_text ss) is ∙ of-SetOf Lines ss vs) ∙ ap (λ l. codes "{" ++ l) (append_assoc (parted (map (value_text ss) vs)) (codes "}") rest)
 
   pub set_at : (t : Ty) (bytes : List ℕ) (place start end : ℕ) (vs ws : List Value) → ws ≡ vs → IsItem bytes place (codes "{") start → AreMembersAt ss e t bytes start vs end → IsValueAt ss e (power t) bytes place (SetOf ws) end
   set_at t bytes place start end vs ws same h k = record {
     value = (vs, ap SetOf same, k.members.ascending, k.members.few, k.members.values);
-    stands = subst (λ l. IsItem bytes place l end) (sym (ap (λ l. value_text ss (SetOf l)) same ∙ of-SetOf ss vs)) (joined bytes place start end (codes "{") (parted (map (value_text ss) vs) ++ codes "}") h k.stand);
+    stands = subst (λ l. IsItem bytes place l end) (sym (ap (λ l. value_text ss (SetOf l)) same ∙ of-SetOf Lines ss vs)) (joined bytes place start end (codes "{") (parted (map (value_text ss) vs) ++ codes "}") h k.stand);
     ends = tt;
   }
 

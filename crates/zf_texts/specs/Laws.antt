@@ -7,7 +7,7 @@ use Rattle.zf_meaning.specs.Environments.{Environment}
 use Rattle.zf_meaning.specs.Rows.{IsOfType, IsRow}
 use Rattle.zf_texts.specs.declared.spelling.Spelling.{Spelling}
 use Rattle.zf_texts.specs.ValueTexts.{value_text}
-use Rattle.zf_texts.specs.BindingTexts.{binding_text}
+use Rattle.zf_texts.specs.BindingTexts.{binding_object, binding_text}
 use Rattle.zf_texts.specs.Words.{Ends}
 use Rattle.zf_texts.specs.Clear.{AreClear}
 use Rattle.zf_texts.specs.HeldLaws.{HaveClearNames}
@@ -25,6 +25,10 @@ OneEnd = (ss : List Spelling) (e : Environment) (t : Ty) (v w : Value) (r s : Li
 -- rows of one schema with one line are one
 abbrev pub OneRow : Type 0
 OneRow = (ss : List Spelling) (e : Environment) (cs : List Comp) (vs ws : List Value) → AreClear ss e.sizes → IsRow e cs vs → IsRow e cs ws → binding_text ss cs vs ≡ binding_text ss cs ws → vs ≡ ws
+
+-- rows of one schema with one object are one
+abbrev pub OneObject : Type 0
+OneObject = (ss : List Spelling) (e : Environment) (cs : List Comp) (vs ws : List Value) → AreClear ss e.sizes → IsRow e cs vs → IsRow e cs ws → binding_object ss cs vs ≡ binding_object ss cs ws → vs ≡ ws
 
 -- a line of some components holds one list of values
 abbrev pub OneHeldLine : Type 0

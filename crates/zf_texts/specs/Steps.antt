@@ -23,9 +23,9 @@ EndsAs (basic name) r = Ends r
 EndsAs (power t) r = Unit {0}
 EndsAs (product ts) r = Unit {0}
 
--- a bracket that opens, or a comma
+-- a bracket that opens, a comma, or a quotation mark
 abbrev pub is_opening : ℕ → Bool
-is_opening b = (b == 40) || (b == 44) || (b == 123)
+is_opening b = (b == 34) || (b == 40) || (b == 44) || (b == 91) || (b == 123)
 
 -- neither a value nor a comma
 abbrev pub Closes : List ℕ → Type 0

@@ -1,5 +1,5 @@
 //! Laws of the texts.
-ghost use Rattle.zf_texts.specs.Laws.{HeldIsLine, LineIsHeld, OneEnd, OneHeldLine, OneRow, OneValue};
+ghost use Rattle.zf_texts.specs.Laws.{HeldIsLine, LineIsHeld, OneEnd, OneHeldLine, OneObject, OneRow, OneValue};
 
 /// Values of one type with one text are one.
 pub fn one_value()
@@ -14,6 +14,11 @@ pub fn one_end()
 /// Rows of one schema with one line are one.
 pub fn one_row()
     ensures { OneRow }
+{}
+
+/// Rows of one schema with one object are one.
+pub fn one_object()
+    ensures { OneObject }
 {}
 
 /// A line of some components holds one list of values, and is the line of these components with them.

@@ -12,6 +12,6 @@ mod words;
 
 pub use fault::AfterFault;
 pub use held::read_held;
-pub use printed::{append_binding, append_value, binding_text};
+pub use printed::{append_name, append_row, append_value};
 pub use read::read_binding;
 pub use spelling::{Spelling, spellings_of};

@@ -1,40 +1,49 @@
-//! Values and bindings as they are printed.
-ghost use Rattle.std.specs.Prelude.{◌≡◌, ◌<◌, ◌∷◌, ◌++◌, [], ℕ, IfOk, OnOk, codes, map};
+//! Values and rows as they are printed.
+ghost use Rattle.std.specs.Prelude.{◌≡◌, ◌<◌, ◌∷◌, ◌++◌, [], ℕ, List, IfOk, OnOk, codes, map};
 ghost use Rattle.std.specs.Fmt.{decimal, signed_decimal};
 ghost use Rattle.zf_term.specs.SchemaViews.{comp_of, schema_of};
-ghost use Rattle.zf_texts.specs.BindingTexts as spec;
+ghost use Rattle.zf_texts.specs.BindingTexts.{component_in, components_in, name_in, row_text};
 ghost use Rattle.zf_texts.specs.Spellings.{spelled, spelled_if, element_text};
-ghost use Rattle.zf_texts.specs.ValueTexts.{parted, value_text, comma_before};
+ghost use Rattle.zf_texts.specs.ValueTexts.{comma_before, element_in, parted, set_in, tuple_in, value_in};
 
 use crate::spelling::Spelling;
 use itoa::Buffer;
-use std::alloc::{AllocError, Global};
+use std::alloc::AllocError;
+use zf_format::{Format, append_string};
 use zf_meaning::row::Row;
 use zf_term::schema::{Component, Flat};
 use zf_value::value::{Form, Value};
 
-/// The line of a row, without the end of the line.
-pub fn binding_text<R: Row>(
-    alloc: Global,
-    flat: &Flat<'_>,
-    spellings: &[Spelling],
-    row: &R,
-) -> Result<Vec<u8>, AllocError>
-    ensures { IfOk result (λ t. t.items ≡ spec.binding_text spellings.now (schema_of flat.now).comps (R.values row.now)) }
-{
-    let mut text = Vec::new(alloc);
-    append_binding(&mut text, flat, spellings, row)?;
-    Ok(text)
-}
-
-/// Appends the line of a row, without the end of the line. A refusal leaves a part of it.
-pub fn append_binding<R: Row>(
+/// Appends a row, without the end of a line. A refusal leaves a part of it.
+pub fn append_row<R: Row>(
     text: &mut Vec<u8>,
+    format: Format,
     flat: &Flat<'_>,
     spellings: &[Spelling],
     row: &R,
 ) -> Result<(), AllocError>
-    ensures { OnOk result (text.new.items ≡ text.old.items ++ spec.binding_text spellings.now (schema_of flat.now).comps (R.values row.now)) }
+    ensures { OnOk result (text.new.items ≡ text.old.items ++ row_text format spellings.now (schema_of flat.now).comps (R.values row.now)) }
+{
+    match format {
+        Format::Lines => append_components(text, format, flat, spellings, row),
+        Format::Objects => {
+            text.push(b'{')?;
+            append_components(text, format, flat, spellings, row)?;
+            text.push(b'}')?;
+            Ok(())
+        }
+    }
+}
+
+/// Appends the components of a row.
+fn append_components<R: Row>(
+    text: &mut Vec<u8>,
+    format: Format,
+    flat: &Flat<'_>,
+    spellings: &[Spelling],
+    row: &R,
+) -> Result<(), AllocError>
+    ensures { OnOk result (text.new.items ≡ text.old.items ++ parted (components_in format spellings.now (schema_of flat.now).comps (R.values row.now))) }
 {
     let components = flat.components.as_slice();
     for place in 0..components.len() {
@@ -42,22 +51,38 @@ pub fn append_binding<R: Row>(
             return Ok(());
         }
         append_separator(text, place)?;
-        append_component(text, spellings, &components[place], row.get(place))?;
+        append_component(text, format, spellings, &components[place], row.get(place))?;
     }
     Ok(())
 }
 
 fn append_component(
     text: &mut Vec<u8>,
+    format: Format,
     spellings: &[Spelling],
     component: &Component<'_>,
     value: &Value,
 ) -> Result<(), AllocError>
-    ensures { OnOk result (text.new.items ≡ text.old.items ++ spec.component_text spellings.now (comp_of component.now) value.now) }
+    ensures { OnOk result (text.new.items ≡ text.old.items ++ component_in format spellings.now (comp_of component.now) value.now) }
 {
-    text.extend_from_slice(component.name.as_slice())?;
-    text.extend_from_slice(b" == ")?;
-    append_value(text, spellings, value)
+    append_name(text, format, component.name.as_slice())?;
+    append_value(text, format, spellings, value)
+}
+
+/// Appends the name of a component, before its value. A refusal leaves a part of it.
+pub fn append_name(text: &mut Vec<u8>, format: Format, name: &[u8]) -> Result<(), AllocError>
+    ensures { OnOk result (text.new.items ≡ text.old.items ++ name_in format name.now) }
+{
+    match format {
+        Format::Lines => {
+            text.extend_from_slice(name)?;
+            text.extend_from_slice(b" == ")
+        }
+        Format::Objects => {
+            append_string(text, name)?;
+            text.extend_from_slice(b": ")
+        }
+    }
 }
 
 /// Appends what stands before a part, behind so many others.
@@ -72,41 +97,68 @@ fn append_separator(text: &mut Vec<u8>, count: usize) -> Result<(), AllocError>
     Ok(())
 }
 
-/// Appends the text of a value. A refusal leaves a part of it.
+/// Appends a value. A refusal leaves a part of it.
 #[cycle(append)]
 #[tactic(auto, using(crate::proofs::TextsSeen::seen))]
 pub fn append_value(
     text: &mut Vec<u8>,
+    format: Format,
     spellings: &[Spelling],
     value: &Value,
 ) -> Result<(), AllocError>
-    ensures { OnOk result (text.new.items ≡ text.old.items ++ value_text spellings.now value.now) }
+    ensures { OnOk result (text.new.items ≡ text.old.items ++ value_in format spellings.now value.now) }
 {
     match &value.form {
         Form::Int(n) => append_number(text, *n),
-        Form::Elem(number, place) => append_element(text, spellings, *number, *place),
-        Form::Tuple(parts) => append_parts(text, spellings, b'(', parts.as_slice(), b')'),
-        Form::SetOf(members) => append_parts(text, spellings, b'{', members.as_slice(), b'}'),
+        Form::Elem(number, place) => append_element(text, format, spellings, *number, *place),
+        Form::Tuple(parts) => {
+            let brackets = tuple_brackets(format);
+            append_parts(text, format, spellings, brackets, parts.as_slice())
+        }
+        Form::SetOf(members) => {
+            let brackets = set_brackets(format);
+            append_parts(text, format, spellings, brackets, members.as_slice())
+        }
     }
 }
 
-/// Appends the texts of several values, in brackets.
+/// The brackets of a tuple.
+fn tuple_brackets(format: Format) -> (u8, u8)
+    ensures { (parts : List (List ℕ)) → tuple_in format parts ≡ result.0 ∷ parted parts ++ result.1 ∷ [] }
+{
+    match format {
+        Format::Lines => (b'(', b')'),
+        Format::Objects => (b'[', b']'),
+    }
+}
+
+/// The brackets of a set.
+fn set_brackets(format: Format) -> (u8, u8)
+    ensures { (members : List (List ℕ)) → set_in format members ≡ result.0 ∷ parted members ++ result.1 ∷ [] }
+{
+    match format {
+        Format::Lines => (b'{', b'}'),
+        Format::Objects => (b'[', b']'),
+    }
+}
+
+/// Appends several values, in brackets.
 #[cycle(append)]
 fn append_parts(
     text: &mut Vec<u8>,
+    format: Format,
     spellings: &[Spelling],
-    opening: u8,
+    brackets: (u8, u8),
     parts: &[Value],
-    closing: u8,
 ) -> Result<(), AllocError>
-    ensures { OnOk result (text.new.items ≡ text.old.items ++ (opening ∷ parted (map (value_text spellings.now) parts.now) ++ closing ∷ [])) }
+    ensures { OnOk result (text.new.items ≡ text.old.items ++ (brackets.0 ∷ parted (map (value_in format spellings.now) parts.now) ++ brackets.1 ∷ [])) }
 {
-    text.push(opening)?;
+    text.push(brackets.0)?;
     for place in 0..parts.len() {
         append_separator(text, place)?;
-        append_value(text, spellings, &parts[place])?;
+        append_value(text, format, spellings, &parts[place])?;
     }
-    text.push(closing)?;
+    text.push(brackets.1)?;
     Ok(())
 }
 
@@ -129,6 +181,25 @@ fn append_digit(text: &mut Vec<u8>, digit: u8) -> Result<(), AllocError>
 }
 
 fn append_element(
+    text: &mut Vec<u8>,
+    format: Format,
+    spellings: &[Spelling],
+    number: u32,
+    place: u64,
+) -> Result<(), AllocError>
+    ensures { OnOk result (text.new.items ≡ text.old.items ++ element_in format (element_text spellings.now number place)) }
+{
+    match format {
+        Format::Lines => append_element_text(text, spellings, number, place),
+        Format::Objects => {
+            let mut name = Vec::new(*text.allocator());
+            append_element_text(&mut name, spellings, number, place)?;
+            append_string(text, &name)
+        }
+    }
+}
+
+fn append_element_text(
     text: &mut Vec<u8>,
     spellings: &[Spelling],
     number: u32,

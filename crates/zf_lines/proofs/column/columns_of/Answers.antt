@@ -1,4 +1,7 @@
-use Rattle.std.proofs.Common.{◌<◌, length, get_or, ap, ◌∙◌, subst, arith}
+use Rattle.zf_texts.specs.BindingTexts.{name_in}
+use Rattle.zf_texts.specs.ValueTexts.{comma_before}
+use Rattle.zf_term.specs.declared.schema.Component.{Component}
+use Rattle.std.proofs.Common.{◌++◌, sym, ◌<◌, length, get_or, ap, ◌∙◌, subst, arith}
 use Rattle.zf_lines.proofs.Parts.{all_columns, more_columns}
 use Rattle.zf_lines.proofs.column.columns_of.Goals as goal
 
@@ -8,10 +11,10 @@ loop-place-preserved c =
     let deep = subst (λ cs. c.loop-place.place < length cs) c.as_slice-components.ensures there in
     let at = c.index-components-place.is ∙ ap (λ cs. get_or cs c.loop-place.place c.index-components-place.result) c.as_slice-components.ensures in (
       omega (arith, deep),
-      λ ss ranges. more_columns ss ranges c.args.flat.now.components c.loop-place.place c.index-components-place.result c.loop-place.columns.items c.push.new.self.items c.new.result
-          at deep (c.new.ensures.head ∙ c.in_ok-head.ensures) c.new.ensures.none c.in_ok-push.ensures.items (c.loop-place.invariant.1 ss ranges),
+      λ ranges. more_columns c.args.style.now.format c.args.style.now.elements.now ranges c.args.flat.now.components c.loop-place.place c.index-components-place.result c.loop-place.columns.items c.push.new.self.items c.new.result
+          at deep (c.new.ensures.head ∙ c.in_ok-head.ensures ∙ ap (λ name. comma_before c.loop-place.place ++ name_in c.args.style.now.format name) (c.as_slice.ensures ∙ ap (λ (d : Component). d.name) (sym c.index-components-place.is))) c.new.ensures.none c.in_ok-push.ensures.items (c.loop-place.invariant.1 ranges),
     )
 
 pub returns : goal.returns
-returns c ss ranges =
-    all_columns ss ranges c.args.flat.now.components c.loop-place.place c.loop-place.columns.items (omega (arith, ap length c.as_slice-components.ensures)) (c.loop-place.invariant.1 ss ranges)
+returns c ranges =
+    all_columns c.args.style.now.format c.args.style.now.elements.now ranges c.args.flat.now.components c.loop-place.place c.loop-place.columns.items (omega (arith, ap length c.as_slice-components.ensures)) (c.loop-place.invariant.1 ranges)

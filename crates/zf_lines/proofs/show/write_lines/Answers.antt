@@ -12,7 +12,7 @@ pub returns-in_err-columns-clause-count : goal.returns-in_err-columns-clause-cou
 returns-in_err-columns-clause-count g c = let none = c.requires.unfailed in search rules
 
 pub lines-init : goal.lines-init
-lines-init g c = (stands_first _ _ _ _ _ c.requires.start _ c.requires.limited, c.requires.unfailed, c.in_ok-columns.ensures _ _)
+lines-init g c = (stands_first _ _ _ _ _ c.requires.start _ c.requires.limited, c.requires.unfailed, c.in_ok-columns.ensures _)
 
 pub returns-in_err-advance-clause-err : goal.returns-in_err-advance-clause-err
 returns-in_err-advance-clause-err g c = always_on_err _ (stops_here _ _ _ _ _ c.requires.start _ _ _ _ _ c.lines.invariant.0)
@@ -20,17 +20,17 @@ returns-in_err-advance-clause-err g c = always_on_err _ (stops_here _ _ _ _ _ c.
 pub returns-in_err-advance-clause-count : goal.returns-in_err-advance-clause-count
 returns-in_err-advance-clause-count g c = let none = c.lines.invariant.1 in search rules
 
-pub write_binding-requires-clause-unfailed : goal.write_binding-requires-clause-unfailed
-write_binding-requires-clause-unfailed g c = c.lines.invariant.1
+pub write_row-requires-clause-unfailed : goal.write_row-requires-clause-unfailed
+write_row-requires-clause-unfailed g c = c.lines.invariant.1
 
-pub write_binding-requires-clause-columns : goal.write_binding-requires-clause-columns
-write_binding-requires-clause-columns g c =
-    subst (λ ranges. AreColumns c.args.elements.now (schema_of c.args.flat.now).comps ranges c.lines.columns.items) (sym c.advance.ensures.ranges.ranges) c.lines.invariant.2
+pub write_row-requires-clause-columns : goal.write_row-requires-clause-columns
+write_row-requires-clause-columns g c =
+    subst (λ ranges. AreColumns c.args.style.now.format c.args.style.now.elements.now (schema_of c.args.flat.now).comps ranges c.lines.columns.items) (sym c.advance.ensures.ranges.ranges) c.lines.invariant.2
 
-pub returns-in_err-write_binding-in-Holds-clause-err :
-    goal.returns-in_err-write_binding-in-Holds-clause-err
-returns-in_err-write_binding-in-Holds-clause-err g c =
-    always_on_err _ (stops_in_line _ _ _ _ _ c.requires.start _ _ _ _ _ c.lines.invariant.0 (g.S.Search.stage c.advance.new.self) _ (g.met.S.Search.given c.advance.new.self) (rw c.in-Holds.is at c.in_ok-advance.ensures.answer) _ c.in_err-write_binding-in-Holds.ensures.err)
+pub returns-in_err-write_row-in-Holds-clause-err :
+    goal.returns-in_err-write_row-in-Holds-clause-err
+returns-in_err-write_row-in-Holds-clause-err g c =
+    always_on_err _ (stops_in_line _ _ _ _ _ c.requires.start _ _ _ _ _ c.lines.invariant.0 (g.S.Search.stage c.advance.new.self) _ (g.met.S.Search.given c.advance.new.self) (rw c.in-Holds.is at c.in_ok-advance.ensures.answer) _ c.in_err-write_row-in-Holds.ensures.err)
 
 pub one_less-left-requires : goal.one_less-left-requires
 one_less-left-requires g c = c.lines.invariant.0.some
@@ -38,7 +38,7 @@ one_less-left-requires g c = c.lines.invariant.0.some
 pub returns-then-is_spent-clause-ok : goal.returns-then-is_spent-clause-ok
 returns-then-is_spent-clause-ok g c =
     ends_at_limit _ _ _ _ _ c.requires.start _ _ _ _ _ c.lines.invariant.0 _ _ (g.met.S.Search.given c.advance.new.self) (rw c.in-Holds.is at c.in_ok-advance.ensures.answer) _ _ c.one_less-left.ensures
-    c.in_ok-write_binding-in-Holds.ensures.ok c.requires.limited (search rules)
+    c.in_ok-write_row-in-Holds.ensures.ok c.requires.limited (search rules)
 
 pub returns-then-is_spent-clause-same : goal.returns-then-is_spent-clause-same
 returns-then-is_spent-clause-same g c = (c.advance.ensures.goal ∙ c.lines.invariant.0.goal, same_later _ _ _ c.lines.invariant.0.same c.advance.ensures.ranges)
@@ -49,9 +49,9 @@ lines-smaller g c = goes_on (g.S.Search.goal c.lines.search) _ _ c.advance.ensur
 pub lines-preserved : goal.lines-preserved
 lines-preserved g c = (
   goes_on_line _ _ _ _ _ c.requires.start _ _ _ _ _ c.lines.invariant.0 _ _ (g.met.S.Search.given c.advance.new.self) (rw c.in-Holds.is at c.in_ok-advance.ensures.answer) _ _ c.one_less-left.ensures
-      c.in_ok-write_binding-in-Holds.ensures.ok _ c.advance.ensures.goal c.advance.ensures.ranges (search rules),
+      c.in_ok-write_row-in-Holds.ensures.ok _ c.advance.ensures.goal c.advance.ensures.ranges (search rules),
   (search rules),
-  c.in_ok-write_binding-in-Holds.ensures.columns,
+  c.in_ok-write_row-in-Holds.ensures.columns,
 )
 
 pub returns-in-Breaks-clause-ok : goal.returns-in-Breaks-clause-ok
