@@ -1,5 +1,5 @@
 -- The last component up to a place that a term names tells what is due, and whether a component is used; and that of the further items of a list.
-use Rattle.zf_enum.proofs.Prelude.{◌++◌, ◌+◌, ◌<◌, ◌∙◌, ◌∷◌, ◌≡◌, ◌≤◌, [], add-one, ap, arith, cond, drop, eqb, false, get_or, length, List, map, max, refl, suc, sym, true, zero, ℕ, nat_le, Reference, Component, Global, Local, link-seen, range-seen, absent, binary, bracket, builder, chain, constant, empty_set, link, links, listed, no_links, no_ranges, no_terms, number, present, quantified, range, range_of, Ranges, ranges, reference, resolved_link_of, resolved_of, ResolvedLinks, ResolvedPart, ResolvedTree, ResolvedTrees, term, terms, unary, references, Resolved, ResolvedLink, all_need, links_need, need, part_need, place_up_to, ranges_need, due, greatest_place, is_among, is_component, place_named, uses}
+use Rattle.zf_enum.proofs.Prelude.{◌++◌, ◌+◌, ◌<◌, ◌∙◌, ◌∷◌, ◌≡◌, ◌≤◌, ◌⊎◌, [], add-one, ap, arith, Bool, cond, drop, eqb, false, get_or, inl, inr, length, List, map, max, refl, suc, sym, true, zero, ℕ, ⊎_elim, eqb-true, false≢true, nat_le, Reference, Component, Global, Local, link-seen, range-seen, absent, binary, bracket, builder, chain, constant, empty_set, link, links, listed, no_links, no_ranges, no_terms, number, present, quantified, range, range_of, Ranges, ranges, reference, resolved_link_of, resolved_of, ResolvedLinks, ResolvedPart, ResolvedTree, ResolvedTrees, term, terms, unary, references, Resolved, ResolvedLink, all_need, links_need, need, part_need, place_up_to, ranges_need, due, greatest_place, is_among, is_component, place_named, uses}
 use Rattle.std.proofs.lemmas.Bool.Decides.{nat_tests}
 use Rattle.zf_term.specs.declared.resolved.Range.{Range}
 use Rattle.zf_term.specs.References.{onto, all_onto, links_onto, ranges_onto, part_onto}
@@ -111,6 +111,27 @@ uses_none t k e = uses_last t k ∙ ap (λ n. eqb n (k + 1)) e ∙ not_none k
 
 pub uses_found : (t : ResolvedTree) (k i : ℕ) → need k t ≡ i + 1 → uses t k ≡ eqb i k
 uses_found t k i e = uses_last t k ∙ ap (λ n. eqb n (k + 1)) e ∙ next_place i k
+
+pub either_true : (b c : Bool) → cond b true c ≡ true → (b ≡ true) ⊎ (c ≡ true)
+either_true true c e = inl refl
+either_true false c e = inr e
+
+place_reached : (k m : ℕ) → k ≤ m → cond (nat_le k m) (k + 1) 0 ≡ k + 1
+place_reached k m l = grind (arith, nat_tests)
+
+one_reached : (k m : ℕ) (r : Reference) → k ≤ m → is_component k r ≡ true → place_up_to m r ≡ k + 1
+one_reached k m (Component i) l e = ap (λ n. cond (nat_le n m) (n + 1) 0) (eqb-true i k e) ∙ place_reached k m l
+one_reached k m (Local i) l e = absurd (false≢true e)
+one_reached k m (Global i) l e = absurd (false≢true e)
+
+all_reached : (k m : ℕ) (rs : List Reference) → k ≤ m → is_among k rs ≡ true → k < greatest_up_to m rs
+all_reached k m [] l e = absurd (false≢true e)
+all_reached k m (r ∷ rs) l e =
+    ⊎_elim (λ a. let p = one_reached k m r l a in omega (arith, p)) (λ a. let p = all_reached k m rs l a in omega (arith, p)) (either_true (is_component k r) (is_among k rs) e)
+
+-- a component that is used is not behind the last one up to a later place
+pub used_up_to : (t : ResolvedTree) (k m : ℕ) → k ≤ m → uses t k ≡ true → k < need m t
+used_up_to t k m l e = let p = all_reached k m (references t) l e in omega (arith, p, up_to m t)
 
 -- ---- the items from one on
 

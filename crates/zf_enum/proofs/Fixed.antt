@@ -4,13 +4,9 @@ use Rattle.zf_value.specs.declared.value.Truth.TheVariants as truth
 use Rattle.zf_meaning.specs.Environments.{Context, outcome_in}
 use Rattle.zf_outcome.specs.Symbols.{Holds}
 use Rattle.zf_enum.specs.declared.candidates.Tie.TheVariants as tie
-use Rattle.zf_enum.proofs.Dues.{due_need}
+use Rattle.zf_enum.proofs.Dues.{due_need, either_true}
 
 -- ---- which components are used
-
-either_true : (b c : Bool) → cond b true c ≡ true → (b ≡ true) ⊎ (c ≡ true)
-either_true true c e = inl refl
-either_true false c e = inr e
 
 component_place : (k : ℕ) (r : Reference) → is_component k r ≡ true → place_named r ≡ k + 1
 component_place k (Component i) e = ap (λ n. n + 1) (eqb-true i k e)

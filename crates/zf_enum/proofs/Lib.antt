@@ -13,3 +13,5 @@ pub mod Placed
 pub mod Spreading
 pub mod Equations
 pub mod Standing
+pub mod Spanning
+pub mod Balanced

@@ -24,7 +24,7 @@ stays_on xs ys zs one two i h = two i (one i h)
 pub within_push : (ranges : List (List Value)) (places : List ℕ) (i : ℕ) → AreWithin ranges places → length places < length ranges → i < length (get_or ranges (length places) []) → AreWithin ranges (places ++ i ∷ [])
 within_push ranges places i within near there = let n = nth-at (get_or ranges (length places) []) i there in AreWithin-push ranges places i n.0 within near n.1
 
-row_value : (ranges : List (List Value)) (row : List Value) (k : ℕ) → IsRowOf ranges row → k < length ranges → (i : ℕ) × (v : Value) × IsNth (get_or ranges k []) i v × (slice_get row k ≡ Some v)
+pub row_value : (ranges : List (List Value)) (row : List Value) (k : ℕ) → IsRowOf ranges row → k < length ranges → (i : ℕ) × (v : Value) × IsNth (get_or ranges k []) i v × (slice_get row k ≡ Some v)
 row_value [] row k m l = absurd (omega arith)
 row_value (r ∷ ranges) [] k m l = absurd m
 row_value (r ∷ ranges) (v ∷ row) zero m l = (m.0.0, v, record { within = m.0.1; is = m.0.2 }, refl)

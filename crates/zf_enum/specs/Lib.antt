@@ -11,5 +11,7 @@ pub mod Holding
 pub mod Searches
 pub mod Planting
 pub mod Fixing
+pub mod Spans
+pub mod Sums
 pub mod Spreads
 pub mod Instances

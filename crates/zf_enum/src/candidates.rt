@@ -101,6 +101,15 @@ fn has_few_rows<'a>(
     Ok(rows / 4 <= next.values.len())
 }
 
+/// Whether the places that an expression leaves are gathered.
+pub(crate) fn is_tried(side: &Resolved<'_>, ranges: &[Range<Value>], next: usize) -> bool
+    requires next { next < length ranges.now }
+    requires due { spec.due (resolved_of side.now) ≤ length ranges.now }
+{
+    let due = due(side);
+    due <= next || is_worth_it(side, ranges, next, due)
+}
+
 /// Whether the components behind that an expression uses have no more rows than the range has values. With each value that is not left out, all these rows would have to be tried.
 fn is_worth_it(side: &Resolved<'_>, ranges: &[Range<Value>], next: usize, due: usize) -> bool
     requires next { next < length ranges.now }

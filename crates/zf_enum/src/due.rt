@@ -1,5 +1,5 @@
 //! Which components a term needs.
-ghost use Rattle.std.specs.Prelude.{◌≡◌, ◌<◌, ◌^◌, max, map};
+ghost use Rattle.std.specs.Prelude.{◌≡◌, ◌<◌, ◌^◌, ℕ, IsTrue, true, max, map};
 ghost use Rattle.zf_term.specs.ResolvedViews.{resolved_of, resolved_link_of, range_of, terms, links, ranges, part_of};
 ghost use Rattle.zf_enum.specs.Property as spec;
 ghost use Rattle.zf_enum.specs.Uses as named;
@@ -27,6 +27,16 @@ pub(crate) fn uses(term: &Resolved<'_>, component: usize) -> bool
     match last_up_to(term, component, None) {
         None => false,
         Some(place) => place == component,
+    }
+}
+
+/// Whether the term names none of so many components but first ones.
+pub(crate) fn needs_first(term: &Resolved<'_>, first: usize, components: usize) -> bool
+    ensures { IsTrue result → (k : ℕ) → k < components → named.uses (resolved_of term.now) k ≡ true → k < first }
+{
+    match last_up_to(term, components, None) {
+        None => true,
+        Some(place) => place < first,
     }
 }
 

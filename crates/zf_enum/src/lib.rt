@@ -13,8 +13,10 @@ mod planting;
 mod property;
 mod search;
 mod shown;
+mod span;
 mod spread;
 mod start;
+mod sums;
 
 pub use bindings::Bindings;
 pub use conjuncts::Conjuncts;

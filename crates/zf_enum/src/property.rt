@@ -3,11 +3,12 @@ ghost use Rattle.std.specs.Prelude.{◌≡◌, ◌<◌, ◌^◌, ℕ, IfOk, map,
 ghost use Rattle.zf_term.specs.ResolvedViews.{resolved_of};
 ghost use Rattle.zf_enum.specs.Property.{due, due_of, told};
 
-use crate::candidates::{Tie, gather_candidates, gather_spread};
+use crate::candidates::{Tie, gather_candidates, gather_spread, is_tried};
 use crate::conjuncts::Conjuncts;
 use crate::due::{due, uses};
 use crate::fixing::fixing;
 use crate::shown::Shown;
+use crate::sums::{balances, equates, gather_balanced};
 use std::alloc::{AllocError, Global};
 use zf_meaning::env::Env;
 use zf_meaning::value::truth_of;
@@ -66,11 +67,17 @@ impl<'e, 'g, 'a> Judge<Value> for Property<'e, 'g, 'a> {
     }
 }
 
-/// An equation of a component with an expression leaves the expression's values, and a predicate that asks for values of variables those that it equates the component with.
+/// An equation of a component with an expression leaves the expression's values, a relation between sums the values with which it may hold, and a predicate that asks for values of variables those that it equates the component with.
 impl<'e, 'g, 'a> Guide<Value> for Property<'e, 'g, 'a> {
-    fn narrows(&self, leaf: usize, component: usize) -> bool {
-        fixing(self.conjuncts.get(leaf), component).is_some()
-            || self.conjuncts.spread(leaf, component).is_some()
+    fn narrows(&self, leaf: usize, component: usize, closely: bool) -> bool {
+        let term = self.conjuncts.get(leaf);
+        if fixing(term, component).is_some() || self.conjuncts.spread(leaf, component).is_some() {
+            return true;
+        }
+        if !balances(term, component) {
+            return false;
+        }
+        !closely || (equates(term) && self.due(leaf).saturating_sub(1) <= component)
     }
 
     fn narrow(
@@ -80,8 +87,14 @@ impl<'e, 'g, 'a> Guide<Value> for Property<'e, 'g, 'a> {
         places: &[usize],
         gathered: &mut Vec<usize>,
     ) -> Result<bool, AllocError> {
-        if let Some(side) = fixing(self.conjuncts.get(leaf), places.len()) {
-            return gather_candidates(side, Tie::Value, ranges, places, self.env, gathered);
+        let term = self.conjuncts.get(leaf);
+        if let Some(side) = fixing(term, places.len()) {
+            if is_tried(side, ranges, places.len()) {
+                return gather_candidates(side, Tie::Value, ranges, places, self.env, gathered);
+            }
+        }
+        if balances(term, places.len()) {
+            return gather_balanced(term, ranges, places, self.env, gathered);
         }
         match self.conjuncts.spread(leaf, places.len()) {
             None => Ok(false),

@@ -9,8 +9,8 @@ use zf_walk::{Judge, Range};
 
 /// A judge that can tell, before a value is bound, on which ones a leaf is False.
 pub trait Guide<V: Ord>: Judge<V> {
-    /// Whether it is worth to ask which values a leaf leaves to a component.
-    fn narrows(&self, leaf: usize, component: usize) -> bool
+    /// Whether it is worth to ask which values a leaf leaves to a component; of `closely`, whether those are likely to be few.
+    fn narrows(&self, leaf: usize, component: usize, closely: bool) -> bool
         requires { leaf < (Self.conjuncts self.now).number };
 
     /// Gathers the places of the next range at which a leaf may be other than False, where the values at these places of the ranges before are bound. Answers false where it doesn't say.

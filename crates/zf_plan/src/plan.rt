@@ -1,5 +1,5 @@
 //! Which leaves and which conjuncts a value that is bound concerns.
-ghost use Rattle.std.specs.Prelude.{◌≡◌, ◌+◌, ◌^◌, ◌<◌, ◌≤◌, ℕ, true, false, [], length, slice_index_or, IfOk, MatchOption};
+ghost use Rattle.std.specs.Prelude.{◌≡◌, ◌+◌, ◌^◌, ◌<◌, ◌≤◌, ℕ, true, false, [], length, slice_index_or, IfOk, OnOk, MatchOption};
 ghost use Rattle.zf_plan.specs.Trees.{tree_at, HasLeavesWithin, HaveLeavesWithin};
 ghost use Rattle.zf_plan.specs.Groves.{trees_made, trees_of};
 ghost use Rattle.zf_plan.specs.Knowing.{AreBelow, IsLeafDue};
@@ -332,8 +332,7 @@ fn none_narrowing(alloc: Global, components: usize) -> Result<Vec<Listed>, Alloc
     Ok(narrowing)
 }
 
-/// The conjuncts that narrow a component.
-#[tactic(auto, using(crate::proofs::Numbers::below_push))]
+/// The conjuncts that narrow a component, and first of them those that do so closely.
 fn narrowing_at<V: Ord, J: Guide<V>>(
     alloc: Global,
     judge: &J,
@@ -344,34 +343,55 @@ fn narrowing_at<V: Ord, J: Guide<V>>(
     ensures { IfOk result (AreBelow (length (trees_of forest.now))) }
 {
     let mut numbers = Vec::new(alloc);
-    for conjunct in 0..forest.count() {
-        if is_narrowing(judge, forest, forest.root(conjunct), component) {
-            numbers.push(conjunct)?;
-        }
-    }
+    add_narrowing(judge, forest, component, true, &mut numbers)?;
+    add_narrowing(judge, forest, component, false, &mut numbers)?;
     Ok(Listed { numbers })
 }
 
-/// Whether a tree has leaves that narrow a component, in each side of a disjunction.
+/// Adds the conjuncts that narrow a component: those that do so closely, or the others.
+#[tactic(auto, using(crate::proofs::Numbers::below_push))]
+fn add_narrowing<V: Ord, J: Guide<V>>(
+    judge: &J,
+    forest: &Forest,
+    component: usize,
+    closely: bool,
+    numbers: &mut Vec<usize>,
+) -> Result<(), AllocError>
+    requires leaves { HaveLeavesWithin (J.conjuncts judge.now).number (trees_of forest.now) }
+    requires below { AreBelow (length (trees_of forest.now)) numbers.old.items }
+    ensures { OnOk result (AreBelow (length (trees_of forest.now)) numbers.new.items) }
+{
+    for conjunct in 0..forest.count() {
+        let root = forest.root(conjunct);
+        let is_close = is_narrowing(judge, forest, root, component, true);
+        if is_close == closely && is_narrowing(judge, forest, root, component, closely) {
+            numbers.push(conjunct)?;
+        }
+    }
+    Ok(())
+}
+
+/// Whether a tree has leaves that narrow a component, in each side of a disjunction; of `closely`, whether these do so.
 fn is_narrowing<V: Ord, J: Guide<V>>(
     judge: &J,
     forest: &Forest,
     part: usize,
     component: usize,
+    closely: bool,
 ) -> bool
     requires part { part < length (trees_made forest.now) }
     requires leaves { HasLeavesWithin (J.conjuncts judge.now).number (tree_at (trees_made forest.now) part) }
 {
     match forest.node(part) {
-        Node::Leaf(of) => judge.narrows(of, component),
+        Node::Leaf(of) => judge.narrows(of, component, closely),
         Node::Not(_) => false,
         Node::And(left, right) => {
-            is_narrowing(judge, forest, left, component)
-                || is_narrowing(judge, forest, right, component)
+            is_narrowing(judge, forest, left, component, closely)
+                || is_narrowing(judge, forest, right, component, closely)
         }
         Node::Or(left, right) => {
-            is_narrowing(judge, forest, left, component)
-                && is_narrowing(judge, forest, right, component)
+            is_narrowing(judge, forest, left, component, closely)
+                && is_narrowing(judge, forest, right, component, closely)
         }
     }
 }

@@ -1,5 +1,5 @@
 use Rattle.zf_plan.proofs.Prelude.{length, trees_of, AreBelow}
-use Rattle.zf_plan.proofs.plan.narrowing_at.Given as goal
+use Rattle.zf_plan.proofs.plan.add_narrowing.Given as goal
 
 -- They are conjuncts.
 abbrev pub invariant-loop-conjunct : goal.invariant-loop-conjunct

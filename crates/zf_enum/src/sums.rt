@@ -1,0 +1,406 @@
+//! Relations between sums, and the places of a range that they leave.
+ghost use Rattle.std.specs.Prelude.{◌≡◌, ◌<◌, ℕ, ℤ, pos, ◌-ℤ◌, ◌≤ℤ◌, List, length, false, true, AllPairs, Contains, FitsSigned, IfOk, IfSome, IsTrue, OnOk, Some, slice_get};
+ghost use Rattle.std.specs.Int.{w32};
+ghost use Rattle.std.specs.declared.cmp.Ordering.TheVariants.{Less};
+ghost use Rattle.zf_tree.specs.declared.operator.Sign.TheVariants.{Minus};
+ghost use Rattle.zf_extent.specs.Extents.{is_membership};
+ghost use Rattle.zf_term.specs.ResolvedTrees.{ResolvedTree};
+ghost use Rattle.zf_term.specs.ResolvedViews.{resolved_of};
+ghost use Rattle.zf_value.specs.declared.plain.Value.{Int};
+ghost use Rattle.zf_value.specs.declared.value.Outcome.TheVariants.{Is};
+ghost use Rattle.zf_value.specs.Sets.{value_order};
+ghost use Rattle.zf_outcome.specs.Symbols.{Holds, InfixOutcome};
+ghost use Rattle.zf_walk.specs.Picked.{AreWithin};
+ghost use Rattle.zf_walk.specs.RowLaws.{AreAscending};
+ghost use Rattle.zf_plan.specs.Choices.{StaysIn, Leaves};
+ghost use Rattle.zf_meaning.specs.Envs.{environment_of};
+ghost use Rattle.zf_enum.specs.Property as spec;
+ghost use Rattle.zf_enum.specs.Spans.{IsSmall, Spans};
+ghost use Rattle.zf_enum.specs.Sums.{IsSpanOf, IsDifferenceOf, IsSpanOver, IsSpanAhead, IsRuledOut, AreRuledOut};
+
+use crate::due::needs_first;
+use crate::shown::Shown;
+use crate::span::{Span, Untold};
+use std::alloc::AllocError;
+use zf_meaning::env::Env;
+use zf_meaning::value::value_of;
+use zf_reference::reference::Reference;
+use zf_term::resolved::Resolved;
+use zf_tree::operator::{Operator, Sign, Unary};
+use zf_tree::symbol::{Infix, Relation};
+use zf_value::value::{Outcome, Value};
+use zf_walk::{Picked, Range};
+
+// ---- which relations are asked
+
+/// Whether a relation compares sums of which a component is a summand.
+pub(crate) fn balances(term: &Resolved<'_>, component: usize) -> bool {
+    let Resolved::Chain(_, first, links) = term else {
+        return false;
+    };
+    let [link] = links.as_slice() else {
+        return false;
+    };
+    if !compares(link.relation) {
+        return false;
+    }
+    if is_bare(first.get()) && is_bare(&link.right) {
+        return false;
+    }
+    is_summand(first.get(), component) || is_summand(&link.right, component)
+}
+
+/// Whether the predicate is an equation.
+pub(crate) fn equates(term: &Resolved<'_>) -> bool {
+    let Resolved::Chain(_, _, links) = term else {
+        return false;
+    };
+    let [link] = links.as_slice() else {
+        return false;
+    };
+    match link.relation {
+        Relation::Equal => true,
+        _ => false,
+    }
+}
+
+fn compares(relation: Relation) -> bool {
+    match relation {
+        Relation::Equal => true,
+        Relation::Less => true,
+        Relation::AtMost => true,
+        Relation::Greater => true,
+        Relation::AtLeast => true,
+        _ => false,
+    }
+}
+
+/// Whether the term is a name or a number.
+fn is_bare(term: &Resolved<'_>) -> bool {
+    match term {
+        Resolved::Name(_, _) => true,
+        Resolved::Number(_, _) => true,
+        _ => false,
+    }
+}
+
+/// Whether a component stands in a sum, by itself or as a factor.
+#[cycle(is_summand)]
+fn is_summand(term: &Resolved<'_>, component: usize) -> bool {
+    match term {
+        Resolved::Name(_, reference) => is_of(*reference, component),
+        Resolved::Bracket(_, inner) => is_summand(inner.get(), component),
+        Resolved::Unary(_, op, of) => match op {
+            Unary::Sign(sign) => is_minus(*sign) && is_summand(of.get(), component),
+            _ => false,
+        },
+        Resolved::Binary(_, op, left, right) => match op {
+            Operator::Function(op) => {
+                adds(*op)
+                    && (is_summand(left.get(), component) || is_summand(right.get(), component))
+            }
+            _ => false,
+        },
+        _ => false,
+    }
+}
+
+fn is_of(reference: Reference, component: usize) -> bool {
+    match reference {
+        Reference::Component(place) => place == component,
+        _ => false,
+    }
+}
+
+fn is_minus(sign: Sign) -> bool
+    ensures { IsTrue result → sign ≡ Minus }
+{
+    match sign {
+        Sign::Minus => true,
+        Sign::Symbol(_) => false,
+    }
+}
+
+fn adds(op: Infix) -> bool {
+    match op {
+        Infix::Plus => true,
+        Infix::Minus => true,
+        Infix::Times => true,
+        _ => false,
+    }
+}
+
+// ---- what they leave
+
+/// Gathers the places of the next range with which a relation between sums may hold. Answers false where it isn't told, or where these are many.
+pub(crate) fn gather_balanced<'a>(
+    term: &Resolved<'a>,
+    ranges: &[Range<Value>],
+    places: &[usize],
+    env: &Env<'_, 'a>,
+    gathered: &mut Vec<usize>,
+) -> Result<bool, AllocError>
+    requires ascending { AreAscending value_order ranges.now }
+    requires within { AreWithin ranges.now places.now }
+    requires deeper { length places.now < length ranges.now }
+    ensures stay { StaysIn gathered.old.items gathered.new.items }
+    ensures leaves { IfOk result (λ found. IsTrue found → (ts : List ResolvedTree) (leaf : ℕ) → slice_get ts leaf ≡ Some (resolved_of term.now) → Leaves (spec.property (environment_of env.now) ts) leaf ranges.now places.now gathered.new.items) }
+{
+    let Resolved::Chain(_, first, links) = term else {
+        return Ok(false);
+    };
+    let [link] = links.as_slice() else {
+        return Ok(false);
+    };
+    let next = places.len();
+    match difference(first.get(), &link.right, ranges, places, env) {
+        Ok(span) => gather_possible(link.relation, span, &ranges[next], gathered),
+        Err(Untold::Unknown) => Ok(false),
+        Err(Untold::OutOfMemory) => Err(AllocError),
+    }
+}
+
+/// The difference of two expressions.
+fn difference<'a>(
+    left: &Resolved<'a>,
+    right: &Resolved<'a>,
+    ranges: &[Range<Value>],
+    places: &[usize],
+    env: &Env<'_, 'a>,
+) -> Result<Span, Untold>
+    requires ascending { AreAscending value_order ranges.now }
+    requires within { AreWithin ranges.now places.now }
+    ensures { IfOk result (IsDifferenceOf (environment_of env.now) (resolved_of left.now) (resolved_of right.now) ranges.now places.now) }
+{
+    let left = span_of(left, ranges, places, env)?;
+    let right = span_of(right, ranges, places, env)?;
+    left.minus(right)
+}
+
+/// Gathers the places of a range with which a relation of this difference to 0 may hold, unless these are many.
+fn gather_possible(
+    relation: Relation,
+    span: Span,
+    range: &Range<Value>,
+    gathered: &mut Vec<usize>,
+) -> Result<bool, AllocError>
+    ensures stay { StaysIn gathered.old.items gathered.new.items }
+    ensures ruled_out { IfOk result (λ found. IsTrue found → AreRuledOut relation span range.now gathered.new.items) }
+{
+    if !are_few(relation, span, range) {
+        return Ok(false);
+    }
+    for place in 0..range.values.len() {
+        gather_if_possible(relation, span, &range.values[place], place, gathered)?;
+    }
+    Ok(true)
+}
+
+/// Gathers the place of a value with which a relation of this difference to 0 may hold.
+fn gather_if_possible(
+    relation: Relation,
+    span: Span,
+    value: &Value,
+    place: usize,
+    gathered: &mut Vec<usize>,
+) -> Result<(), AllocError>
+    ensures stay { StaysIn gathered.old.items gathered.new.items }
+    ensures kept { OnOk result ((Contains gathered.new.items place → ⊥) → IsRuledOut relation span value.now) }
+{
+    if !is_possible_with(relation, span, value) {
+        return Ok(());
+    }
+    gathered.push(place)?;
+    Ok(())
+}
+
+/// Whether a relation of this difference to 0 may hold with few values of a range: at most 64, and half of them.
+fn are_few(relation: Relation, span: Span, range: &Range<Value>) -> bool {
+    let end = range.values.len();
+    let mut count: usize = 0;
+    for place in 0..end {
+        if is_possible_with(relation, span, &range.values[place]) {
+            count = count.saturating_add(1);
+        }
+    }
+    count <= 64 && count <= end / 2
+}
+
+/// Whether a relation of this difference to 0 may hold with a value.
+fn is_possible_with(relation: Relation, span: Span, value: &Value) -> bool
+    ensures { result ≡ false → IsRuledOut relation span value.now }
+{
+    let Some(n) = small(value) else {
+        return true;
+    };
+    is_possible(relation, span.lowest(n), span.highest(n))
+}
+
+/// Whether the relation may hold between numbers whose difference lies from one to another.
+fn is_possible(relation: Relation, low: i64, high: i64) -> bool
+    ensures membership { result ≡ false → is_membership relation ≡ false }
+    ensures ruled_out { result ≡ false → (a b : ℤ) → (low ≤ℤ (a -ℤ b)) → ((a -ℤ b) ≤ℤ high) → Holds relation (Int a) (Int b) → ⊥ }
+{
+    match relation {
+        Relation::Equal => low <= 0 && 0 <= high,
+        Relation::Less => low < 0,
+        Relation::AtMost => low <= 0,
+        Relation::Greater => 0 < high,
+        Relation::AtLeast => 0 <= high,
+        _ => true,
+    }
+}
+
+// ---- sums
+
+/// What a sum comes to with a value of the next component, whatever the values behind it are.
+#[cycle(spanning)]
+#[tactic(auto, using(zf_term::proofs::ResolvedSeen::seen))]
+fn span_of<'a>(
+    term: &Resolved<'a>,
+    ranges: &[Range<Value>],
+    places: &[usize],
+    env: &Env<'_, 'a>,
+) -> Result<Span, Untold>
+    requires ascending { AreAscending value_order ranges.now }
+    requires within { AreWithin ranges.now places.now }
+    ensures { IfOk result (IsSpanOf (environment_of env.now) (resolved_of term.now) ranges.now places.now) }
+{
+    match term {
+        Resolved::Name(_, reference) => match *reference {
+            Reference::Component(place) if place >= places.len() => {
+                span_ahead(place, ranges, places.len())
+            }
+            _ => span_of_value(term, ranges, places, env),
+        },
+        Resolved::Number(_, n) => span_of_number(*n),
+        Resolved::Bracket(_, inner) => span_of(inner.get(), ranges, places, env),
+        Resolved::Unary(_, op, of) => match op {
+            Unary::Sign(sign) => {
+                if !is_minus(*sign) {
+                    return span_of_value(term, ranges, places, env);
+                }
+                let of = span_of(of.get(), ranges, places, env)?;
+                of.multiplied(-1)
+            }
+            _ => span_of_value(term, ranges, places, env),
+        },
+        Resolved::Binary(_, op, left, right) => match op {
+            Operator::Function(op) => {
+                if !adds(*op) {
+                    return span_of_value(term, ranges, places, env);
+                }
+                let left = span_of(left.get(), ranges, places, env)?;
+                let right = span_of(right.get(), ranges, places, env)?;
+                combined(*op, left, right)
+            }
+            _ => span_of_value(term, ranges, places, env),
+        },
+        _ => span_of_value(term, ranges, places, env),
+    }
+}
+
+/// The value of an expression that needs no more values than those that are bound.
+fn span_of_value<'a>(
+    term: &Resolved<'a>,
+    ranges: &[Range<Value>],
+    places: &[usize],
+    env: &Env<'_, 'a>,
+) -> Result<Span, Untold>
+    requires within { AreWithin ranges.now places.now }
+    ensures { IfOk result (IsSpanOf (environment_of env.now) (resolved_of term.now) ranges.now places.now) }
+{
+    if !needs_first(term, places.len(), ranges.len()) {
+        return Err(Untold::Unknown);
+    }
+    let row = Picked::new(ranges, places);
+    let shown = Shown { row: &row };
+    let outcome = value_of(term, &shown, env)?;
+    span_of_outcome(&outcome)
+}
+
+fn span_of_outcome(outcome: &Outcome) -> Result<Span, Untold>
+    ensures { IfOk result (λ s. (n : ℤ) × (outcome.now ≡ Is (Int n)) × ((v : ℤ) → Spans s v n)) }
+{
+    let Outcome::Is(value) = outcome else {
+        return Err(Untold::Unknown);
+    };
+    match small(value) {
+        Some(n) => Ok(Span::point(n)),
+        None => Err(Untold::Unknown),
+    }
+}
+
+fn span_of_number(n: u64) -> Result<Span, Untold>
+    ensures { IfOk result (λ s. FitsSigned w32 (pos n) × ((v : ℤ) → Spans s v (pos n))) }
+{
+    match i32::try_from(n) {
+        Ok(n) => Ok(Span::point(n)),
+        Err(_) => Err(Untold::Unknown),
+    }
+}
+
+/// The value of the next component, or any that one behind it may have.
+fn span_ahead(place: usize, ranges: &[Range<Value>], next: usize) -> Result<Span, Untold>
+    requires ascending { AreAscending value_order ranges.now }
+    ensures { IfOk result (IsSpanAhead ranges.now next place) }
+{
+    if place == next {
+        return Ok(Span {
+            times: 1,
+            low: 0,
+            high: 0,
+        });
+    }
+    if place < ranges.len() {
+        return span_over(&ranges[place]);
+    }
+    Err(Untold::Unknown)
+}
+
+/// Any value of a range.
+fn span_over(range: &Range<Value>) -> Result<Span, Untold>
+    requires { AllPairs (λ v w. value_order v w ≡ Less) range.now }
+    ensures { IfOk result (IsSpanOver range.now) }
+{
+    let count = range.values.len();
+    if count == 0 {
+        return Err(Untold::Unknown);
+    }
+    let Some(low) = small(&range.values[0]) else {
+        return Err(Untold::Unknown);
+    };
+    let Some(high) = small(&range.values[count - 1]) else {
+        return Err(Untold::Unknown);
+    };
+    Ok(Span {
+        times: 0,
+        low,
+        high,
+    })
+}
+
+/// The number of 32 bits that a value is, if it is one.
+fn small(value: &Value) -> Option<i32>
+    ensures { IfSome result (λ n. value.now ≡ Int n) }
+{
+    let Some(n) = value.number() else {
+        return None;
+    };
+    match i32::try_from(n) {
+        Ok(n) => Some(n),
+        Err(_) => None,
+    }
+}
+
+/// What an operation makes of two numbers.
+fn combined(op: Infix, left: Span, right: Span) -> Result<Span, Untold>
+    ensures { IfOk result (λ s. IsSmall s × ((v m n : ℤ) → FitsSigned w32 v → Spans left v m → Spans right v n → (k : ℤ) × InfixOutcome op (Int m) (Int n) (Is (Int k)) × Spans s v k)) }
+{
+    match op {
+        Infix::Plus => left.plus(right),
+        Infix::Minus => left.minus(right),
+        Infix::Times => left.product(right),
+        _ => Err(Untold::Unknown),
+    }
+}
