@@ -1,0 +1,6 @@
+pub mod Places
+pub mod Parts
+pub mod Written
+pub mod Shown
+pub mod Laws
+pub mod Collected

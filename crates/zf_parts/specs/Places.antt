@@ -1,0 +1,13 @@
+-- What stands at places of a row or of a schema.
+use Rattle.std.specs.Prelude.{ℕ, List, slice_get}
+use Rattle.std.specs.List.{filter_map}
+use Rattle.zf_term.specs.Definitions.{Comp}
+use Rattle.zf_value.specs.declared.plain.Value.{Value}
+
+-- the values at these places
+abbrev pub values_at : (places : List ℕ) → List Value → List Value
+values_at places row = filter_map (slice_get row) places
+
+-- the components at these places
+abbrev pub comps_at : List Comp → (places : List ℕ) → List Comp
+comps_at comps places = filter_map (slice_get comps) places
