@@ -53,12 +53,12 @@ module _ (m : System) (eq : Node → Node → Bool) (number : ℕ) (o : Operatio
       ∙ ap (values_at o.after) here)) (goes_on m eq a number o old new now h same row takes, begins_so m eq a number o old new now h same row takes))
 
   -- to one that can't be told
-  pub goes_out : stop ≡ stopped m.elements o given → Advances value_order (property m.environment o.schema.conjuncts) Breaks old new
+  pub goes_out : stop ≡ stopped m.form m.elements o given → Advances value_order (property m.environment o.schema.conjuncts) Breaks old new
       → GoesOn m eq number o old new founds.Out stop
   goes_out said (row, last, takes) = λ a now h.
       let here : given ≡ row = row_of given row new.last gives last in
       subst (λ t. AdvancesTo (exploration m eq) founds.Out a now (HasFound m eq a number o new) (HasPassed m eq a (number + 1)) t) (sym (said
-      ∙ ap (stopped m.elements o) here)) (breaks_so m eq a number o old new now h same row takes)
+      ∙ ap (stopped m.form m.elements o) here)) (breaks_so m eq a number o old new now h same row takes)
 
   -- to the end
   pub goes_over : Advances value_order (property m.environment o.schema.conjuncts) End old new → GoesOn m eq number o old new founds.Over stop
@@ -103,11 +103,11 @@ module _ (m : System) (eq : Node → Node → Bool) (values : List Value) (begun
     seen_other : Advances value_order conjuncts End begun new → IsSeenAs (sought_in m) sights.Other (State values) stop
     seen_other (last, none, past) = none_there none
 
-    seen_untold : (given : List Value) → given ≡ unwrap_or new.last [] → stop ≡ stopped m.elements m.test given
+    seen_untold : (given : List Value) → given ≡ unwrap_or new.last [] → stop ≡ stopped m.form m.elements m.test given
         → Advances value_order conjuncts Breaks begun new → IsSeenAs (sought_in m) sights.Untold (State values) stop
     seen_untold given gives said (row, last, takes) =
         let here : given ≡ row = row_of given row new.last gives last in
-        (row, first_taken (record { row = row; truth = Out }) takes, said ∙ ap (stopped m.elements m.test) here)
+        (row, first_taken (record { row = row; truth = Out }) takes, said ∙ ap (stopped m.form m.elements m.test) here)
 
 -- ---- its turn begins
 
@@ -131,7 +131,7 @@ module _ (m : System) (eq : Node → Node → Bool) (values : List Value) where
 
 pub seen_told : (m : System) (eq : Node → Node → Bool) (values : List Value) (begun new : Stage Value) → BeginsFor m.environment m.test.schema (held_by m.test.sources values) begun
     → (s : Stepped) → s.row.items ≡ unwrap_or new.last [] → Advances value_order (property m.environment m.test.schema.conjuncts) s.step begun new
-    → (sight : Sight) (stop : List ℕ) → IsSight m.elements m.test s sight stop → IsSeenAs (sought_in m) sight (State values) stop
+    → (sight : Sight) (stop : List ℕ) → IsSight m.form m.elements m.test s sight stop → IsSeenAs (sought_in m) sight (State values) stop
 seen_told m eq values begun new begins s row h sights.Sought stop is =
     seen_sought m eq values begun new begins stop (subst (λ x. Advances value_order (property m.environment m.test.schema.conjuncts) x begun new) is h)
 seen_told m eq values begun new begins s row h sights.Other stop is =
@@ -141,7 +141,7 @@ seen_told m eq values begun new begins s row h sights.Untold stop is =
 
 pub goes_told : (m : System) (eq : Node → Node → Bool) (number : ℕ) (o : Operation) (old new : Stage Value) → SameRanges old new
     → (s : Stepped) → s.row.items ≡ unwrap_or new.last [] → Advances value_order (property m.environment o.schema.conjuncts) s.step old new
-    → (f : answer.Found Node Label) (stop : List ℕ) → IsFound m.elements number o s f stop → GoesOn m eq number o old new f stop
+    → (f : answer.Found Node Label) (stop : List ℕ) → IsFound m.form m.elements number o s f stop → GoesOn m eq number o old new f stop
 goes_told m eq number o old new same s row h (founds.Edge label to) stop (step, is, at) =
     subst (λ l. GoesOn m eq number o old new (founds.Edge l to) stop) (sym is)
     (subst (λ n. GoesOn m eq number o old new (founds.Edge (record { operation = number; values = values_at o.others s.row.items }) n) stop) (sym at)
@@ -154,7 +154,7 @@ goes_told m eq number o old new same s row h founds.Out stop is =
 
 pub fewer_told : (m : System) (number : ℕ) (o : Operation) (old new : Stage Value) → SameRanges old new
     → (s : Stepped) → Advances value_order (property m.environment o.schema.conjuncts) s.step old new
-    → (f : answer.Found Node Label) (stop : List ℕ) → IsFound m.elements number o s f stop → HasFewer f (rows_ahead old) (rows_ahead new)
+    → (f : answer.Found Node Label) (stop : List ℕ) → IsFound m.form m.elements number o s f stop → HasFewer f (rows_ahead old) (rows_ahead new)
 fewer_told m number o old new same s h (founds.Edge label to) stop is =
     fewer_ahead (property m.environment o.schema.conjuncts) old new same (subst (λ x. Advances value_order (property m.environment o.schema.conjuncts) x old new) is.0 h)
 fewer_told m number o old new same s h founds.Over stop is = tt

@@ -1,4 +1,4 @@
--- What is said in either form.
+-- What is said in any form.
 use Rattle.std.proofs.Common.{◌++◌, ◌∙◌, ◌≡◌, [], ap, append-nil, List, refl, sym, ℕ}
 use Rattle.zf_steps.specs.declared.form.Form.{Form}
 use Rattle.zf_steps.specs.declared.form.Form.TheVariants as forms
@@ -9,6 +9,7 @@ use Rattle.zf_steps.specs.Words.{words, words_in}
 no_words : (f : Form) (m : System) (from number : ℕ) → (words_in f m).node from number Root ≡ []
 no_words forms.Lines m from number = refl
 no_words forms.Graph m from number = refl
+no_words forms.Objects m from number = refl
 
 -- nothing is said of what is before the initial states
 pub nothing_of_root : (m : System) (from number : ℕ) (line : List ℕ) → line ≡ line ++ (words m).node from number Root

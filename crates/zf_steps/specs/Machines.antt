@@ -18,6 +18,7 @@ use Rattle.zf_walk.specs.declared.step.Step.TheVariants as steps
 use Rattle.zf_walk.specs.Progress.{Stage}
 use Rattle.zf_steps.specs.declared.cursor.Part.{Part}
 use Rattle.zf_steps.specs.declared.cursor.Part.TheVariants as parts
+use Rattle.zf_steps.specs.declared.form.Form.{Form}
 use Rattle.zf_steps.specs.declared.node.Label.{Label}
 use Rattle.zf_steps.specs.declared.node.Node.{Node}
 use Rattle.zf_steps.specs.declared.node.Node.TheVariants.{Root, State}
@@ -68,10 +69,10 @@ pub record Fits {S : Type 0} (IsFor : S → Environment → Schema → Type 0) (
 -- ---- what a step of a search is taken for
 
 -- as what is seen of a state, by the search for it in the schema by which it is tested
-abbrev pub IsSight : (elements : List Spelling) → Operation → Stepped → Sight → (stop : List ℕ) → Type 0
-IsSight elements o s sights.Sought stop = s.step ≡ steps.Holds
-IsSight elements o s sights.Other stop = s.step ≡ steps.End
-IsSight elements o s sights.Untold stop = (s.step ≡ steps.Breaks) × (stop ≡ stopped elements o s.row.items)
+abbrev pub IsSight : Form → (elements : List Spelling) → Operation → Stepped → Sight → (stop : List ℕ) → Type 0
+IsSight form elements o s sights.Sought stop = s.step ≡ steps.Holds
+IsSight form elements o s sights.Other stop = s.step ≡ steps.End
+IsSight form elements o s sights.Untold stop = (s.step ≡ steps.Breaks) × (stop ≡ stopped form elements o s.row.items)
 
 -- how its turn begins then
 abbrev pub begun_as : Sight → Beginning
@@ -80,11 +81,11 @@ begun_as sights.Other = beginnings.Stray
 begun_as sights.Untold = beginnings.Out
 
 -- as what is found of the steps by an operation
-abbrev pub IsFound : (elements : List Spelling) → (number : ℕ) → Operation → Stepped → Found Node Label → (stop : List ℕ) → Type 0
-IsFound elements number o s (founds.Edge label to) stop =
+abbrev pub IsFound : Form → (elements : List Spelling) → (number : ℕ) → Operation → Stepped → Found Node Label → (stop : List ℕ) → Type 0
+IsFound form elements number o s (founds.Edge label to) stop =
     (s.step ≡ steps.Holds) × (label ≡ record { operation = number; values = values_at o.others s.row.items }) × (to ≡ State (values_at o.after s.row.items))
-IsFound elements number o s founds.Over stop = s.step ≡ steps.End
-IsFound elements number o s founds.Out stop = (s.step ≡ steps.Breaks) × (stop ≡ stopped elements o s.row.items)
+IsFound form elements number o s founds.Over stop = s.step ≡ steps.End
+IsFound form elements number o s founds.Out stop = (s.step ≡ steps.Breaks) × (stop ≡ stopped form elements o s.row.items)
 
 -- ---- what they come to
 

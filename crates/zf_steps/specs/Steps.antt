@@ -1,10 +1,11 @@
 -- The graph of a specification: its states, and the steps that its operations make.
 use Rattle.std.specs.Prelude.{◌≡◌, ◌⊎◌, ℕ, ◌++◌, Bool, List, [], ◌∷◌, codes, map, Option, None, Some, slice_get}
 use Rattle.std.specs.List.{filter_map}
+use Rattle.zf_format.specs.Strings.{string_text}
 use Rattle.zf_graph.specs.Graphs.{Edge, Graph}
 use Rattle.zf_graph.specs.Explorations.{Explored}
 use Rattle.zf_term.specs.Definitions.{Schema}
-use Rattle.zf_texts.specs.BindingTexts.{binding_text}
+use Rattle.zf_texts.specs.BindingTexts.{binding_object, binding_text}
 use Rattle.zf_texts.specs.declared.spelling.Spelling.{Spelling}
 use Rattle.zf_value.specs.declared.plain.Value.{Value}
 use Rattle.zf_value.specs.Sets.{value_order}
@@ -14,6 +15,8 @@ use Rattle.zf_walk.specs.Rows.{ComesAfter}
 use Rattle.zf_meaning.specs.Environments.{Environment}
 use Rattle.zf_enum.specs.Property.{property}
 use Rattle.zf_ranges.specs.Ranges.{AreRanges}
+use Rattle.zf_steps.specs.declared.form.Form.{Form}
+use Rattle.zf_steps.specs.declared.form.Form.TheVariants as forms
 use Rattle.zf_steps.specs.declared.node.Label.{Label}
 use Rattle.zf_steps.specs.declared.node.Node.{Node}
 use Rattle.zf_steps.specs.declared.node.Node.TheVariants.{Root, State}
@@ -35,9 +38,18 @@ source_value values (Some place) = slice_get values place
 abbrev pub held_by : List (Option ℕ) → List Value → List (Option Value)
 held_by sources values = map (source_value values) sources
 
--- a binding that is out, with the operation
-abbrev pub stopped : List Spelling → Operation → List Value → List ℕ
-stopped elements o row = o.name ++ codes ": " ++ binding_text elements o.schema.comps row
+-- a binding that is out, with the operation: `OPERATION: BINDING`,
+abbrev pub stop_text : List Spelling → Operation → List Value → List ℕ
+stop_text elements o row = o.name ++ codes ": " ++ binding_text elements o.schema.comps row
+
+-- or `{"operation": "OPERATION", "binding": {..}}`
+abbrev pub stop_object : List Spelling → Operation → List Value → List ℕ
+stop_object elements o row = codes "{\"operation\": " ++ string_text o.name ++ codes ", \"binding\": " ++ binding_object elements o.schema.comps row ++ codes "}"
+
+abbrev pub stopped : Form → List Spelling → Operation → List Value → List ℕ
+stopped forms.Lines elements o row = stop_text elements o row
+stopped forms.Graph elements o row = stop_text elements o row
+stopped forms.Objects elements o row = stop_object elements o row
 
 -- ---- what is found
 
@@ -71,7 +83,7 @@ module _ (m : System) where
   step number o x = record { label = record { operation = number; values = values_at o.others x.row }; to = State (values_at o.after x.row) }
 
   abbrev pub stop : Operation → Event Value → List ℕ
-  stop o x = stopped m.elements o x.row
+  stop o x = stopped m.form m.elements o x.row
 
   -- Whether a state is a stray, since it satisfies the schema by which states are tested in no way, or that it can't be told. What is before the initial states is none.
   abbrev pub IsStray : Node → Bool → Type 0

@@ -105,12 +105,13 @@ fn sight_of<F: Schematic>(
     stepped: &Stepped,
     stop: &mut Vec<u8>,
 ) -> Result<Sight, AllocError>
-    ensures { IfOk result (λ s. IsSight system.now.elements.now (operation_of F.schema system.now.test) stepped.now s stop.new.items) }
+    ensures { IfOk result (λ s. IsSight system.now.form system.now.elements.now (operation_of F.schema system.now.test) stepped.now s stop.new.items) }
 {
     match stepped.step {
         Step::Holds => Ok(Sight::Sought),
         Step::Breaks => {
-            lay_out_stop(stop, system.elements, &system.test, &stepped.row.as_slice())?;
+            let row = stepped.row.as_slice();
+            lay_out_stop(stop, system.form, system.elements, &system.test, &row)?;
             Ok(Sight::Untold)
         }
         Step::End => Ok(Sight::Other),
@@ -142,7 +143,7 @@ fn found_of<F: Schematic>(
     stepped: &Stepped,
     stop: &mut Vec<u8>,
 ) -> Result<Found<Node, Label>, AllocError>
-    ensures { IfOk result (λ f. IsFound system.now.elements.now number (operation_of F.schema operation.now) stepped.now f stop.new.items) }
+    ensures { IfOk result (λ f. IsFound system.now.form system.now.elements.now number (operation_of F.schema operation.now) stepped.now f stop.new.items) }
 {
     let row = stepped.row.as_slice();
     match stepped.step {
@@ -154,7 +155,7 @@ fn found_of<F: Schematic>(
             Node::State(values_at(system.alloc, &operation.after, &row)?),
         )),
         Step::Breaks => {
-            lay_out_stop(stop, system.elements, operation, &row)?;
+            lay_out_stop(stop, system.form, system.elements, operation, &row)?;
             Ok(Found::Out)
         }
         Step::End => Ok(Found::Over),

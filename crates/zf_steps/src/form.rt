@@ -7,4 +7,6 @@ pub enum Form {
     Lines,
     /// A graph for Graphviz.
     Graph,
+    /// An object of JSON for each state and each step.
+    Objects,
 }

@@ -1,14 +1,15 @@
 //! What an exploration asks of a schema and of an environment. It names neither type, so that the machine's statements stay small; nor does a value of the environment's stand in them.
 ghost use Rattle.std.specs.Prelude.{◌≡◌, ◌++◌, OnOk};
-ghost use Rattle.zf_steps.specs.Labels.{row_text};
+ghost use Rattle.zf_steps.specs.Labels.{laid_out};
 
 use crate::labels::append_column;
 use crate::layout::Layout;
 use std::alloc::AllocError;
 use std::marker::Brand;
+use zf_format::Format;
 use zf_meaning::row::Row;
 use zf_term::schema::Flat;
-use zf_texts::{Spelling, append_binding};
+use zf_texts::{Spelling, append_row};
 
 /// What an environment means, in proofs alone: at `Brand` a caller picks it.
 pub trait Surrounding {
@@ -29,7 +30,7 @@ pub trait Schematic {
 
     ghost schema: { Self → Schema };
 
-    /// Appends a row, on one line without its end, or as a column. A refusal leaves a part of it.
+    /// Appends a row, on one line without its end, as a column, or as an object. A refusal leaves a part of it.
     fn append_row<R: Row>(
         &self,
         text: &mut Vec<u8>,
@@ -37,7 +38,7 @@ pub trait Schematic {
         layout: Layout,
         row: &R,
     ) -> Result<(), AllocError>
-        ensures { OnOk result (text.new.items ≡ text.old.items ++ row_text elements.now layout (schema self.now).comps (R.values row.now)) };
+        ensures { OnOk result (text.new.items ≡ text.old.items ++ laid_out elements.now layout (schema self.now).comps (R.values row.now)) };
 }
 
 impl<'a> Schematic for Flat<'a> {
@@ -53,8 +54,9 @@ impl<'a> Schematic for Flat<'a> {
         row: &R,
     ) -> Result<(), AllocError> {
         match layout {
-            Layout::Line => append_binding(text, self, elements, row),
+            Layout::Line => append_row(text, Format::Lines, self, elements, row),
             Layout::Column => append_column(text, self, elements, row),
+            Layout::Object => append_row(text, Format::Objects, self, elements, row),
         }
     }
 }

@@ -5,9 +5,10 @@ ghost use Rattle.zf_term.specs.SchemaViews.{comp_of, schema_of};
 ghost use Rattle.zf_texts.specs.BindingTexts.{component_text};
 
 use std::alloc::AllocError;
+use zf_format::Format;
 use zf_meaning::row::Row;
 use zf_term::schema::{Component, Flat};
-use zf_texts::{Spelling, append_value};
+use zf_texts::{Spelling, append_name, append_value};
 use zf_value::value::Value;
 
 /// Appends each component of a row on a line of its own. A refusal leaves a part of it.
@@ -38,9 +39,8 @@ fn append_component(
 ) -> Result<(), AllocError>
     ensures { OnOk result (text.new.items ≡ text.old.items ++ (component_text elements.now (comp_of component.now) value.now ++ codes "\n")) }
 {
-    text.extend_from_slice(component.name.as_slice())?;
-    text.extend_from_slice(b" == ")?;
-    append_value(text, elements, value)?;
+    append_name(text, Format::Lines, component.name.as_slice())?;
+    append_value(text, Format::Lines, elements, value)?;
     text.extend_from_slice(b"\n")
 }
 

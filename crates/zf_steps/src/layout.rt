@@ -7,4 +7,6 @@ pub enum Layout {
     Line,
     /// Each component on a line of its own.
     Column,
+    /// As an object of JSON.
+    Object,
 }

@@ -14,6 +14,7 @@ mod layout;
 mod lines;
 mod machine;
 mod node;
+mod objects;
 mod renewed;
 mod results;
 mod rows;

@@ -134,8 +134,15 @@ pub fn append_counts(line: &mut Vec<u8>, nodes: usize, edges: u64) -> Result<(),
 {
     append_number(line, nodes)?;
     line.extend_from_slice(b" states, ")?;
-    line.extend_from_slice(Buffer::new().format(edges).as_bytes())?;
+    append_steps(line, edges)?;
     line.extend_from_slice(b" steps\n")
+}
+
+/// Appends a number of steps.
+pub fn append_steps(line: &mut Vec<u8>, edges: u64) -> Result<(), AllocError>
+    ensures { OnOk result (line.new.items ≡ line.old.items ++ decimal edges) }
+{
+    line.extend_from_slice(Buffer::new().format(edges).as_bytes())
 }
 
 /// Appends how it ended, and the counts.
@@ -159,16 +166,21 @@ pub fn append_stuck_line(line: &mut Vec<u8>, number: usize) -> Result<(), AllocE
     if number == 0 {
         return Ok(());
     }
-    append_numbered(line, b"stuck ", number)
+    append_between(line, b"stuck ", number, b"\n")
 }
 
-/// Appends a word, a number and a newline.
-pub fn append_numbered(line: &mut Vec<u8>, word: &[u8], number: usize) -> Result<(), AllocError>
-    ensures { OnOk result (line.new.items ≡ line.old.items ++ word.now ++ decimal number ++ codes "\n") }
+/// Appends a number between two texts.
+pub fn append_between(
+    line: &mut Vec<u8>,
+    before: &[u8],
+    number: usize,
+    after: &[u8],
+) -> Result<(), AllocError>
+    ensures { OnOk result (line.new.items ≡ line.old.items ++ before.now ++ decimal number ++ after.now) }
 {
-    line.extend_from_slice(word)?;
+    line.extend_from_slice(before)?;
     append_number(line, number)?;
-    line.extend_from_slice(b"\n")
+    line.extend_from_slice(after)
 }
 
 /// Appends a number.

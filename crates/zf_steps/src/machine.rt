@@ -4,9 +4,13 @@ use crate::finder::Finder;
 use crate::form::Form;
 use crate::given::{Schematic, Surrounding};
 use crate::lines::{
-    append_last_lines, append_numbered, append_state, append_step, append_stuck_line,
+    append_between, append_last_lines, append_state, append_step, append_stuck_line,
 };
 use crate::node::{Label, Node};
+use crate::objects::{
+    append_last_objects, append_state_object, append_step_object, append_stray_object,
+    append_stuck_object, append_verdict_objects,
+};
 use crate::results::append_verdict_lines;
 use crate::statements::{
     append_edge_statement, append_graph_head, append_graph_last, append_graph_verdict,
@@ -156,6 +160,7 @@ impl<'m, 's, 'p, E: Surrounding + Drop, F: Schematic + Drop, S: Finder + Drop> M
         match self.system.form {
             Form::Lines => Ok(()),
             Form::Graph => append_graph_head(line),
+            Form::Objects => Ok(()),
         }
     }
 
@@ -177,6 +182,9 @@ impl<'m, 's, 'p, E: Surrounding + Drop, F: Schematic + Drop, S: Finder + Drop> M
                     number,
                     values.as_slice(),
                 ),
+                Form::Objects => {
+                    append_state_object::<E, F>(line, self.system, number, values.as_slice())
+                }
             },
         }
     }
@@ -191,13 +199,15 @@ impl<'m, 's, 'p, E: Surrounding + Drop, F: Schematic + Drop, S: Finder + Drop> M
         match self.system.form {
             Form::Lines => append_step::<E, F>(line, self.system, from, label, number),
             Form::Graph => append_edge_statement::<E, F>(line, self.system, from, label, number),
+            Form::Objects => append_step_object::<E, F>(line, self.system, from, label, number),
         }
     }
 
     fn append_stray(&self, line: &mut Vec<u8>, number: usize) -> Result<(), AllocError> {
         match self.system.form {
-            Form::Lines => append_numbered(line, b"stray ", number),
+            Form::Lines => append_between(line, b"stray ", number, b"\n"),
             Form::Graph => append_stray_statement(line, number),
+            Form::Objects => append_stray_object(line, number),
         }
     }
 
@@ -205,6 +215,7 @@ impl<'m, 's, 'p, E: Surrounding + Drop, F: Schematic + Drop, S: Finder + Drop> M
         match self.system.form {
             Form::Lines => append_stuck_line(line, number),
             Form::Graph => append_stuck_statement(line, number),
+            Form::Objects => append_stuck_object(line, number),
         }
     }
 
@@ -219,6 +230,7 @@ impl<'m, 's, 'p, E: Surrounding + Drop, F: Schematic + Drop, S: Finder + Drop> M
         match self.system.form {
             Form::Lines => append_last_lines(line, ending, &cursor.stop, nodes, edges),
             Form::Graph => append_graph_last(line, ending, &cursor.stop, nodes, edges),
+            Form::Objects => append_last_objects(line, ending, &cursor.stop, nodes, edges),
         }
     }
 
@@ -233,6 +245,7 @@ impl<'m, 's, 'p, E: Surrounding + Drop, F: Schematic + Drop, S: Finder + Drop> M
         match self.system.form {
             Form::Lines => append_verdict_lines(line, finding, &cursor.stop, nodes, edges),
             Form::Graph => append_graph_verdict(line, finding, &cursor.stop, nodes, edges),
+            Form::Objects => append_verdict_objects(line, finding, &cursor.stop, nodes, edges),
         }
     }
 }

@@ -1,12 +1,14 @@
 //! Rows in parts: what is held of a schema where the state has these values, and the values at places of a binding.
-ghost use Rattle.std.specs.Prelude.{◌≡◌, IfOk, OnOk};
-ghost use Rattle.zf_steps.specs.Steps.{held_by, source_value, stopped, values_at};
+ghost use Rattle.std.specs.Prelude.{◌≡◌, ◌++◌, IfOk, OnOk};
+ghost use Rattle.zf_steps.specs.Steps.{held_by, source_value, stop_object, stop_text, stopped, values_at};
 ghost use Rattle.zf_steps.specs.Systems.{operation_of};
 
+use crate::form::Form;
 use crate::given::Schematic;
 use crate::layout::Layout;
 use crate::system::Operation;
 use std::alloc::{AllocError, Global};
+use zf_format::append_string;
 use zf_meaning::row::Row;
 use zf_texts::Spelling;
 use zf_value::items::Items;
@@ -75,16 +77,51 @@ pub fn values_of<R: Row>(alloc: Global, row: &R) -> Result<Vec<Value>, AllocErro
 /// Lays out what is said of a binding that is out.
 pub fn lay_out_stop<F: Schematic, R: Row>(
     text: &mut Vec<u8>,
+    form: Form,
     elements: &[Spelling],
     operation: &Operation<'_, F>,
     row: &R,
 ) -> Result<(), AllocError>
-    ensures { OnOk result (text.new.items ≡ stopped elements.now (operation_of F.schema operation.now) (R.values row.now)) }
+    ensures { OnOk result (text.new.items ≡ stopped form elements.now (operation_of F.schema operation.now) (R.values row.now)) }
 {
     text.clear();
+    match form {
+        Form::Lines => append_stop(text, elements, operation, row),
+        Form::Graph => append_stop(text, elements, operation, row),
+        Form::Objects => append_stop_object(text, elements, operation, row),
+    }
+}
+
+/// Appends `OPERATION: BINDING`.
+fn append_stop<F: Schematic, R: Row>(
+    text: &mut Vec<u8>,
+    elements: &[Spelling],
+    operation: &Operation<'_, F>,
+    row: &R,
+) -> Result<(), AllocError>
+    ensures { OnOk result (text.new.items ≡ text.old.items ++ stop_text elements.now (operation_of F.schema operation.now) (R.values row.now)) }
+{
     text.extend_from_slice(operation.name)?;
     text.extend_from_slice(b": ")?;
     operation
         .schema
         .append_row(text, elements, Layout::Line, row)
+}
+
+/// Appends `{"operation": "OPERATION", "binding": {..}}`.
+fn append_stop_object<F: Schematic, R: Row>(
+    text: &mut Vec<u8>,
+    elements: &[Spelling],
+    operation: &Operation<'_, F>,
+    row: &R,
+) -> Result<(), AllocError>
+    ensures { OnOk result (text.new.items ≡ text.old.items ++ stop_object elements.now (operation_of F.schema operation.now) (R.values row.now)) }
+{
+    text.extend_from_slice(b"{\"operation\": ")?;
+    append_string(text, operation.name)?;
+    text.extend_from_slice(b", \"binding\": ")?;
+    operation
+        .schema
+        .append_row(text, elements, Layout::Object, row)?;
+    text.extend_from_slice(b"}")
 }

@@ -1,5 +1,6 @@
 -- The components one after another.
 use Rattle.std.proofs.Common.{◌∙◌, ap, arith, drop, length, map, refl}
+use Rattle.zf_format.specs.declared.format.Format.TheVariants.{Lines}
 use Rattle.zf_steps.proofs.Columns.{column-further, column-over}
 use Rattle.zf_steps.proofs.labels.append_column.Goals as goal
 use Rattle.zf_term.specs.SchemaViews.{comp_of}
@@ -13,7 +14,7 @@ pub returns-then-place-len : goal.returns-then-place-len
 returns-then-place-len g c =
     let vs = g.R.Row.values c.args.row.now in
     let comps = map comp_of (drop c.loop-place.place c.args.flat.now.components) in
-    let none = ap (component_texts c.args.elements.now comps) (drop-end c.loop-place.place vs (omega arith)) ∙ texts-nil c.args.elements.now comps in
+    let none = ap (component_texts c.args.elements.now comps) (drop-end c.loop-place.place vs (omega arith)) ∙ texts-nil Lines c.args.elements.now comps in
     column-over _ _ _ none c.loop-place.invariant.1
 
 pub get-requires : goal.get-requires
@@ -22,7 +23,7 @@ get-requires g c = let l = c.loop-place.invariant.0 in omega arith
 pub loop-place-preserved : goal.loop-place-preserved
 loop-place-preserved g c =
     let vs = g.R.Row.values c.args.row.now in
-    let next = texts-drop c.args.elements.now c.args.flat.now.components c.as_slice-components.result.now vs c.loop-place.place c.index-components-place.result c.get.result.now
+    let next = texts-drop Lines c.args.elements.now c.args.flat.now.components c.as_slice-components.result.now vs c.loop-place.place c.index-components-place.result c.get.result.now
     c.as_slice-components.ensures c.index-components-place.is (omega arith) c.get.ensures in
     let l = c.loop-place.invariant.0 in
     (omega arith, column-further _ _ _ _ _ _ next c.loop-place.invariant.1 c.in_ok-append_component.ensures)
