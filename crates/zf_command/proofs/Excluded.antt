@@ -1,9 +1,10 @@
 -- Words that are refused ask for no work.
-use Rattle.zf_command.proofs.Prelude.{◌∙◌, ◌∷◌, ◌≡◌, [], arith, codes, inl, inr, List, None, Option, Some, subst, suc, sym, zero, ℕ, AllZip, Contains, first_of, IsAmong, Row, Text, HasBadLimit, HasBadNumber, HasBadNumbers, HasBadSetting, IsAsked, IsExploration, IsJob, IsLimit, IsNumberOf, IsRefused, IsSetting, ReadsSize, Refuses, RefusesExploration, size_words, values_of, words_after, Work, Size}
+use Rattle.zf_command.proofs.Prelude.{◌∙◌, ◌∷◌, ◌≡◌, [], arith, codes, inl, inr, List, None, Option, Some, subst, suc, sym, zero, ℕ, AllZip, Contains, first_of, IsAmong, Row, Text, HasBadLimit, HasBadNumber, HasBadNumbers, HasBadSetting, IsAsked, IsExploration, IsJob, IsLimit, IsNumberOf, IsRefused, IsSetting, IsShown, ReadsSize, Refuses, RefusesExploration, RefusesShown, size_words, values_of, words_after, Work, Size}
 use Rattle.std.proofs.Common.{◌==◌, ap, Bool, false, true}
 use Rattle.std.proofs.lemmas.Option.{same_Some}
 use Rattle.zf_command.specs.declared.job.Job.{Job}
 use Rattle.zf_command.specs.declared.job.Exploration.{Exploration}
+use Rattle.zf_command.specs.declared.job.Request.{Request}
 use Rattle.zf_command.specs.declared.job.Setting.{Setting}
 use Rattle.zf_command.specs.declared.limit.TheConstants.{LIMIT_MAX, STATES_MAX}
 use Rattle.zf_command.specs.declared.job.Job.TheVariants.{Check, Reach, Show, Why}
@@ -39,36 +40,51 @@ no_bad_setting words rows s (inl (word, among, bad)) (read, numbered, shared) =
     let size = size_of words s.sizes word read among in bad size.0 size.1
 no_bad_setting words rows s (inr bad) (read, numbered, shared) = no_bad_numbers rows s.numbers s.size bad numbered shared
 
+not_false : (b : Bool) → b ≡ true → b ≡ false → ⊥
+not_false b is is_not = cc
+
 not_explored : (rows : List Row) (x : Exploration) → RefusesExploration rows → IsExploration rows x → ⊥
-not_explored rows x (inl none) ((of_state, of_init, operations, some, of_sought), set, bound, drawn, detailed) = some (operations ∙ none)
-not_explored rows x (inr (inl bad)) (named, set, bound, drawn, detailed) = no_bad_setting (size_words (words_after rows)) rows x.setting bad set
-not_explored rows x (inr (inr bad)) (named, set, bound, drawn, detailed) = no_bad_limit STATES_MAX (first_of (codes "limit") rows) x.limit bad bound
+not_explored rows x (inl none) ((of_state, of_init, operations, some, of_sought), set, bound, drawn, detailed, formed, no_clash) = some (operations ∙ none)
+not_explored rows x (inr (inl bad)) (named, set, bound, drawn, detailed, formed, no_clash) = no_bad_setting (size_words (words_after rows)) rows x.setting bad set
+not_explored rows x (inr (inr (inl bad))) (named, set, bound, drawn, detailed, formed, no_clash) = no_bad_limit STATES_MAX (first_of (codes "limit") rows) x.limit bad bound
+not_explored rows x (inr (inr (inr clash))) (named, set, bound, drawn, detailed, formed, no_clash) = not_false _ clash no_clash
 
--- `reach` is no other subcommand
-begins_with_r : Text → Bool
-begins_with_r [] = false
-begins_with_r (b ∷ bs) = b == 114
+not_shown : (rows : List Row) (r : Request) → RefusesShown rows → IsShown rows r → ⊥
+not_shown rows r (inl bad) (after, bound, counted, only, no_clash) = no_bad_limit LIMIT_MAX (first_of (codes "limit") rows) r.limit bad bound
+not_shown rows r (inr clash) (after, bound, counted, only, no_clash) = not_false _ clash no_clash
 
-other_than_check : codes "reach" ≡ codes "check" → ⊥
-unfolding begins_with_r
-other_than_check e = let both : true ≡ false = ap begins_with_r e in cc
+-- the subcommands differ in their first letter
+begins_with : (letter : ℕ) → Text → Bool
+begins_with letter [] = false
+begins_with letter (b ∷ bs) = b == letter
 
-other_than_why : codes "reach" ≡ codes "why" → ⊥
-unfolding begins_with_r
-other_than_why e = let both : true ≡ false = ap begins_with_r e in cc
+reach_is_not_check : codes "reach" ≡ codes "check" → ⊥
+unfolding begins_with
+reach_is_not_check e = let both : true ≡ false = ap (begins_with 114) e in cc
+
+reach_is_not_why : codes "reach" ≡ codes "why" → ⊥
+unfolding begins_with
+reach_is_not_why e = let both : true ≡ false = ap (begins_with 114) e in cc
+
+check_is_not_why : codes "check" ≡ codes "why" → ⊥
+unfolding begins_with
+check_is_not_why e = let both : true ≡ false = ap (begins_with 99) e in cc
 
 not_both : (name : Text) (rows : List Row) (job : Job) → Refuses name rows → IsJob name rows job → ⊥
-not_both name rows (Check types details) (inl (is, bad)) (called, typed, detailed) = other_than_check (sym is ∙ called)
-not_both name rows (Check types details) (inr (other, no_reach, bad)) (called, typed, detailed) = other called
-not_both name rows (Show r) (inl (is, bad)) (no_check, no_reach, no_why, asked, shown) = no_reach is
-not_both name rows (Show r) (inr (other, no_reach, inl bad)) (no_check, not_reach, no_why, (named, set, held_so, detailed), shown) = no_bad_setting (values_of (codes "NAME=SIZE") rows) rows r.setting bad set
-not_both name rows (Show r) (inr (other, no_reach, inr (no_why, bad))) (no_check, not_reach, is_no_why, asked, (after, bound, counted)) =
-    no_bad_limit LIMIT_MAX (first_of (codes "limit") rows) r.limit bad bound
-not_both name rows (Why r) (inl (is, bad)) (called, asked, plain) = other_than_why (sym is ∙ called)
-not_both name rows (Why r) (inr (other, no_reach, inl bad)) (called, (named, set, held_so, detailed), plain) = no_bad_setting (values_of (codes "NAME=SIZE") rows) rows r.setting bad set
-not_both name rows (Why r) (inr (other, no_reach, inr (no_why, bad))) (called, asked, plain) = no_why called
-not_both name rows (Reach x) (inl (is, bad)) (called, asked) = not_explored rows x bad asked
-not_both name rows (Reach x) (inr (other, no_reach, bad)) (called, asked) = no_reach called
+not_both name rows (Check types details format) (inl (is, clash)) (called, (typed, detailed, formed, no_clash)) = not_false _ clash no_clash
+not_both name rows (Check types details format) (inr (inl (is, bad))) (called, asked) = reach_is_not_check (sym is ∙ called)
+not_both name rows (Check types details format) (inr (inr (other, no_reach, bad))) (called, asked) = other called
+not_both name rows (Show r) (inl (is, clash)) (no_check, no_reach, no_why, asked, shown) = no_check is
+not_both name rows (Show r) (inr (inl (is, bad))) (no_check, no_reach, no_why, asked, shown) = no_reach is
+not_both name rows (Show r) (inr (inr (other, no_reach, inl bad))) (no_check, not_reach, no_why, (named, set, held_so, told, formed), shown) = no_bad_setting (values_of (codes "NAME=SIZE") rows) rows r.setting bad set
+not_both name rows (Show r) (inr (inr (other, no_reach, inr (no_why, bad)))) (no_check, not_reach, is_no_why, asked, shown) = not_shown rows r bad shown
+not_both name rows (Why r) (inl (is, clash)) (called, asked, plain) = check_is_not_why (sym is ∙ called)
+not_both name rows (Why r) (inr (inl (is, bad))) (called, asked, plain) = reach_is_not_why (sym is ∙ called)
+not_both name rows (Why r) (inr (inr (other, no_reach, inl bad))) (called, (named, set, held_so, told, formed), plain) = no_bad_setting (values_of (codes "NAME=SIZE") rows) rows r.setting bad set
+not_both name rows (Why r) (inr (inr (other, no_reach, inr (no_why, bad)))) (called, asked, plain) = no_why called
+not_both name rows (Reach x) (inl (is, clash)) (called, asked) = reach_is_not_check (sym called ∙ is)
+not_both name rows (Reach x) (inr (inl (is, bad))) (called, asked) = not_explored rows x bad asked
+not_both name rows (Reach x) (inr (inr (other, no_reach, bad))) (called, asked) = no_reach called
 
 pub refused_ask_no_work : (words : List Text) (file : Text) (job : Job) → IsRefused words → IsAsked words (Work file job) → ⊥
 refused_ask_no_work words file job (inl (cause, among, memory, help, version)) (name, rows, are, asks) = subst (IsAmong cause) are.0 among

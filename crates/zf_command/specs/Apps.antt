@@ -1,7 +1,7 @@
--- The command line, as the literals that `clap` reads words by: `--version`, `check [-t] [--details] FILE`,
--- `show [--after TEXT] [--with TEXT] [--numbers N] [--size N] [--limit N] [--tests] [--details] FILE SCHEMA [NAME=SIZE]...`
--- `why [--with TEXT] [--numbers N] [--size N] [--details] FILE SCHEMA [NAME=SIZE]...`
--- and `reach [--find SCHEMA] [--dot] [--limit N] [--numbers N] [--size N] [--details] FILE STATE INIT OPERATION... [NAME=SIZE]...`.
+-- The command line, as the literals that `clap` reads words by: `--version`, `check [-t] [--json] [--details] FILE`,
+-- `show [--after TEXT] [--with TEXT] [--only TEXT] [--numbers N] [--size N] [--limit N] [--tests] [--json] [--details] FILE SCHEMA [NAME=SIZE]...`
+-- `why [--with TEXT] [--numbers N] [--size N] [--json] [--details] FILE SCHEMA [NAME=SIZE]...`
+-- and `reach [--find SCHEMA] [--dot] [--limit N] [--numbers N] [--size N] [--json] [--details] FILE STATE INIT OPERATION... [NAME=SIZE]...`.
 use Rattle.std.specs.Prelude.{◌≡◌, Some, codes, true, false}
 use Rattle.clap.specs.Words.{App, Rule, Text, app_of, new_app, new_rule, rule_of, with_rule, with_subcommand}
 use Rattle.clap.specs.declared.builder.ArgAction.TheVariants.{Append, SetTrue}
@@ -37,9 +37,13 @@ option_rule name = record (new_rule name) { long = Some name; value_names = 1 }
 abbrev pub flag_rule : Text → Rule
 flag_rule name = record (new_rule name) { long = Some name; action = Some SetTrue }
 
--- `check [-t] [--details] FILE`
+-- `[--json] [--details]`
+abbrev pub with_format : App → App
+with_format app = with_rule (with_rule app (flag_rule (codes "json"))) details_rule
+
+-- `check [-t] [--json] [--details] FILE`
 abbrev pub check_app : App
-check_app = with_rule (with_rule (with_rule (new_app (codes "check")) types_rule) details_rule) (required_rule (codes "FILE"))
+check_app = with_rule (with_format (with_rule (new_app (codes "check")) types_rule)) (required_rule (codes "FILE"))
 
 -- `[--numbers N] [--size N]`
 abbrev pub with_sizes : App → App
@@ -48,18 +52,19 @@ with_sizes app = with_rule (with_rule app (option_rule (codes "numbers"))) (opti
 -- the options of `show`
 abbrev pub show_options : App
 show_options =
-    let bound = with_sizes (with_rule (with_rule (new_app (codes "show")) (option_rule (codes "after"))) (option_rule (codes "with"))) in
-    with_rule (with_rule (with_rule bound (option_rule (codes "limit"))) (flag_rule (codes "tests"))) details_rule
+    let held = with_rule (with_rule (new_app (codes "show")) (option_rule (codes "after"))) (option_rule (codes "with")) in
+    let bound = with_sizes (with_rule held (option_rule (codes "only"))) in
+    with_format (with_rule (with_rule bound (option_rule (codes "limit"))) (flag_rule (codes "tests")))
 
--- `show [--after TEXT] [--with TEXT] [--numbers N] [--size N] [--limit N] [--tests] [--details] FILE SCHEMA [NAME=SIZE]...`
+-- `show [--after TEXT] [--with TEXT] [--only TEXT] [--numbers N] [--size N] [--limit N] [--tests] [--json] [--details] FILE SCHEMA [NAME=SIZE]...`
 abbrev pub show_app : App
 show_app = with_rule (with_rule (with_rule show_options (required_rule (codes "FILE"))) (required_rule (codes "SCHEMA"))) sizes_rule
 
 -- the options of `why`
 abbrev pub why_options : App
-why_options = with_rule (with_sizes (with_rule (new_app (codes "why")) (option_rule (codes "with")))) details_rule
+why_options = with_format (with_sizes (with_rule (new_app (codes "why")) (option_rule (codes "with"))))
 
--- `why [--with TEXT] [--numbers N] [--size N] [--details] FILE SCHEMA [NAME=SIZE]...`
+-- `why [--with TEXT] [--numbers N] [--size N] [--json] [--details] FILE SCHEMA [NAME=SIZE]...`
 abbrev pub why_app : App
 why_app = with_rule (with_rule (with_rule why_options (required_rule (codes "FILE"))) (required_rule (codes "SCHEMA"))) sizes_rule
 
@@ -67,9 +72,9 @@ why_app = with_rule (with_rule (with_rule why_options (required_rule (codes "FIL
 abbrev pub reach_options : App
 reach_options =
     let written = with_rule (with_rule (new_app (codes "reach")) (option_rule (codes "find"))) (flag_rule (codes "dot")) in
-    with_rule (with_sizes (with_rule written (option_rule (codes "limit")))) details_rule
+    with_format (with_sizes (with_rule written (option_rule (codes "limit"))))
 
--- `reach [--find SCHEMA] [--dot] [--limit N] [--numbers N] [--size N] [--details] FILE STATE INIT OPERATION... [NAME=SIZE]...`
+-- `reach [--find SCHEMA] [--dot] [--limit N] [--numbers N] [--size N] [--json] [--details] FILE STATE INIT OPERATION... [NAME=SIZE]...`
 abbrev pub reach_app : App
 reach_app =
     let with_state = with_rule (with_rule reach_options (required_rule (codes "FILE"))) (required_rule (codes "STATE")) in

@@ -1,5 +1,5 @@
 -- What a job is read from: the matches that `clap` makes of the words.
-use Rattle.std.specs.Prelude.{◌≡◌, ◌≢◌, ◌⊎◌, ◌++◌, ◌-◌, ◌^◌, ◌≤◌, ◌==◌, ℕ, Bool, false, not, List, [], Option, Some, None, IsSomeAnd, codes, min, unwrap_or}
+use Rattle.std.specs.Prelude.{◌≡◌, ◌≢◌, ◌⊎◌, ◌++◌, ◌-◌, ◌^◌, ◌≤◌, ◌==◌, ◌&&◌, ℕ, Bool, true, false, not, if◌then◌else◌, List, [], Option, Some, None, IsSomeAnd, is_some, codes, min, unwrap_or}
 use Rattle.std.specs.Option.{option_map_or}
 use Rattle.std.specs.Str.{bytes_eq}
 use Rattle.std.specs.List.{All, AllZip, Contains, filter, list_any}
@@ -16,6 +16,8 @@ use Rattle.zf_command.specs.declared.job.Request.{Request}
 use Rattle.zf_command.specs.declared.job.Setting.{Setting}
 use Rattle.zf_command.specs.declared.job.Size.{Size}
 use Rattle.zf_command.specs.declared.limit.TheConstants.{LIMIT_MAX, STATES_MAX}
+use Rattle.zf_format.specs.declared.format.Format.{Format}
+use Rattle.zf_format.specs.declared.format.Format.TheVariants.{Lines, Objects}
 use Rattle.zf_command.specs.Apps.{zf_app}
 use Rattle.zf_command.specs.Requests.{IsBare}
 
@@ -91,6 +93,22 @@ other_words words = filter (λ word. not (is_size_word word)) words
 abbrev pub words_after : List Row → List Text
 words_after rows = values_of (codes "OPERATION") rows
 
+-- ---- how an answer is written
+
+-- an object in each line, if that is asked for
+abbrev pub format_in : List Row → Format
+format_in rows = if is_flagged (codes "json") rows then Objects else Lines
+
+-- what excludes one another: objects and what is defined, the number of tests and some of the components, objects and a graph
+abbrev pub lists_objects : List Row → Bool
+lists_objects rows = is_flagged (codes "types") rows && is_flagged (codes "json") rows
+
+abbrev pub counts_parts : List Row → Bool
+counts_parts rows = is_flagged (codes "tests") rows && is_some (first_of (codes "only") rows)
+
+abbrev pub draws_objects : List Row → Bool
+draws_objects rows = is_flagged (codes "dot") rows && is_flagged (codes "json") rows
+
 -- ---- jobs
 
 -- how large the given sets and the sets of numbers are, where these are the size words
@@ -102,12 +120,13 @@ IsSetting words rows s =
 abbrev pub IsRequest : List Row → Request → Type 0
 IsRequest rows r =
     (r.name ≡ value_of (codes "SCHEMA") rows) × IsSetting (values_of (codes "NAME=SIZE") rows) rows r.setting
-    × (r.held ≡ first_of (codes "with") rows) × (r.details ≡ is_flagged (codes "details") rows)
+    × (r.held ≡ first_of (codes "with") rows) × (r.details ≡ is_flagged (codes "details") rows) × (r.format ≡ format_in rows)
 
--- what `show` alone is asked for: where it begins, how many bindings it writes, and whether it counts tests
+-- what `show` alone is asked for: where it begins, of which components it writes how many lines, and whether it counts tests
 abbrev pub IsShown : List Row → Request → Type 0
 IsShown rows r =
     (r.after ≡ first_of (codes "after") rows) × IsLimit LIMIT_MAX (first_of (codes "limit") rows) r.limit × (r.tests ≡ is_flagged (codes "tests") rows)
+    × (r.only ≡ first_of (codes "only") rows) × (counts_parts rows ≡ false)
 
 -- the names of the schemas that `reach` is asked for, with at least one operation; the one that is sought is the value of `--find`
 abbrev pub AreNames : List Row → Exploration → Type 0
@@ -120,11 +139,16 @@ abbrev pub IsExploration : List Row → Exploration → Type 0
 IsExploration rows x =
     AreNames rows x × IsSetting (size_words (words_after rows)) rows x.setting
     × IsLimit STATES_MAX (first_of (codes "limit") rows) x.limit × (x.graph ≡ is_flagged (codes "dot") rows)
-    × (x.details ≡ is_flagged (codes "details") rows)
+    × (x.details ≡ is_flagged (codes "details") rows) × (x.format ≡ format_in rows) × (draws_objects rows ≡ false)
+
+-- what `check` is asked for
+abbrev pub IsChecking : List Row → (types details : Bool) → Format → Type 0
+IsChecking rows types details format =
+    (types ≡ is_flagged (codes "types") rows) × (details ≡ is_flagged (codes "details") rows) × (format ≡ format_in rows) × (lists_objects rows ≡ false)
 
 -- the job is `check`, `why` or `reach` where the subcommand has this name, else `show`, read from the matches of its arguments
 abbrev pub IsJob : Text → List Row → Job → Type 0
-IsJob name rows (Check types details) = (name ≡ codes "check") × (types ≡ is_flagged (codes "types") rows) × (details ≡ is_flagged (codes "details") rows)
+IsJob name rows (Check types details format) = (name ≡ codes "check") × IsChecking rows types details format
 IsJob name rows (Show r) = (name ≢ codes "check") × (name ≢ codes "reach") × (name ≢ codes "why") × IsRequest rows r × IsShown rows r
 IsJob name rows (Why r) = (name ≡ codes "why") × IsRequest rows r × IsBare r
 IsJob name rows (Reach x) = (name ≡ codes "reach") × IsExploration rows x
@@ -142,18 +166,25 @@ HasBadNumbers rows = HasBadNumber (first_of (codes "numbers") rows) ⊎ HasBadNu
 abbrev pub HasBadSetting : (words : List Text) → List Row → Type 0
 HasBadSetting words rows = HasBadSize words ⊎ HasBadNumbers rows
 
--- among the matches of `show` or `why` a size word or a number has another form, or the limit of `show` has
-abbrev pub RefusesRequest : Text → List Row → Type 0
-RefusesRequest name rows = HasBadSetting (values_of (codes "NAME=SIZE") rows) rows ⊎ ((name ≢ codes "why") × HasBadLimit LIMIT_MAX (first_of (codes "limit") rows))
+-- the limit of `show` has another form, or it is asked for what excludes one another
+abbrev pub RefusesShown : List Row → Type 0
+RefusesShown rows = HasBadLimit LIMIT_MAX (first_of (codes "limit") rows) ⊎ (counts_parts rows ≡ true)
 
--- among those of `reach` is no operation, or a size word, a number or the limit has another form
+-- among the matches of `show` or `why` a size word or a number has another form, or what is asked of `show` alone is refused
+abbrev pub RefusesRequest : Text → List Row → Type 0
+RefusesRequest name rows = HasBadSetting (values_of (codes "NAME=SIZE") rows) rows ⊎ ((name ≢ codes "why") × RefusesShown rows)
+
+-- among those of `reach` is no operation, a size word, a number or the limit has another form, or it is asked for what excludes one another
 abbrev pub RefusesExploration : List Row → Type 0
 RefusesExploration rows =
-    (other_words (words_after rows) ≡ []) ⊎ (HasBadSetting (size_words (words_after rows)) rows ⊎ HasBadLimit STATES_MAX (first_of (codes "limit") rows))
+    (other_words (words_after rows) ≡ [])
+    ⊎ (HasBadSetting (size_words (words_after rows)) rows ⊎ (HasBadLimit STATES_MAX (first_of (codes "limit") rows) ⊎ (draws_objects rows ≡ true)))
 
 -- the matches of the subcommand of this name ask for nothing
 abbrev pub Refuses : Text → List Row → Type 0
-Refuses name rows = ((name ≡ codes "reach") × RefusesExploration rows) ⊎ ((name ≢ codes "check") × (name ≢ codes "reach") × RefusesRequest name rows)
+Refuses name rows =
+    ((name ≡ codes "check") × (lists_objects rows ≡ true))
+    ⊎ (((name ≡ codes "reach") × RefusesExploration rows) ⊎ ((name ≢ codes "check") × (name ≢ codes "reach") × RefusesRequest name rows))
 
 -- `clap` takes the words, which name this subcommand, and the rows are its matches
 abbrev pub AreMatches : List Text → Text → List Row → Type 0

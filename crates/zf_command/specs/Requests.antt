@@ -2,6 +2,6 @@
 use Rattle.std.specs.Prelude.{◌≡◌, false, None}
 use Rattle.zf_command.specs.declared.job.Request.{Request}
 
--- it names no row, has no limit, and doesn't ask for the number of tests
+-- it names no row and no components, has no limit, and doesn't ask for the number of tests
 abbrev pub IsBare : Request → Type 0
-IsBare r = (r.after ≡ None) × (r.limit ≡ None) × (r.tests ≡ false)
+IsBare r = (r.after ≡ None) × (r.only ≡ None) × (r.limit ≡ None) × (r.tests ≡ false)

@@ -1,15 +1,16 @@
 //! What the words of a command line ask for.
-ghost use Rattle.std.specs.Prelude.{◌≡◌, ◌≢◌, ◌⊎◌, [], IfOk, IsErrOf, codes, map};
+ghost use Rattle.std.specs.Prelude.{◌≡◌, ◌≢◌, ◌⊎◌, [], IfOk, IsErrOf, codes, map, true};
 ghost use Rattle.std.specs.List.{AllZip};
 ghost use Rattle.clap.specs.Words.{found_of, first_of, rows_of};
-ghost use Rattle.zf_command.specs.Jobs.{AreNames, Asks, HasBadLimit, HasBadNumber, HasBadSetting, IsAsked, IsExploration, IsJob, IsLimit, IsNumberOf, IsRefused, IsRequest, IsSetting, IsShown, other_words, Refuses, RefusesExploration, RefusesRequest, size_words, values_of, words_after};
+ghost use Rattle.zf_command.specs.Jobs.{AreNames, Asks, HasBadLimit, HasBadNumber, HasBadSetting, IsAsked, IsExploration, IsJob, IsLimit, IsNumberOf, IsRefused, IsRequest, IsSetting, IsShown, lists_objects, other_words, Refuses, RefusesExploration, RefusesShown, size_words, values_of, words_after};
 ghost use Rattle.zf_command.specs.Requests.{IsBare};
 ghost use Rattle.zf_command.specs.declared.job.UsageFault.TheVariants.{BadWords};
 
+use crate::clashes::{counts_parts, draws_objects, lists_objects};
 use crate::command::zf;
 use crate::job::{Asked, Exploration, Job, Request, Setting, UsageFault};
 use crate::limit::{LIMIT_MAX, STATES_MAX, limit_of};
-use crate::matches::{all_in, first_in, is_flagged, option_in, value_in};
+use crate::matches::{all_in, first_in, format_in, is_flagged, option_in, value_in};
 use crate::numerals::given_number;
 use crate::sizes::{other_words, size_words, sizes_of};
 use clap::ArgMatches;
@@ -59,9 +60,7 @@ fn job_in(alloc: Global, name: &str, matches: &ArgMatches<'_>) -> Result<Job, Us
     ensures refused { IsErrOf result BadWords → Refuses name.now (rows_of (found_of matches.now)) }
 {
     if name == "check" {
-        let types = is_flagged(matches, "types");
-        let details = is_flagged(matches, "details");
-        return Ok(Job::Check { types, details });
+        return check_in(matches);
     }
     if name == "reach" {
         return Ok(Job::Reach(exploration_in(alloc, matches)?));
@@ -71,6 +70,21 @@ fn job_in(alloc: Global, name: &str, matches: &ArgMatches<'_>) -> Result<Job, Us
         return Ok(Job::Why(request));
     }
     Ok(Job::Show(shown_in(alloc, matches, request)?))
+}
+
+/// What `check` is asked for.
+fn check_in(matches: &ArgMatches<'_>) -> Result<Job, UsageFault>
+    ensures asked { IfOk result (IsJob (codes "check") (rows_of (found_of matches.now))) }
+    ensures refused { IsErrOf result BadWords → lists_objects (rows_of (found_of matches.now)) ≡ true }
+{
+    if lists_objects(matches) {
+        return Err(UsageFault::BadWords);
+    }
+    Ok(Job::Check {
+        types: is_flagged(matches, "types"),
+        details: is_flagged(matches, "details"),
+        format: format_in(matches),
+    })
 }
 
 /// What `show` and `why` both are asked for.
@@ -89,9 +103,11 @@ fn request_in(alloc: Global, matches: &ArgMatches<'_>) -> Result<Request, UsageF
         setting,
         after: None,
         held,
+        only: None,
         limit: None,
         tests: false,
         details,
+        format: format_in(matches),
     })
 }
 
@@ -103,10 +119,14 @@ fn shown_in(
 ) -> Result<Request, UsageFault>
     ensures kept { IsRequest (rows_of (found_of matches.now)) request → IfOk result (IsRequest (rows_of (found_of matches.now))) }
     ensures shown { IfOk result (IsShown (rows_of (found_of matches.now))) }
-    ensures refused { IsErrOf result BadWords → HasBadLimit LIMIT_MAX (first_of (codes "limit") (rows_of (found_of matches.now))) }
+    ensures refused { IsErrOf result BadWords → RefusesShown (rows_of (found_of matches.now)) }
 {
+    if counts_parts(matches) {
+        return Err(UsageFault::BadWords);
+    }
     let mut shown = request;
     shown.after = option_in(alloc, matches, "after")?;
+    shown.only = option_in(alloc, matches, "only")?;
     shown.limit = limit_of(first_in(matches, "limit"), LIMIT_MAX)?;
     shown.tests = is_flagged(matches, "tests");
     Ok(shown)
@@ -117,6 +137,9 @@ fn exploration_in(alloc: Global, matches: &ArgMatches<'_>) -> Result<Exploration
     ensures asked { IfOk result (IsExploration (rows_of (found_of matches.now))) }
     ensures refused { IsErrOf result BadWords → RefusesExploration (rows_of (found_of matches.now)) }
 {
+    if draws_objects(matches) {
+        return Err(UsageFault::BadWords);
+    }
     let words = all_in(matches, "OPERATION").unwrap_or(&[]);
     let operations = other_words(alloc, words)?;
     if operations.as_slice().is_empty() {
@@ -134,6 +157,7 @@ fn exploration_in(alloc: Global, matches: &ArgMatches<'_>) -> Result<Exploration
         limit,
         graph: is_flagged(matches, "dot"),
         details: is_flagged(matches, "details"),
+        format: format_in(matches),
     })
 }
 

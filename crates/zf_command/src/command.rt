@@ -40,19 +40,20 @@ fn top_command<'a>(alloc: Global) -> Result<Command<'a>, AllocError>
     Ok(command)
 }
 
-/// `check [-t] [--details] FILE`
+/// `check [-t] [--json] [--details] FILE`
 fn check_command<'a>(alloc: Global) -> Result<Command<'a>, AllocError>
     ensures { IfOk result (λ c. IsCommand c check_app) }
 {
     let command = Command::new(alloc, "check")
         .about("Writes the faults of a specification, one a line")
         .arg(types_arg(alloc))?
+        .arg(json_arg(alloc))?
         .arg(details_arg(alloc, FAULTS_TOLD))?
         .arg(file_arg(alloc))?;
     Ok(command)
 }
 
-/// `show [--after TEXT] [--with TEXT] [--numbers N] [--size N] [--limit N] [--tests] [--details] FILE SCHEMA [NAME=SIZE]...`
+/// `show [--after TEXT] [--with TEXT] [--only TEXT] [--numbers N] [--size N] [--limit N] [--tests] [--json] [--details] FILE SCHEMA [NAME=SIZE]...`
 fn show_command<'a>(alloc: Global) -> Result<Command<'a>, AllocError>
     ensures { IfOk result (λ c. IsCommand c show_app) }
 {
@@ -63,10 +64,12 @@ fn show_command<'a>(alloc: Global) -> Result<Command<'a>, AllocError>
             alloc,
             "Writes only the bindings in which some components have these values, a line of only these components",
         ))?
+        .arg(only_arg(alloc))?
         .arg(numbers_arg(alloc))?
         .arg(size_arg(alloc))?
         .arg(limit_arg(alloc, "Writes at most so many bindings, 1 to 1000000000"))?
         .arg(tests_arg(alloc))?
+        .arg(json_arg(alloc))?
         .arg(details_arg(alloc, FAULTS_TOLD))?
         .arg(file_arg(alloc))?
         .arg(name_arg(alloc, "SCHEMA", "The name of the schema"))?
@@ -74,7 +77,7 @@ fn show_command<'a>(alloc: Global) -> Result<Command<'a>, AllocError>
     Ok(command)
 }
 
-/// `why [--with TEXT] [--numbers N] [--size N] [--details] FILE SCHEMA [NAME=SIZE]...`
+/// `why [--with TEXT] [--numbers N] [--size N] [--json] [--details] FILE SCHEMA [NAME=SIZE]...`
 fn why_command<'a>(alloc: Global) -> Result<Command<'a>, AllocError>
     ensures { IfOk result (λ c. IsCommand c why_app) }
 {
@@ -86,6 +89,7 @@ fn why_command<'a>(alloc: Global) -> Result<Command<'a>, AllocError>
         ))?
         .arg(numbers_arg(alloc))?
         .arg(size_arg(alloc))?
+        .arg(json_arg(alloc))?
         .arg(details_arg(
             alloc,
             "Writes after each fault what it is about, after a relation what its sides come to",
@@ -96,7 +100,7 @@ fn why_command<'a>(alloc: Global) -> Result<Command<'a>, AllocError>
     Ok(command)
 }
 
-/// `reach [--find SCHEMA] [--dot] [--limit N] [--numbers N] [--size N] [--details] FILE STATE INIT OPERATION... [NAME=SIZE]...`
+/// `reach [--find SCHEMA] [--dot] [--limit N] [--numbers N] [--size N] [--json] [--details] FILE STATE INIT OPERATION... [NAME=SIZE]...`
 fn reach_command<'a>(alloc: Global) -> Result<Command<'a>, AllocError>
     ensures { IfOk result (λ c. IsCommand c reach_app) }
 {
@@ -110,6 +114,7 @@ fn reach_command<'a>(alloc: Global) -> Result<Command<'a>, AllocError>
         ))?
         .arg(numbers_arg(alloc))?
         .arg(size_arg(alloc))?
+        .arg(json_arg(alloc))?
         .arg(details_arg(alloc, FAULTS_TOLD))?
         .arg(file_arg(alloc))?
         .arg(name_arg(alloc, "STATE", "The name of the schema of the state"))?
@@ -159,6 +164,14 @@ fn with_arg<'a>(alloc: Global, help: &'a str) -> Arg<'a>
         .help(help)
 }
 
+fn only_arg<'a>(alloc: Global) -> Arg<'a>
+    ensures { IsArg result (option_rule (codes "only")) }
+{
+    Arg::new(alloc, "only").long("only").value_name("TEXT").help(
+        "Writes only these components, parted by commas, and each line once",
+    )
+}
+
 fn numbers_arg<'a>(alloc: Global) -> Arg<'a>
     ensures { IsArg result (option_rule (codes "numbers")) }
 {
@@ -193,6 +206,15 @@ fn tests_arg<'a>(alloc: Global) -> Arg<'a>
         .long("tests")
         .action(ArgAction::SetTrue)
         .help("Writes also how many tests of predicates were finished")
+}
+
+fn json_arg<'a>(alloc: Global) -> Arg<'a>
+    ensures { IsArg result (flag_rule (codes "json")) }
+{
+    Arg::new(alloc, "json")
+        .long("json")
+        .action(ArgAction::SetTrue)
+        .help("Writes an object of JSON in each line, for programs")
 }
 
 fn find_arg<'a>(alloc: Global) -> Arg<'a>

@@ -4,6 +4,7 @@ ghost use Rattle.std.specs.Prelude.{◌≡◌};
 use std::alloc::AllocError;
 use thiserror::Error;
 use zf_data::{Items, Word};
+use zf_format::Format;
 
 /// A size word: the name and the size of a given set.
 #[derive(Drop)]
@@ -33,12 +34,15 @@ pub struct Request {
     pub after: Option<Word>,
     /// The line of some components, whose values are held.
     pub held: Option<Word>,
+    /// The names of the components that alone are shown.
+    pub only: Option<Word>,
     /// How many bindings it writes at most.
     pub limit: Option<u64>,
     /// Whether it tells the number of tests.
     pub tests: bool,
     /// Whether it tells what faults are about.
     pub details: bool,
+    pub format: Format,
 }
 
 /// What `reach` is asked for.
@@ -59,6 +63,7 @@ pub struct Exploration {
     pub graph: bool,
     /// Whether it tells what faults are about.
     pub details: bool,
+    pub format: Format,
 }
 
 /// What is asked of a file.
@@ -66,10 +71,15 @@ pub struct Exploration {
 pub enum Job {
     /// The faults; if `details`, with lines that say what each is about; then, if `types`, what is defined, with its
     /// types.
-    Check { types: bool, details: bool },
+    Check {
+        types: bool,
+        details: bool,
+        format: Format,
+    },
     /// The bindings of a schema.
     Show(Request),
-    /// A binding of a schema, or why it has none; begun after no binding, without a limit and a count of tests.
+    /// A binding of a schema, or why it has none; begun after no binding, of all components, without a limit and a count
+    /// of tests.
     Why(Request),
     /// The states that can be reached and the steps between them, or a shortest way to one that is sought.
     Reach(Exploration),

@@ -3,6 +3,7 @@
 #![tactic(auto)]
 
 pub mod asked;
+mod clashes;
 mod command;
 pub mod job;
 pub mod limit;

@@ -1,11 +1,12 @@
 //! The values of `clap`'s matches.
 ghost use Rattle.std.specs.Prelude.{◌≡◌, IfOk, map, option_map};
 ghost use Rattle.clap.specs.Words.{all_of, first_of, found_of, rows_of};
-ghost use Rattle.zf_command.specs.Jobs.{is_flagged, value_of};
+ghost use Rattle.zf_command.specs.Jobs.{format_in, is_flagged, value_of};
 
 use clap::ArgMatches;
 use std::alloc::{AllocError, Global};
 use zf_data::Word;
+use zf_format::Format;
 
 /// The value of an argument that is required.
 pub fn value_in(alloc: Global, matches: &ArgMatches<'_>, id: &str) -> Result<Word, AllocError>
@@ -35,6 +36,17 @@ pub fn is_flagged(matches: &ArgMatches<'_>, id: &str) -> bool
     match first_in(matches, id) {
         Some(value) => value == "true",
         None => false,
+    }
+}
+
+/// How the answer is written.
+pub fn format_in(matches: &ArgMatches<'_>) -> Format
+    ensures { result ≡ format_in (rows_of (found_of matches.now)) }
+{
+    if is_flagged(matches, "json") {
+        Format::Objects
+    } else {
+        Format::Lines
     }
 }
 

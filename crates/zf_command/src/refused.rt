@@ -2,6 +2,7 @@
 //!
 //! Each line begins with two blanks, and the last one names the help that says more.
 
+use crate::clashes::{counts_parts, draws_objects, lists_objects};
 use crate::command::zf;
 use crate::limit::{LIMIT_MAX, STATES_MAX, limit_of};
 use crate::matches::{all_in, first_in};
@@ -85,19 +86,35 @@ fn append_message(text: &str, lines: &mut String) -> Result<(), AllocError> {
     Ok(())
 }
 
-/// The values that are no sizes, no number or no limit.
+/// The values that are no sizes, no number or no limit, and the options that exclude one another.
 fn append_bad_values(
     name: &str,
     matches: &ArgMatches<'_>,
     lines: &mut String,
 ) -> Result<(), AllocError> {
+    if name == "check" {
+        return append_clash(lists_objects(matches), "-t: not with --json", lines);
+    }
     if name == "reach" {
         let words = all_in(matches, "OPERATION").unwrap_or(&[]);
         append_bad_words(words, lines)?;
-        return append_bad_numbers(matches, STATES_MAX, lines);
+        append_bad_numbers(matches, STATES_MAX, lines)?;
+        return append_clash(draws_objects(matches), "--dot: not with --json", lines);
     }
     append_bad_sizes(all_in(matches, "NAME=SIZE").unwrap_or(&[]), lines)?;
-    append_bad_numbers(matches, LIMIT_MAX, lines)
+    append_bad_numbers(matches, LIMIT_MAX, lines)?;
+    if name == "why" {
+        return Ok(());
+    }
+    append_clash(counts_parts(matches), "--only: not with --tests", lines)
+}
+
+/// The line for what excludes one another, if both are asked for.
+fn append_clash(clashes: bool, line: &str, lines: &mut String) -> Result<(), AllocError> {
+    if !clashes {
+        return Ok(());
+    }
+    append_line(line, lines)
 }
 
 /// The words that are no sizes.
