@@ -1,6 +1,6 @@
 -- The first event of a search, and what is told of it.
-use Rattle.zf_engine.proofs.Prelude.{◌++◌, ◌∙◌, ◌∷◌, ◌≡◌, [], ap, append-nil, List, None, Option, refl, Some, subst, ℕ, Stage, Value, Schema, Environment, portion, property, Goal, spellings}
-use Rattle.std.specs.Prelude.{codes, unwrap_or}
+use Rattle.zf_engine.proofs.Prelude.{◌++◌, ◌∙◌, ◌∷◌, ◌≡◌, [], ap, List, None, Option, refl, Some, subst, ℕ, Stage, Value, Schema, Environment, portion, property, Goal, spellings, Spelling}
+use Rattle.std.specs.Prelude.{unwrap_or}
 use Rattle.zf_enum.specs.Searches.{conjuncts_of}
 use Rattle.zf_enum.specs.Starts.{Begins}
 use Rattle.zf_value.specs.Sets.{value_order}
@@ -14,11 +14,11 @@ use Rattle.zf_plan.proofs.Alike.{advances}
 use Rattle.zf_why.proofs.Decided.{ends}
 use Rattle.zf_lines.specs.declared.fault.Status.TheVariants.{Done, PastBounds}
 use Rattle.zf_lines.specs.Searches.{HasEvents}
-use Rattle.zf_lines.specs.Texts.{binding_line}
+use Rattle.zf_lines.specs.Texts.{out_line, row_line}
 use Rattle.zf_lines.proofs.Behind.{Behind, none_behind, one_behind, up_to_end, up_to_last}
-use Rattle.zf_engine.specs.Reasons.{TellsWhy}
-use Rattle.zf_engine.specs.Subjects.{CanBeSearched, environment_in, HasNone, IsBegunOf, line_in, schema_in, TellsFirst}
-use Rattle.zf_engine.specs.declared.why.Subject.{Subject}
+use Rattle.zf_engine.specs.Reasons.{satisfied_line, TellsWhy}
+use Rattle.zf_engine.specs.Subjects.{CanBeSearched, environment_in, HasNone, IsBegunOf, line_in, out_line_in, schema_in, TellsFirst}
+use Rattle.zf_engine.specs.declared.subject.Subject.{Subject}
 
 module _ (e : Environment) (a : Schema) (held : List (Option Value)) (g : Goal) (b d : Stage Value) (begun : Begins e a (portion None held) g b) where
   abbrev stated : Conjuncts Value
@@ -57,26 +57,28 @@ module _ (e : Environment) (a : Schema) (held : List (Option Value)) (g : Goal) 
       record { ranges = b.ranges; of_components = begun.ranges; listed = up_to_end value_order stated b.ranges None b.ahead [] left none }
 
 module _ (s : Subject) (can : CanBeSearched s) (g : Goal) (b d : Stage Value) (begun : IsBegunOf s g b) where
-  -- the line of the row that a step gives
-  line_of : (values row : List Value) → values ≡ unwrap_or d.last [] → d.last ≡ Some row → line_in s values ≡ binding_line (spellings (environment_in s).globals) (schema_in s).comps row
-  line_of values row given last =
-      ap (λ k. binding_line k (schema_in s).comps values) can.spelled
-      ∙ ap (λ vs. binding_line (spellings (environment_in s).globals) (schema_in s).comps vs) (given ∙ ap (λ (o : Option (List Value)). unwrap_or o []) last)
+  -- the row that a step gives, in the spellings of the environment
+  given_row : (f : List Spelling → List Value → List ℕ) (values row : List Value) → values ≡ unwrap_or d.last [] → d.last ≡ Some row
+      → f s.style.now.elements.now values ≡ f (spellings (environment_in s).globals) row
+  given_row f values row given last =
+      ap (λ k. f k values) can.spelled ∙ ap (f (spellings (environment_in s).globals)) (given ∙ ap (λ (o : Option (List Value)). unwrap_or o []) last)
 
   pub first_satisfied : (values : List Value) (text : List ℕ) → values ≡ unwrap_or d.last [] → Advances value_order (conjuncts_of g) Holds b d
-      → text ≡ line_in s values ++ codes "satisfied\n" → TellsFirst s text Done
+      → text ≡ line_in s values ++ satisfied_line s.style.now.format → TellsFirst s text Done
   first_satisfied values text given step told =
       λ details file source.
+      let f = s.style.now.format in
       let t = holds (environment_in s) (schema_in s) s.held.now g b d begun step in
-      TellsWhy.satisfied (record { row = t.0; truth = True }) t.2 refl (told ∙ ap (λ l. l ++ codes "satisfied\n") (line_of values t.0 given t.1)) refl
+      TellsWhy.satisfied (record { row = t.0; truth = True }) t.2 refl
+      (told ∙ ap (λ l. l ++ satisfied_line f) (given_row (λ k vs. row_line f k (schema_in s).comps vs) values t.0 given t.1)) refl
 
   pub first_out : (values : List Value) (text : List ℕ) → values ≡ unwrap_or d.last [] → Advances value_order (conjuncts_of g) Breaks b d
-      → text ≡ codes "out of bounds at: " ++ line_in s values ++ [] → TellsFirst s text PastBounds
+      → text ≡ out_line_in s values → TellsFirst s text PastBounds
   first_out values text given step told =
       λ details file source.
       let t = breaks (environment_in s) (schema_in s) s.held.now g b d begun step in
       TellsWhy.doubtful (record { row = t.0; truth = Out }) t.2 refl
-      (told ∙ ap (λ l. codes "out of bounds at: " ++ l) (append-nil (line_in s values) ∙ line_of values t.0 given t.1)) refl
+      (told ∙ given_row (λ k vs. out_line s.style.now.format k (schema_in s).comps vs) values t.0 given t.1) refl
 
   pub first_none : Advances value_order (conjuncts_of g) End b d → HasNone s
   first_none step = record {

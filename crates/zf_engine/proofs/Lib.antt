@@ -8,6 +8,8 @@ pub mod OwnComponents
 pub mod DueWithin
 pub mod NamedRows
 pub mod Statuses
+pub mod Subjects
+pub mod NamedParts
 pub mod FirstEvents
 pub mod WhyAnswers
 pub mod SourceLines

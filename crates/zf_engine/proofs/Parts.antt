@@ -1,9 +1,11 @@
 -- How the parts of an answer that are written come together.
-use Rattle.zf_engine.proofs.Prelude.{◌++◌, ◌∙◌, ◌∷◌, ◌≡◌, ◌⊎◌, [], append-nil, Bool, Err, false, IfOk, inl, inr, List, Ok, OnErr, Option, refl, Result, subst, sym, true, ℕ, Appends-kept, Appends-nil, false≢true, Appends, Keeps, Stage, Value, Schema, Environment, spellings, Spelling, Portion, property, Goal, Status, Answer, AnswersReader, AnswersSource, AreHeld, IsAsked, IsNamedRow, IsSearch, Request, RequestAnswer, ShowAnswer, ShowBegins, StopsInReader, StopsInSource, AnswersRequest, IfAnswered, IsRefused, IsUnexplored, Shows, Tells, Writes, Stop, Answered, OutOfMemory}
+use Rattle.zf_engine.proofs.Prelude.{◌++◌, ◌∙◌, ◌∷◌, ◌≡◌, ◌⊎◌, [], append-nil, Bool, Err, false, IfOk, inl, inr, List, Ok, None, OnErr, Option, refl, Some, Result, subst, sym, true, ℕ, Appends-kept, Appends-nil, false≢true, Appends, Keeps, Stage, Value, Schema, Environment, spellings, Portion, property, Goal, Status, Answer, AnswersReader, AnswersSource, AreHeld, IsAsked, IsNamedRow, IsSearch, Request, RequestAnswer, ShowAnswer, ShowBegins, StopsInReader, StopsInSource, AnswersRequest, AreMessages, IfAnswered, IsRefused, IsUnexplored, Shows, Tells, ToldOfFaults, wording, Writes, WritesText, Stop, Answered, OutOfMemory}
 use Rattle.std.specs.Result.{IsErr}
 use Rattle.zf_command.specs.declared.job.Job.{Job}
 use Rattle.zf_command.specs.declared.job.Exploration.{Exploration}
-use Rattle.zf_command.specs.declared.job.Job.TheVariants.{Reach, Show, Why}
+use Rattle.zf_command.specs.declared.job.Job.TheVariants.{Check, Reach, Show, Why}
+use Rattle.zf_format.specs.declared.format.Format.{Format}
+use Rattle.zf_format.specs.Messages.{messages_in}
 use Rattle.zf_value.specs.Sets.{value_order}
 use Rattle.zf_enum.specs.Starts.{Begins}
 use Rattle.zf_lines.specs.declared.fault.RunFault.{RunFault}
@@ -12,56 +14,61 @@ use Rattle.zf_walk.specs.Tests.{IsNumberOfTests}
 use Rattle.zf_lines.specs.FaultViews.{AppendsFront}
 use Rattle.zf_engine.specs.Explorations.{ExplorationAnswer}
 use Rattle.zf_engine.specs.Faults.{Gave}
-use Rattle.zf_engine.proofs.Refusing.{weaker}
-use Rattle.zf_lines.specs.Searches.{AreEventsUpTo, HasEvents, IsBegun, IsTestsLine, IsWritten}
+use Rattle.zf_lines.specs.Searches.{AreEventsUpTo, HasEvents, IsBegun, IsTestsLine, IsWritten, Wording}
 use Rattle.zf_lines.specs.Shown.{FindsEvents, IsSome, StopsShown, TellsTests, WritesAll}
-use Rattle.zf_lines.specs.Texts.{binding_line}
+use Rattle.zf_parts.specs.Places.{comps_at}
+use Rattle.zf_parts.specs.Shown.{StopsParts, WritesParts}
+use Rattle.zf_parts.specs.Written.{ArePartsWritten, part_wording}
+use Rattle.zf_engine.specs.Answers.{TellsShown}
+use Rattle.zf_engine.specs.Only.{NamesParts}
 
 -- ---- answers that are whole
 
--- a refusal is an answer, whatever would be told of a search
-pub show_refused : (r : Request) (file source text : List ℕ) (status : Status) → IsRefused r file source text status → Answer (Show r) file source text status
-show_refused r file source text status (inl unread) = inl unread
-show_refused r file source text status (inr refused) = inr (RequestAnswer.refused refused)
+-- the messages of a refusal are an answer, whatever would be told of a search
+pub show_refused : (r : Request) (file source text : List ℕ) (status : Status) → AreMessages r.format file (IsRefused r file source) text status → Answer (Show r) file source text status
+show_refused r file source text status (told, inl unread, is) = inl (told, unread, is)
+show_refused r file source text status (told, inr refused, is) = inr (RequestAnswer.refused (told, refused, is))
 
-pub why_refused : (r : Request) (file source text : List ℕ) (status : Status) → IsRefused r file source text status → Answer (Why r) file source text status
-why_refused r file source text status (inl unread) = inl unread
-why_refused r file source text status (inr refused) = inr (RequestAnswer.refused refused)
+pub why_refused : (r : Request) (file source text : List ℕ) (status : Status) → AreMessages r.format file (IsRefused r file source) text status → Answer (Why r) file source text status
+why_refused r file source text status (told, inl unread, is) = inl (told, unread, is)
+why_refused r file source text status (told, inr refused, is) = inr (RequestAnswer.refused (told, refused, is))
 
-pub reach_refused : (x : Exploration) (file source text : List ℕ) (status : Status) → IsUnexplored x file source text status → Answer (Reach x) file source text status
-reach_refused x file source text status (inl unread) = inl unread
-reach_refused x file source text status (inr refused) = inr (ExplorationAnswer.refused refused)
+pub reach_refused : (x : Exploration) (file source text : List ℕ) (status : Status) → AreMessages x.format file (IsUnexplored x file source) text status → Answer (Reach x) file source text status
+reach_refused x file source text status (told, inl unread, is) = inl (told, unread, is)
+reach_refused x file source text status (told, inr refused, is) = inr (ExplorationAnswer.refused (told, refused, is))
 
--- what is told is written, or a front of it
-pub told_written : (job : Job) (file source : List ℕ) (stop : Stop) (a b : Option (List ℕ)) (result : Result Status RunFault) → IfAnswered stop (Answer job file source) → Tells stop a b result
-    → Writes job file source a b result
-told_written job file source (Answered text status) a b (Ok given) answer (same, written) = (text.items, subst (λ s. Answer job file source text.items s) same answer, written)
-told_written job file source (Answered text status) a b (Err fault) answer (f, front, written) = (f, inr (inl (text.items, status, answer, front)), written)
-told_written job file source OutOfMemory a b (Ok given) answer h = absurd h
-told_written job file source OutOfMemory a b (Err fault) answer h = ([], inl refl, h)
+-- so are those of what `check` tells
+faults_told : (types details : Bool) (format : Format) (file source text : List ℕ) (status : Status) → AreMessages format file (ToldOfFaults types details file source) text status
+    → Answer (Check types details format) file source text status
+faults_told types details format file source text status (told, inl unread, is) = inl (told, unread, is)
+faults_told types details format file source text status (told, inr checked, is) = inr (told, checked, is)
 
-pub told : (r : Request) (file source : List ℕ) (stop : Stop) (a b : Option (List ℕ)) (result : Result Status RunFault) → AnswersRequest r file source stop → Tells stop a b result
+-- an answer is written, or a front of it
+pub text_written : (job : Job) (file source text : List ℕ) (status : Status) (a b : Option (List ℕ)) (result : Result Status RunFault) → Answer job file source text status
+    → WritesText text status a b result → Writes job file source a b result
+text_written job file source text status a b (Ok given) answer (same, written) = (text, subst (λ s. Answer job file source text s) same answer, written)
+text_written job file source text status a b (Err fault) answer (f, front, written) = (f, inr (inl (text, status, answer, front)), written)
+
+pub told_written : (job : Job) (format : Format) (P : List ℕ → Status → Type 0) (file source : List ℕ)
+    → ((text : List ℕ) (status : Status) → AreMessages format file P text status → Answer job file source text status)
+    → (stop : Stop) (a b : Option (List ℕ)) (result : Result Status RunFault) → IfAnswered stop P → Tells format file stop a b result → Writes job file source a b result
+told_written job format P file source answers (Answered text status) a b result holds h =
+    text_written job file source (messages_in format file text.items) status a b result (answers (messages_in format file text.items) status (text.items, holds, refl)) h
+told_written job format P file source answers OutOfMemory a b (Ok given) holds h = absurd h
+told_written job format P file source answers OutOfMemory a b (Err fault) holds h = ([], inl refl, h)
+
+pub told : (r : Request) (file source : List ℕ) (stop : Stop) (a b : Option (List ℕ)) (result : Result Status RunFault) → AnswersRequest r file source stop → Tells r.format file stop a b result
     → Shows r file source a b result
-told r file source stop a b result answer h = told_written (Show r) file source stop a b result (weaker stop (show_refused r file source) answer) h
+told r file source stop a b result answer h = told_written (Show r) r.format (IsRefused r file source) file source (show_refused r file source) stop a b result answer h
 
--- the whole of it
-pub told_answers : (job other : Job) (file bytes source : List ℕ) (stop : Stop) (a b : Option (List ℕ)) (result : Result Status RunFault) → job ≡ other → bytes ≡ file
-    → IfAnswered stop (Answer other bytes source) → Tells stop a b result → IfOk result (λ status. AnswersSource job file source a b status)
-told_answers job other file bytes source stop a b (Err fault) same is answer h = tt
-told_answers job other file bytes source (Answered text status) a b (Ok given) same is answer (equal, written) = (
-  text.items,
-  subst (λ j. Answer j file source text.items given) (sym same) (subst (λ n. Answer other n source text.items given) is (subst (λ s. Answer other bytes source text.items s) equal answer)),
-  written,
-)
-told_answers job other file bytes source OutOfMemory a b (Ok given) same is answer h = absurd h
+pub why_told_so : (r : Request) (file source : List ℕ) (stop : Stop) (a b : Option (List ℕ)) (result : Result Status RunFault) → AnswersRequest r file source stop → Tells r.format file stop a b result
+    → Writes (Why r) file source a b result
+why_told_so r file source stop a b result answer h = told_written (Why r) r.format (IsRefused r file source) file source (why_refused r file source) stop a b result answer h
 
--- a front of it, where the writer failed
-pub told_stops : (job other : Job) (file bytes source : List ℕ) (stop : Stop) (a b : Option (List ℕ)) (result : Result Status RunFault) → job ≡ other → bytes ≡ file
-    → IfAnswered stop (Answer other bytes source) → Tells stop a b result → OnErr result (StopsInSource job file source a b)
-told_stops job other file bytes source stop a b (Ok given) same is answer h = tt
-told_stops job other file bytes source (Answered text status) a b (Err fault) same is answer (f, front, written) =
-    (f, inr (inl (text.items, status, subst (λ j. Answer j file source text.items status) (sym same) (subst (λ n. Answer other n source text.items status) is answer), front)), written)
-told_stops job other file bytes source OutOfMemory a b (Err fault) same is answer h = ([], inl refl, h)
+pub checked_told : (types details : Bool) (format : Format) (file source : List ℕ) (stop : Stop) (a b : Option (List ℕ)) (result : Result Status RunFault) → IfAnswered stop (ToldOfFaults types details file source)
+    → Tells format file stop a b result → Writes (Check types details format) file source a b result
+checked_told types details format file source stop a b result answer h =
+    told_written (Check types details format) format (ToldOfFaults types details file source) file source (faults_told types details format file source) stop a b result answer h
 
 -- nothing was written
 pub stopped : (r : Request) (file source : List ℕ) (a : Option (List ℕ)) (result : Result Status RunFault) → IsErr result → Shows r file source a a result
@@ -95,11 +102,7 @@ nothing_stops job file source text old new none (f, (rest, split), written) = (f
 
 -- ---- the lines of a search
 
-module _ (r : Request) (file source : List ℕ) (a : Schema) (g : Goal) (b : Stage Value) (ss : List Spelling) (e : Environment) (p : Portion)
-    (is : IsAsked r source e.globals a e) (named : IsNamedRow e a.comps r.after p.after) (held : AreHeld e a.comps r.held p.held) (begins : Begins e a p g b) (spelled : ss ≡ spellings e.globals) where
-  search_of : IsSearch r source e.globals a e p
-  search_of = record { asked = is; named = named; held = held; none_out = begins.none_out }
-
+module _ (r : Request) (file source : List ℕ) (a : Schema) (g : Goal) (b : Stage Value) (k : Wording Value) (e : Environment) (p : Portion) (search : IsSearch r source e.globals a e p) (begins : Begins e a p g b) where
   listed : (last : Option (List Value)) (events : List (Event Value)) → FindsEvents g.environment a b last events → HasEvents e a p last events
   listed last events h = record {
     ranges = b.ranges;
@@ -108,7 +111,7 @@ module _ (r : Request) (file source : List ℕ) (a : Schema) (g : Goal) (b : Sta
         (subst (λ n. AreEventsUpTo value_order (property g.environment a.conjuncts) b.ranges n last events) begins.named h);
   }
 
-  counted : (tests : Bool) (last : Option (List Value)) (text : List ℕ) → TellsTests tests g.environment a b last text → IsTestsLine tests e a p last text
+  counted : (tests : Bool) (last : Option (List Value)) (text : List ℕ) → TellsTests k tests g.environment a b last text → IsTestsLine k tests e a p last text
   counted false last text h = h
   counted true last text (number, h, is) = (
     number,
@@ -121,35 +124,62 @@ module _ (r : Request) (file source : List ℕ) (a : Schema) (g : Goal) (b : Sta
     is,
   )
 
-  whole_answer : (tests : Bool) (text : List ℕ) (status : Status) → tests ≡ r.tests → WritesAll (binding_line ss a.comps) r.limit tests g.environment a b text status → ShowAnswer r file source text status
-  whole_answer tests text status same w = RequestAnswer.granted e.globals a e p search_of (record {
-    last = w.last;
-    events = w.events;
-    lines = w.written;
-    counted = w.counted;
-    listed = listed w.last w.events w.listed;
-    ends = subst (λ k. IsWritten (binding_line k a.comps) r.limit w.events w.last w.written status) spelled w.ends;
-    numbered = subst (λ t. IsTestsLine t e a p w.last w.counted) same (counted tests w.last w.counted w.numbered);
-    whole = w.whole;
-  })
+  -- what is told of them is the answer
+  granted : (only : Option (List ℕ)) → r.only ≡ only → (text : List ℕ) (status : Status) → TellsShown only r e.globals a e p text status → ShowAnswer r file source text status
+  granted only same text status told = RequestAnswer.granted e.globals a e p search (subst (λ o. TellsShown o r e.globals a e p text status) (sym same) told)
 
-  first_lines : (text : List ℕ) → IsSome (binding_line ss a.comps) r.limit g.environment a b text → (text ≡ []) ⊎ ShowBegins r source text
-  first_lines text (inl none) = inl none
-  first_lines text (inr (events, last, some, begun)) =
-      inr (ShowBegins.bindings e.globals a e p last events search_of (listed last events some) (subst (λ k. IsBegun (binding_line k a.comps) r.limit events last text) spelled begun))
+  -- ---- the bindings themselves
+  module _ (all : r.only ≡ None) (worded : k ≡ wording r e.globals a) where
+    whole_answer : (tests : Bool) (text : List ℕ) (status : Status) → tests ≡ r.tests → WritesAll k r.limit tests g.environment a b text status → ShowAnswer r file source text status
+    whole_answer tests text status same w = granted None all text status (record {
+      last = w.last;
+      events = w.events;
+      lines = w.written;
+      counted = w.counted;
+      listed = listed w.last w.events w.listed;
+      ends = subst (λ h. IsWritten h r.limit w.events w.last w.written status) worded w.ends;
+      numbered = subst (λ h. IsTestsLine h r.tests e a p w.last w.counted) worded (subst (λ t. IsTestsLine k t e a p w.last w.counted) same (counted tests w.last w.counted w.numbered));
+      whole = w.whole;
+    })
 
-  stops_early : (text : List ℕ) (old new : Option (List ℕ)) → (text ≡ []) ⊎ ShowBegins r source text → AppendsFront old new text
-      → StopsInSource (Show r) file source old new
-  stops_early text old new (inl none) front = nothing_stops (Show r) file source text old new none front
-  stops_early text old new (inr begins) (f, front, written) = (f, inr (inr (text, begins, front)), written)
+    first_lines : (text : List ℕ) → IsSome k r.limit g.environment a b text → (text ≡ []) ⊎ ShowBegins r source text
+    first_lines text (inl none) = inl none
+    first_lines text (inr (events, last, some, begun)) =
+        inr (ShowBegins.bindings e.globals a e p last events all search (listed last events some) (subst (λ h. IsBegun h r.limit events last text) worded begun))
 
-  -- what is written of the search is the answer of the request, or a part of it
-  pub shown : (tests : Bool) (old new : Option (List ℕ)) (result : Result Status RunFault) → tests ≡ r.tests
-      → IfOk result (λ status. (text : List ℕ) × WritesAll (binding_line ss a.comps) r.limit tests g.environment a b text status × Appends old new text)
-      → OnErr result (StopsShown (binding_line ss a.comps) r.limit tests g.environment a b old new) → Shows r file source old new result
-  shown tests old new (Ok status) same (text, w, written) stops = (text, inr (whole_answer tests text status same w), written)
-  shown tests old new (Err fault) same all (inl (text, some, front)) = stops_early text old new (first_lines text some) front
-  shown tests old new (Err fault) same all (inr (text, status, w, (f, front, written))) = (f, inr (inl (text, status, inr (whole_answer tests text status same w), front)), written)
+    stops_early : (text : List ℕ) (old new : Option (List ℕ)) → (text ≡ []) ⊎ ShowBegins r source text → AppendsFront old new text
+        → StopsInSource (Show r) file source old new
+    stops_early text old new (inl none) front = nothing_stops (Show r) file source text old new none front
+    stops_early text old new (inr begins) (f, front, written) = (f, inr (inr (text, begins, front)), written)
+
+    -- what is written of the search is the answer of the request, or a part of it
+    pub shown : (tests : Bool) (old new : Option (List ℕ)) (result : Result Status RunFault) → tests ≡ r.tests
+        → IfOk result (λ status. (text : List ℕ) × WritesAll k r.limit tests g.environment a b text status × Appends old new text)
+        → OnErr result (StopsShown k r.limit tests g.environment a b old new) → Shows r file source old new result
+    shown tests old new (Ok status) same (text, w, written) stops = (text, inr (whole_answer tests text status same w), written)
+    shown tests old new (Err fault) same all_told (inl (text, some, front)) = stops_early text old new (first_lines text some) front
+    shown tests old new (Err fault) same all_told (inr (text, status, w, (f, front, written))) = (f, inr (inl (text, status, inr (whole_answer tests text status same w), front)), written)
+
+  -- ---- what some components have in them
+  module _ (names places : List ℕ) (after : Option (List Value)) (some : r.only ≡ Some names) (named : NamesParts a.comps names places) (comes_after : IsNamedRow e (comps_at a.comps places) r.after after)
+      (worded : k ≡ part_wording r.format (spellings e.globals) (comps_at a.comps places) a.comps) where
+    parts_answer : (text : List ℕ) (status : Status) → WritesParts k r.limit g.environment a b places after text status → ShowAnswer r file source text status
+    parts_answer text status w = granted (Some names) some text status (record {
+      places = places;
+      after = after;
+      parts = w.parts;
+      of_names = named;
+      comes_after = comes_after;
+      listed = record { events = w.found.events; listed = listed None w.found.events w.found.listed; are = w.found.are };
+      ends = subst (λ h. ArePartsWritten h r.limit w.parts text status) worded w.written;
+    })
+
+    pub parts_shown : (old new : Option (List ℕ)) (result : Result Status RunFault)
+        → IfOk result (λ status. (text : List ℕ) × WritesParts k r.limit g.environment a b places after text status × Appends old new text)
+        → OnErr result (StopsParts k r.limit g.environment a b places after old new) → Shows r file source old new result
+    parts_shown old new (Ok status) (text, w, written) stops = (text, inr (parts_answer text status w), written)
+    parts_shown old new (Err fault) all (inl nothing) = ([], inl refl, nothing)
+    parts_shown old new (Err fault) all (inr (text, status, w, (f, front, written))) = (f, inr (inl (text, status, inr (parts_answer text status w), front)), written)
 
 -- ---- answers
 

@@ -34,9 +34,9 @@ pub use Rattle.zf_enum.specs.Searches.{counted_goal, Goal, planted_goal}
 pub use Rattle.zf_command.specs.declared.job.Request.{Request}
 pub use Rattle.zf_lines.proofs.Beginning.{at_start, counting_at_start}
 pub use Rattle.zf_lines.specs.declared.fault.Status.{Status}
-pub use Rattle.zf_engine.specs.Answers.{Answer, AnswersReader, AnswersSource, AreHeld, IsAsked, IsNamedRow, IsSearch, RefusesRequest, RequestAnswer, ShowAnswer, ShowBegins, ShowsEvents, StopsInReader, UnreadAnswer}
-pub use Rattle.zf_engine.specs.Settings.{Checks, HasSchema, IsNamed, numbers_of, stated, stated_size, TellsFaults, TellsInfinite, TellsMisfit, TellsNoSchema, TellsNumbers, TellsOut, without_size}
-pub use Rattle.zf_engine.specs.Stops.{StopsInSource, AnswersExploration, AnswersOver, AnswersRequest, IfAnswered, IsFaultLine, IsRefused, IsUnexplored, IsUnfit, Reaches, Shows, Tells, TellsNoRow, TellsNoValues, TellsPlace, TellsPlaceHeld, Writes}
+pub use Rattle.zf_engine.specs.Answers.{Answer, AnswersReader, AnswersSource, AreHeld, IsAsked, IsNamedRow, IsSearch, RefusesRequest, RequestAnswer, ShowAnswer, ShowBegins, ShowsEvents, StopsInReader, UnreadAnswer, wording}
+pub use Rattle.zf_engine.specs.Settings.{AreMessages, Checks, HasSchema, IsNamed, numbers_of, stated, stated_size, TellsFaults, TellsInfinite, TellsMisfit, TellsNoSchema, TellsNumbers, TellsOut, without_size}
+pub use Rattle.zf_engine.specs.Stops.{StopsInSource, AnswersExploration, AnswersOver, AnswersRequest, IfAnswered, IsFaultLine, IsRefused, IsUnexplored, IsUnfit, Reaches, Shows, Tells, TellsNoParts, TellsNoRow, TellsNoValues, TellsBounds, TellsMisnamed, TellsPlace, TellsPlaceHeld, ToldOfFaults, Writes, WritesText}
 pub use Rattle.zf_engine.specs.Statuses.{IsStatus, IsStatusOfRefused, IsWorkStatus}
 pub use Rattle.zf_messages.specs.Details.{Cited, cited_of, type_fault_lines, AreLines}
 pub use Rattle.zf_messages.specs.Missing.{no_schema_lines}

@@ -1,5 +1,5 @@
 -- The steps before the first binding make answers: refusals, in their order.
-use Rattle.zf_engine.proofs.Prelude.{◌==◌, ◌∙◌, ◌∷◌, ◌≡◌, ◌⊎◌, [], ap, arith, Bool, Err, false, IfErr, IfOk, inl, inr, length, List, map, Ok, Option, refl, Result, Some, subst, sym, true, ℕ, eqb-true, Value, Comp, Defined, Schema, AreWellTyped, Environment, spellings, Spelling, Portion, Status, AreHeld, Checks, HasSchema, IsAsked, IsNamed, IsNamedRow, Request, RefusesRequest, numbers_of, stated, UnreadAnswer, AnswersRequest, IfAnswered, IsRefused, IsUnfit, IsFaultLine, AreSmall, TellsInfinite, TellsMisfit, TellsNoSchema, TellsNumbers, TellsNoRow, TellsNoValues, TellsOut, TellsPlace, TellsPlaceHeld, Cited, Stop, Answered, OutOfMemory}
+use Rattle.zf_engine.proofs.Prelude.{◌==◌, ◌∙◌, ◌∷◌, ◌≡◌, ◌⊎◌, [], ap, arith, Bool, Err, false, IfErr, IfOk, inl, inr, length, List, map, None, Ok, Option, refl, Result, Some, subst, sym, true, ℕ, eqb-true, Value, Comp, Defined, Schema, AreWellTyped, Environment, spellings, Spelling, Portion, Status, AreHeld, Checks, HasSchema, IsAsked, IsNamed, IsNamedRow, Request, RefusesRequest, numbers_of, stated, UnreadAnswer, AnswersRequest, IfAnswered, IsRefused, IsUnfit, IsFaultLine, AreSmall, TellsInfinite, TellsMisfit, TellsNoSchema, TellsNumbers, TellsNoRow, TellsNoValues, TellsBounds, TellsMisnamed, TellsOut, TellsPlace, TellsPlaceHeld, Cited, Stop, Answered, OutOfMemory}
 use Rattle.zf_finite.specs.Finite.{IsFinite}
 use Rattle.zf_scan.specs.declared.fault.TextFault.{TextFault}
 use Rattle.zf_scan.specs.CutViews.{IsWantOfMemory}
@@ -18,6 +18,9 @@ use Rattle.zf_texts.proofs.Chosen.{held_is_line, line_is_held}
 use Rattle.std.proofs.Common.{Global, Vec}
 use Rattle.zf_messages.specs.Details.{IsWithout, LacksComponent}
 use Rattle.zf_engine.specs.Stops.{IsWhole}
+use Rattle.zf_parts.specs.Places.{comps_at}
+use Rattle.zf_engine.specs.Answers.{row_after}
+use Rattle.zf_engine.specs.Only.{AreShown, NamesParts}
 
 pub weaker : (stop : Stop) {P Q : List ℕ → Status → Type 0} → ((text : List ℕ) (status : Status) → P text status → Q text status) → IfAnswered stop P → IfAnswered stop Q
 weaker (Answered text status) f h = f text.items status h
@@ -135,11 +138,37 @@ module _ (r : Request) (file source : List ℕ) (g : List Defined) (a : Schema) 
   asked e has small complete is ends = subst (λ h. IsAsked r source h a e) (sym is.0) (record { has_schema = has; small = small; complete = complete; environment = is; finite = subst (λ h. IsFinite e.numbers h a) is.0 ends })
 
   module _ (e : Environment) (is : IsAsked r source g a e) where
-    pub no_row_answers : (stop : Stop) → IfAnswered stop (TellsNoRow e a.comps r.after) → AnswersRequest r file source stop
-    no_row_answers stop h = weaker stop (λ text status t. inr (RefusesRequest.not_a_binding g a e t.1.0 is t.0 t.1.1.0 t.1.1.1)) h
+    pub no_values_answers : (shown : List Comp) (after : Option (List Value)) → AreShown a.comps r.only shown → IsNamedRow e shown r.after after → (stop : Stop) → IfAnswered stop (TellsNoValues e a.comps r.held) → AnswersRequest r file source stop
+    no_values_answers shown after are named stop h = weaker stop (λ text status t. inr (RefusesRequest.holds_nothing g a e shown after t.1.0 is are named t.0 t.1.1.0 t.1.1.1)) h
 
-    pub no_values_answers : (after : Option (List Value)) → IsNamedRow e a.comps r.after after → (stop : Stop) → IfAnswered stop (TellsNoValues e a.comps r.held) → AnswersRequest r file source stop
-    no_values_answers after named stop h = weaker stop (λ text status t. inr (RefusesRequest.holds_nothing g a e after t.1.0 is named t.0 t.1.1.0 t.1.1.1)) h
+    bounds_refused : (shown : List Comp) → AreShown a.comps r.only shown → (text : List ℕ) (status : Status) → TellsBounds e a.comps shown r text status → IsRefused r file source text status
+    bounds_refused shown are text status (inl t) = inr (RefusesRequest.not_a_binding g a e shown t.1.0 is are t.0 t.1.1.0 t.1.1.1)
+    bounds_refused shown are text status (inr (after, named, t)) = inr (RefusesRequest.holds_nothing g a e shown after t.1.0 is are named t.0 t.1.1.0 t.1.1.1)
 
-    pub out_answers : (p : Portion) → IsNamedRow e a.comps r.after p.after → AreHeld e a.comps r.held p.held → (stop : Stop) → IfAnswered stop (TellsOut e a.comps) → AnswersRequest r file source stop
-    out_answers p named held stop h = weaker stop (λ text status t. inr (RefusesRequest.declared_out g a e p t.0 t.2.0 is named held t.1 t.2.1 t.2.2 t.2.3)) h
+    misnamed_refused : (text : List ℕ) (status : Status) → TellsMisnamed e a.comps r text status → IsRefused r file source text status
+    misnamed_refused text status (inl t) = inr (RefusesRequest.not_components g a e t.1.0 is t.0 t.1.1 t.1.2)
+    misnamed_refused text status (inr (shown, are, t)) = bounds_refused shown are text status t
+
+    pub misnamed_answers : (stop : Stop) → IfAnswered stop (TellsMisnamed e a.comps r) → AnswersRequest r file source stop
+    misnamed_answers stop h = weaker stop misnamed_refused h
+
+    pub out_answers : (shown : List Comp) (after : Option (List Value)) (held : List (Option Value)) → AreShown a.comps r.only shown → IsNamedRow e shown r.after after → AreHeld e a.comps r.held held → (stop : Stop)
+        → IfAnswered stop (TellsOut e a.comps) → AnswersRequest r file source stop
+    out_answers shown after held are named holds stop h =
+        weaker stop (λ text status t. inr (RefusesRequest.declared_out g a e shown after held t.0 t.2.0 is are named holds t.1 t.2.1 t.2.2 t.2.3)) h
+
+-- ---- where all components are shown, or some
+
+module _ (r : Request) (e : Environment) (comps : List Comp) where
+  pub all_shown : r.only ≡ None → AreShown comps r.only comps
+  all_shown none = subst (λ o. AreShown comps o comps) (sym none) refl
+
+  pub some_shown : (names places : List ℕ) → r.only ≡ Some names → NamesParts comps names places → AreShown comps r.only (comps_at comps places)
+  some_shown names places some named = subst (λ o. AreShown comps o (comps_at comps places)) (sym some) (places, named, refl)
+
+  -- the search of all comes after the row that is named, and that of some after none
+  pub after_all : r.only ≡ None → (after : Option (List Value)) → after ≡ row_after r.only after
+  after_all none after = sym (ap (λ o. row_after o after) none)
+
+  pub after_some : (names : List ℕ) → r.only ≡ Some names → (after : Option (List Value)) → None ≡ row_after r.only after
+  after_some names some after = sym (ap (λ o. row_after o after) some)

@@ -5,6 +5,7 @@ use Rattle.std.specs.Prelude.{codes, drop, OnOk, Ok, Err}
 use Rattle.std.specs.List.{flat_map}
 use Rattle.std.proofs.lemmas.List.{drop_all}
 use Rattle.zf_term.proofs.Walk.{dropped}
+use Rattle.zf_format.specs.declared.format.Format.TheVariants.{Lines}
 use Rattle.zf_texts.specs.declared.spelling.Spelling.{Spelling}
 use Rattle.zf_why.specs.declared.told.Operands.{Operands}
 use Rattle.zf_why.specs.declared.told.Sides.{Sides}
@@ -27,12 +28,16 @@ same_read [] i d e l = absurd (omega arith)
 same_read (x ∷ xs) zero d e l = refl
 same_read (x ∷ xs) (suc i) d e l = same_read xs i d e (omega arith)
 
+-- what is ahead begins with what is read
+pub read_ahead : (xs : List ℕ) (i d : ℕ) → i < length xs → drop i xs ≡ get_or xs i d ∷ drop (i + 1) xs
+read_ahead xs i d l = dropped xs i (get_or xs i d) l (same_read xs i d (get_or xs i d) l)
+
 pub one_read : (f : ℕ → List ℕ) (xs : List ℕ) (i d : ℕ) (before after whole : List ℕ) → i < length xs → after ≡ before ++ f (get_or xs i d) → before ++ flat_map f (drop i xs) ≡ whole → after ++ flat_map f (drop (i + 1) xs) ≡ whole
 one_read f xs i d before after whole l step is = one_more f xs i (get_or xs i d) before after whole (same_read xs i d (get_or xs i d) l) l step is
 
 module _ (file source : List ℕ) where
   pub all_told : {R E : Type 0} (r : Result R E) (ss : List Spelling) (t : Told) (old first mid new : List ℕ) → first ≡ old ++ source_line file source t.line → mid ≡ first ++ sides_lines_of file source t.sides
-      → OnOk r (new ≡ mid ++ operands_lines_of ss t.operands) → OnOk r (new ≡ old ++ told_line file source ss t)
+      → OnOk r (new ≡ mid ++ operands_lines_of ss t.operands) → OnOk r (new ≡ old ++ told_line Lines file source ss t)
   all_told (Err x) ss t old first mid new one two h = tt
   all_told (Ok x) ss t old first mid new one two h =
       let line = source_line file source t.line in

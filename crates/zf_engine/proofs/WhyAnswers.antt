@@ -1,7 +1,7 @@
 -- What `why` finds is the answer of its request.
 use Rattle.zf_engine.proofs.Prelude.{◌++◌, ◌∙◌, ◌≡◌, ap, Bool, Err, IfOk, inr, List, None, Ok, Option, refl, Result, subst, sym, ℕ, Value, Schema, Environment, portion, Status, Answer, AreHeld, IsAsked, IsNamedRow, Request, RequestAnswer, AnswersRequest, IfAnswered, TellsOut, Stop}
 use Rattle.std.proofs.Common.{Global, Vec}
-use Rattle.std.specs.Prelude.{codes, OnOk}
+use Rattle.std.specs.Prelude.{OnOk}
 use Rattle.zf_command.specs.Requests.{IsBare}
 use Rattle.zf_command.specs.declared.job.Job.TheVariants.{Why}
 use Rattle.zf_ranges.specs.Ranges.{IsNoneOut}
@@ -10,32 +10,36 @@ use Rattle.zf_why.specs.Causes.{Explains}
 use Rattle.zf_why.specs.Disjunctions.{disjunction_at}
 use Rattle.zf_why.specs.declared.cause.Cause.{Cause}
 use Rattle.zf_why.specs.declared.cause.Cause.TheVariants.{Alone, Empty, Together}
-use Rattle.zf_engine.specs.Reasons.{TellsWhy, told_lines}
+use Rattle.zf_engine.specs.Reasons.{no_binding_line, TellsWhy, told_lines}
 use Rattle.zf_engine.specs.Subjects.{CanBeSearched, HasNone, IsOfSchema, TellsNone, TellsOf}
-use Rattle.zf_engine.specs.declared.why.Subject.{Subject}
-use Rattle.zf_engine.proofs.Parts.{why_refused}
-use Rattle.zf_engine.proofs.Refusing.{out_answers, weaker}
-
--- what refuses every request refuses this one
-pub why_stopped : (r : Request) (file source : List ℕ) (stop : Stop) → AnswersRequest r file source stop → IfAnswered stop (Answer (Why r) file source)
-why_stopped r file source stop h = weaker stop (λ text status f. why_refused r file source text status f) h
+use Rattle.zf_engine.specs.declared.subject.Subject.{Subject}
+use Rattle.zf_engine.proofs.Refusing.{after_all, all_shown, out_answers}
 
 -- no row is named where none is asked for
 pub none_named : (r : Request) (e : Environment) (a : Schema) → IsBare r → IsNamedRow e a.comps r.after None
 none_named r e a plain = subst (λ t. IsNamedRow e a.comps t None) (sym plain.0) refl
 
 module _ (r : Request) (file source : List ℕ) (a : Schema) (e : Environment) (held : List (Option Value)) (plain : IsBare r) (is : IsAsked r source e.globals a e) (are : AreHeld e a.comps r.held held) where
-  pub why_told : (text : List ℕ) (status : Status) → IsNoneOut e a.comps → TellsWhy r.details file source e.globals a e (portion None held) text status → Answer (Why r) file source text status
+  pub why_told : (text : List ℕ) (status : Status) → IsNoneOut e a.comps → TellsWhy r.format r.details file source e.globals a e (portion None held) text status → Answer (Why r) file source text status
   why_told text status none_out told =
-      inr (RequestAnswer.granted e.globals a e (portion None held) (record { asked = is; named = none_named r e a plain; held = are; none_out = none_out }) told)
+      inr (RequestAnswer.granted e.globals a e (portion None held) (record {
+        asked = is;
+        shown = a.comps;
+        after = None;
+        are_shown = all_shown r e a.comps plain.1;
+        named = none_named r e a plain;
+        begins = after_all r e a.comps plain.1 None;
+        held = are;
+        none_out = none_out;
+      }) told)
 
   pub why_found : {E : Type 0} (result : Result (Vec ℕ Global × Status) E) (details : Bool) → details ≡ r.details → OnOk result (IsNoneOut e a.comps)
-      → IfOk result (λ p. TellsWhy details file source e.globals a e (portion None held) p.0.items p.1) → IfOk result (λ p. Answer (Why r) file source p.0.items p.1)
-  why_found (Ok (text, status)) details same none_out told = why_told text.items status none_out (subst (λ (d : Bool). TellsWhy d file source e.globals a e (portion None held) text.items status) same told)
+      → IfOk result (λ p. TellsWhy r.format details file source e.globals a e (portion None held) p.0.items p.1) → IfOk result (λ p. Answer (Why r) file source p.0.items p.1)
+  why_found (Ok (text, status)) details same none_out told = why_told text.items status none_out (subst (λ (d : Bool). TellsWhy r.format d file source e.globals a e (portion None held) text.items status) same told)
   why_found (Err stop) details same none_out told = tt
 
-  pub why_out : (stop : Stop) → IfAnswered stop (TellsOut e a.comps) → IfAnswered stop (Answer (Why r) file source)
-  why_out stop h = why_stopped r file source stop (out_answers r file source e.globals a e is (portion None held) (none_named r e a plain) are stop h)
+  pub why_out : (stop : Stop) → IfAnswered stop (TellsOut e a.comps) → AnswersRequest r file source stop
+  why_out stop h = out_answers r file source e.globals a e is a.comps None held (all_shown r e a.comps plain.1) (none_named r e a plain) are stop h
 
 -- a cause of empty ranges speaks of each component
 pub of_schema : (e : Environment) (a : Schema) (held : List (Option Value)) (details : Bool) (disjunctions : ℕ → Bool) (cause : Cause) → Explains e a held details disjunctions cause → IsOfSchema a cause
@@ -47,6 +51,6 @@ of_schema e a held details disjunctions (Together told) h = tt
 pub none_told : (s : Subject) → CanBeSearched s → (details : Bool) (file source text : List ℕ) → HasNone s → TellsNone s details file source text → TellsOf s details file source text Done
 none_told s can details file source text none (Empty empty, explains, told) = TellsWhy.emptied empty.items none.events explains told refl
 none_told s can details file source text none (Alone tellings, (alone, refuted, are), told) =
-    TellsWhy.refuted alone none.events refuted (disjunction_at s.schema.now.conjuncts, tellings.items, are, told ∙ ap (λ ss. told_lines file source ss tellings.items ++ codes "no binding\n") can.spelled) refl
+    TellsWhy.refuted alone none.events refuted (disjunction_at s.schema.now.conjuncts, tellings.items, are, told ∙ ap (λ ss. told_lines s.style.now.format file source ss tellings.items ++ no_binding_line s.style.now.format) can.spelled) refl
 none_told s can details file source text none (Together tellings, (core, refuted, are), told) =
-    TellsWhy.refuted_together core none.events refuted (disjunction_at s.schema.now.conjuncts, tellings.items, are, told ∙ ap (λ ss. told_lines file source ss tellings.items ++ codes "no binding\n") can.spelled) refl
+    TellsWhy.refuted_together core none.events refuted (disjunction_at s.schema.now.conjuncts, tellings.items, are, told ∙ ap (λ ss. told_lines s.style.now.format file source ss tellings.items ++ no_binding_line s.style.now.format) can.spelled) refl

@@ -5,6 +5,7 @@ use Rattle.zf_command.specs.declared.job.Job.{Job}
 use Rattle.zf_command.specs.declared.job.Job.TheVariants.{Check, Reach, Show, Why}
 use Rattle.zf_command.specs.declared.job.Request.{Request}
 use Rattle.zf_command.specs.Requests.{IsBare}
+use Rattle.zf_format.specs.declared.format.Format.{Format}
 use Rattle.zf_checker.specs.Listing.{listing}
 use Rattle.zf_finite.specs.declared.not_finite.NotFinite.{NotFinite}
 use Rattle.zf_finite.specs.Finite.{IsFinite, causes}
@@ -29,16 +30,19 @@ use Rattle.zf_texts.specs.Spellings.{spellings}
 use Rattle.zf_lines.specs.declared.fault.Status.{Status}
 use Rattle.zf_lines.specs.declared.fault.Status.TheVariants.{Done, BadSpec, BadRequest, PastBounds}
 use Rattle.zf_lines.specs.Faults.{IsFront}
-use Rattle.zf_lines.specs.Texts.{binding_line}
+use Rattle.zf_parts.specs.Parts.{HasParts, Part}
+use Rattle.zf_parts.specs.Places.{comps_at}
+use Rattle.zf_parts.specs.Written.{ArePartsWritten, part_wording}
 use Rattle.zf_engine.specs.Faults.{Gave}
-use Rattle.zf_lines.specs.Searches.{HasEvents, IsTestsLine, IsWritten, IsBegun, HasLimit}
+use Rattle.zf_lines.specs.Searches.{HasEvents, IsTestsLine, IsWritten, IsBegun, HasLimit, row_wording, Wording}
 use Rattle.zf_messages.specs.Details.{Cited, text_fault_lines, IsReportedBeside, not_finite_lines, AreLines}
 use Rattle.zf_engine.specs.Explorations.{ExplorationAnswer, ExplorationBegins}
 use Rattle.zf_messages.specs.Missing.{no_schema_lines}
 use Rattle.zf_engine.specs.Numbers.{AreSmall, AreTooLarge}
+use Rattle.zf_engine.specs.Only.{AreShown, NamesNoParts, NamesParts}
 use Rattle.zf_engine.specs.Reasons.{TellsWhy}
-use Rattle.zf_engine.specs.Settings.{Checks, HasSchema, IsNamed, numbers_of, size_fault_lines, stated}
-use Rattle.zf_messages.specs.Texts.{numbers_too_large_line, not_a_binding_line, not_held_line, declared_out_line}
+use Rattle.zf_engine.specs.Settings.{AreMessages, Checks, HasSchema, IsNamed, numbers_of, size_fault_lines, stated}
+use Rattle.zf_messages.specs.Texts.{numbers_too_large_line, not_a_binding_line, not_components_line, not_held_line, declared_out_line}
 
 -- ---- `check`
 
@@ -52,7 +56,7 @@ abbrev pub IsCheckText : (types details : Bool) → (file : List ℕ) → List D
 IsCheckText types details file globals faults text =
     (lines : List ℕ) × AreLines details file faults lines × (text ≡ lines ++ (if types then listing globals else []))
 
--- the answer of `check` for a source that is read
+-- what `check` tells of a source that is read
 abbrev pub CheckAnswer : (types details : Bool) → (file source text : List ℕ) → Status → Type 0
 CheckAnswer types details file source text status =
     (globals : List Defined) × (faults : List Fault) × Checks source globals faults × IsCheckText types details file globals faults text × (status ≡ check_status faults)
@@ -71,7 +75,7 @@ pub record IsAsked (r : Request) (source : List ℕ) (globals : List Defined) (a
 abbrev pub IsLineOf : Environment → List Comp → List ℕ → List Value → Type 0
 IsLineOf e comps text row = IsRow e comps row × (text ≡ binding_text (spellings e.globals) comps row)
 
--- the row that the search comes after, if one is named
+-- the row of these components that the lines come after, if one is named
 abbrev pub IsNamedRow : Environment → List Comp → Option (List ℕ) → Option (List Value) → Type 0
 IsNamedRow e comps None after = after ≡ None
 IsNamedRow e comps (Some text) after = IsSomeAnd after (IsLineOf e comps text)
@@ -91,16 +95,25 @@ abbrev pub HoldsNoValues : Environment → List Comp → Option (List ℕ) → T
 HoldsNoValues e comps None = ⊥
 HoldsNoValues e comps (Some text) = (held : List (Option Value)) → IsLineOfSome (spellings e.globals) e comps text held → ⊥
 
--- the search goes over the events of the schema after the named row that have the values which are held, and no declared set is out
+-- the row that the search comes after: where some components alone are shown, none
+abbrev pub row_after : (only : Option (List ℕ)) → Option (List Value) → Option (List Value)
+row_after None after = after
+row_after (Some names) after = None
+
+-- the search goes over the events of the schema after that row that have the values which are held, and no declared set is out
 pub record IsSearch (r : Request) (source : List ℕ) (globals : List Defined) (a : Schema) (e : Environment) (p : Portion) : Type 0 where
   pub asked : IsAsked r source globals a e
-  pub named : IsNamedRow e a.comps r.after p.after
+  pub shown : List Comp
+  pub after : Option (List Value)
+  pub are_shown : AreShown a.comps r.only shown
+  pub named : IsNamedRow e shown r.after after
+  pub begins : p.after ≡ row_after r.only after
   pub held : AreHeld e a.comps r.held p.held
   pub none_out : IsNoneOut e a.comps
 
 -- ---- refusals
 
--- A request is refused for a source that is read, by the first case that applies.
+-- A request is refused for a source that is read, by the first case that applies. The text is told as lines.
 pub data RefusesRequest (r : Request) (file source text : List ℕ) (status : Status) : Type 0 where
   ill_typed : (globals : List Defined) (faults : List Fault) → Checks source globals faults → faults ≢ [] → AreLines r.details file faults text
       → status ≡ BadSpec → RefusesRequest r file source text status
@@ -113,21 +126,27 @@ pub data RefusesRequest (r : Request) (file source text : List ℕ) (status : St
   not_finite : (globals : List Defined) (a : Schema) (cause : NotFinite) (side : List ℕ) → HasSchema source r.name globals a → AreSmall (numbers_of r.setting)
       → AreComplete (given_sets globals) (stated globals r.setting) → first (causes (numbers_of r.setting) globals a) ≡ Some cause → IsReportedBeside globals cause side → text ≡ not_finite_lines r.details file globals cause side → status ≡ BadSpec
       → RefusesRequest r file source text status
-  not_a_binding : (globals : List Defined) (a : Schema) (e : Environment) (place : ℕ) → IsAsked r source globals a e → NamesNoRow e a.comps r.after
+  not_components : (globals : List Defined) (a : Schema) (e : Environment) (place : ℕ) → IsAsked r source globals a e → NamesNoParts a.comps r.only
+      → text ≡ not_components_line place → status ≡ BadRequest → RefusesRequest r file source text status
+  not_a_binding : (globals : List Defined) (a : Schema) (e : Environment) (shown : List Comp) (place : ℕ) → IsAsked r source globals a e → AreShown a.comps r.only shown → NamesNoRow e shown r.after
       → text ≡ not_a_binding_line place → status ≡ BadRequest → RefusesRequest r file source text status
-  holds_nothing : (globals : List Defined) (a : Schema) (e : Environment) (after : Option (List Value)) (place : ℕ) → IsAsked r source globals a e
-      → IsNamedRow e a.comps r.after after → HoldsNoValues e a.comps r.held → text ≡ not_held_line place → status ≡ BadRequest → RefusesRequest r file source text status
-  declared_out : (globals : List Defined) (a : Schema) (e : Environment) (p : Portion) (place : ℕ) (c : Comp) → IsAsked r source globals a e
-      → IsNamedRow e a.comps r.after p.after → AreHeld e a.comps r.held p.held → IsFirstOut e a.comps place → slice_get a.comps place ≡ Some c → text ≡ declared_out_line c.name
+  holds_nothing : (globals : List Defined) (a : Schema) (e : Environment) (shown : List Comp) (after : Option (List Value)) (place : ℕ) → IsAsked r source globals a e
+      → AreShown a.comps r.only shown → IsNamedRow e shown r.after after → HoldsNoValues e a.comps r.held → text ≡ not_held_line place → status ≡ BadRequest → RefusesRequest r file source text status
+  declared_out : (globals : List Defined) (a : Schema) (e : Environment) (shown : List Comp) (after : Option (List Value)) (held : List (Option Value)) (place : ℕ) (c : Comp) → IsAsked r source globals a e
+      → AreShown a.comps r.only shown → IsNamedRow e shown r.after after → AreHeld e a.comps r.held held → IsFirstOut e a.comps place → slice_get a.comps place ≡ Some c → text ≡ declared_out_line c.name
       → status ≡ PastBounds → RefusesRequest r file source text status
 
 -- The answer of a request for a source that is read: it is refused, or this is told of the search.
 pub data RequestAnswer (Tells : List Defined → Schema → Environment → Portion → (text : List ℕ) → Status → Type 0) (r : Request) (file source text : List ℕ) (status : Status) : Type 0 where
-  refused : RefusesRequest r file source text status → RequestAnswer Tells r file source text status
+  refused : AreMessages r.format file (RefusesRequest r file source) text status → RequestAnswer Tells r file source text status
   granted : (globals : List Defined) (a : Schema) (e : Environment) (p : Portion) → IsSearch r source globals a e p → Tells globals a e p text status
       → RequestAnswer Tells r file source text status
 
 -- ---- `show`
+
+-- in which lines the bindings of a schema are told
+abbrev pub wording : Request → List Defined → Schema → Wording Value
+wording r globals a = row_wording r.format (spellings globals) a.comps
 
 -- the lines of the events of a schema among these globals, the last line, and that of the number of tests, if it is asked for
 pub record ShowsEvents (r : Request) (globals : List Defined) (a : Schema) (e : Environment) (p : Portion) (text : List ℕ) (status : Status) : Type 0 where
@@ -136,58 +155,80 @@ pub record ShowsEvents (r : Request) (globals : List Defined) (a : Schema) (e : 
   pub lines : List ℕ
   pub counted : List ℕ
   pub listed : HasEvents e a p last events
-  pub ends : IsWritten (binding_line (spellings globals) a.comps) r.limit events last lines status
-  pub numbered : IsTestsLine r.tests e a p last counted
+  pub ends : IsWritten (wording r globals a) r.limit events last lines status
+  pub numbered : IsTestsLine (wording r globals a) r.tests e a p last counted
   pub whole : text ≡ lines ++ counted
 
-abbrev pub ShowAnswer : Request → (file source text : List ℕ) → Status → Type 0
-ShowAnswer r file source text status = RequestAnswer (ShowsEvents r) r file source text status
+-- the lines of what these components have in the events, each once, and the last line
+pub record ShowsParts (names : List ℕ) (r : Request) (globals : List Defined) (a : Schema) (e : Environment) (p : Portion) (text : List ℕ) (status : Status) : Type 0 where
+  pub places : List ℕ
+  pub after : Option (List Value)
+  pub parts : List Part
+  pub of_names : NamesParts a.comps names places
+  pub comes_after : IsNamedRow e (comps_at a.comps places) r.after after
+  pub listed : HasParts e a p places after parts
+  pub ends : ArePartsWritten (part_wording r.format (spellings globals) (comps_at a.comps places) a.comps) r.limit parts text status
 
--- the first lines that `show` writes: those of the first bindings
+-- which of both, where these components are named, if some are
+abbrev pub TellsShown : (only : Option (List ℕ)) → Request → List Defined → Schema → Environment → Portion → (text : List ℕ) → Status → Type 0
+TellsShown None r globals a e p text status = ShowsEvents r globals a e p text status
+TellsShown (Some names) r globals a e p text status = ShowsParts names r globals a e p text status
+
+abbrev pub ShowAnswer : Request → (file source text : List ℕ) → Status → Type 0
+ShowAnswer r file source text status = RequestAnswer (TellsShown r.only r) r file source text status
+
+-- the first lines that `show` writes of bindings: those of the first ones
 pub data ShowBegins (r : Request) (source text : List ℕ) : Type 0 where
   bindings : (globals : List Defined) (a : Schema) (e : Environment) (p : Portion) (last : Option (List Value)) (events : List (Event Value))
-      → IsSearch r source globals a e p → HasEvents e a p last events → IsBegun (binding_line (spellings globals) a.comps) r.limit events last text
+      → r.only ≡ None → IsSearch r source globals a e p → HasEvents e a p last events → IsBegun (wording r globals a) r.limit events last text
       → ShowBegins r source text
 
 -- ---- `why`
 
 abbrev pub WhyAnswer : Request → (file source text : List ℕ) → Status → Type 0
-WhyAnswer r file source text status = RequestAnswer (TellsWhy r.details file source) r file source text status
+WhyAnswer r file source text status = RequestAnswer (TellsWhy r.format r.details file source) r file source text status
 
 -- ---- jobs
 
 -- a limit is at least 1; of `why` nothing is asked that is for `show` alone
 abbrev pub IsLimited : Job → Type 0
-IsLimited (Check types details) = Unit {0}
+IsLimited (Check types details format) = Unit {0}
 IsLimited (Show r) = HasLimit r.limit
 IsLimited (Why r) = IsBare r
 IsLimited (Reach x) = HasLimit x.limit
 
 -- whether it is asked what faults are about
 abbrev pub wants_details : Job → Bool
-wants_details (Check types details) = details
+wants_details (Check types details format) = details
 wants_details (Show r) = r.details
 wants_details (Why r) = r.details
 wants_details (Reach x) = x.details
 
--- the answer for a source with a fault of its text. Which fault of the grammar is told, on which line, and which symbols any fault is about, is open.
+-- in which format the answer is asked for
+abbrev pub format_of : Job → Format
+format_of (Check types details format) = format
+format_of (Show r) = r.format
+format_of (Why r) = r.format
+format_of (Reach x) = x.format
+
+-- what is told of a source with a fault of its text. Which fault of the grammar is told, on which line, and which symbols any fault is about, is open.
 abbrev pub UnreadAnswer : (details : Bool) → (file source text : List ℕ) → Status → Type 0
 UnreadAnswer details file source text status =
     (fault : TextFault) × (about : Cited) × RefusesSource source fault × (text ≡ text_fault_lines details file fault about) × (status ≡ BadSpec)
 
 abbrev pub JobAnswer : Job → (file source text : List ℕ) → Status → Type 0
-JobAnswer (Check types details) file source text status = CheckAnswer types details file source text status
+JobAnswer (Check types details format) file source text status = AreMessages format file (CheckAnswer types details file source) text status
 JobAnswer (Show r) file source text status = ShowAnswer r file source text status
 JobAnswer (Why r) file source text status = WhyAnswer r file source text status
 JobAnswer (Reach x) file source text status = ExplorationAnswer x file source text status
 
 -- the text and the status that answer a job on a source
 abbrev pub Answer : Job → (file source text : List ℕ) → Status → Type 0
-Answer job file source text status = UnreadAnswer (wants_details job) file source text status ⊎ JobAnswer job file source text status
+Answer job file source text status = AreMessages (format_of job) file (UnreadAnswer (wants_details job) file source) text status ⊎ JobAnswer job file source text status
 
 -- the text is what an answer begins with, whatever follows
 abbrev pub JobBegins : Job → (source text : List ℕ) → Type 0
-JobBegins (Check types details) source text = ⊥
+JobBegins (Check types details format) source text = ⊥
 JobBegins (Show r) source text = ShowBegins r source text
 JobBegins (Why r) source text = ⊥
 JobBegins (Reach x) source text = ExplorationBegins x source text

@@ -3,6 +3,8 @@ use Rattle.std.specs.Prelude.{◌≡◌, ◌++◌, ℕ, List, [], ◌∷◌, con
 use Rattle.std.specs.List.{AllByRecursion, AllZip}
 use Rattle.zf_command.specs.declared.job.Exploration.{Exploration}
 use Rattle.zf_command.specs.declared.limit.TheConstants.{STATES_MAX}
+use Rattle.zf_format.specs.declared.format.Format.{Format}
+use Rattle.zf_format.specs.declared.format.Format.TheVariants.{Lines, Objects}
 use Rattle.zf_term.specs.Definitions.{Defined, Schema}
 use Rattle.zf_finite.specs.Finite.{IsFinite}
 use Rattle.zf_meaning.specs.Environments.{Environment}
@@ -14,7 +16,7 @@ use Rattle.zf_graph.specs.Seeking as seeking
 use Rattle.zf_graph.specs.Texts as graph
 use Rattle.zf_graph.specs.Texts.{broken, ended, Ending, paused}
 use Rattle.zf_steps.specs.declared.form.Form.{Form}
-use Rattle.zf_steps.specs.declared.form.Form.TheVariants.{Graph, Lines}
+use Rattle.zf_steps.specs.declared.form.Form.TheVariants as form
 use Rattle.zf_steps.specs.Explored.{explored_in, sought_in}
 use Rattle.zf_steps.specs.Systems.{System}
 use Rattle.zf_steps.specs.Words.{verdict, words}
@@ -23,7 +25,7 @@ use Rattle.zf_machines.specs.Machines.{all_of, HasShape, IsMachineOf, LacksFirst
 use Rattle.zf_lines.specs.declared.fault.Status.{Status}
 use Rattle.zf_lines.specs.declared.fault.Status.TheVariants.{BadRequest, Done, PastBounds}
 use Rattle.zf_engine.specs.Numbers.{AreSmall}
-use Rattle.zf_engine.specs.Settings.{Checks, IsNamed, numbers_of, stated, TellsFaults, TellsInfinite, TellsMisfit, TellsNoSchema, TellsNumbers, TellsOut}
+use Rattle.zf_engine.specs.Settings.{AreMessages, Checks, IsNamed, numbers_of, stated, TellsFaults, TellsInfinite, TellsMisfit, TellsNoSchema, TellsNumbers, TellsOut}
 use Rattle.zf_messages.specs.Texts.{no_component_line}
 
 -- ---- what is asked for
@@ -74,9 +76,13 @@ pub record IsSearchable (x : Exploration) (source : List ℕ) (g : List Defined)
 abbrev pub states_limit : Exploration → ℕ
 states_limit x = unwrap_or x.limit STATES_MAX
 
--- lines, or a graph
+-- lines or objects, or a graph
+abbrev pub form_in : Format → Form
+form_in Lines = form.Lines
+form_in Objects = form.Objects
+
 abbrev pub form_of : Exploration → Form
-form_of x = cond x.graph Graph Lines
+form_of x = cond x.graph form.Graph (form_in x.format)
 
 -- ---- refusals
 
@@ -96,7 +102,7 @@ HasInfinite x file numbers g p text status = FirstFails (λ n. IsFinite numbers 
 abbrev pub HasOut : Environment → Schemas → (text : List ℕ) → Status → Type 0
 HasOut e p text status = FirstFails (λ n. IsNoneOut e n.schema.comps) (λ n. TellsOut e n.schema.comps text status) (all_of p)
 
--- An exploration is refused for a source that is read, by the first case that applies.
+-- An exploration is refused for a source that is read, by the first case that applies. The text is told as lines.
 pub data RefusesExploration (x : Exploration) (file source text : List ℕ) (status : Status) : Type 0 where
   ill_typed : TellsFaults x.details file source text status → RefusesExploration x file source text status
   no_schema : (g : List Defined) → Checks source g [] → LacksSchema x g text status → RefusesExploration x file source text status
@@ -145,7 +151,7 @@ TellsMachine (Some name) x g p e text status = Seeks x g p e text status
 
 -- The answer of `reach` for a source that is read.
 pub data ExplorationAnswer (x : Exploration) (file source text : List ℕ) (status : Status) : Type 0 where
-  refused : RefusesExploration x file source text status → ExplorationAnswer x file source text status
+  refused : AreMessages x.format file (RefusesExploration x file source) text status → ExplorationAnswer x file source text status
   explored : (g : List Defined) (p : Schemas) (e : Environment) → IsSearchable x source g p e → TellsMachine x.sought x g p e text status → ExplorationAnswer x file source text status
 
 -- the first lines that it writes, where no state is sought: some turns, and the beginning of the next one

@@ -1,8 +1,10 @@
 pub mod Faults
 pub mod SourceLines
+pub mod Objects
 pub mod Reasons
 pub mod Numbers
 pub mod Settings
+pub mod Only
 pub mod Explorations
 pub mod Answers
 pub mod Stops

@@ -1,6 +1,8 @@
 -- What `why` tells of a search: its first event, or why there is none.
 use Rattle.std.specs.Prelude.{◌≡◌, ℕ, Bool, List, [], ◌∷◌, ◌++◌, codes, Option, Some, None}
 use Rattle.std.specs.List.{flat_map}
+use Rattle.zf_format.specs.declared.format.Format.{Format}
+use Rattle.zf_format.specs.declared.format.Format.TheVariants.{Lines, Objects}
 use Rattle.zf_term.specs.Definitions.{Comp, Defined, Schema, sets_of}
 use Rattle.zf_term.specs.ResolvedTrees.{ResolvedTree}
 use Rattle.zf_finite.specs.Finite.{first_plain}
@@ -24,16 +26,18 @@ use Rattle.zf_why.specs.Causes.{EmptiedBy, RefutedBy, RefutedTogetherBy}
 use Rattle.zf_why.specs.Told.{AreTold, nothing_beside, others_beside}
 use Rattle.zf_lines.specs.declared.fault.Status.{Status}
 use Rattle.zf_lines.specs.declared.fault.Status.TheVariants.{Done, PastBounds}
-use Rattle.zf_lines.specs.Searches.{HasEvents, out_line}
-use Rattle.zf_lines.specs.Texts.{binding_line}
+use Rattle.zf_lines.specs.Searches.{HasEvents}
+use Rattle.zf_lines.specs.Texts.{out_line, row_line}
+use Rattle.zf_engine.specs.Objects.{empty_object, told_object}
 use Rattle.zf_engine.specs.SourceLines.{line_numbered, trimmed}
 use Rattle.zf_messages.specs.Texts.{fault_line}
 
 -- ---- the lines of a cause
 
 -- `FILE:LINE: x: empty`, with the line of the component's first declared set
-abbrev pub empty_line : (file : List ℕ) → Comp → List ℕ
-empty_line file c = fault_line file (first_plain (sets_of c.sets)) (c.name ++ codes ": empty")
+abbrev pub empty_line : Format → (file : List ℕ) → Comp → List ℕ
+empty_line Lines file c = fault_line file (first_plain (sets_of c.sets)) (c.name ++ codes ": empty")
+empty_line Objects file c = empty_object file c
 
 -- `FILE:LINE: SOURCE LINE`, as the source has it
 abbrev pub source_line : (file source : List ℕ) → (line : ℕ) → List ℕ
@@ -66,40 +70,51 @@ operands_lines_of ss None = []
 operands_lines_of ss (Some o) = operands_lines ss o
 
 -- a conjunct's line, that of its first symbol, and behind it those of its sides, if it is told by both, and of its operands, if they are told
-abbrev pub told_line : (file source : List ℕ) → List Spelling → Told → List ℕ
-told_line file source ss t = source_line file source t.line ++ sides_lines_of file source t.sides ++ operands_lines_of ss t.operands
+abbrev pub told_line : Format → (file source : List ℕ) → List Spelling → Told → List ℕ
+told_line Lines file source ss t = source_line file source t.line ++ sides_lines_of file source t.sides ++ operands_lines_of ss t.operands
+told_line Objects file source ss t = told_object file source ss t
 
 -- a line each, in their order
-abbrev pub empty_lines : (file : List ℕ) → List Comp → List ℕ
-empty_lines file cs = flat_map (empty_line file) cs
+abbrev pub empty_lines : Format → (file : List ℕ) → List Comp → List ℕ
+empty_lines f file cs = flat_map (empty_line f file) cs
 
-abbrev pub told_lines : (file source : List ℕ) → List Spelling → List Told → List ℕ
-told_lines file source ss told = flat_map (told_line file source ss) told
+abbrev pub told_lines : Format → (file source : List ℕ) → List Spelling → List Told → List ℕ
+told_lines f file source ss told = flat_map (told_line f file source ss) told
 
 -- the components without a value, or what is told of the conjuncts that are to blame
-abbrev pub cause_lines : (file source : List ℕ) → List Spelling → Schema → Cause → List ℕ
-cause_lines file source ss a (Empty empty) = empty_lines file (chosen_of a.comps empty.items)
-cause_lines file source ss a (Alone told) = told_lines file source ss told.items
-cause_lines file source ss a (Together told) = told_lines file source ss told.items
+abbrev pub cause_lines : Format → (file source : List ℕ) → List Spelling → Schema → Cause → List ℕ
+cause_lines f file source ss a (Empty empty) = empty_lines f file (chosen_of a.comps empty.items)
+cause_lines f file source ss a (Alone told) = told_lines f file source ss told.items
+cause_lines f file source ss a (Together told) = told_lines f file source ss told.items
+
+-- ---- the last line
+
+abbrev pub satisfied_line : Format → List ℕ
+satisfied_line Lines = codes "satisfied\n"
+satisfied_line Objects = codes "{\"satisfied\": true}\n"
+
+abbrev pub no_binding_line : Format → List ℕ
+no_binding_line Lines = codes "no binding\n"
+no_binding_line Objects = codes "{\"no binding\": true}\n"
 
 -- ---- the answer
 
 -- The text tells these conjuncts, each beside others. Which minimal sets are told of the sides of a disjunction is open. So are the places of the conjuncts that are told by their sides:
 -- those of the disjunctions of schemas, as `why` of `zf_why` has it, which a schema's predicates do not show.
-abbrev pub TellsConjuncts : (details : Bool) → (file source : List ℕ) → Schema → Environment → (held : List (Option Value)) → (beside : ℕ → List ResolvedTree) → (chosen : List Bool) → (text : List ℕ) → Type 0
-TellsConjuncts details file source a e held beside chosen text =
-    (disjunctions : ℕ → Bool) × (told : List Told) × AreTold e a.comps held details beside disjunctions a.conjuncts chosen told × (text ≡ told_lines file source (spellings e.globals) told ++ codes "no binding\n")
+abbrev pub TellsConjuncts : Format → (details : Bool) → (file source : List ℕ) → Schema → Environment → (held : List (Option Value)) → (beside : ℕ → List ResolvedTree) → (chosen : List Bool) → (text : List ℕ) → Type 0
+TellsConjuncts f details file source a e held beside chosen text =
+    (disjunctions : ℕ → Bool) × (told : List Told) × AreTold e a.comps held details beside disjunctions a.conjuncts chosen told × (text ≡ told_lines f file source (spellings e.globals) told ++ no_binding_line f)
 
 -- The text and the status of a search for bindings of a schema among these globals: its first event, as a binding or as one that is out of bounds; or, where there is none, a cause.
 -- Which minimal set of conjuncts is told, where there are several, is open.
-pub data TellsWhy (details : Bool) (file source : List ℕ) (globals : List Defined) (a : Schema) (e : Environment) (p : Portion) (text : List ℕ) (status : Status) : Type 0 where
+pub data TellsWhy (f : Format) (details : Bool) (file source : List ℕ) (globals : List Defined) (a : Schema) (e : Environment) (p : Portion) (text : List ℕ) (status : Status) : Type 0 where
   satisfied : (event : Event Value) → HasEvents e a p (Some event.row) (event ∷ []) → event.truth ≡ True
-      → text ≡ binding_line (spellings globals) a.comps event.row ++ codes "satisfied\n" → status ≡ Done → TellsWhy details file source globals a e p text status
+      → text ≡ row_line f (spellings globals) a.comps event.row ++ satisfied_line f → status ≡ Done → TellsWhy f details file source globals a e p text status
   doubtful : (event : Event Value) → HasEvents e a p (Some event.row) (event ∷ []) → event.truth ≡ Out
-      → text ≡ out_line (binding_line (spellings globals) a.comps) event.row → status ≡ PastBounds → TellsWhy details file source globals a e p text status
+      → text ≡ out_line f (spellings globals) a.comps event.row → status ≡ PastBounds → TellsWhy f details file source globals a e p text status
   emptied : (empty : List Bool) → HasEvents e a p None [] → EmptiedBy e a p.held empty
-      → text ≡ empty_lines file (chosen_of a.comps empty) ++ codes "no binding\n" → status ≡ Done → TellsWhy details file source globals a e p text status
-  refuted : (alone : List Bool) → HasEvents e a p None [] → RefutedBy e a p.held alone → TellsConjuncts details file source a e p.held nothing_beside alone text → status ≡ Done
-      → TellsWhy details file source globals a e p text status
-  refuted_together : (core : List Bool) → HasEvents e a p None [] → RefutedTogetherBy e a p.held core → TellsConjuncts details file source a e p.held (others_beside a.conjuncts core) core text → status ≡ Done
-      → TellsWhy details file source globals a e p text status
+      → text ≡ empty_lines f file (chosen_of a.comps empty) ++ no_binding_line f → status ≡ Done → TellsWhy f details file source globals a e p text status
+  refuted : (alone : List Bool) → HasEvents e a p None [] → RefutedBy e a p.held alone → TellsConjuncts f details file source a e p.held nothing_beside alone text → status ≡ Done
+      → TellsWhy f details file source globals a e p text status
+  refuted_together : (core : List Bool) → HasEvents e a p None [] → RefutedTogetherBy e a p.held core → TellsConjuncts f details file source a e p.held (others_beside a.conjuncts core) core text → status ≡ Done
+      → TellsWhy f details file source globals a e p text status

@@ -4,6 +4,8 @@ use Rattle.std.specs.List.{filter, list_any}
 use Rattle.std.specs.Str.{bytes_eq}
 use Rattle.zf_command.specs.declared.job.Setting.{Setting}
 use Rattle.zf_command.specs.declared.job.Size as command
+use Rattle.zf_format.specs.declared.format.Format.{Format}
+use Rattle.zf_format.specs.Messages.{messages_in}
 use Rattle.zf_schema.specs.Checking.{IsChecked}
 use Rattle.zf_finite.specs.declared.not_finite.NotFinite.{NotFinite}
 use Rattle.zf_finite.specs.Finite.{causes}
@@ -76,6 +78,10 @@ abbrev pub numbers_of : Setting → Option ℕ
 numbers_of s = s.numbers
 
 -- ---- what is told of a refusal
+
+-- the messages of a text that this tells, in this format
+abbrev pub AreMessages : Format → (file : List ℕ) → (Tells : List ℕ → Status → Type 0) → (text : List ℕ) → Status → Type 0
+AreMessages format file Tells text status = (told : List ℕ) × Tells told status × (text ≡ messages_in format file told)
 
 -- the faults of a source that is not well typed
 pub record TellsFaults (details : Bool) (file source text : List ℕ) (status : Status) : Type 0 where

@@ -6,6 +6,7 @@ use Rattle.zf_command.specs.declared.job.Job.TheVariants.{Reach, Show}
 use Rattle.zf_scan.specs.declared.fault.TextFault.{TextFault}
 use Rattle.zf_scan.specs.declared.fault.TextFaultKind.TheVariants as text_faults
 use Rattle.zf_term.specs.Definitions.{Comp, Defined}
+use Rattle.zf_value.specs.declared.plain.Value.{Value}
 use Rattle.zf_meaning.specs.Environments.{Environment}
 use Rattle.zf_lines.specs.declared.fault.RunFault.{RunFault}
 use Rattle.zf_lines.specs.declared.fault.Status.{Status}
@@ -14,13 +15,16 @@ use Rattle.zf_engine.specs.declared.stop.Stop.{Stop}
 use Rattle.zf_engine.specs.declared.stop.Stop.TheVariants.{Answered, OutOfMemory}
 use Rattle.zf_command.specs.declared.job.Exploration.{Exploration}
 use Rattle.zf_command.specs.declared.job.Request.{Request}
-use Rattle.zf_engine.specs.Answers.{AnswersSource, HoldsNoValues, NamesNoRow, RefusesRequest, UnreadAnswer, IsPartOfAnswer}
+use Rattle.zf_engine.specs.Answers.{AnswersSource, CheckAnswer, HoldsNoValues, IsNamedRow, NamesNoRow, RefusesRequest, UnreadAnswer, IsPartOfAnswer}
+use Rattle.zf_engine.specs.Only.{AreShown, HasNoPlace, NamesNoParts}
 use Rattle.zf_engine.specs.Settings.{Checks, TellsFaults}
 use Rattle.zf_lines.specs.FaultViews.{AppendsFront}
 use Rattle.zf_messages.specs.Details.{Cited, text_fault_lines}
 use Rattle.zf_engine.specs.Explorations.{RefusesExploration}
-use Rattle.zf_messages.specs.Texts.{not_a_binding_line, not_held_line}
+use Rattle.zf_messages.specs.Texts.{not_a_binding_line, not_components_line, not_held_line}
 use Rattle.zf_command.specs.declared.job.Job.{Job}
+use Rattle.zf_format.specs.declared.format.Format.{Format}
+use Rattle.zf_format.specs.Messages.{messages_in}
 
 abbrev pub StopsInSource : Job → List ℕ → List ℕ → Option (List ℕ) → Option (List ℕ) → Type 0
 StopsInSource job file source old new = (written : List ℕ) × IsPartOfAnswer job file source written × Appends old new written
@@ -54,6 +58,30 @@ TellsPlaceHeld place text status = (text ≡ not_held_line place) × (status ≡
 abbrev pub TellsNoValues : Environment → List Comp → Option (List ℕ) → List ℕ → Status → Type 0
 TellsNoValues e comps held text status = HoldsNoValues e comps held × ((place : ℕ) × TellsPlaceHeld place text status)
 
+-- the answer tells a place of a text that names no components
+abbrev pub TellsPlaceMisnamed : List ℕ → Status → Type 0
+TellsPlaceMisnamed text status = (place : ℕ) × (text ≡ not_components_line place) × (status ≡ BadRequest)
+
+abbrev pub TellsNoParts : List Comp → Option (List ℕ) → List ℕ → Status → Type 0
+TellsNoParts comps only text status = NamesNoParts comps only × TellsPlaceMisnamed text status
+
+-- the answer tells a place of a name that adds none to these
+abbrev pub IsMisnamed : List Comp → (name : List ℕ) → (places : List ℕ) → List ℕ → Status → Type 0
+IsMisnamed comps name places text status = HasNoPlace comps name places × TellsPlaceMisnamed text status
+
+-- the answer tells that a text is no line of a row of the components that are shown, or no line of some components
+abbrev pub TellsBounds : Environment → List Comp → (shown : List Comp) → Request → List ℕ → Status → Type 0
+TellsBounds e comps shown r text status =
+    TellsNoRow e shown r.after text status ⊎ ((after : Option (List Value)) × IsNamedRow e shown r.after after × TellsNoValues e comps r.held text status)
+
+-- the answer tells that one of the texts which say what is asked for is not what it has to be
+abbrev pub TellsMisnamed : Environment → List Comp → Request → List ℕ → Status → Type 0
+TellsMisnamed e comps r text status = TellsNoParts comps r.only text status ⊎ ((shown : List Comp) × AreShown comps r.only shown × TellsBounds e comps shown r text status)
+
+-- what `check` tells of a source, read or not
+abbrev pub ToldOfFaults : (types details : Bool) → (file source text : List ℕ) → Status → Type 0
+ToldOfFaults types details file source text status = UnreadAnswer details file source text status ⊎ CheckAnswer types details file source text status
+
 -- the source is not read, or the request is refused for it
 abbrev pub IsRefused : Request → (file source text : List ℕ) → Status → Type 0
 IsRefused r file source text status = UnreadAnswer r.details file source text status ⊎ RefusesRequest r file source text status
@@ -70,12 +98,16 @@ IsUnfit details file source text status = UnreadAnswer details file source text 
 abbrev pub AnswersOver : List Defined → Request → (file : List ℕ) → Stop → Type 0
 AnswersOver g r file stop = (source : List ℕ) → Checks source g [] → AnswersRequest r file source stop
 
--- the answer is written, or a front of it
-abbrev pub Tells : Stop → Option (List ℕ) → Option (List ℕ) → Result Status RunFault → Type 0
-Tells (Answered text status) old new (Ok given) = (status ≡ given) × Appends old new text.items
-Tells (Answered text status) old new (Err fault) = AppendsFront old new text.items
-Tells OutOfMemory old new (Ok given) = ⊥
-Tells OutOfMemory old new (Err fault) = Appends old new []
+-- a whole text is written, or a front of it
+abbrev pub WritesText : (text : List ℕ) → Status → Option (List ℕ) → Option (List ℕ) → Result Status RunFault → Type 0
+WritesText text status old new (Ok given) = (status ≡ given) × Appends old new text
+WritesText text status old new (Err fault) = AppendsFront old new text
+
+-- the messages of what is told are written in this format, or a front of them
+abbrev pub Tells : Format → (file : List ℕ) → Stop → Option (List ℕ) → Option (List ℕ) → Result Status RunFault → Type 0
+Tells format file (Answered text status) old new result = WritesText (messages_in format file text.items) status old new result
+Tells format file OutOfMemory old new (Ok given) = ⊥
+Tells format file OutOfMemory old new (Err fault) = Appends old new []
 
 -- the answer of the job is written, or a part of it
 abbrev pub Writes : Job → (file source : List ℕ) → Option (List ℕ) → Option (List ℕ) → Result Status RunFault → Type 0

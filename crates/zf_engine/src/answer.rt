@@ -1,40 +1,44 @@
 //! What is written of a job on a source.
-ghost use Rattle.std.specs.Prelude.{◌≡◌, ℕ, List, [], true, IfOk, IfErr, OnErr};
+ghost use Rattle.std.specs.Prelude.{◌≡◌, [], true, IfOk, IfErr, None, OnErr, Some, option_map};
 ghost use Rattle.std.specs.Option.{option_copied};
-ghost use Rattle.zf_command.specs.declared.job.Job.TheVariants.{Check};
-ghost use Rattle.zf_engine.specs.Answers.{Answer, AnswersSource, AreHeld, IsAsked, IsLimited, IsNamedRow};
+ghost use Rattle.zf_command.specs.Requests.{IsBare};
+ghost use Rattle.zf_command.specs.declared.job.Job.TheVariants.{Why};
+ghost use Rattle.zf_engine.specs.Answers.{AnswersSource, IsAsked, IsLimited, IsNamedRow};
 ghost use Rattle.zf_engine.specs.Settings.{Checks};
-ghost use Rattle.zf_engine.specs.Stops.{StopsInSource, IfAnswered, Shows, Tells};
+ghost use Rattle.zf_engine.specs.Stops.{AnswersRequest, IfAnswered, Shows, StopsInSource, ToldOfFaults, Writes};
+ghost use Rattle.zf_engine.specs.Subjects.{AreNamedIn, environment_in, IsChosenBy, IsSubjectOf, schema_in};
 ghost use Rattle.zf_lines.specs.Counts.{device_of, failures_of};
 ghost use Rattle.zf_lines.specs.Faults.{read_failures, write_failures};
 ghost use Rattle.zf_lines.specs.Searches.{HasLimit};
 ghost use Rattle.zf_meaning.specs.Envs.{environment_of};
 ghost use Rattle.zf_term.specs.DefinitionViews.{globals_of};
 ghost use Rattle.zf_term.specs.SchemaViews.{schema_of};
-ghost use Rattle.zf_texts.specs.Spellings.{spellings};
 
 use crate::asked::{Asked, asked_in};
 use crate::begin::{begin, begin_counting};
+use crate::bounds::{Bounds, Chosen, bounds_in};
 use crate::check::{check_answer, checked_in};
-use crate::held::values_held;
-use crate::named::named_row;
+use crate::inquiry::Inquiry;
 use crate::reach::reach_source;
 use crate::stop::{Stop, whole};
+use crate::subject::Subject;
+use crate::telling::{tell, write_whole};
 use crate::typed::typed_in;
-use crate::why::why_answer;
+use crate::why::why_source;
 use bumpalo::Bump;
 use std::alloc::Global;
 use std::io::Write;
 use zf_command::job::{Job, Request};
+use zf_lines::Style;
 use zf_lines::counted::Counted;
 use zf_lines::fault::{RunFault, Status};
 use zf_lines::show::{show, show_with_tests};
-use zf_lines::writing::write_text;
 use zf_meaning::env::Env;
 use zf_messages::Report;
+use zf_parts::{Parts, show_parts};
 use zf_term::globals::Globals;
 use zf_term::schema::Flat;
-use zf_texts::{Spelling, spellings_of};
+use zf_texts::spellings_of;
 use zf_value::value::Value;
 
 /// Writes the answer of a job for a source, as it is found.
@@ -54,18 +58,23 @@ pub fn answer<W: Write>(
 {
     let file = file_name.as_bytes();
     match job {
-        Job::Check { types, details } => {
-            tell(checked(alloc, *types, *details, file, source), writer)
+        Job::Check {
+            types,
+            details,
+            format,
+        } => {
+            let stop = checked(alloc, *types, *details, file, source);
+            tell(alloc, *format, file, stop, writer)
         }
         Job::Show(request) => show_source(alloc, request, file, source, writer),
-        Job::Why(request) => tell(why_answer(alloc, request, file, source), writer),
+        Job::Why(request) => explain_source(alloc, request, file, source, writer),
         Job::Reach(exploration) => reach_source(alloc, exploration, file, source, writer),
     }
 }
 
-/// The answer of `check`.
+/// What `check` tells.
 fn checked(alloc: Global, types: bool, details: bool, file: &[u8], source: &[u8]) -> Stop
-    ensures { IfAnswered result (Answer (Check types details) file.now source.now) }
+    ensures { IfAnswered result (ToldOfFaults types details file.now source.now) }
 {
     whole(checked_text(alloc, types, details, file, source))
 }
@@ -77,8 +86,8 @@ fn checked_text(
     file: &[u8],
     source: &[u8],
 ) -> Result<(Vec<u8>, Status), Stop>
-    ensures answer { IfOk result (λ p. Answer (Check types details) file.now source.now p.0.items p.1) }
-    ensures stop { IfErr result (λ s. IfAnswered s (Answer (Check types details) file.now source.now)) }
+    ensures answer { IfOk result (λ p. ToldOfFaults types details file.now source.now p.0.items p.1) }
+    ensures stop { IfErr result (λ s. IfAnswered s (ToldOfFaults types details file.now source.now)) }
 {
     let trees = Bump::new(alloc);
     let arena = Bump::new(alloc);
@@ -91,19 +100,23 @@ fn checked_text(
     Ok(check_answer(alloc, types, report, &checked)?)
 }
 
-/// Writes an answer that is whole.
-pub fn tell<W: Write>(stop: Stop, writer: &mut Counted<W>) -> Result<Status, RunFault>
-    requires { failures_of writer.old ≡ 0 }
-    ensures told { Tells stop (W.contents (device_of writer.old)) (W.contents (device_of writer.new)) result }
+/// Writes the answer of `why` for a source.
+fn explain_source<W: Write>(
+    alloc: Global,
+    request: &Request,
+    file: &[u8],
+    source: &[u8],
+    writer: &mut Counted<W>,
+) -> Result<Status, RunFault>
+    requires unfailed { failures_of writer.old ≡ 0 }
+    requires plain { IsBare request.now }
+    ensures explains { Writes (Why request.now) file.now source.now (W.contents (device_of writer.old)) (W.contents (device_of writer.new)) result }
     ensures count { failures_of writer.new ≡ write_failures result }
     ensures unread { read_failures result ≡ 0 }
 {
-    match stop {
-        Stop::Answered(text, status) => {
-            write_text(writer, &text)?;
-            Ok(status)
-        }
-        Stop::OutOfMemory => Err(RunFault::OutOfMemory),
+    match why_source(alloc, request, file, source) {
+        Ok((text, status)) => write_whole(&text, status, writer),
+        Err(stop) => tell(alloc, request.format, file, stop, writer),
     }
 }
 
@@ -128,167 +141,213 @@ fn show_source<W: Write>(
         file,
         details: request.details,
     };
+    let inquiry = Inquiry {
+        alloc,
+        request,
+        report,
+    };
     match typed_in(alloc, &trees, &arena, report) {
-        Ok(globals) => show_globals(alloc, &arena, &globals, request, report, writer),
-        Err(stop) => tell(stop, writer),
+        Ok(globals) => show_globals(inquiry, &arena, &globals, writer),
+        Err(stop) => tell(alloc, request.format, file, stop, writer),
     }
 }
 
 /// Writes the answer of `show` for a source that is well typed and defines these globals.
 fn show_globals<'a, W: Write>(
-    alloc: Global,
+    inquiry: Inquiry<'_>,
     arena: &'a Bump,
     globals: &Globals<'a>,
-    request: &Request,
-    report: Report<'_>,
     writer: &mut Counted<W>,
 ) -> Result<Status, RunFault>
     requires unfailed { failures_of writer.old ≡ 0 }
-    requires limited { HasLimit request.now.limit }
-    requires details { report.details ≡ request.now.details }
-    requires checks { (source : List ℕ) × Checks source (globals_of globals.now) [] }
-    ensures shows { (source : List ℕ) → Checks source (globals_of globals.now) [] → Shows request.now report.entry.file.now source (W.contents (device_of writer.old)) (W.contents (device_of writer.new)) result }
+    requires limited { HasLimit inquiry.request.now.limit }
+    requires details { inquiry.report.details ≡ inquiry.request.now.details }
+    requires checks { Checks inquiry.report.source.now (globals_of globals.now) [] }
+    ensures shows { Shows inquiry.entry.request.now inquiry.entry.report.file.now inquiry.entry.report.source.now (W.contents (device_of writer.old)) (W.contents (device_of writer.new)) result }
     ensures count { failures_of writer.new ≡ write_failures result }
     ensures unread { read_failures result ≡ 0 }
 {
-    match asked_in(alloc, globals, request, report) {
-        Ok(Asked { schema, env }) => show_schema(alloc, arena, schema, &env, request, writer),
-        Err(stop) => tell(stop, writer),
+    match asked_in(inquiry.alloc, globals, inquiry.request, inquiry.report) {
+        Ok(Asked { schema, env }) => show_schema(inquiry, arena, schema, &env, writer),
+        Err(stop) => refuse(inquiry, stop, writer),
     }
+}
+
+/// Writes what is told where a request is refused.
+fn refuse<W: Write>(
+    inquiry: Inquiry<'_>,
+    stop: Stop,
+    writer: &mut Counted<W>,
+) -> Result<Status, RunFault>
+    requires unfailed { failures_of writer.old ≡ 0 }
+    requires answers { AnswersRequest inquiry.request.now inquiry.report.file.now inquiry.report.source.now stop }
+    ensures shows { Shows inquiry.entry.request.now inquiry.entry.report.file.now inquiry.entry.report.source.now (W.contents (device_of writer.old)) (W.contents (device_of writer.new)) result }
+    ensures count { failures_of writer.new ≡ write_failures result }
+    ensures unread { read_failures result ≡ 0 }
+{
+    tell(
+        inquiry.alloc,
+        inquiry.request.format,
+        inquiry.report.file,
+        stop,
+        writer,
+    )
 }
 
 /// Writes the answer of `show` for a finite schema in an environment.
 fn show_schema<'a, W: Write>(
-    alloc: Global,
+    inquiry: Inquiry<'_>,
     arena: &'a Bump,
     schema: &Flat<'a>,
     env: &Env<'_, 'a>,
-    request: &Request,
     writer: &mut Counted<W>,
 ) -> Result<Status, RunFault>
     requires unfailed { failures_of writer.old ≡ 0 }
-    requires limited { HasLimit request.now.limit }
-    requires asked { (source : List ℕ) × IsAsked request.now source (environment_of env.now).globals (schema_of schema.now) (environment_of env.now) }
-    ensures shows { (file source : List ℕ) → IsAsked request.now source (environment_of env.now).globals (schema_of schema.now) (environment_of env.now) → Shows request.now file source (W.contents (device_of writer.old)) (W.contents (device_of writer.new)) result }
+    requires limited { HasLimit inquiry.request.now.limit }
+    requires asked { IsAsked inquiry.request.now inquiry.report.source.now (environment_of env.now).globals (schema_of schema.now) (environment_of env.now) }
+    ensures shows { Shows inquiry.entry.request.now inquiry.entry.report.file.now inquiry.entry.report.source.now (W.contents (device_of writer.old)) (W.contents (device_of writer.new)) result }
     ensures count { failures_of writer.new ≡ write_failures result }
     ensures unread { read_failures result ≡ 0 }
 {
-    let elements = spellings_of(alloc, env.globals())?;
-    match named_row(alloc, schema, env, &elements, &request.after) {
-        Ok(Some(row)) => show_with(
-            alloc,
-            arena,
-            schema,
-            env,
-            &elements,
-            Some(&row),
-            request,
-            writer,
-        ),
-        Ok(None) => show_with(alloc, arena, schema, env, &elements, None, request, writer),
-        Err(stop) => tell(stop, writer),
+    let elements = spellings_of(inquiry.alloc, env.globals())?;
+    let style = Style {
+        alloc: inquiry.alloc,
+        format: inquiry.request.format,
+        elements: &elements,
+    };
+    match bounds_in(inquiry, arena, schema, env, &elements) {
+        Ok(bounds) => {
+            let subject = Subject {
+                arena,
+                schema,
+                env,
+                style: &style,
+                held: &bounds.held,
+            };
+            show_within(inquiry, &subject, &bounds, writer)
+        }
+        Err(stop) => refuse(inquiry, stop, writer),
     }
 }
 
-/// Writes the answer of `show` for what comes after a row, if one is named, and has the values that are asked for.
-fn show_with<'a, W: Write>(
-    alloc: Global,
-    arena: &'a Bump,
-    schema: &Flat<'a>,
-    env: &Env<'_, 'a>,
-    elements: &[Spelling],
-    after: Option<&[Value]>,
-    request: &Request,
+/// Writes what is asked for of the bindings of a schema.
+fn show_within<'p, 'a, W: Write>(
+    inquiry: Inquiry<'_>,
+    subject: &Subject<'p, '_, 'a>,
+    bounds: &'p Bounds<'p, 'a>,
     writer: &mut Counted<W>,
 ) -> Result<Status, RunFault>
     requires unfailed { failures_of writer.old ≡ 0 }
-    requires limited { HasLimit request.now.limit }
-    requires elements { elements.now ≡ spellings (environment_of env.now).globals }
-    requires asked { (source : List ℕ) × IsAsked request.now source (environment_of env.now).globals (schema_of schema.now) (environment_of env.now) }
-    requires named { IsNamedRow (environment_of env.now) (schema_of schema.now).comps request.now.after (option_copied after) }
-    ensures shows { (file source : List ℕ) → IsAsked request.now source (environment_of env.now).globals (schema_of schema.now) (environment_of env.now) → Shows request.now file source (W.contents (device_of writer.old)) (W.contents (device_of writer.new)) result }
+    requires limited { HasLimit inquiry.request.now.limit }
+    requires subject { IsSubjectOf inquiry.request.now inquiry.report.source.now subject.now }
+    requires named { AreNamedIn (environment_in subject.now) (schema_in subject.now).comps inquiry.request.now bounds.now }
+    ensures shows { Shows inquiry.entry.request.now inquiry.entry.report.file.now inquiry.entry.report.source.now (W.contents (device_of writer.old)) (W.contents (device_of writer.new)) result }
     ensures count { failures_of writer.new ≡ write_failures result }
     ensures unread { read_failures result ≡ 0 }
 {
-    match values_held(alloc, schema, env, elements, &request.held) {
-        Ok(held) => show_after(
-            alloc, arena, schema, env, elements, after, &held, request, writer,
-        ),
-        Err(stop) => tell(stop, writer),
+    let after = row_in(&bounds.after);
+    match &bounds.chosen {
+        None => show_after(inquiry, subject, after, writer),
+        Some(chosen) => show_chosen(inquiry, subject, chosen, after, writer),
     }
 }
 
-/// Writes the answer of `show` for what comes after a row, if one is named, and has the values that are held.
-fn show_after<'a, W: Write>(
-    alloc: Global,
-    arena: &'a Bump,
-    schema: &Flat<'a>,
-    env: &Env<'_, 'a>,
-    elements: &[Spelling],
-    after: Option<&[Value]>,
-    held: &[Option<Value>],
-    request: &Request,
+/// A row, if one is named.
+fn row_in(row: &Option<Vec<Value>>) -> Option<&[Value]>
+    ensures { option_copied result ≡ option_map (λ v. v.items) row.now }
+{
+    match row {
+        None => None,
+        Some(row) => Some(row),
+    }
+}
+
+/// Writes what the chosen components have in the bindings of a schema, of that what comes after a row of theirs, if one is
+/// named.
+fn show_chosen<'p, 'a, W: Write>(
+    inquiry: Inquiry<'_>,
+    subject: &Subject<'p, '_, 'a>,
+    chosen: &'p Chosen<'p, 'a>,
+    after: Option<&'p [Value]>,
     writer: &mut Counted<W>,
 ) -> Result<Status, RunFault>
     requires unfailed { failures_of writer.old ≡ 0 }
-    requires limited { HasLimit request.now.limit }
-    requires elements { elements.now ≡ spellings (environment_of env.now).globals }
-    requires asked { (source : List ℕ) × IsAsked request.now source (environment_of env.now).globals (schema_of schema.now) (environment_of env.now) }
-    requires named { IsNamedRow (environment_of env.now) (schema_of schema.now).comps request.now.after (option_copied after) }
-    requires held { AreHeld (environment_of env.now) (schema_of schema.now).comps request.now.held held.now }
-    ensures shows { (file source : List ℕ) → IsAsked request.now source (environment_of env.now).globals (schema_of schema.now) (environment_of env.now) → Shows request.now file source (W.contents (device_of writer.old)) (W.contents (device_of writer.new)) result }
+    requires limited { HasLimit inquiry.request.now.limit }
+    requires subject { IsSubjectOf inquiry.request.now inquiry.report.source.now subject.now }
+    requires chosen { IsChosenBy (schema_in subject.now).comps inquiry.request.now.only (Some chosen.now) }
+    requires named { IsNamedRow (environment_in subject.now) (schema_of chosen.now.schema.now).comps inquiry.request.now.after (option_copied after) }
+    ensures shows { Shows inquiry.entry.request.now inquiry.entry.report.file.now inquiry.entry.report.source.now (W.contents (device_of writer.old)) (W.contents (device_of writer.new)) result }
     ensures count { failures_of writer.new ≡ write_failures result }
     ensures unread { read_failures result ≡ 0 }
 {
-    if request.tests {
-        return count_after(
-            alloc, arena, schema, env, elements, after, held, request, writer,
-        );
-    }
-    match begin(alloc, arena, schema, env, after, held) {
+    let parts = Parts {
+        flat: subject.schema,
+        places: &chosen.places,
+        schema: chosen.schema,
+        after,
+    };
+    match begin(subject, None) {
         Ok(found) => {
             let mut search = found;
-            show(alloc, schema, elements, &mut search, request.limit, writer)
+            let limit = inquiry.request.limit;
+            show_parts(subject.style, parts, &mut search, limit, writer)
         }
-        Err(stop) => tell(stop, writer),
+        Err(stop) => refuse(inquiry, stop, writer),
+    }
+}
+
+/// Writes the bindings of a schema that come after a row, if one is named.
+fn show_after<W: Write>(
+    inquiry: Inquiry<'_>,
+    subject: &Subject<'_, '_, '_>,
+    after: Option<&[Value]>,
+    writer: &mut Counted<W>,
+) -> Result<Status, RunFault>
+    requires unfailed { failures_of writer.old ≡ 0 }
+    requires limited { HasLimit inquiry.request.now.limit }
+    requires subject { IsSubjectOf inquiry.request.now inquiry.report.source.now subject.now }
+    requires all { inquiry.request.now.only ≡ None }
+    requires named { IsNamedRow (environment_in subject.now) (schema_in subject.now).comps inquiry.request.now.after (option_copied after) }
+    ensures shows { Shows inquiry.entry.request.now inquiry.entry.report.file.now inquiry.entry.report.source.now (W.contents (device_of writer.old)) (W.contents (device_of writer.new)) result }
+    ensures count { failures_of writer.new ≡ write_failures result }
+    ensures unread { read_failures result ≡ 0 }
+{
+    if inquiry.request.tests {
+        return count_after(inquiry, subject, after, writer);
+    }
+    match begin(subject, after) {
+        Ok(found) => {
+            let mut search = found;
+            let limit = inquiry.request.limit;
+            show(subject.style, subject.schema, &mut search, limit, writer)
+        }
+        Err(stop) => refuse(inquiry, stop, writer),
     }
 }
 
 /// The same of a request that asks for the number of tests.
-fn count_after<'a, W: Write>(
-    alloc: Global,
-    arena: &'a Bump,
-    schema: &Flat<'a>,
-    env: &Env<'_, 'a>,
-    elements: &[Spelling],
+fn count_after<W: Write>(
+    inquiry: Inquiry<'_>,
+    subject: &Subject<'_, '_, '_>,
     after: Option<&[Value]>,
-    held: &[Option<Value>],
-    request: &Request,
     writer: &mut Counted<W>,
 ) -> Result<Status, RunFault>
     requires unfailed { failures_of writer.old ≡ 0 }
-    requires limited { HasLimit request.now.limit }
-    requires counted { request.now.tests ≡ true }
-    requires elements { elements.now ≡ spellings (environment_of env.now).globals }
-    requires asked { (source : List ℕ) × IsAsked request.now source (environment_of env.now).globals (schema_of schema.now) (environment_of env.now) }
-    requires named { IsNamedRow (environment_of env.now) (schema_of schema.now).comps request.now.after (option_copied after) }
-    requires held { AreHeld (environment_of env.now) (schema_of schema.now).comps request.now.held held.now }
-    ensures shows { (file source : List ℕ) → IsAsked request.now source (environment_of env.now).globals (schema_of schema.now) (environment_of env.now) → Shows request.now file source (W.contents (device_of writer.old)) (W.contents (device_of writer.new)) result }
+    requires limited { HasLimit inquiry.request.now.limit }
+    requires counted { inquiry.request.now.tests ≡ true }
+    requires all { inquiry.request.now.only ≡ None }
+    requires subject { IsSubjectOf inquiry.request.now inquiry.report.source.now subject.now }
+    requires named { IsNamedRow (environment_in subject.now) (schema_in subject.now).comps inquiry.request.now.after (option_copied after) }
+    ensures shows { Shows inquiry.entry.request.now inquiry.entry.report.file.now inquiry.entry.report.source.now (W.contents (device_of writer.old)) (W.contents (device_of writer.new)) result }
     ensures count { failures_of writer.new ≡ write_failures result }
     ensures unread { read_failures result ≡ 0 }
 {
-    match begin_counting(alloc, arena, schema, env, after, held) {
+    match begin_counting(subject, after) {
         Ok(found) => {
             let mut bindings = found;
-            show_with_tests(
-                alloc,
-                schema,
-                elements,
-                &mut bindings,
-                request.limit,
-                writer,
-            )
+            let limit = inquiry.request.limit;
+            show_with_tests(subject.style, subject.schema, &mut bindings, limit, writer)
         }
-        Err(stop) => tell(stop, writer),
+        Err(stop) => refuse(inquiry, stop, writer),
     }
 }

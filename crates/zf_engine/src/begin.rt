@@ -3,24 +3,20 @@ ghost use Rattle.std.specs.Prelude.{◌<◌, length, IfOk, IfErr};
 ghost use Rattle.std.specs.Option.{option_copied};
 ghost use Rattle.zf_engine.specs.Stops.{IfAnswered};
 ghost use Rattle.zf_engine.specs.Settings.{TellsComponent, TellsOut};
+ghost use Rattle.zf_engine.specs.Subjects.{CanBeSearched, environment_in, schema_in};
 ghost use Rattle.zf_enum.specs.PortionViews.{portion};
-ghost use Rattle.zf_enum.specs.Property.{property};
 ghost use Rattle.zf_enum.specs.Searches.{planted_goal};
 ghost use Rattle.zf_enum.specs.Starts.{Begins, BeginsCounting};
 ghost use Rattle.zf_ranges.specs.Ranges.{Refuses};
-ghost use Rattle.zf_finite.specs.Finite.{IsFinite};
 ghost use Rattle.zf_meaning.specs.Environments.{Environment};
-ghost use Rattle.zf_meaning.specs.Envs.{environment_of};
 ghost use Rattle.zf_term.specs.SchemaViews.{schema_of};
-ghost use Rattle.zf_walk.specs.Progress.{AreDueWithin};
 ghost use Rattle.zf_walk.specs.RowLaws.{HasLength};
 
 use crate::stop::Stop;
-use bumpalo::Bump;
+use crate::subject::Subject;
 use std::alloc::Global;
 use zf_enum::{Bindings, Instances};
 use zf_lines::fault::Status;
-use zf_meaning::env::Env;
 use zf_messages::texts;
 use zf_ranges::StartFault;
 use zf_term::schema::Flat;
@@ -28,43 +24,49 @@ use zf_value::value::Value;
 
 /// The search for the bindings of the schema that come after the named one and have the values that are held.
 pub fn begin<'s, 'e, 'g, 'a>(
-    alloc: Global,
-    arena: &'a Bump,
-    flat: &Flat<'a>,
-    env: &'e Env<'g, 'a>,
+    subject: &Subject<'e, 'g, 'a>,
     after: Option<&'s [Value]>,
-    held: &[Option<Value>],
 ) -> Result<Instances<'s, 'e, 'g, 'a>, Stop>
-    requires finite { IsFinite (environment_of env.now).numbers (environment_of env.now).globals (schema_of flat.now) }
-    requires named { HasLength (option_copied after) (length (schema_of flat.now).comps) }
-    requires due { AreDueWithin (property (environment_of env.now) (schema_of flat.now).conjuncts) (length (schema_of flat.now).comps) }
-    ensures begins { IfOk result (λ i. Begins (environment_of env.now) (schema_of flat.now) (portion (option_copied after.entry) held.now) (planted_goal i.names i.search) i.search.stage) }
-    ensures stop { IfErr result (λ s. IfAnswered s (TellsOut (environment_of env.now) (schema_of flat.now).comps)) }
+    requires searched { CanBeSearched subject.now }
+    requires named { HasLength (option_copied after) (length (schema_in subject.now).comps) }
+    ensures begins { IfOk result (λ i. Begins (environment_in subject.now) (schema_in subject.now) (portion (option_copied after.entry) subject.now.held.now) (planted_goal i.names i.search) i.search.stage) }
+    ensures stop { IfErr result (λ s. IfAnswered s (TellsOut (environment_in subject.now) (schema_in subject.now).comps)) }
 {
-    match Instances::start(alloc, arena, flat, env, after, held) {
+    let alloc = subject.style.alloc;
+    match Instances::start(
+        alloc,
+        subject.arena,
+        subject.schema,
+        subject.env,
+        after,
+        subject.held,
+    ) {
         Ok(instances) => Ok(instances),
-        Err(fault) => Err(not_begun(alloc, flat, fault)),
+        Err(fault) => Err(not_begun(alloc, subject.schema, fault)),
     }
 }
 
 /// The same search, which counts its tests.
 pub fn begin_counting<'s, 'e, 'g, 'a>(
-    alloc: Global,
-    arena: &'a Bump,
-    flat: &Flat<'a>,
-    env: &'e Env<'g, 'a>,
+    subject: &Subject<'e, 'g, 'a>,
     after: Option<&'s [Value]>,
-    held: &[Option<Value>],
 ) -> Result<Bindings<'s, 'e, 'g, 'a>, Stop>
-    requires finite { IsFinite (environment_of env.now).numbers (environment_of env.now).globals (schema_of flat.now) }
-    requires named { HasLength (option_copied after) (length (schema_of flat.now).comps) }
-    requires due { AreDueWithin (property (environment_of env.now) (schema_of flat.now).conjuncts) (length (schema_of flat.now).comps) }
-    ensures begins { IfOk result (λ b. BeginsCounting (environment_of env.now) (schema_of flat.now) (portion (option_copied after.entry) held.now) b) }
-    ensures stop { IfErr result (λ s. IfAnswered s (TellsOut (environment_of env.now) (schema_of flat.now).comps)) }
+    requires searched { CanBeSearched subject.now }
+    requires named { HasLength (option_copied after) (length (schema_in subject.now).comps) }
+    ensures begins { IfOk result (λ b. BeginsCounting (environment_in subject.now) (schema_in subject.now) (portion (option_copied after.entry) subject.now.held.now) b) }
+    ensures stop { IfErr result (λ s. IfAnswered s (TellsOut (environment_in subject.now) (schema_in subject.now).comps)) }
 {
-    match Bindings::start(alloc, arena, flat, env, after, held) {
+    let alloc = subject.style.alloc;
+    match Bindings::start(
+        alloc,
+        subject.arena,
+        subject.schema,
+        subject.env,
+        after,
+        subject.held,
+    ) {
         Ok(bindings) => Ok(bindings),
-        Err(fault) => Err(not_begun(alloc, flat, fault)),
+        Err(fault) => Err(not_begun(alloc, subject.schema, fault)),
     }
 }
 

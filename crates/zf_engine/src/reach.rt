@@ -18,11 +18,11 @@ ghost use Rattle.zf_reach.specs.Machines.{ending_of, result_of};
 ghost use Rattle.zf_term.specs.DefinitionViews.{globals_of};
 ghost use Rattle.zf_term.specs.SchemaViews.{schema_of};
 
-use crate::answer::tell;
 use crate::asked::{check_finite, env_in, schema_named};
 use crate::begin::not_begun;
 use crate::numbers::greatest_number;
 use crate::stop::Stop;
+use crate::telling::tell;
 use crate::typed::typed_in;
 use bumpalo::Bump;
 use std::alloc::Global;
@@ -30,6 +30,7 @@ use std::io::Write;
 use zf_command::job::Exploration;
 use zf_command::limit::STATES_MAX;
 use zf_data::Word;
+use zf_format::Format;
 use zf_lines::counted::Counted;
 use zf_lines::fault::{RunFault, Status};
 use zf_machines::{Named, Schemas, Specification, explore_schemas, lack_of, seek_schemas};
@@ -85,7 +86,7 @@ pub fn reach_source<W: Write>(
     };
     match typed_in(alloc, &trees, &arena, report) {
         Ok(globals) => reach_globals(task, &arena, &globals, writer),
-        Err(stop) => tell(stop, writer),
+        Err(stop) => tell(alloc, exploration.format, file, stop, writer),
     }
 }
 
@@ -106,7 +107,13 @@ fn reach_globals<'a, W: Write>(
 {
     match settled_in(task, arena, globals) {
         Ok(Settled { schemas, env }) => reach_schemas(task, arena, &schemas, &env, writer),
-        Err(stop) => tell(stop, writer),
+        Err(stop) => tell(
+            task.alloc,
+            task.exploration.format,
+            task.report.file,
+            stop,
+            writer,
+        ),
     }
 }
 
@@ -147,14 +154,16 @@ fn reach_schemas<'a, W: Write>(
     }
 }
 
-/// Whether it is written as lines or as a graph.
+/// Whether it is written as lines, as objects or as a graph.
 fn form_of(exploration: &Exploration) -> Form
     ensures { result ≡ spec.form_of exploration.now }
 {
     if exploration.graph {
-        Form::Graph
-    } else {
-        Form::Lines
+        return Form::Graph;
+    }
+    match exploration.format {
+        Format::Lines => Form::Lines,
+        Format::Objects => Form::Objects,
     }
 }
 

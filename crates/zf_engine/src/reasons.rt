@@ -3,11 +3,15 @@ ghost use Rattle.std.specs.Prelude.{◌≡◌, ◌++◌, IfOk, OnOk, length, map
 ghost use Rattle.zf_cores.specs.Choices.{chosen_of};
 ghost use Rattle.zf_engine.specs.Reasons as spec;
 ghost use Rattle.zf_engine.specs.Subjects.{IsOfSchema};
+ghost use Rattle.zf_format.specs.declared.format.Format.TheVariants.{Lines};
 ghost use Rattle.zf_term.specs.SchemaViews.{comp_of, schema_of};
 
 use crate::lines::trimmed_line;
+use crate::objects::{append_empty_object, append_told_object};
 use std::alloc::{AllocError, Global};
 use zf_finite::first_plain;
+use zf_format::Format;
+use zf_lines::Style;
 use zf_messages::Report;
 use zf_messages::texts::fault_line;
 use zf_term::schema::{Component, Flat};
@@ -17,49 +21,63 @@ use zf_why::{Cause, Operands, Sides, Told};
 
 /// The lines of a cause.
 pub fn cause_lines(
-    alloc: Global,
+    style: &Style<'_>,
     report: Report<'_>,
     flat: &Flat<'_>,
-    elements: &[Spelling],
     cause: &Cause,
 ) -> Result<Vec<u8>, AllocError>
     requires { IsOfSchema (schema_of flat.now) cause.now }
-    ensures { IfOk result (λ v. v.items ≡ spec.cause_lines report.entry.file.now report.entry.source.now elements.now (schema_of flat.now) cause.now) }
+    ensures { IfOk result (λ v. v.items ≡ spec.cause_lines style.now.format report.entry.file.now report.entry.source.now style.now.elements.now (schema_of flat.now) cause.now) }
 {
     match cause {
-        Cause::Empty(empty) => empty_lines(alloc, report, flat.components.as_slice(), empty),
-        Cause::Alone(told) => told_lines(alloc, report, elements, told),
-        Cause::Together(told) => told_lines(alloc, report, elements, told),
+        Cause::Empty(empty) => empty_lines(style, report, flat.components.as_slice(), empty),
+        Cause::Alone(told) => told_lines(style, report, told),
+        Cause::Together(told) => told_lines(style, report, told),
     }
 }
 
 /// The lines of the chosen components: that they have no value.
 fn empty_lines(
-    alloc: Global,
+    style: &Style<'_>,
     report: Report<'_>,
     components: &[Component<'_>],
     chosen: &[bool],
 ) -> Result<Vec<u8>, AllocError>
     requires { length chosen.now ≡ length components.now }
-    ensures { IfOk result (λ v. v.items ≡ spec.empty_lines report.entry.file.now (chosen_of (map comp_of components.now) chosen.now)) }
+    ensures { IfOk result (λ v. v.items ≡ spec.empty_lines style.now.format report.entry.file.now (chosen_of (map comp_of components.now) chosen.now)) }
 {
-    let mut lines = Vec::new(alloc);
+    let mut lines = Vec::new(style.alloc);
     for place in 0..components.len() {
         if chosen[place] {
-            append_empty(alloc, &mut lines, report, &components[place])?;
+            append_empty(style, &mut lines, report, &components[place])?;
         }
     }
     Ok(lines)
 }
 
-/// `FILE:LINE: x: empty`
+/// That a component is empty.
 fn append_empty(
+    style: &Style<'_>,
+    lines: &mut Vec<u8>,
+    report: Report<'_>,
+    component: &Component<'_>,
+) -> Result<(), AllocError>
+    ensures { OnOk result (lines.new.items ≡ lines.old.items ++ spec.empty_line style.now.format report.entry.file.now (comp_of component.now)) }
+{
+    match style.format {
+        Format::Lines => append_empty_line(style.alloc, lines, report, component),
+        Format::Objects => append_empty_object(lines, report.file, component),
+    }
+}
+
+/// `FILE:LINE: x: empty`
+fn append_empty_line(
     alloc: Global,
     lines: &mut Vec<u8>,
     report: Report<'_>,
     component: &Component<'_>,
 ) -> Result<(), AllocError>
-    ensures { OnOk result (lines.new.items ≡ lines.old.items ++ spec.empty_line report.entry.file.now (comp_of component.now)) }
+    ensures { OnOk result (lines.new.items ≡ lines.old.items ++ spec.empty_line Lines report.entry.file.now (comp_of component.now)) }
 {
     let line = u64::from(first_plain(component.domains.get()));
     let mut text = Vec::from_slice(alloc, component.name.as_slice())?;
@@ -69,30 +87,40 @@ fn append_empty(
 }
 
 /// The lines of what is told of conjuncts.
-fn told_lines(
-    alloc: Global,
-    report: Report<'_>,
-    elements: &[Spelling],
-    told: &[Told],
-) -> Result<Vec<u8>, AllocError>
-    ensures { IfOk result (λ v. v.items ≡ spec.told_lines report.entry.file.now report.entry.source.now elements.now told.now) }
+fn told_lines(style: &Style<'_>, report: Report<'_>, told: &[Told]) -> Result<Vec<u8>, AllocError>
+    ensures { IfOk result (λ v. v.items ≡ spec.told_lines style.now.format report.entry.file.now report.entry.source.now style.now.elements.now told.now) }
 {
-    let mut lines = Vec::new(alloc);
+    let mut lines = Vec::new(style.alloc);
     for one in told {
-        append_told(alloc, &mut lines, report, elements, one)?;
+        append_told(style, &mut lines, report, one)?;
     }
     Ok(lines)
 }
 
-/// `FILE:LINE: SOURCE LINE`, and those of both sides of a disjunction or of both operands.
+/// What is told of a conjunct.
 fn append_told(
+    style: &Style<'_>,
+    lines: &mut Vec<u8>,
+    report: Report<'_>,
+    told: &Told,
+) -> Result<(), AllocError>
+    ensures { OnOk result (lines.new.items ≡ lines.old.items ++ spec.told_line style.now.format report.entry.file.now report.entry.source.now style.now.elements.now told.now) }
+{
+    match style.format {
+        Format::Lines => append_told_line(style.alloc, lines, report, style.elements, told),
+        Format::Objects => append_told_object(lines, report, style.elements, told),
+    }
+}
+
+/// `FILE:LINE: SOURCE LINE`, and those of both sides of a disjunction or of both operands.
+fn append_told_line(
     alloc: Global,
     lines: &mut Vec<u8>,
     report: Report<'_>,
     elements: &[Spelling],
     told: &Told,
 ) -> Result<(), AllocError>
-    ensures { OnOk result (lines.new.items ≡ lines.old.items ++ spec.told_line report.entry.file.now report.entry.source.now elements.now told.now) }
+    ensures { OnOk result (lines.new.items ≡ lines.old.items ++ spec.told_line Lines report.entry.file.now report.entry.source.now elements.now told.now) }
 {
     append_line(alloc, lines, report, told.line)?;
     append_sides_of(alloc, lines, report, &told.sides)?;
@@ -178,7 +206,7 @@ fn append_outcome(
     ensures { OnOk result (lines.new.items ≡ lines.old.items ++ spec.outcome_text elements.now outcome.now) }
 {
     match outcome {
-        Outcome::Is(value) => append_value(lines, elements, value),
+        Outcome::Is(value) => append_value(lines, Format::Lines, elements, value),
         Outcome::Undefined => lines.extend_from_slice(b"undefined"),
         Outcome::Out => lines.extend_from_slice(b"out of bounds"),
     }

@@ -74,6 +74,9 @@ size_too_large_line name = codes "zf: size of " ++ name ++ codes " is too large\
 abbrev pub not_a_binding_line : ℕ → List ℕ
 not_a_binding_line place = codes "zf: after: not a binding at byte " ++ decimal place ++ codes "\n"
 
+abbrev pub not_components_line : ℕ → List ℕ
+not_components_line place = codes "zf: only: not components at byte " ++ decimal place ++ codes "\n"
+
 abbrev pub not_held_line : ℕ → List ℕ
 not_held_line place = codes "zf: with: not a binding at byte " ++ decimal place ++ codes "\n"
 

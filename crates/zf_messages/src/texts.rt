@@ -176,6 +176,19 @@ pub fn not_a_binding_line(alloc: Global, place: usize) -> Result<Vec<u8>, AllocE
     )
 }
 
+/// `zf: only: not components at byte K`
+pub fn not_components_line(alloc: Global, place: usize) -> Result<Vec<u8>, AllocError>
+    ensures { IfOk result (λ v. v.items ≡ spec.not_components_line place) }
+{
+    let mut number = Buffer::new();
+    around(
+        alloc,
+        b"zf: only: not components at byte ",
+        number.format(place as u64).as_bytes(),
+        b"\n",
+    )
+}
+
 /// `zf: with: not a binding at byte K`
 pub fn not_held_line(alloc: Global, place: usize) -> Result<Vec<u8>, AllocError>
     ensures { IfOk result (λ v. v.items ≡ spec.not_held_line place) }

@@ -1,12 +1,16 @@
 use Rattle.zf_command.specs.declared.job.Job.TheVariants.{Check, Reach, Show, Why}
-use Rattle.zf_engine.proofs.Parts.{told_answers, told_stops, writes_err, writes_ok}
+use Rattle.zf_engine.proofs.Parts.{checked_told, writes_err, writes_ok}
 use Rattle.zf_engine.proofs.answer.answer.Goals as goal
 
 pub returns-in-Check-clause-answered : goal.returns-in-Check-clause-answered
-returns-in-Check-clause-answered g c = told_answers c.args.job.now (Check c.in-Check.types c.in-Check.details) _ _ _ _ _ _ _ c.in-Check.is c.as_bytes-file.ensures.value c.checked.ensures c.tell.ensures.told
+returns-in-Check-clause-answered g c =
+    let i = c.in-Check in
+    writes_ok (Check i.types i.details i.format) c.args.job.now _ _ _ _ _ _ i.is c.as_bytes-file.ensures.value (checked_told i.types i.details i.format _ _ _ _ _ _ c.checked-stop.ensures c.tell.ensures.told)
 
 pub returns-in-Check-clause-stopped : goal.returns-in-Check-clause-stopped
-returns-in-Check-clause-stopped g c = told_stops c.args.job.now (Check c.in-Check.types c.in-Check.details) _ _ _ _ _ _ _ c.in-Check.is c.as_bytes-file.ensures.value c.checked.ensures c.tell.ensures.told
+returns-in-Check-clause-stopped g c =
+    let i = c.in-Check in
+    writes_err (Check i.types i.details i.format) c.args.job.now _ _ _ _ _ _ i.is c.as_bytes-file.ensures.value (checked_told i.types i.details i.format _ _ _ _ _ _ c.checked-stop.ensures c.tell.ensures.told)
 
 pub returns-in-Show-clause-answered : goal.returns-in-Show-clause-answered
 returns-in-Show-clause-answered g c =
@@ -17,10 +21,12 @@ returns-in-Show-clause-stopped g c =
     writes_err (Show c.in-Show.request) c.args.job.now _ _ _ _ _ _ c.in-Show.is c.as_bytes-file.ensures.value c.show_source.ensures.shows
 
 pub returns-in-Why-clause-answered : goal.returns-in-Why-clause-answered
-returns-in-Why-clause-answered g c = told_answers c.args.job.now (Why c.in-Why.request) _ _ _ _ _ _ _ c.in-Why.is c.as_bytes-file.ensures.value c.why_answer.ensures c.tell-in-Why.ensures.told
+returns-in-Why-clause-answered g c =
+    writes_ok (Why c.in-Why.request) c.args.job.now _ _ _ _ _ _ c.in-Why.is c.as_bytes-file.ensures.value c.explain_source.ensures.explains
 
 pub returns-in-Why-clause-stopped : goal.returns-in-Why-clause-stopped
-returns-in-Why-clause-stopped g c = told_stops c.args.job.now (Why c.in-Why.request) _ _ _ _ _ _ _ c.in-Why.is c.as_bytes-file.ensures.value c.why_answer.ensures c.tell-in-Why.ensures.told
+returns-in-Why-clause-stopped g c =
+    writes_err (Why c.in-Why.request) c.args.job.now _ _ _ _ _ _ c.in-Why.is c.as_bytes-file.ensures.value c.explain_source.ensures.explains
 
 pub returns-in-Reach-clause-answered : goal.returns-in-Reach-clause-answered
 returns-in-Reach-clause-answered g c = writes_ok (Reach c.in-Reach.exploration) c.args.job.now _ _ _ _ _ _ c.in-Reach.is c.as_bytes-file.ensures.value c.reach_source.ensures.reaches

@@ -10,11 +10,12 @@ use Rattle.zf_engine.proofs.reasons.empty_lines.Goals.{then-chosen-place+in_ok-a
 use Rattle.zf_engine.proofs.reasons.empty_lines.Goals as goal
 
 pub loop-place-init : goal.loop-place-init
-loop-place-init c = subst (AreToldTo (λ (x : Component). empty_line c.args.report.file.now (comp_of x)) c.args.components.now c.args.chosen.now 0) (sym c.new-lines.ensures.items) (none_told _ _ _)
+loop-place-init c =
+    subst (AreToldTo (λ (x : Component). empty_line c.args.style.now.format c.args.report.file.now (comp_of x)) c.args.components.now c.args.chosen.now 0) (sym c.new-lines.ensures.items) (none_told _ _ _)
 
 pub loop-place-preserved : goal.loop-place-preserved
 loop-place-preserved c =
-    let f = (λ (x : Component). empty_line c.args.report.file.now (comp_of x)) in
+    let f = (λ (x : Component). empty_line c.args.style.now.format c.args.report.file.now (comp_of x)) in
     let xs = c.args.components.now in
     let m = c.args.chosen.now in
     let i = c.loop-place.place in
@@ -31,4 +32,7 @@ loop-place-preserved c =
     ]
 
 pub returns : goal.returns
-returns c = seen_told (empty_line c.args.report.file.now) comp_of c.args.components.now c.args.chosen.now _ (all_told (λ (x : Component). empty_line c.args.report.file.now (comp_of x)) c.args.components.now c.args.chosen.now c.loop-place.place _ c.loop-place.invariant c.loop-place-test.false)
+returns c =
+    let f = c.args.style.now.format in
+    seen_told (empty_line f c.args.report.file.now) comp_of c.args.components.now c.args.chosen.now _
+    (all_told (λ (x : Component). empty_line f c.args.report.file.now (comp_of x)) c.args.components.now c.args.chosen.now c.loop-place.place _ c.loop-place.invariant c.loop-place-test.false)

@@ -1,6 +1,10 @@
 use Rattle.zf_engine.proofs.Prelude.{◌++◌, ◌∙◌, ap}
-use Rattle.std.specs.Prelude.{codes}
+use Rattle.zf_engine.specs.Reasons.{no_binding_line}
 use Rattle.zf_engine.proofs.why.none_text.Goals as goal
 
 pub returns : goal.returns
-returns c = (c.in_ok-cause.cause, c.in_ok-cause.ensures, c.in_ok-extend_from_slice.ensures.items ∙ ap (λ t. t ++ codes "no binding\n") c.in_ok-text.ensures)
+returns c = (
+  c.in_ok-cause.cause,
+  c.in_ok-cause.ensures,
+  c.in_ok-extend_from_slice.ensures.items ∙ ap (λ l. c.in_ok-text.text.items ++ l) c.no_binding_line.ensures ∙ ap (λ t. t ++ no_binding_line c.args.subject.now.style.now.format) c.in_ok-text.ensures,
+)

@@ -1,5 +1,5 @@
 use Rattle.zf_engine.proofs.ToldLines.{all_told}
-use Rattle.zf_engine.proofs.reasons.append_told.Goals as goal
+use Rattle.zf_engine.proofs.reasons.append_told_line.Goals as goal
 
 pub returns : goal.returns
 returns c =

@@ -1,0 +1,8 @@
+use Rattle.zf_engine.proofs.Prelude.{◌++◌, ◌≡◌, map}
+use Rattle.std.specs.Prelude.{drop}
+use Rattle.zf_texts.specs.Steps.{goes_on}
+use Rattle.zf_engine.specs.Objects.{side_objects, source_object}
+use Rattle.zf_engine.proofs.objects.append_side_objects.Given as goal
+
+abbrev pub invariant-loop-place : goal.invariant-loop-place
+invariant-loop-place l = l.text.items ++ goes_on l.place (map (source_object l.source) (drop l.place l.lines)) ≡ l.fn.text.items ++ side_objects l.source l.lines

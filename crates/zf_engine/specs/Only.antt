@@ -1,0 +1,46 @@
+-- Which components the lines of `show` have: those that a text names, parted by commas, or all.
+use Rattle.std.specs.Prelude.{◌≡◌, ◌≢◌, ◌⊎◌, ℕ, ◌==◌, Bool, List, [], ◌∷◌, ◌++◌, map, Option, Some, None, option_map, AllPairs, Contains}
+use Rattle.std.specs.List.{slice_split}
+use Rattle.zf_term.specs.Definitions.{Comp}
+use Rattle.zf_term.specs.FirstNamed.{first_named}
+use Rattle.zf_parts.specs.Places.{comps_at}
+use Rattle.zf_engine.specs.SourceLines.{trimmed}
+
+-- the comma, which is the byte 44
+abbrev pub is_comma : ℕ → Bool
+is_comma b = b == 44
+
+-- what stands between commas, without the blanks round it
+abbrev pub names_between : List ℕ → List (List ℕ)
+names_between text = map trimmed (slice_split is_comma text)
+
+abbrev pub component_place : List Comp → (name : List ℕ) → Option ℕ
+component_place comps name = option_map (λ p. p.0) (first_named (λ c. c.name) name comps)
+
+-- the text names the components at these places, none twice
+pub record NamesParts (comps : List Comp) (text : List ℕ) (places : List ℕ) : Type 0 where
+  pub named : map (component_place comps) (names_between text) ≡ map Some places
+  pub once : AllPairs (λ i j. i ≢ j) places
+
+-- the components that a line has, in its order
+abbrev pub AreShown : List Comp → (only : Option (List ℕ)) → (shown : List Comp) → Type 0
+AreShown comps None shown = shown ≡ comps
+AreShown comps (Some text) shown = (places : List ℕ) × NamesParts comps text places × (shown ≡ comps_at comps places)
+
+-- a text is given that names no components
+abbrev pub NamesNoParts : List Comp → (only : Option (List ℕ)) → Type 0
+NamesNoParts comps None = ⊥
+NamesNoParts comps (Some text) = (places : List ℕ) → NamesParts comps text places → ⊥
+
+-- ---- one name after another
+
+-- behind these places stands that of the component which is named between blanks, and it is none of them
+pub record IsAdded (comps : List Comp) (name : List ℕ) (old new : List ℕ) : Type 0 where
+  pub place : ℕ
+  pub named : component_place comps (trimmed name) ≡ Some place
+  pub other : Contains old place → ⊥
+  pub added : new ≡ old ++ place ∷ []
+
+-- there is no such component, or it is one of them
+abbrev pub HasNoPlace : List Comp → (name : List ℕ) → (places : List ℕ) → Type 0
+HasNoPlace comps name places = (component_place comps (trimmed name) ≡ None) ⊎ ((place : ℕ) × (component_place comps (trimmed name) ≡ Some place) × Contains places place)

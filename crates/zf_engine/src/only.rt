@@ -1,0 +1,94 @@
+//! The components that alone are shown.
+ghost use Rattle.std.specs.Prelude.{◌≡◌, IfErr, IfOk, OnOk, Some, map};
+ghost use Rattle.std.specs.List.{before_first};
+ghost use Rattle.zf_engine.specs.Only as spec;
+ghost use Rattle.zf_engine.specs.Only.{NamesParts};
+ghost use Rattle.zf_engine.specs.Stops.{IfAnswered, IsMisnamed, TellsNoParts, TellsPlaceMisnamed};
+ghost use Rattle.zf_term.specs.SchemaViews.{comp_of};
+
+use crate::stop::Stop;
+use std::alloc::Global;
+use zf_lines::fault::Status;
+use zf_messages::texts;
+use zf_term::named::component_of;
+use zf_term::schema::Component;
+use zf_tree::ends::back;
+
+/// The places of the components that a text names, parted by commas. The answer where it names something else, or one of
+/// them twice.
+pub fn places_named(
+    alloc: Global,
+    components: &[Component<'_>],
+    text: &[u8],
+) -> Result<Vec<usize>, Stop>
+    ensures named { IfOk result (λ places. NamesParts (map comp_of components.now) text.now places.items) }
+    ensures stop { IfErr result (λ s. IfAnswered s (TellsNoParts (map comp_of components.now) (Some text.now))) }
+{
+    let mut places = Vec::new(alloc);
+    let mut rest = text;
+    let mut name = name_before(rest);
+    while name.len() < rest.len() {
+        add_place(
+            alloc,
+            components,
+            name,
+            text.len() - rest.len(),
+            &mut places,
+        )?;
+        rest = back(rest, name.len() + 1);
+        name = name_before(rest);
+    }
+    add_place(
+        alloc,
+        components,
+        name,
+        text.len() - rest.len(),
+        &mut places,
+    )?;
+    Ok(places)
+}
+
+/// What stands before the first comma.
+fn name_before(text: &[u8]) -> &[u8]
+    ensures { result.now ≡ before_first spec.is_comma text.now }
+{
+    for place in 0..text.len() {
+        if text[place] == b',' {
+            return &text[..place];
+        }
+    }
+    text
+}
+
+/// Adds the place of the component that is named between blanks, unless there is none, or it is there already.
+fn add_place(
+    alloc: Global,
+    components: &[Component<'_>],
+    name: &[u8],
+    at: usize,
+    places: &mut Vec<usize>,
+) -> Result<(), Stop>
+    ensures added { OnOk result (spec.IsAdded (map comp_of components.now) name.now places.old.items places.new.items) }
+    ensures stop { IfErr result (λ s. IfAnswered s (IsMisnamed (map comp_of components.now) name.now places.old.items)) }
+{
+    let trimmed = name.trim_ascii_start().trim_ascii_end();
+    let Some((place, _)) = component_of(components, trimmed) else {
+        return Err(not_components(alloc, at, name));
+    };
+    if places.contains(&place) {
+        return Err(not_components(alloc, at, name));
+    }
+    places.push(place)?;
+    Ok(())
+}
+
+/// The answer for a name that does not fit, which stands behind blanks at a place.
+fn not_components(alloc: Global, at: usize, name: &[u8]) -> Stop
+    ensures { IfAnswered result TellsPlaceMisnamed }
+{
+    let blanks = name.len().saturating_sub(name.trim_ascii_start().len());
+    match texts::not_components_line(alloc, at.saturating_add(blanks)) {
+        Ok(line) => Stop::Answered(line, Status::BadRequest),
+        Err(_) => Stop::OutOfMemory,
+    }
+}

@@ -1,0 +1,50 @@
+//! What is told in the place of bindings, states or causes.
+ghost use Rattle.std.specs.Prelude.{◌≡◌};
+ghost use Rattle.zf_engine.specs.Stops.{Tells, WritesText};
+ghost use Rattle.zf_lines.specs.Counts.{device_of, failures_of};
+ghost use Rattle.zf_lines.specs.Faults.{read_failures, write_failures};
+
+use crate::stop::Stop;
+use std::alloc::Global;
+use std::io::Write;
+use zf_format::{Format, messages_in};
+use zf_lines::counted::Counted;
+use zf_lines::fault::{RunFault, Status};
+use zf_lines::writing::write_text;
+
+/// Writes the messages of what is told, in this format.
+pub fn tell<W: Write>(
+    alloc: Global,
+    format: Format,
+    file: &[u8],
+    stop: Stop,
+    writer: &mut Counted<W>,
+) -> Result<Status, RunFault>
+    requires { failures_of writer.old ≡ 0 }
+    ensures told { Tells format file.now stop (W.contents (device_of writer.old)) (W.contents (device_of writer.new)) result }
+    ensures count { failures_of writer.new ≡ write_failures result }
+    ensures unread { read_failures result ≡ 0 }
+{
+    match stop {
+        Stop::Answered(told, status) => {
+            let text = messages_in(alloc, format, file, told)?;
+            write_whole(&text, status, writer)
+        }
+        Stop::OutOfMemory => Err(RunFault::OutOfMemory),
+    }
+}
+
+/// Writes a text that is whole.
+pub fn write_whole<W: Write>(
+    text: &[u8],
+    status: Status,
+    writer: &mut Counted<W>,
+) -> Result<Status, RunFault>
+    requires { failures_of writer.old ≡ 0 }
+    ensures written { WritesText text.now status (W.contents (device_of writer.old)) (W.contents (device_of writer.new)) result }
+    ensures count { failures_of writer.new ≡ write_failures result }
+    ensures unread { read_failures result ≡ 0 }
+{
+    write_text(writer, text)?;
+    Ok(status)
+}
