@@ -1,5 +1,5 @@
 -- An answer of an exploration by its stages: at each it is refused, or goes on with what the next one stands on; and there is one.
-use Rattle.zf_answers.proofs.Prelude.{◌∙◌, ◌∷◌, ◌≡◌, ◌⊎◌, [], ap, append-nil, Bool, inl, inr, List, None, Option, refl, Some, subst, sym, ℕ, same_Some, AllByRecursion, AreAlike, AreComplete, Checks, Comp, declared_out_line, Defined, Environment, given_sets, IsEnvironment, IsFinite, IsNoneOut, NotFinite, not_finite_lines, numbers_of, Schema, size_fault_lines, slice_get, spellings, stated, Status, AreSmall}
+use Rattle.zf_answers.proofs.Prelude.{◌∙◌, ◌∷◌, ◌≡◌, ◌⊎◌, [], ap, append-nil, Bool, inl, inr, List, None, Option, refl, Some, subst, sym, ℕ, same_Some, AllByRecursion, AreAlike, AreComplete, Checks, Comp, declared_out_line, Defined, Environment, given_sets, IsEnvironment, IsFinite, IsNoneOut, NotFinite, not_finite_lines, numbers_of, Schema, size_fault_lines, slice_get, spellings, stated, Status, AreMessages, AreMessagesAlike, AreSmall, Format, messages_in}
 use Rattle.std.specs.List.{AllZip}
 use Rattle.std.specs.Prelude.{◌++◌, option_to_list}
 use Rattle.zf_command.specs.declared.job.Exploration.{Exploration}
@@ -22,34 +22,38 @@ use Rattle.zf_answers.proofs.OneSource.{none_and_some, one_checked, one_named, s
 use Rattle.zf_answers.proofs.SmallNumbers.{small_not_too_large}
 
 -- one status, and texts that are alike
-abbrev pub IsOne : (details : Bool) → (file source one two : List ℕ) → (s t : Status) → Type 0
-IsOne details file source one two s t = (s ≡ t) × AreAlike details file source one two
+abbrev pub IsOne : Format → (details : Bool) → (file source one two : List ℕ) → (s t : Status) → Type 0
+IsOne f details file source one two s t = (s ≡ t) × AreAlike f details file source one two
 
 -- ---- stages, the last one first
 
 module _ (x : Exploration) (file source text : List ℕ) (status : Status) where
+  -- the messages of a refusal
+  abbrev Refused : (List ℕ → Status → Type 0) → Type 0
+  Refused R = AreMessages x.format file R text status
+
   abbrev pub AtSets : List Defined → Schemas → Environment → Type 0
-  AtSets g p e = HasOut e p text status ⊎ (AllByRecursion (λ n. IsNoneOut e n.schema.comps) (all_of p) × TellsMachine x.sought x g p e text status)
+  AtSets g p e = Refused (HasOut e p) ⊎ (AllByRecursion (λ n. IsNoneOut e n.schema.comps) (all_of p) × TellsMachine x.sought x g p e text status)
 
   abbrev pub AtFiniteness : List Defined → Schemas → Type 0
   AtFiniteness g p =
-      HasInfinite x file (numbers_of x.setting) g p text status
+      Refused (HasInfinite x file (numbers_of x.setting) g p)
       ⊎ (AllByRecursion (λ n. IsFinite (numbers_of x.setting) g n.schema) (all_of p) × ((e : Environment) × IsEnvironment g (stated g x.setting) (numbers_of x.setting) e × AtSets g p e))
 
   abbrev pub AtSizes : List Defined → Schemas → Type 0
-  AtSizes g p = TellsMisfit x.details g (stated g x.setting) text status ⊎ (AreComplete (given_sets g) (stated g x.setting) × AtFiniteness g p)
+  AtSizes g p = Refused (TellsMisfit x.details g (stated g x.setting)) ⊎ (AreComplete (given_sets g) (stated g x.setting) × AtFiniteness g p)
 
   abbrev pub AtNumbers : List Defined → Schemas → Type 0
-  AtNumbers g p = TellsNumbers (numbers_of x.setting) text status ⊎ (AreSmall (numbers_of x.setting) × AtSizes g p)
+  AtNumbers g p = Refused (TellsNumbers (numbers_of x.setting)) ⊎ (AreSmall (numbers_of x.setting) × AtSizes g p)
 
   abbrev pub AtShape : List Defined → Schemas → Type 0
-  AtShape g p = LacksComponent p text status ⊎ (HasShape p × AtNumbers g p)
+  AtShape g p = Refused (LacksComponent p) ⊎ (HasShape p × AtNumbers g p)
 
   abbrev pub AtSchemas : List Defined → Type 0
-  AtSchemas g = LacksSchema x g text status ⊎ ((p : Schemas) × AreSchemasOf g x p × AtShape g p)
+  AtSchemas g = Refused (LacksSchema x g) ⊎ ((p : Schemas) × AreSchemasOf g x p × AtShape g p)
 
   abbrev pub AtTypes : Type 0
-  AtTypes = TellsFaults x.details file source text status ⊎ ((g : List Defined) × Checks source g [] × AtSchemas g)
+  AtTypes = Refused (TellsFaults x.details file source) ⊎ ((g : List Defined) × Checks source g [] × AtSchemas g)
 
   at_shape : (g : List Defined) (p : Schemas) → HasSchemas x source g p → AtShape g p → AtTypes
   at_shape g p has at = inr (g, has.checks, inr (p, has.named, at))
@@ -61,17 +65,17 @@ module _ (x : Exploration) (file source text : List ℕ) (status : Status) where
   at_sets g p e is at =
       at_finiteness g p is.settled (inr (subst (λ n. AllByRecursion (λ (m : Named). IsFinite n g m.schema) (all_of p)) is.environment.3 is.finite, (e, is.environment, at)))
 
-  refused_at : RefusesExploration x file source text status → AtTypes
-  refused_at (RefusesExploration.ill_typed ill) = inl ill
-  refused_at (RefusesExploration.no_schema g checks lacks) = inr (g, checks, inl lacks)
-  refused_at (RefusesExploration.no_component g p has lacks) = at_shape g p has (inl lacks)
-  refused_at (RefusesExploration.large_numbers g p has shape large) = at_shape g p has (inr (shape, inl large))
-  refused_at (RefusesExploration.bad_sizes g p has shape small bad) = at_shape g p has (inr (shape, inr (small, inl bad)))
-  refused_at (RefusesExploration.not_finite g p settled infinite) = at_finiteness g p settled (inl infinite)
-  refused_at (RefusesExploration.declared_out g p e bounded out) = at_sets g p e bounded (inl out)
+  refused_at : (told : List ℕ) → RefusesExploration x file source told status → text ≡ messages_in x.format file told → AtTypes
+  refused_at told (RefusesExploration.ill_typed ill) is = inl (told, ill, is)
+  refused_at told (RefusesExploration.no_schema g checks lacks) is = inr (g, checks, inl (told, lacks, is))
+  refused_at told (RefusesExploration.no_component g p has lacks) is = at_shape g p has (inl (told, lacks, is))
+  refused_at told (RefusesExploration.large_numbers g p has shape large) is = at_shape g p has (inr (shape, inl (told, large, is)))
+  refused_at told (RefusesExploration.bad_sizes g p has shape small bad) is = at_shape g p has (inr (shape, inr (small, inl (told, bad, is))))
+  refused_at told (RefusesExploration.not_finite g p settled infinite) is = at_finiteness g p settled (inl (told, infinite, is))
+  refused_at told (RefusesExploration.declared_out g p e bounded out) is = at_sets g p e bounded (inl (told, out, is))
 
   pub staged : ExplorationAnswer x file source text status → AtTypes
-  staged (ExplorationAnswer.refused refuses) = refused_at refuses
+  staged (ExplorationAnswer.refused (told, refuses, is)) = refused_at told refuses is
   staged (ExplorationAnswer.explored g p e is told) = at_sets g p e is.bounded (inr (is.none_out, told))
 
 -- ---- the schemas of names
@@ -157,26 +161,64 @@ pub one_told : (sought : Option (List ℕ)) (x : Exploration) (g : List Defined)
 one_told None x g p e one two s t u v = one_explored x g p e one two s t u v
 one_told (Some name) x g p e one two s t u v = one_sought_for x g p e one two s t u v
 
+-- two lists of messages
+
+module _ (x : Exploration) (file source one two : List ℕ) (s t : Status) where
+  abbrev AreOne : Type 0
+  AreOne = (s ≡ t) × AreMessagesAlike x.details file source one two
+
+  same_messages : s ≡ t → one ≡ two → AreOne
+  same_messages e f = (e, AreMessagesAlike.same f)
+
+  one_out : (e : Environment) (n : Named) → TellsOut e n.schema.comps one s → TellsOut e n.schema.comps two t → AreOne
+  one_out e n u v =
+      let place = one_first_out e n.schema.comps u.0 v.0 u.1 v.1 in
+      let component = same_Some u.2.0 v.2.0 (sym u.2.1 ∙ ap (slice_get n.schema.comps) place ∙ v.2.1) in
+      same_messages (u.2.3 ∙ sym v.2.3) (u.2.2 ∙ ap (λ (c : Comp). declared_out_line c.name) component ∙ sym v.2.2)
+
+  one_infinite : (g : List Defined) (n : Named) → TellsInfinite (numbers_of x.setting) g n.schema x.details file one s → TellsInfinite (numbers_of x.setting) g n.schema x.details file two t → AreOne
+  one_infinite g n u v =
+      let cause = same_Some u.0 v.0 (sym u.2 ∙ v.2) in
+      (u.5 ∙ sym v.5, AreMessagesAlike.infinite g v.0 u.1 v.1 (u.4 ∙ ap (λ (c : NotFinite). not_finite_lines x.details file g c u.1) cause) v.4)
+
+  one_misfit : (g : List Defined) → TellsMisfit x.details g (stated g x.setting) one s → TellsMisfit x.details g (stated g x.setting) two t → AreOne
+  one_misfit g u v =
+      let fault = one_refusal (given_sets g) (stated g x.setting) u.0 v.0 u.2.0 v.2.0 u.1 v.1 in
+      same_messages (u.2.2 ∙ sym v.2.2) (u.2.1 ∙ ap (size_fault_lines x.details g (stated g x.setting)) fault ∙ sym v.2.1)
+
+  one_lack : (p : Schemas) → LacksComponent p one s → LacksComponent p two t → AreOne
+  one_lack p (n, c, u, told, bad) (m, d, v, also_told, also_bad) =
+      let same = one_lacking p n c m d u v in
+      same_messages (bad ∙ sym also_bad) (told ∙ ap (λ (l : List ℕ). no_component_line l c) same.0 ∙ ap (no_component_line m) same.1 ∙ sym also_told)
+
+  one_ill : TellsFaults x.details file source one s → TellsFaults x.details file source two t → AreOne
+  one_ill u v =
+      let c = one_checked source u.globals v.globals u.faults v.faults u.checks v.checks in (
+        u.bad ∙ sym v.bad,
+        AreMessagesAlike.types v.globals u.faults v.faults one two [] (subst (λ h. Checks source h u.faults) c.0 u.checks) v.checks u.some c.1 u.told v.told
+            (sym (append-nil one)) (sym (append-nil two)),
+      )
+
 module _ (x : Exploration) (file source one two : List ℕ) (s t : Status) where
   abbrev One : Type 0
-  One = IsOne x.details file source one two s t
+  One = IsOne x.format x.details file source one two s t
 
   same_told : s ≡ t → one ≡ two → One
   same_told e f = (e, AreAlike.same f)
 
+  -- two refusals, with texts that are alike
+  both_refused : (first second : List ℕ) → one ≡ messages_in x.format file first → two ≡ messages_in x.format file second → AreOne x file source first second s t → One
+  both_refused first second is also alike = (alike.0, AreAlike.messages first second alike.1 is also)
+
   module _ (g : List Defined) (p : Schemas) where
     -- ---- declared sets
-    one_out : (e : Environment) (n : Named) → TellsOut e n.schema.comps one s → TellsOut e n.schema.comps two t → One
-    one_out e n u v =
-        let place = one_first_out e n.schema.comps u.0 v.0 u.1 v.1 in
-        let component = same_Some u.2.0 v.2.0 (sym u.2.1 ∙ ap (slice_get n.schema.comps) place ∙ v.2.1) in
-        same_told (u.2.3 ∙ sym v.2.3) (u.2.2 ∙ ap (λ (c : Comp). declared_out_line c.name) component ∙ sym v.2.2)
-
     one_at_sets : (e : Environment) → AtSets x file source one s g p e → AtSets x file source two t g p e → One
-    one_at_sets e (inl u) (inl v) =
-        one_first (λ (n : Named). IsNoneOut e n.schema.comps) (λ n. TellsOut e n.schema.comps one s) (λ n. TellsOut e n.schema.comps two t) (out_apart e one s) (out_apart e two t) (one_out e) (all_of p) u v
-    one_at_sets e (inl u) (inr v) = absurd (not_all_and_first (λ (n : Named). IsNoneOut e n.schema.comps) (λ n. TellsOut e n.schema.comps one s) (out_apart e one s) (all_of p) v.0 u)
-    one_at_sets e (inr u) (inl v) = absurd (not_all_and_first (λ (n : Named). IsNoneOut e n.schema.comps) (λ n. TellsOut e n.schema.comps two t) (out_apart e two t) (all_of p) u.0 v)
+    one_at_sets e (inl (first, u, is)) (inl (second, v, also)) = both_refused first second is also (one_first (λ (n : Named). IsNoneOut e n.schema.comps) (λ n. TellsOut e n.schema.comps first s)
+        (λ n. TellsOut e n.schema.comps second t) (out_apart e first s) (out_apart e second t) (one_out x file source first second s t e) (all_of p) u v)
+    one_at_sets e (inl (first, u, is)) (inr v) =
+        absurd (not_all_and_first (λ (n : Named). IsNoneOut e n.schema.comps) (λ n. TellsOut e n.schema.comps first s) (out_apart e first s) (all_of p) v.0 u)
+    one_at_sets e (inr u) (inl (second, v, also)) =
+        absurd (not_all_and_first (λ (n : Named). IsNoneOut e n.schema.comps) (λ n. TellsOut e n.schema.comps second t) (out_apart e second t) (all_of p) u.0 v)
     one_at_sets e (inr u) (inr v) = let same = one_told x.sought x g p e one two s t u.1 v.1 in same_told same.0 same.1
 
     -- ---- finite schemas
@@ -189,59 +231,49 @@ module _ (x : Exploration) (file source one two : List ℕ) (s t : Status) where
     abbrev Tells : List ℕ → Status → Named → Type 0
     Tells text status n = TellsInfinite numbers g n.schema x.details file text status
 
-    one_infinite : (n : Named) → Tells one s n → Tells two t n → One
-    one_infinite n u v =
-        let cause = same_Some u.0 v.0 (sym u.2 ∙ v.2) in
-        (u.5 ∙ sym v.5, AreAlike.infinite g v.0 u.1 v.1 (u.4 ∙ ap (λ (c : NotFinite). not_finite_lines x.details file g c u.1) cause) v.4)
-
     one_at_finiteness : AreComplete (given_sets g) (stated g x.setting) → AtFiniteness x file source one s g p → AtFiniteness x file source two t g p → One
-    one_at_finiteness complete (inl u) (inl v) = one_first Ends (Tells one s) (Tells two t) (infinite_apart numbers g x.details file one s) (infinite_apart numbers g x.details file two t) one_infinite (all_of p) u v
-    one_at_finiteness complete (inl u) (inr v) = absurd (not_all_and_first Ends (Tells one s) (infinite_apart numbers g x.details file one s) (all_of p) v.0 u)
-    one_at_finiteness complete (inr u) (inl v) = absurd (not_all_and_first Ends (Tells two t) (infinite_apart numbers g x.details file two t) (all_of p) u.0 v)
+    one_at_finiteness complete (inl (first, u, is)) (inl (second, v, also)) = both_refused first second is also (one_first Ends (Tells first s) (Tells second t)
+        (infinite_apart numbers g x.details file first s) (infinite_apart numbers g x.details file second t) (one_infinite x file source first second s t g) (all_of p) u v)
+    one_at_finiteness complete (inl (first, u, is)) (inr v) = absurd (not_all_and_first Ends (Tells first s) (infinite_apart numbers g x.details file first s) (all_of p) v.0 u)
+    one_at_finiteness complete (inr u) (inl (second, v, also)) = absurd (not_all_and_first Ends (Tells second t) (infinite_apart numbers g x.details file second t) (all_of p) u.0 v)
     one_at_finiteness complete (inr (ends, (e, is, at))) (inr (also_ends, (f, also, also_at))) =
         let same = one_environment_at g (stated g x.setting) numbers e f complete is also in
         one_at_sets f (subst (λ (h : Environment). AtSets x file source one s g p h) same at) also_at
 
     -- ---- sizes, numbers, components
     one_at_sizes : AtSizes x file source one s g p → AtSizes x file source two t g p → One
-    one_at_sizes (inl u) (inl v) =
-        let fault = one_refusal (given_sets g) (stated g x.setting) u.0 v.0 u.2.0 v.2.0 u.1 v.1 in
-        same_told (u.2.2 ∙ sym v.2.2) (u.2.1 ∙ ap (size_fault_lines x.details g (stated g x.setting)) fault ∙ sym v.2.1)
-    one_at_sizes (inl u) (inr v) = absurd (none_refused (given_sets g) (stated g x.setting) u.0 v.0 u.2.0 u.1)
-    one_at_sizes (inr u) (inl v) = absurd (none_refused (given_sets g) (stated g x.setting) v.0 u.0 v.2.0 v.1)
+    one_at_sizes (inl (first, u, is)) (inl (second, v, also)) = both_refused first second is also (one_misfit x file source first second s t g u v)
+    one_at_sizes (inl (first, u, is)) (inr v) = absurd (none_refused (given_sets g) (stated g x.setting) u.0 v.0 u.2.0 u.1)
+    one_at_sizes (inr u) (inl (second, v, also)) = absurd (none_refused (given_sets g) (stated g x.setting) v.0 u.0 v.2.0 v.1)
     one_at_sizes (inr u) (inr v) = one_at_finiteness v.0 u.1 v.1
 
     one_at_numbers : AtNumbers x file source one s g p → AtNumbers x file source two t g p → One
-    one_at_numbers (inl u) (inl v) = same_told (u.2 ∙ sym v.2) (u.1 ∙ sym v.1)
-    one_at_numbers (inl u) (inr v) = absurd (small_not_too_large numbers v.0 u.0)
-    one_at_numbers (inr u) (inl v) = absurd (small_not_too_large numbers u.0 v.0)
+    one_at_numbers (inl (first, u, is)) (inl (second, v, also)) = both_refused first second is also (same_messages x file source first second s t (u.2 ∙ sym v.2) (u.1 ∙ sym v.1))
+    one_at_numbers (inl (first, u, is)) (inr v) = absurd (small_not_too_large numbers v.0 u.0)
+    one_at_numbers (inr u) (inl (second, v, also)) = absurd (small_not_too_large numbers u.0 v.0)
     one_at_numbers (inr u) (inr v) = one_at_sizes u.1 v.1
 
     one_at_shape : AtShape x file source one s g p → AtShape x file source two t g p → One
-    one_at_shape (inl (n, c, u, told, bad)) (inl (m, d, v, also_told, also_bad)) =
-        let same = one_lacking p n c m d u v in
-        same_told (bad ∙ sym also_bad) (told ∙ ap (λ (l : List ℕ). no_component_line l c) same.0 ∙ ap (no_component_line m) same.1 ∙ sym also_told)
-    one_at_shape (inl (n, c, u, told, bad)) (inr v) = absurd (not_shape_and_lack p n c v.0 u)
-    one_at_shape (inr u) (inl (n, c, v, told, bad)) = absurd (not_shape_and_lack p n c u.0 v)
+    one_at_shape (inl (first, u, is)) (inl (second, v, also)) = both_refused first second is also (one_lack x file source first second s t p u v)
+    one_at_shape (inl (first, (n, c, u, told, bad), is)) (inr v) = absurd (not_shape_and_lack p n c v.0 u)
+    one_at_shape (inr u) (inl (second, (n, c, v, told, bad), also)) = absurd (not_shape_and_lack p n c u.0 v)
     one_at_shape (inr u) (inr v) = one_at_numbers u.1 v.1
 
   -- ---- names, types
   one_at_schemas : (g : List Defined) → AtSchemas x file source one s g → AtSchemas x file source two t g → One
-  one_at_schemas g (inl u) (inl v) =
-      one_first (IsOfSchema g) (TellsNoSchema x.details g one s) (TellsNoSchema x.details g two t) (no_schema_apart x.details g one s) (no_schema_apart x.details g two t)
-      (λ name f h. same_told (f.bad ∙ sym h.bad) (f.told ∙ sym h.told)) (names_of x) u v
-  one_at_schemas g (inl u) (inr v) = absurd (not_all_and_first (IsOfSchema g) (TellsNoSchema x.details g one s) (no_schema_apart x.details g one s) (names_of x) (named_all g x v.0 v.1) u)
-  one_at_schemas g (inr u) (inl v) = absurd (not_all_and_first (IsOfSchema g) (TellsNoSchema x.details g two t) (no_schema_apart x.details g two t) (names_of x) (named_all g x u.0 u.1) v)
+  one_at_schemas g (inl (first, u, is)) (inl (second, v, also)) = both_refused first second is also (one_first (IsOfSchema g) (TellsNoSchema x.details g first s) (TellsNoSchema x.details g second t)
+      (no_schema_apart x.details g first s) (no_schema_apart x.details g second t)
+      (λ name f h. same_messages x file source first second s t (f.bad ∙ sym h.bad) (f.told ∙ sym h.told)) (names_of x) u v)
+  one_at_schemas g (inl (first, u, is)) (inr v) =
+      absurd (not_all_and_first (IsOfSchema g) (TellsNoSchema x.details g first s) (no_schema_apart x.details g first s) (names_of x) (named_all g x v.0 v.1) u)
+  one_at_schemas g (inr u) (inl (second, v, also)) =
+      absurd (not_all_and_first (IsOfSchema g) (TellsNoSchema x.details g second t) (no_schema_apart x.details g second t) (names_of x) (named_all g x u.0 u.1) v)
   one_at_schemas g (inr u) (inr v) = one_at_shape g v.0 (subst (λ (q : Schemas). AtShape x file source one s g q) (one_schemas x g u.0 v.0 u.1 v.1) u.2) v.2
 
   one_at_types : AtTypes x file source one s → AtTypes x file source two t → One
-  one_at_types (inl u) (inl v) =
-      let c = one_checked source u.globals v.globals u.faults v.faults u.checks v.checks in (
-        u.bad ∙ sym v.bad,
-        AreAlike.types v.globals u.faults v.faults one two [] (subst (λ h. Checks source h u.faults) c.0 u.checks) v.checks u.some c.1 u.told v.told (sym (append-nil one)) (sym (append-nil two)),
-      )
-  one_at_types (inl u) (inr v) = absurd (some_and_none u.faults u.some (one_checked source u.globals v.0 u.faults [] u.checks v.1).1)
-  one_at_types (inr u) (inl v) = absurd (none_and_some v.faults v.some (one_checked source u.0 v.globals [] v.faults u.1 v.checks).1)
+  one_at_types (inl (first, u, is)) (inl (second, v, also)) = both_refused first second is also (one_ill x file source first second s t u v)
+  one_at_types (inl (first, u, is)) (inr v) = absurd (some_and_none u.faults u.some (one_checked source u.globals v.0 u.faults [] u.checks v.1).1)
+  one_at_types (inr u) (inl (second, v, also)) = absurd (none_and_some v.faults v.some (one_checked source u.0 v.globals [] v.faults u.1 v.checks).1)
   one_at_types (inr u) (inr v) = one_at_schemas v.0 (subst (λ (h : List Defined). AtSchemas x file source one s h) (one_checked source u.0 v.0 [] [] u.1 v.1).0 u.2) v.2
 
   pub one_exploration_answer : ExplorationAnswer x file source one s → ExplorationAnswer x file source two t → One

@@ -1,5 +1,5 @@
 -- Two searches of which the second begins behind the last row of the first are one search.
-use Rattle.zf_answers.proofs.Prelude.{◌++◌, ◌+◌, ◌↔◌, ◌∙◌, ◌∷◌, ◌≡◌, [], ap, append_assoc, arith, codes, inl, inr, length, length-append, List, map, None, Option, refl, Some, subst, sym, ℕ, flat_map-append, All-append, All-cons, All-nil, IsTotalOrder, lists_total, AllPairs, Contains, Ordering, AllPairs-cons, AllPairs-head, AllPairs-tail, Contains-either, Contains-head, Contains-later, Contains-left, Contains-right, IsRowOf-length, Conjuncts, Event, IsEvent, ComesAfter, IsLater, TiesAreEqual, IsUpTo, Truth, False, Out, True, AllPairs-mapped, Contains-map, Contains-mapped, AreEventsUpTo, Hold, IsBelow, IsWritten, lines, out_line, Status, AreTold, IsBefore, IsNotPast, together}
+use Rattle.zf_answers.proofs.Prelude.{◌++◌, ◌+◌, ◌↔◌, ◌∙◌, ◌∷◌, ◌≡◌, [], ap, append_assoc, arith, inl, inr, length, length-append, List, map, None, Option, refl, Some, subst, sym, ℕ, flat_map-append, All-append, All-cons, All-nil, IsTotalOrder, lists_total, AllPairs, Contains, Ordering, AllPairs-cons, AllPairs-head, AllPairs-tail, Contains-either, Contains-head, Contains-later, Contains-left, Contains-right, IsRowOf-length, Conjuncts, Event, IsEvent, ComesAfter, IsLater, TiesAreEqual, IsUpTo, Truth, False, Out, True, AllPairs-mapped, Contains-map, Contains-mapped, AreEventsUpTo, Hold, IsBelow, IsWritten, lines, Status, AreTold, IsBefore, IsNotPast, together, Wording}
 use Rattle.zf_answers.proofs.OneEnding.{last_of, rows_compared, same_event}
 use Rattle.zf_answers.proofs.WrittenRows.{not_past, up_to, with_truth}
 
@@ -16,36 +16,36 @@ below_together : (limit : Option ℕ) (n k : ℕ) → IsBelow limit k → IsBelo
 below_together None n k h = tt
 below_together (Some l) n k h = omega arith
 
-module _ {V : Type 0} (line : List V → List ℕ) (limit : Option ℕ) where
+module _ {V : Type 0} (telling : Wording V) (limit : Option ℕ) where
   -- the last row is that of an event
-  pub last_event : (ys : List (Event V)) (last : Option (List V)) (text : List ℕ) (status : Status) → IsWritten line limit ys last text status
+  pub last_event : (ys : List (Event V)) (last : Option (List V)) (text : List ℕ) (status : Status) → IsWritten telling limit ys last text status
       → (w : List V) → last ≡ Some w → (y : Event V) × Contains ys y × (y.row ≡ w)
   last_event ys last text status (IsWritten.pauses front e is up hold reached told done) w at =
-      (e, subst (λ zs. Contains zs e) (sym is) (last_of line limit front e), (let q : Some e.row ≡ Some w = sym up ∙ at in cc))
+      (e, subst (λ zs. Contains zs e) (sym is) (last_of telling limit front e), (let q : Some e.row ≡ Some w = sym up ∙ at in cc))
   last_event ys last text status (IsWritten.breaks front e is up hold out below told past) w at =
-      (e, subst (λ zs. Contains zs e) (sym is) (last_of line limit front e), (let q : Some e.row ≡ Some w = sym up ∙ at in cc))
+      (e, subst (λ zs. Contains zs e) (sym is) (last_of telling limit front e), (let q : Some e.row ≡ Some w = sym up ∙ at in cc))
   last_event ys last text status (IsWritten.ends none hold below told done) w at = absurd (let q : None ≡ Some w = sym none ∙ at in cc)
 
-  both_lines : (xs ys : List (Event V)) (end : List ℕ) → lines line xs ++ (lines line ys ++ end) ≡ lines line (xs ++ ys) ++ end
-  both_lines xs ys end = sym (append_assoc (lines line xs) (lines line ys) end) ∙ ap (λ t. t ++ end) (sym (flat_map-append (λ (e : Event V). line e.row) xs ys))
+  both_lines : (xs ys : List (Event V)) (end : List ℕ) → lines telling xs ++ (lines telling ys ++ end) ≡ lines telling (xs ++ ys) ++ end
+  both_lines xs ys end = sym (append_assoc (lines telling xs) (lines telling ys) end) ∙ ap (λ t. t ++ end) (sym (flat_map-append (λ (e : Event V). telling.line e.row) xs ys))
 
   both_split : (xs ys front : List (Event V)) (e : Event V) → ys ≡ front ++ e ∷ [] → xs ++ ys ≡ (xs ++ front) ++ e ∷ []
   both_split xs ys front e is = ap (λ zs. xs ++ zs) is ∙ sym (append_assoc xs front (e ∷ []))
 
-  pub both_written : (xs ys : List (Event V)) (last : Option (List V)) (text : List ℕ) (status : Status) → Hold xs → IsWritten line limit ys last text status
-      → IsWritten line (together (length xs) limit) (xs ++ ys) last (lines line xs ++ text) status
+  pub both_written : (xs ys : List (Event V)) (last : Option (List V)) (text : List ℕ) (status : Status) → Hold xs → IsWritten telling limit ys last text status
+      → IsWritten telling (together (length xs) limit) (xs ++ ys) last (lines telling xs ++ text) status
   both_written xs ys last text status before (IsWritten.pauses front e is up hold reached told done) =
       IsWritten.pauses (xs ++ front) e (both_split xs ys front e is) up (All-append (λ (x : Event V). x.truth ≡ True) xs ys before hold)
       (ap (together (length xs)) reached ∙ ap Some (sym (length-append xs ys)))
-      (ap (λ t. lines line xs ++ t) told ∙ both_lines xs ys (codes "more\n")) done
+      (ap (λ t. lines telling xs ++ t) told ∙ both_lines xs ys telling.more) done
   both_written xs ys last text status before (IsWritten.breaks front e is up hold out below told past) =
       IsWritten.breaks (xs ++ front) e (both_split xs ys front e is) up (All-append (λ (x : Event V). x.truth ≡ True) xs front before hold) out
       (subst (IsBelow (together (length xs) limit)) (sym (length-append xs front)) (below_together limit (length xs) (length front) below))
-      (ap (λ t. lines line xs ++ t) told ∙ both_lines xs front (out_line line e.row)) past
+      (ap (λ t. lines telling xs ++ t) told ∙ both_lines xs front (telling.out e.row)) past
   both_written xs ys last text status before (IsWritten.ends none hold below told done) =
       IsWritten.ends none (All-append (λ (x : Event V). x.truth ≡ True) xs ys before hold)
       (subst (IsBelow (together (length xs) limit)) (sym (length-append xs ys)) (below_together limit (length xs) (length ys) below))
-      (ap (λ t. lines line xs ++ t) told ∙ both_lines xs ys (codes "end\n")) done
+      (ap (λ t. lines telling xs ++ t) told ∙ both_lines xs ys telling.end) done
 
 module _ {V : Type 0} (cmp : V → V → Ordering) (o : IsTotalOrder cmp) (ties : TiesAreEqual cmp) (s : Conjuncts V) (ranges : List (List V)) (after : Option (List V)) where
   long : (a : Option (List V)) (x : Event V) → IsEvent cmp s ranges a x → length x.row ≡ length ranges

@@ -6,12 +6,16 @@ pub mod WrittenRows
 pub mod OneRefusal
 pub mod OneSource
 pub mod OneSearch
+mod NamedParts
+mod OneParts
 pub mod Stages
 pub mod FaultLines
 mod Machines
 mod Explorations
 pub mod OneAnswer
 pub mod Shown
+mod PartsShown
+mod EachPart
 pub mod EverySource
 pub mod ListedValues
 pub mod NamedRows

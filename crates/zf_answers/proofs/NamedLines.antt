@@ -1,7 +1,8 @@
--- A line is that of one row, and what is told of a text that is refused is that it is the line of none.
+-- A line is that of one row, an object too, and what is told of a text that is refused is that it is the line of none.
 use Rattle.zf_answers.proofs.Prelude.{◌∙◌, ◌≡◌, [], ap, List, subst, sym, ℕ, Defined, Schema, Environment, Size, one_row, binding_text, AreClear, spellings}
+use Rattle.zf_format.specs.declared.format.Format.TheVariants.{Lines, Objects}
 use Rattle.zf_texts.specs.Readings.{IsNoLine}
-use Rattle.zf_answers.specs.NamedLines.{IsSchemaAt, OneRowOfALine, RefusedLinesAreOfNoRow}
+use Rattle.zf_answers.specs.NamedLines.{IsSchemaAt, OneRowOfALine, OneRowOfAnObject, RefusedLinesAreOfNoRow}
 use Rattle.zf_answers.proofs.OneSearch.{clear_at}
 
 clear_there : (source name : List ℕ) (sizes : List Size) (g : List Defined) (a : Schema) (e : Environment) → IsSchemaAt source name sizes g a e → AreClear (spellings e.globals) e.sizes
@@ -9,7 +10,11 @@ clear_there source name sizes g a e at = clear_at source g [] sizes e.numbers e 
 
 pub one_row_of_a_line : OneRowOfALine
 one_row_of_a_line source name sizes g a e text row other at one two =
-    one_row (spellings e.globals) e (clear_there source name sizes g a e at) a.comps row other one.0 two.0 (sym one.1 ∙ two.1)
+    one_row Lines (spellings e.globals) e (clear_there source name sizes g a e at) a.comps row other one.0 two.0 (sym one.1 ∙ two.1)
+
+pub one_row_of_an_object : OneRowOfAnObject
+one_row_of_an_object source name sizes g a e row other at one two same =
+    one_row Objects (spellings e.globals) e (clear_there source name sizes g a e at) a.comps row other one two same
 
 pub refused_lines_are_of_no_row : RefusedLinesAreOfNoRow
 unfolding IsNoLine

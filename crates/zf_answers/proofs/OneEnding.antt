@@ -1,5 +1,5 @@
 -- Of one search there is one list of events up to where the lines end, one text of it and one status.
-use Rattle.zf_answers.proofs.Prelude.{◌++◌, ◌+◌, ◌<◌, ◌∙◌, ◌∷◌, ◌≡◌, ◌≤◌, ◌⊎◌, [], ap, arith, inl, inr, length, List, None, Option, refl, Some, subst, sym, take, ℕ, All-contains, IsTotalOrder, lists_total, slice_cmp, AllPairs, Contains, Ordering, AllPairs-across, Contains-head, Contains-right, IsRowOf-length, Conjuncts, IsTruthOf, Event, IsEvent, ComesAfter, TiesAreEqual, IsUpTo, Truth, Out, True, AreEventsUpTo, Hold, IsBelow, IsNotAbove, IsWritten, Status, AreTold, one_truth_of}
+use Rattle.zf_answers.proofs.Prelude.{◌++◌, ◌+◌, ◌<◌, ◌∙◌, ◌∷◌, ◌≡◌, ◌≤◌, ◌⊎◌, [], ap, arith, inl, inr, length, List, None, Option, refl, Some, subst, sym, take, ℕ, All-contains, IsTotalOrder, lists_total, slice_cmp, AllPairs, Contains, Ordering, AllPairs-across, Contains-head, Contains-right, IsRowOf-length, Conjuncts, IsTruthOf, Event, IsEvent, ComesAfter, TiesAreEqual, IsUpTo, Truth, Out, True, AreEventsUpTo, Hold, IsBelow, IsNotAbove, IsWritten, Status, AreTold, one_truth_of, Wording}
 use Rattle.std.specs.declared.cmp.Ordering.TheVariants.{Less, Equal, Greater}
 use Rattle.std.specs.Ordering.{ordering_reverse}
 use Rattle.std.proofs.lemmas.List.{length-append}
@@ -16,7 +16,7 @@ within_of : (limit : Option ℕ) (m n : ℕ) → m ≤ n → IsNotAbove limit n 
 within_of None m n le h = tt
 within_of (Some l) m n le h = omega arith
 
-module _ {V : Type 0} (line : List V → List ℕ) (limit : Option ℕ) where
+module _ {V : Type 0} (telling : Wording V) (limit : Option ℕ) where
   -- an event that is out does not hold
   pub held : (events : List (Event V)) (e : Event V) → Hold events → Contains events e → e.truth ≡ Out → ⊥
   held events e h m out = let t : e.truth ≡ True = All-contains (λ (x : Event V). x.truth ≡ True) events e h m in let c : True ≡ Out = sym t ∙ out in cc
@@ -25,7 +25,7 @@ module _ {V : Type 0} (line : List V → List ℕ) (limit : Option ℕ) where
   last_of front e = Contains-right front (e ∷ []) e (Contains-head e [])
 
   -- no more events than the limit are written, or told as out
-  few : (events : List (Event V)) (last : Option (List V)) (text : List ℕ) (status : Status) → IsWritten line limit events last text status → IsNotAbove limit (length events)
+  few : (events : List (Event V)) (last : Option (List V)) (text : List ℕ) (status : Status) → IsWritten telling limit events last text status → IsNotAbove limit (length events)
   few events last text status (IsWritten.pauses front e is up hold reached told done) = subst (λ l. IsNotAbove l (length events)) (sym reached) (omega arith)
   few events last text status (IsWritten.breaks front e is up hold out below told past) =
       let n : length events ≡ length front + 1 = ap length is ∙ length-append front (e ∷ []) in
@@ -33,7 +33,7 @@ module _ {V : Type 0} (line : List V → List ℕ) (limit : Option ℕ) where
   few events last text status (IsWritten.ends none hold below told done) = within_of limit (length events) (length events + 1) (omega arith) (within_below limit (length events) below)
 
   -- each event before another one holds
-  hold_before : (events : List (Event V)) (last : Option (List V)) (text : List ℕ) (status : Status) → IsWritten line limit events last text status
+  hold_before : (events : List (Event V)) (last : Option (List V)) (text : List ℕ) (status : Status) → IsWritten telling limit events last text status
       → (us : List (Event V)) (m : Event V) (vs : List (Event V)) → events ≡ us ++ m ∷ vs → Hold us
   hold_before events last text status (IsWritten.pauses front e is up hold reached told done) us m vs q = All-front (λ x. x.truth ≡ True) us (m ∷ vs) (subst Hold q hold)
   hold_before events last text status (IsWritten.breaks front e is up hold out below told past) us m vs q =
@@ -48,7 +48,7 @@ module _ {V : Type 0} (line : List V → List ℕ) (limit : Option ℕ) where
 
   -- the same events end in one way
   pub one_end : (events : List (Event V)) (last other_last : Option (List V)) (text other : List ℕ) (status other_status : Status)
-      → IsWritten line limit events last text status → IsWritten line limit events other_last other other_status → AreOneEnd last other_last text other status other_status
+      → IsWritten telling limit events last text status → IsWritten telling limit events other_last other other_status → AreOneEnd last other_last text other status other_status
   one_end events last other_last text other status other_status (IsWritten.pauses front e is up hold reached told done) (IsWritten.pauses other_front f other_is other_up other_hold other_reached other_told other_done) =
       let same = same_last front other_front e f (sym is ∙ other_is) in
       record { lasts = up ∙ ap (λ (x : Event V). Some x.row) same.1 ∙ sym other_up; texts = told ∙ sym other_told; statuses = done ∙ sym other_done }
@@ -124,26 +124,26 @@ module _ {V : Type 0} (cmp : V → V → Ordering) (o : IsTotalOrder cmp) (ties 
           (λ x y m n r. (h.members y).1 (is_y y n, up_to_before last y.row x.row (as_long y x (is_y y n) (is_x x m)) r ((h.members x).0 m).1))
 
       -- where the lines end at the end of the first list, the second is no longer
-      pub no_more : (line : List V → List ℕ) (limit : Option ℕ) (text other : List ℕ) (status other_status : Status) (more : List (Event V)) → ys ≡ xs ++ more
-          → IsWritten line limit xs last text status → IsWritten line limit ys other_last other other_status → more ≡ []
-      no_more line limit text other status other_status [] q w v = refl
-      no_more line limit text other status other_status (m ∷ more) q (IsWritten.pauses front e is up hold reached told done) v =
-          let f : length ys ≤ length xs = subst (λ l. IsNotAbove l (length ys)) reached (few line limit ys other_last other other_status v) in
+      pub no_more : (telling : Wording V) (limit : Option ℕ) (text other : List ℕ) (status other_status : Status) (more : List (Event V)) → ys ≡ xs ++ more
+          → IsWritten telling limit xs last text status → IsWritten telling limit ys other_last other other_status → more ≡ []
+      no_more telling limit text other status other_status [] q w v = refl
+      no_more telling limit text other status other_status (m ∷ more) q (IsWritten.pauses front e is up hold reached told done) v =
+          let f : length ys ≤ length xs = subst (λ l. IsNotAbove l (length ys)) reached (few telling limit ys other_last other other_status v) in
           nothing_more xs (m ∷ more) (subst (λ zs. length zs ≤ length xs) q f)
-      no_more line limit text other status other_status (m ∷ more) q (IsWritten.breaks front e is up hold out below told past) v =
-          absurd (held line limit xs e (hold_before line limit ys other_last other other_status v xs m more q) (subst (λ es. Contains es e) (sym is) (last_of line limit front e)) out)
-      no_more line limit text other status other_status (m ∷ more) q (IsWritten.ends none hold below told done) v =
+      no_more telling limit text other status other_status (m ∷ more) q (IsWritten.breaks front e is up hold out below told past) v =
+          absurd (held telling limit xs e (hold_before telling limit ys other_last other other_status v xs m more q) (subst (λ es. Contains es e) (sym is) (last_of telling limit front e)) out)
+      no_more telling limit text other status other_status (m ∷ more) q (IsWritten.ends none hold below told done) v =
           let n : Contains ys m = subst (λ zs. Contains zs m) (sym q) (Contains-right xs (m ∷ more) m (Contains-head m more)) in
           let there : Contains xs m = (h.members m).1 (is_y m n, subst (λ w. IsUpTo cmp w m.row) (sym none) tt) in
           absurd (never_itself m.row (AllPairs-across Follows xs (m ∷ more) (subst (λ zs. AllPairs Follows zs) q k.ascending) m m there (Contains-head m more)))
 
     -- there is one list of events up to where the lines end
-    pub one_list_up_to : (line : List V → List ℕ) (limit : Option ℕ) (xs ys : List (Event V)) (last other_last : Option (List V)) (text other : List ℕ) (status other_status : Status)
+    pub one_list_up_to : (telling : Wording V) (limit : Option ℕ) (xs ys : List (Event V)) (last other_last : Option (List V)) (text other : List ℕ) (status other_status : Status)
         → AreEventsUpTo cmp s ranges after last xs → AreEventsUpTo cmp s ranges after other_last ys
-        → IsWritten line limit xs last text status → IsWritten line limit ys other_last other other_status → xs ≡ ys
-    one_list_up_to line limit xs ys last other_last text other status other_status h k w v = elim (begins xs ys last other_last h k) [
-      | inl m ↦ sym (m.1 ∙ whole xs m.0 (no_more xs ys last other_last h k line limit text other status other_status m.0 m.1 w v))
-      | inr m ↦ m.1 ∙ whole ys m.0 (no_more ys xs other_last last k h line limit other text other_status status m.0 m.1 v w)
+        → IsWritten telling limit xs last text status → IsWritten telling limit ys other_last other other_status → xs ≡ ys
+    one_list_up_to telling limit xs ys last other_last text other status other_status h k w v = elim (begins xs ys last other_last h k) [
+      | inl m ↦ sym (m.1 ∙ whole xs m.0 (no_more xs ys last other_last h k telling limit text other status other_status m.0 m.1 w v))
+      | inr m ↦ m.1 ∙ whole ys m.0 (no_more ys xs other_last last k h telling limit other text other_status status m.0 m.1 v w)
     ]
       where
         whole : (zs more : List (Event V)) → more ≡ [] → zs ++ more ≡ zs
@@ -153,9 +153,9 @@ module _ {V : Type 0} (cmp : V → V → Ordering) (o : IsTotalOrder cmp) (ties 
             nil_right [] = refl
             nil_right (z ∷ zs) = ap (λ us. z ∷ us) (nil_right zs)
 
-    pub one_ending : (line : List V → List ℕ) (limit : Option ℕ) (xs ys : List (Event V)) (last other_last : Option (List V)) (text other : List ℕ) (status other_status : Status)
+    pub one_ending : (telling : Wording V) (limit : Option ℕ) (xs ys : List (Event V)) (last other_last : Option (List V)) (text other : List ℕ) (status other_status : Status)
         → AreEventsUpTo cmp s ranges after last xs → AreEventsUpTo cmp s ranges after other_last ys
-        → IsWritten line limit xs last text status → IsWritten line limit ys other_last other other_status → AreOneEnd line limit last other_last text other status other_status
-    one_ending line limit xs ys last other_last text other status other_status h k w v =
-        one_end line limit xs last other_last text other status other_status w
-        (subst (λ es. IsWritten line limit es other_last other other_status) (sym (one_list_up_to line limit xs ys last other_last text other status other_status h k w v)) v)
+        → IsWritten telling limit xs last text status → IsWritten telling limit ys other_last other other_status → AreOneEnd telling limit last other_last text other status other_status
+    one_ending telling limit xs ys last other_last text other status other_status h k w v =
+        one_end telling limit xs last other_last text other status other_status w
+        (subst (λ es. IsWritten telling limit es other_last other other_status) (sym (one_list_up_to telling limit xs ys last other_last text other status other_status h k w v)) v)

@@ -1,5 +1,6 @@
 -- What is asked for is one environment and one named row, and its search has one text and one status.
-use Rattle.zf_answers.proofs.Prelude.{◌++◌, ◌<◌, ◌∙◌, ◌≡◌, ◌⊎◌, ap, arith, Bool, false, inl, inr, List, None, Option, Some, subst, sym, true, ℕ, cases_order, Event, cut, IsNumberOfTests, IsUpTo, IsWalked, exact, value_order, Value, Comp, Defined, Schema, Fault, first, finite_without_cause, causes, IsFinite, NotFinite, Environment, IsEnvironment, AreComplete, given_sets, Size, one_row, AreClear, spellings, one_ranges, Portion, property, IsFirstOut, AreEventsUpTo, HasEvents, IsTestsLine, IsWritten, binding_line, tests_line, Status, property_told, AreHeld, Checks, IsNamed, IsNamedRow, Request, ShowsEvents}
+use Rattle.zf_answers.proofs.Prelude.{◌++◌, ◌<◌, ◌∙◌, ◌≡◌, ◌⊎◌, ap, arith, Bool, false, inl, inr, List, None, Option, Some, subst, sym, true, ℕ, cases_order, Event, cut, IsNumberOfTests, IsUpTo, IsWalked, exact, value_order, Value, Comp, Defined, Schema, Fault, first, finite_without_cause, causes, IsFinite, NotFinite, Environment, IsEnvironment, AreComplete, given_sets, Size, one_row, AreClear, spellings, one_ranges, Portion, property, IsFirstOut, AreEventsUpTo, HasEvents, IsTestsLine, IsWritten, Status, property_told, AreHeld, Checks, IsNamed, IsNamedRow, Request, ShowsEvents, Wording, wording}
+use Rattle.zf_format.specs.declared.format.Format.TheVariants.{Lines}
 use Rattle.zf_value.specs.contracts.plain.ValueOrd.TheImpl.Laws as order_laws
 use Rattle.zf_walk.proofs.Counting.{number-le}
 use Rattle.zf_meaning.proofs.Environments.{one_environment}
@@ -40,7 +41,7 @@ pub one_named_row : (e : Environment) (comps : List Comp) (text : Option (List �
 one_named_row e comps None one two clear p q = p ∙ sym q
 one_named_row e comps (Some text) None two clear p q = absurd p
 one_named_row e comps (Some text) (Some x) None clear p q = absurd q
-one_named_row e comps (Some text) (Some x) (Some y) clear p q = ap Some (one_row (spellings e.globals) e clear comps x y p.0 q.0 (sym p.1 ∙ q.1))
+one_named_row e comps (Some text) (Some x) (Some y) clear p q = ap Some (one_row Lines (spellings e.globals) e clear comps x y p.0 q.0 (sym p.1 ∙ q.1))
 
 -- the components of a schema that a text defines have clear names
 pub names_at : (source : List ℕ) (g : List Defined) (faults : List Fault) (name : List ℕ) (a : Schema) → Checks source g faults → IsNamed g name a → HaveClearNames a.comps
@@ -67,12 +68,12 @@ one_first_out e comps i j p q = go (cases_order i j)
 
 -- ---- the events
 
-pub one_search : (e : Environment) (a : Schema) (p : Portion) (line : List Value → List ℕ) (limit : Option ℕ) (xs ys : List (Event Value)) (last other_last : Option (List Value))
+pub one_search : (e : Environment) (a : Schema) (p : Portion) (telling : Wording Value) (limit : Option ℕ) (xs ys : List (Event Value)) (last other_last : Option (List Value))
     (text other : List ℕ) (status other_status : Status)
-    → HasEvents e a p last xs → HasEvents e a p other_last ys → IsWritten line limit xs last text status → IsWritten line limit ys other_last other other_status → AreOneEnd line limit last other_last text other status other_status
-one_search e a p line limit xs ys last other_last text other status other_status h k w v =
+    → HasEvents e a p last xs → HasEvents e a p other_last ys → IsWritten telling limit xs last text status → IsWritten telling limit ys other_last other other_status → AreOneEnd telling limit last other_last text other status other_status
+one_search e a p telling limit xs ys last other_last text other status other_status h k w v =
     let same : k.ranges ≡ h.ranges = one_ranges e a p.held k.ranges h.ranges k.of_components h.of_components in
-    one_ending value_order order_laws.total-law exact (property e a.conjuncts) (property_told e a.conjuncts) h.ranges p.after line limit xs ys last other_last text other status other_status
+    one_ending value_order order_laws.total-law exact (property e a.conjuncts) (property_told e a.conjuncts) h.ranges p.after telling limit xs ys last other_last text other status other_status
     h.listed (subst (λ ranges. AreEventsUpTo value_order (property e a.conjuncts) ranges p.after other_last ys) same k.listed) w v
 
 -- ---- the tests
@@ -88,9 +89,9 @@ one_number e a p whole m n h k =
     omega (arith, le, ge)
 
 -- the line of the number of tests is one
-one_tests_line : (tests : Bool) (e : Environment) (a : Schema) (p : Portion) (whole : Option (List Value)) (one two : List ℕ) → IsTestsLine tests e a p whole one → IsTestsLine tests e a p whole two → one ≡ two
-one_tests_line false e a p whole one two h k = h ∙ sym k
-one_tests_line true e a p whole one two h k = h.2 ∙ ap (λ n. tests_line (cut n)) (one_number e a p whole h.0 k.0 h.1 k.1) ∙ sym k.2
+one_tests_line : (telling : Wording Value) (tests : Bool) (e : Environment) (a : Schema) (p : Portion) (whole : Option (List Value)) (one two : List ℕ) → IsTestsLine telling tests e a p whole one → IsTestsLine telling tests e a p whole two → one ≡ two
+one_tests_line telling false e a p whole one two h k = h ∙ sym k
+one_tests_line telling true e a p whole one two h k = h.2 ∙ ap (λ n. telling.tests (cut n)) (one_number e a p whole h.0 k.0 h.1 k.1) ∙ sym k.2
 
 -- ---- the answer
 
@@ -98,6 +99,6 @@ one_tests_line true e a p whole one two h k = h.2 ∙ ap (λ n. tests_line (cut 
 pub one_shown : (r : Request) (g : List Defined) (a : Schema) (e : Environment) (p : Portion) (one two : List ℕ) (s t : Status)
     → ShowsEvents r g a e p one s → ShowsEvents r g a e p two t → (one ≡ two) × (s ≡ t)
 one_shown r g a e p one two s t x y =
-    let end = one_search e a p (binding_line (spellings g) a.comps) r.limit x.events y.events x.last y.last x.lines y.lines s t x.listed y.listed x.ends y.ends in
-    let counted = one_tests_line r.tests e a p y.last x.counted y.counted (subst (λ last. IsTestsLine r.tests e a p last x.counted) end.lasts x.numbered) y.numbered in
+    let end = one_search e a p (wording r g a) r.limit x.events y.events x.last y.last x.lines y.lines s t x.listed y.listed x.ends y.ends in
+    let counted = one_tests_line (wording r g a) r.tests e a p y.last x.counted y.counted (subst (λ last. IsTestsLine (wording r g a) r.tests e a p last x.counted) end.lasts x.numbered) y.numbered in
     (x.whole ∙ ap (λ l. l ++ x.counted) end.texts ∙ ap (λ c. y.lines ++ c) counted ∙ sym y.whole, end.statuses)

@@ -1,5 +1,5 @@
 -- A source is read by one tree or refused, and defines one list of globals.
-use Rattle.zf_answers.proofs.Prelude.{◌++◌, ◌∙◌, ◌∷◌, ◌≡◌, [], ap, Bool, inl, inr, List, refl, subst, sym, ℕ, ◌≢◌, BoxTree, TextFault, Token, only_one, IsGrammarFault, ReadsLow, ReadsSource, RefusesTokens, RefusesSource, Defined, Schema, Fault, Checks, IsNamed, Cited, text_fault_lines, AreAlike, AreOfSame}
+use Rattle.zf_answers.proofs.Prelude.{◌++◌, ◌∙◌, ◌∷◌, ◌≡◌, [], ap, Bool, inl, inr, List, refl, subst, sym, ℕ, ◌≢◌, BoxTree, TextFault, Token, only_one, IsGrammarFault, ReadsLow, ReadsSource, RefusesTokens, RefusesSource, Defined, Schema, Fault, Checks, IsNamed, Cited, text_fault_lines, AreMessagesAlike, AreOfSame}
 use Rattle.zf_scan.specs.declared.fault.TextFaultKind.{TextFaultKind}
 use Rattle.zf_scan.specs.declared.fault.TextFaultKind.TheVariants as fault
 use Rattle.zf_scan.proofs.Laws.{is_cut_once, is_not_both, faults_once}
@@ -32,12 +32,12 @@ unread source fault boxes (inr f) r =
 
 -- a source is refused with one fault, or with faults of the grammar
 pub one_refused : (details : Bool) (file source one two : List ℕ) (e f : TextFault) (x y : Cited) → RefusesSource source e → RefusesSource source f
-    → one ≡ text_fault_lines details file e x → two ≡ text_fault_lines details file f y → AreAlike details file source one two
+    → one ≡ text_fault_lines details file e x → two ≡ text_fault_lines details file f y → AreMessagesAlike details file source one two
 one_refused details file source one two e f x y (inl p) (inl q) told other_told =
-    AreAlike.symbols f x y (inl q) (told ∙ ap (λ (fault : TextFault). text_fault_lines details file fault x) (faults_once source e f p q)) other_told
+    AreMessagesAlike.symbols f x y (inl q) (told ∙ ap (λ (fault : TextFault). text_fault_lines details file fault x) (faults_once source e f p q)) other_told
 one_refused details file source one two e f x y (inl p) (inr q) told other_told = absurd (is_not_both source q.0 e q.1 p)
 one_refused details file source one two e f x y (inr p) (inl q) told other_told = absurd (is_not_both source p.0 f p.1 q)
-one_refused details file source one two e f x y (inr p) (inr q) told other_told = AreAlike.grammar
+one_refused details file source one two e f x y (inr p) (inr q) told other_told = AreMessagesAlike.grammar
     (record { fault = e; about = x; tokens = p.0; cut = p.1; kind = p.3; refused = p.2; told = told })
     (record { fault = f; about = y; tokens = q.0; cut = q.1; kind = q.3; refused = q.2; told = other_told })
 

@@ -1,5 +1,5 @@
 -- What the proofs of this crate take from elsewhere, passed on from one place.
-pub use Rattle.std.proofs.Common.{if◌then◌else◌, ◌++◌, ◌+◌, ◌<◌, ◌^◌, ◌↔◌, ◌∙◌, ◌∷◌, ◌≡◌, ◌≤◌, ◌⊎◌, [], ap, append-nil, append_assoc, arith, Bool, codes, Err, false, inl, inr, IsTrue, length, length-append, List, map, None, Ok, Option, refl, Some, subst, suc, sym, take, true, zero, ℕ, ℤ}
+pub use Rattle.std.proofs.Common.{if◌then◌else◌, ◌++◌, ◌+◌, ◌<◌, ◌^◌, ◌↔◌, ◌∙◌, ◌∷◌, ◌≡◌, ◌≤◌, ◌⊎◌, [], ap, append-nil, append_assoc, arith, Bool, Err, false, inl, inr, IsTrue, length, length-append, List, map, None, Ok, Option, refl, Some, subst, suc, sym, take, true, zero, ℕ, ℤ}
 pub use Rattle.std.proofs.lemmas.Bool.{cases_eq, cases_order}
 pub use Rattle.std.proofs.lemmas.Grind.{flat_map-append}
 pub use Rattle.std.proofs.lemmas.List.{length-map, map-append, take_all}
@@ -55,23 +55,25 @@ pub use Rattle.zf_enum.specs.PortionViews.{behind, portion}
 pub use Rattle.zf_enum.specs.Portions.{Portion}
 pub use Rattle.zf_enum.specs.Property.{HasTruth, property}
 pub use Rattle.zf_ranges.specs.Ranges.{IsFirstOut, IsNoneOut}
+pub use Rattle.zf_format.specs.declared.format.Format.{Format}
+pub use Rattle.zf_format.specs.Messages.{messages_in}
 pub use Rattle.zf_command.specs.declared.job.Job.{Job}
 pub use Rattle.zf_command.specs.declared.job.Job.TheVariants.{Check, Reach, Show, Why}
 pub use Rattle.zf_command.specs.declared.job.Request.{Request}
 pub use Rattle.zf_lines.specs.Faults.{IsFront}
-pub use Rattle.zf_lines.specs.Searches.{AreEventsUpTo, HasEvents, Hold, IsBegun, IsBelow, IsTestsLine, IsNotAbove, IsWritten, lines, out_line, HasLimit}
-pub use Rattle.zf_lines.specs.Texts.{binding_line, tests_line}
+pub use Rattle.zf_lines.specs.Searches.{AreEventsUpTo, HasEvents, Hold, IsBegun, IsBelow, IsTestsLine, IsNotAbove, IsWritten, lines, HasLimit, row_wording, Wording}
 pub use Rattle.zf_lines.specs.declared.fault.Status.{Status}
 pub use Rattle.zf_lines.specs.declared.fault.Status.TheVariants.{BadRequest, BadSpec, PastBounds}
 pub use Rattle.zf_found.proofs.Rows.{AreTold, one_truth_of}
 pub use Rattle.zf_found.proofs.Searches.{property_told, some_search, some_tests_line}
-pub use Rattle.zf_engine.specs.Answers.{Answer, AreHeld, check_status, CheckAnswer, HoldsNoValues, IsAsked, IsLimited, IsLineOf, IsNamedRow, IsSearch, JobAnswer, JobBegins, NamesNoRow, RefusesRequest, RequestAnswer, ShowAnswer, ShowBegins, ShowsEvents, UnreadAnswer, wants_details}
-pub use Rattle.zf_engine.specs.Settings.{Checks, HasSchema, IsNamed, size_fault_lines, stated, numbers_of}
+pub use Rattle.zf_engine.specs.Answers.{Answer, AreHeld, check_status, CheckAnswer, format_of, HoldsNoValues, IsAsked, IsLimited, IsLineOf, IsNamedRow, IsSearch, JobAnswer, JobBegins, NamesNoRow, RefusesRequest, RequestAnswer, row_after, ShowAnswer, ShowBegins, ShowsEvents, ShowsParts, TellsShown, UnreadAnswer, wants_details, wording}
+pub use Rattle.zf_engine.specs.Settings.{AreMessages, Checks, HasSchema, IsNamed, size_fault_lines, stated, numbers_of}
 pub use Rattle.zf_messages.specs.Details.{Cited, not_finite_lines, text_fault_lines, AreLines}
 pub use Rattle.zf_messages.specs.Missing.{no_schema_lines}
 pub use Rattle.zf_engine.specs.Numbers.{AreSmall, AreTooLarge}
-pub use Rattle.zf_engine.specs.Reasons.{empty_lines, TellsConjuncts, TellsWhy, told_lines}
-pub use Rattle.zf_messages.specs.Texts.{declared_out_line, not_a_binding_line, not_held_line, numbers_too_large_line}
+pub use Rattle.zf_engine.specs.Only.{AreShown, NamesNoParts, NamesParts}
+pub use Rattle.zf_engine.specs.Reasons.{empty_lines, no_binding_line, satisfied_line, TellsConjuncts, TellsWhy, told_lines}
+pub use Rattle.zf_messages.specs.Texts.{declared_out_line, not_a_binding_line, not_components_line, not_held_line, numbers_too_large_line}
 pub use Rattle.zf_answers.specs.Bindings.{EndsLines, IsBefore, IsBinding, IsInDoubt, IsNotPast, ShowsBindings}
-pub use Rattle.zf_answers.specs.Laws.{AnswersRequest, AreAlike, AreOfSame, EachBindingIsShown, EventsAreShown, EveryHeldLineIsJudged, EveryLineIsJudged, EveryRequestIsAnswered, EverySourceIsRead, IsGranted, IsShownInOneWay, OneStatus, OneText, ReasonIsTold}
+pub use Rattle.zf_answers.specs.Laws.{AnswersRequest, AreAlike, AreMessagesAlike, AreOfSame, EachBindingIsShown, EventsAreShown, EveryHeldLineIsJudged, EveryLineIsJudged, EveryRequestIsAnswered, EverySourceIsRead, IsGranted, IsShownInOneWay, OneStatus, OneText, ReasonIsTold}
 pub use Rattle.zf_answers.specs.Runs.{FirstLinesAreAFront, limited, PartsAreFronts, resumed, RunsMakeOne, together}

@@ -25,43 +25,43 @@ use Rattle.zf_answers.specs.Reached.{graph_in, ReachableAreMet, WhatIsReachedIsT
 
 module _ (x : Exploration) (file source text : List ℕ) (status : Status) (g : List Defined) (p : Schemas) (e : Environment) (is : IsSearchable x source g p e) where
   at_sets : AtSets x file source text status g p e → TellsMachine x.sought x g p e text status
-  at_sets (inl out) = absurd (not_all_and_first (λ (n : Named). IsNoneOut e n.schema.comps) (λ n. TellsOut e n.schema.comps text status) (out_apart e text status) (all_of p) is.none_out out)
+  at_sets (inl out) = absurd (not_all_and_first (λ (n : Named). IsNoneOut e n.schema.comps) (λ n. TellsOut e n.schema.comps out.0 status) (out_apart e out.0 status) (all_of p) is.none_out out.1)
   at_sets (inr told) = told.1
 
   at_finiteness : AtFiniteness x file source text status g p → TellsMachine x.sought x g p e text status
   at_finiteness (inl infinite) =
       let n = numbers_of x.setting in
       let finite = subst (λ n. AllByRecursion (λ (m : Named). IsFinite n g m.schema) (all_of p)) is.bounded.environment.3 is.bounded.finite in
-      absurd (not_all_and_first (λ (m : Named). IsFinite n g m.schema) (λ m. TellsInfinite n g m.schema x.details file text status) (infinite_apart n g x.details file text status) (all_of p) finite infinite)
+      absurd (not_all_and_first (λ (m : Named). IsFinite n g m.schema) (λ m. TellsInfinite n g m.schema x.details file infinite.0 status) (infinite_apart n g x.details file infinite.0 status) (all_of p) finite infinite.1)
   at_finiteness (inr (ends, (f, also, at))) =
       let same = one_environment_at g (stated g x.setting) (numbers_of x.setting) f e is.bounded.settled.complete also is.bounded.environment in
       at_sets (subst (λ (h : Environment). AtSets x file source text status g p h) same at)
 
   at_sizes : AtSizes x file source text status g p → TellsMachine x.sought x g p e text status
-  at_sizes (inl bad) = absurd (none_refused _ (stated g x.setting) bad.0 is.bounded.settled.complete bad.2.0 bad.1)
+  at_sizes (inl bad) = absurd (none_refused _ (stated g x.setting) bad.1.0 is.bounded.settled.complete bad.1.2.0 bad.1.1)
   at_sizes (inr fit) = at_finiteness fit.1
 
   at_numbers : AtNumbers x file source text status g p → TellsMachine x.sought x g p e text status
-  at_numbers (inl large) = absurd (small_not_too_large (numbers_of x.setting) is.bounded.settled.small large.0)
+  at_numbers (inl large) = absurd (small_not_too_large (numbers_of x.setting) is.bounded.settled.small large.1.0)
   at_numbers (inr small) = at_sizes small.1
 
   at_shape : AtShape x file source text status g p → TellsMachine x.sought x g p e text status
-  at_shape (inl lacks) = absurd (not_shape_and_lack p lacks.0 lacks.1 is.bounded.settled.shape lacks.2)
+  at_shape (inl lacks) = absurd (not_shape_and_lack p lacks.1.0 lacks.1.1 is.bounded.settled.shape lacks.1.2)
   at_shape (inr shape) = at_numbers shape.1
 
   at_schemas : AtSchemas x file source text status g → TellsMachine x.sought x g p e text status
   at_schemas (inl lacks) =
-      absurd (not_all_and_first (IsOfSchema g) (TellsNoSchema x.details g text status) (no_schema_apart x.details g text status) (names_of x) (named_all g x p is.bounded.settled.has_schemas.named) lacks)
+      absurd (not_all_and_first (IsOfSchema g) (TellsNoSchema x.details g lacks.0 status) (no_schema_apart x.details g lacks.0 status) (names_of x) (named_all g x p is.bounded.settled.has_schemas.named) lacks.1)
   at_schemas (inr (q, named, at)) =
       at_shape (subst (λ (r : Schemas). AtShape x file source text status g r) (one_schemas x g q p named is.bounded.settled.has_schemas.named) at)
 
   at_types : AtTypes x file source text status → TellsMachine x.sought x g p e text status
-  at_types (inl ill) = absurd (some_and_none ill.faults ill.some (one_checked source ill.globals g ill.faults [] ill.checks is.bounded.settled.has_schemas.checks).1)
+  at_types (inl ill) = absurd (some_and_none ill.1.faults ill.1.some (one_checked source ill.1.globals g ill.1.faults [] ill.1.checks is.bounded.settled.has_schemas.checks).1)
   at_types (inr (h, well, at)) =
       at_schemas (subst (λ (k : List Defined). AtSchemas x file source text status k) (one_checked source h g [] [] well is.bounded.settled.has_schemas.checks).0 at)
 
 pub what_is_reached_is_told : WhatIsReachedIsTold
-what_is_reached_is_told x file source g p e text status is (inl (fault, about, refused, told, bad)) =
+what_is_reached_is_told x file source g p e text status is (inl (lines, (fault, about, refused, told, bad), these)) =
     let checks = is.bounded.settled.has_schemas.checks in absurd (unread source fault checks.boxes refused checks.reads)
 what_is_reached_is_told x file source g p e text status is (inr answer) = at_types x file source text status g p e is (staged x file source text status answer)
 

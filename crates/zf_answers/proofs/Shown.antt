@@ -1,5 +1,5 @@
 -- What is answered where nothing stands in the way of a request.
-use Rattle.zf_answers.proofs.Prelude.{◌++◌, ◌<◌, ◌↔◌, ◌∙◌, ◌∷◌, ◌⊎◌, [], ap, arith, inl, inr, length, List, None, Option, Some, subst, suc, sym, zero, ℕ, All-cons, All-head, All-nil, All-tail, All, Contains, slice_get, Contains-cases, Contains-head, Contains-later, Contains-nil, IsEvent, Out, True, exact, value_order, Value, Defined, Schema, Environment, given_sets, spellings, Portion, portion, HasTruth, property, binding_line, Status, AreHeld, HoldsNoValues, IsNamedRow, NamesNoRow, ReasonIsTold, Request, RequestAnswer, stated, TellsWhy, UnreadAnswer, IsBinding, IsInDoubt, ShowsBindings, EachBindingIsShown, EventsAreShown, IsGranted, IsShownInOneWay, ShowsEvents, numbers_of, IsFinite}
+use Rattle.zf_answers.proofs.Prelude.{◌++◌, ◌<◌, ◌↔◌, ◌∙◌, ◌∷◌, ◌≡◌, ◌⊎◌, [], ap, arith, inl, inr, length, List, None, Option, Some, subst, suc, sym, zero, ℕ, All-cons, All-head, All-nil, All-tail, All, Contains, slice_get, Contains-cases, Contains-head, Contains-later, Contains-nil, IsEvent, Out, True, exact, value_order, Value, Defined, Schema, Environment, given_sets, Portion, portion, HasTruth, property, Status, AreHeld, HoldsNoValues, IsNamedRow, NamesNoRow, ReasonIsTold, Request, RequestAnswer, stated, TellsWhy, UnreadAnswer, IsBinding, IsInDoubt, ShowsBindings, EachBindingIsShown, EventsAreShown, IsGranted, IsShownInOneWay, ShowsEvents, numbers_of, IsFinite, AreMessages, wording, AnswersRequest, AreClear, row_after, spellings, TellsShown}
 use Rattle.zf_term.specs.ResolvedTrees.{ResolvedTree}
 use Rattle.zf_value.specs.declared.value.Truth.{Truth}
 use Rattle.zf_value.specs.declared.value.Truth.TheVariants as truth
@@ -8,8 +8,10 @@ use Rattle.zf_meaning.specs.InRow.{in_row}
 use Rattle.zf_meaning.specs.Meaning.{IsTruth}
 use Rattle.zf_answers.proofs.OneSource.{unread, one_checked, one_named, some_and_none}
 use Rattle.zf_answers.proofs.OneSearch.{clear_at, names_at, not_infinite, one_environment_at, one_held, one_named_row, one_shown}
+use Rattle.zf_answers.proofs.NamedParts.{none_shown, one_list_shown}
+use Rattle.zf_answers.proofs.OneParts.{one_shown_parts}
 use Rattle.zf_answers.proofs.OneRefusal.{none_refused}
-use Rattle.zf_answers.proofs.Stages.{AtFiniteness, AtHeldValues, AtNamedRow, AtNumbers, AtSchema, AtSearch, AtSizes, AtTypes, staged}
+use Rattle.zf_answers.proofs.Stages.{AtComponents, AtFiniteness, AtHeldValues, AtNamedRow, AtNumbers, AtSchema, AtSearch, AtSizes, AtTypes, staged}
 use Rattle.zf_answers.proofs.SmallNumbers.{small_not_too_large}
 use Rattle.zf_answers.proofs.WrittenRows.{with_truth, written_rows}
 
@@ -17,68 +19,87 @@ use Rattle.zf_answers.proofs.WrittenRows.{with_truth, written_rows}
 
 module _ (Tells : List Defined → Schema → Environment → Portion → List ℕ → Status → Type 0) (r : Request) (file source : List ℕ) (g : List Defined) (a : Schema) (e : Environment) (p : Portion) (text : List ℕ) (status : Status) (granted : IsGranted r source g a e p) where
   searched : AtSearch Tells r file source text status g a e p → Tells g a e p text status
-  searched (inl out) = absurd (granted.none_out out.place out.first_out.here)
+  searched (inl out) = absurd (granted.none_out out.1.place out.1.first_out.here)
   searched (inr shows) = shows.1
 
-  held_values : AtHeldValues Tells r file source text status g a e p.after → Tells g a e p text status
-  held_values (inl none) = absurd (are_held r.held p.held none.none granted.held)
+  clear : AreClear (spellings e.globals) e.sizes
+  clear = clear_at source g [] (stated g r.setting) (numbers_of r.setting) e granted.has_schema.checks granted.complete granted.environment
+
+  -- the search begins where it should
+  begun : AtSearch Tells r file source text status g a e (portion (row_after r.only granted.after) p.held) → Tells g a e p text status
+  begun at = searched (subst (λ after. AtSearch Tells r file source text status g a e (portion after p.held)) (sym granted.begins) at)
+
+  held_values : AtHeldValues Tells r file source text status g a e granted.after → Tells g a e p text status
+  held_values (inl none) = absurd (are_held r.held p.held none.1.none granted.held)
     where
       are_held : (text : Option (List ℕ)) (held : List (Option Value)) → HoldsNoValues e a.comps text → AreHeld e a.comps text held → ⊥
       are_held None held none are = none
       are_held (Some text) held none are = none held are
   held_values (inr there) =
-      let clear = clear_at source g [] (stated g r.setting) (numbers_of r.setting) e granted.has_schema.checks granted.complete granted.environment in
       let names = names_at source g [] r.name a granted.has_schema.checks granted.has_schema.named in
-      searched (subst (λ held. AtSearch Tells r file source text status g a e (portion p.after held)) (one_held e a.comps r.held there.0 p.held clear names there.1 granted.held) there.2)
+      begun (subst (λ held. AtSearch Tells r file source text status g a e (portion (row_after r.only granted.after) held)) (one_held e a.comps r.held there.0 p.held clear names there.1 granted.held) there.2)
 
-  named_row : AtNamedRow Tells r file source text status g a e → Tells g a e p text status
-  named_row (inl none) = absurd (is_named r.after p.after none.none granted.named)
+  named_row : AtNamedRow Tells r file source text status g a e granted.shown → Tells g a e p text status
+  named_row (inl none) = absurd (is_named r.after granted.after none.1.none granted.named)
     where
-      is_named : (text : Option (List ℕ)) (after : Option (List Value)) → NamesNoRow e a.comps text → IsNamedRow e a.comps text after → ⊥
+      is_named : (text : Option (List ℕ)) (after : Option (List Value)) → NamesNoRow e granted.shown text → IsNamedRow e granted.shown text after → ⊥
       is_named None after none named = none
       is_named (Some text) None none named = named
       is_named (Some text) (Some row) none named = none row named
   named_row (inr there) =
-      let clear = clear_at source g [] (stated g r.setting) (numbers_of r.setting) e granted.has_schema.checks granted.complete granted.environment in
-      held_values (subst (AtHeldValues Tells r file source text status g a e) (one_named_row e a.comps r.after there.0 p.after clear there.1 granted.named) there.2)
+      held_values (subst (AtHeldValues Tells r file source text status g a e) (one_named_row e granted.shown r.after there.0 granted.after clear there.1 granted.named) there.2)
+
+  components : AtComponents Tells r file source text status g a e → Tells g a e p text status
+  components (inl none) = absurd (none_shown a.comps r.only granted.shown none.1.none granted.are_shown)
+  components (inr there) = named_row (subst (AtNamedRow Tells r file source text status g a e) (one_list_shown a.comps r.only there.0 granted.shown there.1 granted.are_shown) there.2)
 
   finite : AtFiniteness Tells r file source text status g a → Tells g a e p text status
-  finite (inl infinite) = absurd (not_infinite (numbers_of r.setting) g a infinite.cause (subst (λ n. IsFinite n g a) granted.environment.3 granted.finite) infinite.first_cause)
+  finite (inl infinite) = absurd (not_infinite (numbers_of r.setting) g a infinite.1.cause (subst (λ n. IsFinite n g a) granted.environment.3 granted.finite) infinite.1.first_cause)
   finite (inr ends) =
       let f = ends.1 in
-      named_row (subst (AtNamedRow Tells r file source text status g a) (one_environment_at g (stated g r.setting) (numbers_of r.setting) f.0 e granted.complete f.1 granted.environment) f.2)
+      components (subst (AtComponents Tells r file source text status g a) (one_environment_at g (stated g r.setting) (numbers_of r.setting) f.0 e granted.complete f.1 granted.environment) f.2)
 
   sized : AtSizes Tells r file source text status g a → Tells g a e p text status
-  sized (inl bad) = absurd (none_refused (given_sets g) (stated g r.setting) bad.fault granted.complete bad.some bad.refused)
+  sized (inl bad) = absurd (none_refused (given_sets g) (stated g r.setting) bad.1.fault granted.complete bad.1.some bad.1.refused)
   sized (inr fits) = finite fits.1
 
   numbered : AtNumbers Tells r file source text status g a → Tells g a e p text status
-  numbered (inl bad) = absurd (small_not_too_large (numbers_of r.setting) granted.small bad.large)
+  numbered (inl bad) = absurd (small_not_too_large (numbers_of r.setting) granted.small bad.1.large)
   numbered (inr small) = sized small.1
 
   schema_named : AtSchema Tells r file source text status g → Tells g a e p text status
-  schema_named (inl none) = absurd (none.none a granted.has_schema.named)
+  schema_named (inl none) = absurd (none.1.none a granted.has_schema.named)
   schema_named (inr has) = numbered (subst (AtNumbers Tells r file source text status g) (one_named g r.name has.0 a has.1 granted.has_schema.named) has.2)
 
   typed : AtTypes Tells r file source text status → Tells g a e p text status
-  typed (inl bad) = absurd (some_and_none bad.faults bad.some (one_checked source bad.globals g bad.faults [] bad.checks granted.has_schema.checks).1)
+  typed (inl bad) = absurd (some_and_none bad.1.faults bad.1.some (one_checked source bad.1.globals g bad.1.faults [] bad.1.checks granted.has_schema.checks).1)
   typed (inr well) = schema_named (subst (AtSchema Tells r file source text status) (one_checked source well.0 g [] [] well.1 granted.has_schema.checks).0 well.2)
 
-  pub of_answer : UnreadAnswer r.details file source text status ⊎ RequestAnswer Tells r file source text status → Tells g a e p text status
-  of_answer (inl (fault, about, refused, lines, bad)) =
+  pub of_answer : AreMessages r.format file (UnreadAnswer r.details file source) text status ⊎ RequestAnswer Tells r file source text status → Tells g a e p text status
+  of_answer (inl (told, (fault, about, refused, lines, bad), is)) =
       let checks = granted.has_schema.checks in
       absurd (unread source fault checks.boxes refused checks.reads)
   of_answer (inr answer) = typed (staged Tells r file source text status answer)
 
+-- what is told of all components, or of some
+pub shown_told : (only : Option (List ℕ)) (r : Request) (file source : List ℕ) (g : List Defined) (a : Schema) (e : Environment) (p : Portion) (text : List ℕ) (status : Status) → r.only ≡ only
+    → IsGranted r source g a e p → AnswersRequest r file source text status → TellsShown only r g a e p text status
+shown_told only r file source g a e p text status is granted answer =
+    subst (λ o. TellsShown o r g a e p text status) is (of_answer (TellsShown r.only r) r file source g a e p text status granted answer)
+
 pub events_are_shown : EventsAreShown
-events_are_shown r file source g a e p text status granted answer = of_answer (ShowsEvents r) r file source g a e p text status granted answer
+events_are_shown r file source g a e p text status all granted answer = shown_told None r file source g a e p text status all granted answer
 
 pub reason_is_told : ReasonIsTold
-reason_is_told r file source g a e p text status granted answer = of_answer (TellsWhy r.details file source) r file source g a e p text status granted answer
+reason_is_told r file source g a e p text status granted answer = of_answer (TellsWhy r.format r.details file source) r file source g a e p text status granted answer
 
 pub is_shown_in_one_way : IsShownInOneWay
 is_shown_in_one_way r file source g a e p one two s t granted x y =
-    one_shown r g a e p one two s t (of_answer (ShowsEvents r) r file source g a e p one s granted x) (of_answer (ShowsEvents r) r file source g a e p two t granted y)
+    of r.only (of_answer (TellsShown r.only r) r file source g a e p one s granted x) (of_answer (TellsShown r.only r) r file source g a e p two t granted y)
+  where
+    of : (only : Option (List ℕ)) → TellsShown only r g a e p one s → TellsShown only r g a e p two t → (one ≡ two) × (s ≡ t)
+    of None u v = one_shown r g a e p one two s t u v
+    of (Some names) u v = one_shown_parts names r g a e p one two s t (clear (TellsShown r.only r) r file source g a e p one s granted) u v
 
 -- ---- the bindings
 
@@ -146,9 +167,9 @@ bindings_of : (r : Request) (g : List Defined) (a : Schema) (e : Environment) (p
     → ShowsBindings r g a e p text status
 bindings_of r g a e p text status s =
     let listed = s.listed in
-    let line = binding_line (spellings g) a.comps in
+    let telling = wording r g a in
     let w = written_rows value_order order_laws.total-law exact (property e a.conjuncts) listed.ranges p.after (IsBinding e a listed.ranges p.after) (IsInDoubt e a listed.ranges p.after)
-    (binding_event e a listed.ranges p.after) (doubt_event e a listed.ranges p.after) s.events s.last listed.listed line r.limit s.lines status s.ends in
+    (binding_event e a listed.ranges p.after) (doubt_event e a listed.ranges p.after) s.events s.last listed.listed telling r.limit s.lines status s.ends in
     record {
       ranges = listed.ranges;
       of_components = listed.of_components;
@@ -165,4 +186,4 @@ bindings_of r g a e p text status s =
     }
 
 pub each_binding_is_shown : EachBindingIsShown
-each_binding_is_shown r file source g a e p text status granted answer = bindings_of r g a e p text status (events_are_shown r file source g a e p text status granted answer)
+each_binding_is_shown r file source g a e p text status all granted answer = bindings_of r g a e p text status (events_are_shown r file source g a e p text status all granted answer)

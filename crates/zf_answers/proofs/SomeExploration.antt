@@ -1,5 +1,5 @@
 -- Each exploration has an answer: it is refused at a stage, or what its machine can reach is told.
-use Rattle.zf_answers.proofs.Prelude.{◌∷◌, ◌≡◌, ◌≤◌, ◌⊎◌, [], ap, arith, inl, inr, List, map, None, Option, refl, Some, subst, sym, ℕ, AllByRecursion, AreSmall, BadRequest, BadSpec, causes, Checks, declared_out_line, Defined, Environment, first, finite_without_cause, given_sets, HasLimit, IsFinite, IsFirstOut, IsNoneOut, no_schema_lines, NotFinite, not_finite_lines, numbers_of, numbers_too_large_line, PastBounds, size_fault_lines, spellings, stated, Status}
+use Rattle.zf_answers.proofs.Prelude.{◌∷◌, ◌≡◌, ◌≤◌, ◌⊎◌, [], ap, arith, inl, inr, List, map, None, Option, refl, Some, subst, sym, ℕ, AllByRecursion, AreSmall, BadRequest, BadSpec, causes, Checks, declared_out_line, Defined, Environment, first, finite_without_cause, given_sets, HasLimit, IsFinite, IsFirstOut, IsNoneOut, no_schema_lines, NotFinite, not_finite_lines, numbers_of, numbers_too_large_line, PastBounds, size_fault_lines, spellings, stated, Status, messages_in}
 use Rattle.std.specs.List.{AllZip}
 use Rattle.std.specs.Prelude.{◌++◌, option_to_list}
 use Rattle.zf_command.specs.declared.job.Exploration.{Exploration}
@@ -59,7 +59,7 @@ module _ (x : Exploration) (file source : List ℕ) (limited : HasLimit x.limit)
   IsAnswered = (text : List ℕ) × (status : Status) × ExplorationAnswer x file source text status
 
   refused : (text : List ℕ) (status : Status) → RefusesExploration x file source text status → IsAnswered
-  refused text status h = (text, status, ExplorationAnswer.refused h)
+  refused text status h = (messages_in x.format file text, status, ExplorationAnswer.refused (text, h, refl))
 
   module _ (g : List Defined) where
     module _ (p : Schemas) where

@@ -1,19 +1,19 @@
 -- The rows that are written are exactly those that are found up to the last one, and none before it is in doubt.
-use Rattle.zf_answers.proofs.Prelude.{◌++◌, ◌↔◌, ◌∙◌, ◌∷◌, ◌≡◌, [], ap, arith, codes, inl, inr, length, List, map, None, Option, refl, Some, subst, sym, ℕ, length-map, map-append, take_all, All-contains, Contains-push_cases, flat_map-map, IsTotalOrder, flat_map, AllPairs, Contains, Ordering, Contains-head, Contains-left, Contains-right, IsRowOf-length, Conjuncts, Event, IsEvent, ComesAfter, HasLength, TiesAreEqual, IsUpTo, Truth, Out, True, AllPairs-mapped, Contains-map, Contains-mapped, AreEventsUpTo, Hold, IsBelow, IsWritten, lines, out_line, Status, EndsLines, IsBefore, IsNotPast}
+use Rattle.zf_answers.proofs.Prelude.{◌++◌, ◌↔◌, ◌∙◌, ◌∷◌, ◌≡◌, [], ap, arith, inl, inr, length, List, map, None, Option, refl, Some, subst, sym, ℕ, length-map, map-append, take_all, All-contains, Contains-push_cases, flat_map-map, IsTotalOrder, flat_map, AllPairs, Contains, Ordering, Contains-head, Contains-left, Contains-right, IsRowOf-length, Conjuncts, Event, IsEvent, ComesAfter, HasLength, TiesAreEqual, IsUpTo, Truth, Out, True, AllPairs-mapped, Contains-map, Contains-mapped, AreEventsUpTo, Hold, IsBelow, IsWritten, lines, Status, EndsLines, IsBefore, IsNotPast, Wording}
 use Rattle.zf_answers.proofs.Rows.{AllPairs-front}
 use Rattle.zf_answers.proofs.OneEnding.{rows_compared, never_both, never_itself}
 
 abbrev pub with_truth : {V : Type 0} → List V → Truth → Event V
 with_truth row t = record { row = row; truth = t }
 
-pub record AreWritten {V : Type 0} (cmp : V → V → Ordering) (Found InDoubt : List V → Type 0) (line : List V → List ℕ) (limit : Option ℕ) (last : Option (List V)) (text : List ℕ) (status : Status) : Type 0 where
+pub record AreWritten {V : Type 0} (cmp : V → V → Ordering) (Found InDoubt : List V → Type 0) (telling : Wording V) (limit : Option ℕ) (last : Option (List V)) (text : List ℕ) (status : Status) : Type 0 where
   pub rows : List (List V)
   pub final : List ℕ
   pub members : (row : List V) → Contains rows row ↔ (Found row × IsNotPast cmp last row)
   pub ascending : AllPairs (ComesAfter cmp) rows
   pub certain : (row : List V) → InDoubt row → IsBefore cmp last row → ⊥
-  pub ending : EndsLines InDoubt line limit rows last final status
-  pub whole : text ≡ flat_map line rows ++ final
+  pub ending : EndsLines InDoubt telling limit rows last final status
+  pub whole : text ≡ flat_map telling.line rows ++ final
 
 module _ {V : Type 0} (cmp : V → V → Ordering) (o : IsTotalOrder cmp) (ties : TiesAreEqual cmp) where
   before_not_past : (last : Option (List V)) (row : List V) → IsBefore cmp last row → IsNotPast cmp last row
@@ -106,27 +106,27 @@ module _ {V : Type 0} (cmp : V → V → Ordering) (o : IsTotalOrder cmp) (ties 
       front_ascends front e is = AllPairs-mapped (λ (e : Event V). e.row) (ComesAfter cmp) front
           (AllPairs-front (λ (e f : Event V). ComesAfter cmp e.row f.row) front (e ∷ []) (subst (AllPairs (λ (e f : Event V). ComesAfter cmp e.row f.row)) is h.ascending))
 
-      module _ (line : List V → List ℕ) (limit : Option ℕ) where
-        lines_of : (held : List (Event V)) → lines line held ≡ flat_map line (map (λ (e : Event V). e.row) held)
-        lines_of held = sym (flat_map-map line (λ (e : Event V). e.row) held)
+      module _ (telling : Wording V) (limit : Option ℕ) where
+        lines_of : (held : List (Event V)) → lines telling held ≡ flat_map telling.line (map (λ (e : Event V). e.row) held)
+        lines_of held = sym (flat_map-map telling.line (λ (e : Event V). e.row) held)
 
         as_many : (held : List (Event V)) → length (map (λ (e : Event V). e.row) held) ≡ length held
         as_many held = length-map held (λ (e : Event V). e.row)
 
         -- what is written of the events up to where they end is written of rows that are found
-        pub written_rows : (text : List ℕ) (status : Status) → IsWritten line limit events last text status → AreWritten cmp Found InDoubt line limit last text status
+        pub written_rows : (text : List ℕ) (status : Status) → IsWritten telling limit events last text status → AreWritten cmp Found InDoubt telling limit last text status
         written_rows text status (IsWritten.pauses front e is up hold reached told done) =
             let l = long e (subst (λ es. Contains es e) (sym is) (Contains-right front (e ∷ []) e (Contains-head e []))) up in
             let rows : List (List V) = map (λ (e : Event V). e.row) events in
             let split : rows ≡ map (λ (e : Event V). e.row) front ++ e.row ∷ [] = ap (map (λ (e : Event V). e.row)) is ∙ map-append (λ (e : Event V). e.row) front (e ∷ []) in
             record {
               rows = rows;
-              final = codes "more\n";
+              final = telling.more;
               members = all_members l hold;
               ascending = ascends;
               certain = all_certain l hold;
               ending = EndsLines.enough (map (λ (e : Event V). e.row) front) e.row split up (reached ∙ ap Some (sym (as_many events))) refl done;
-              whole = told ∙ ap (λ t. t ++ codes "more\n") (lines_of events);
+              whole = told ∙ ap (λ t. t ++ telling.more) (lines_of events);
             }
         written_rows text status (IsWritten.breaks front e is up hold out below told past) =
             let there : Contains events e = subst (λ es. Contains es e) (sym is) (Contains-right front (e ∷ []) e (Contains-head e [])) in
@@ -134,21 +134,21 @@ module _ {V : Type 0} (cmp : V → V → Ordering) (o : IsTotalOrder cmp) (ties 
             let same : e ≡ with_truth e.row Out = ap (λ (u : Truth). with_truth e.row u) out in
             record {
               rows = map (λ (e : Event V). e.row) front;
-              final = out_line line e.row;
+              final = telling.out e.row;
               members = front_members l front e is hold out;
               ascending = front_ascends front e is;
               certain = front_certain l front e is up hold;
               ending = EndsLines.out e.row up ((in_doubt e.row).1 (subst (λ x. IsEvent cmp s ranges after x) same (is_event e there))) (subst (IsBelow limit) (sym (as_many front)) below) refl past;
-              whole = told ∙ ap (λ t. t ++ out_line line e.row) (lines_of front);
+              whole = told ∙ ap (λ t. t ++ telling.out e.row) (lines_of front);
             }
         written_rows text status (IsWritten.ends none hold below told done) =
             let l = long_none none in
             record {
               rows = map (λ (e : Event V). e.row) events;
-              final = codes "end\n";
+              final = telling.end;
               members = all_members l hold;
               ascending = ascends;
               certain = all_certain l hold;
               ending = EndsLines.complete none (subst (IsBelow limit) (sym (as_many events)) below) refl done;
-              whole = told ∙ ap (λ t. t ++ codes "end\n") (lines_of events);
+              whole = told ∙ ap (λ t. t ++ telling.end) (lines_of events);
             }

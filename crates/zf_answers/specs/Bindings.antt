@@ -1,5 +1,5 @@
 -- What `show` writes of a schema, in the words of its bindings: which rows have a line, in which order, and what ends the lines.
-use Rattle.std.specs.Prelude.{◌≡◌, ◌↔◌, ◌⊎◌, ℕ, List, [], ◌∷◌, ◌++◌, length, codes, Option, Some, None, Contains, All, AllPairs}
+use Rattle.std.specs.Prelude.{◌≡◌, ◌↔◌, ◌⊎◌, ℕ, List, [], ◌∷◌, ◌++◌, length, Option, Some, None, Contains, All, AllPairs}
 use Rattle.std.specs.List.{flat_map}
 use Rattle.std.specs.declared.cmp.Ordering.{Ordering}
 use Rattle.zf_term.specs.Definitions.{Defined, Schema}
@@ -13,12 +13,11 @@ use Rattle.zf_meaning.specs.InRow.{in_row}
 use Rattle.zf_meaning.specs.Meaning.{IsTruth}
 use Rattle.zf_enum.specs.Portions.{Portion}
 use Rattle.zf_ranges.specs.Ranges.{AreRanges}
-use Rattle.zf_texts.specs.Spellings.{spellings}
 use Rattle.zf_lines.specs.declared.fault.Status.{Status}
 use Rattle.zf_lines.specs.declared.fault.Status.TheVariants.{Done, PastBounds}
-use Rattle.zf_lines.specs.Searches.{IsBelow, IsTestsLine, out_line}
-use Rattle.zf_lines.specs.Texts.{binding_line}
+use Rattle.zf_lines.specs.Searches.{IsBelow, IsTestsLine, Wording}
 use Rattle.zf_command.specs.declared.job.Request.{Request}
+use Rattle.zf_engine.specs.Answers.{wording}
 
 -- ---- rows
 
@@ -57,16 +56,16 @@ IsNotPast cmp (Some last) row = (row ≡ last) ⊎ ComesAfter cmp row last
 -- ---- the end
 
 -- The last line and the status, by why no further row is written.
-pub data EndsLines {V : Type 0} (InDoubt : List V → Type 0) (line : List V → List ℕ) (limit : Option ℕ) (rows : List (List V)) (last : Option (List V)) (final : List ℕ) (status : Status) : Type 0 where
+pub data EndsLines {V : Type 0} (InDoubt : List V → Type 0) (w : Wording V) (limit : Option ℕ) (rows : List (List V)) (last : Option (List V)) (final : List ℕ) (status : Status) : Type 0 where
   -- as many as the limit are written, and the last of them is the last that is looked at
   enough : (front : List (List V)) (row : List V) → rows ≡ front ++ row ∷ [] → last ≡ Some row → limit ≡ Some (length rows)
-      → final ≡ codes "more\n" → status ≡ Done → EndsLines InDoubt line limit rows last final status
+      → final ≡ w.more → status ≡ Done → EndsLines InDoubt w limit rows last final status
   -- fewer are, and the next one is out of bounds
   out : (row : List V) → last ≡ Some row → InDoubt row → IsBelow limit (length rows)
-      → final ≡ out_line line row → status ≡ PastBounds → EndsLines InDoubt line limit rows last final status
+      → final ≡ w.out row → status ≡ PastBounds → EndsLines InDoubt w limit rows last final status
   -- fewer are, and all were looked at
   complete : last ≡ None → IsBelow limit (length rows)
-      → final ≡ codes "end\n" → status ≡ Done → EndsLines InDoubt line limit rows last final status
+      → final ≡ w.end → status ≡ Done → EndsLines InDoubt w limit rows last final status
 
 -- The text and the status of `show` for a schema among these globals, in this environment, after the named row and with the values that are held.
 pub record ShowsBindings (r : Request) (globals : List Defined) (a : Schema) (e : Environment) (p : Portion) (text : List ℕ) (status : Status) : Type 0 where
@@ -85,6 +84,6 @@ pub record ShowsBindings (r : Request) (globals : List Defined) (a : Schema) (e 
   -- their lines, the last line, and the number of tests, if it is asked for
   pub final : List ℕ
   pub counted : List ℕ
-  pub ending : EndsLines (IsInDoubt e a ranges p.after) (binding_line (spellings globals) a.comps) r.limit rows last final status
-  pub numbered : IsTestsLine r.tests e a p last counted
-  pub written : text ≡ flat_map (binding_line (spellings globals) a.comps) rows ++ final ++ counted
+  pub ending : EndsLines (IsInDoubt e a ranges p.after) (wording r globals a) r.limit rows last final status
+  pub numbered : IsTestsLine (wording r globals a) r.tests e a p last counted
+  pub written : text ≡ flat_map (wording r globals a).line rows ++ final ++ counted

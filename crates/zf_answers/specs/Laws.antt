@@ -1,8 +1,10 @@
 -- What is claimed of the answers.
-use Rattle.std.specs.Prelude.{◌≡◌, ◌≢◌, ◌⊎◌, ℕ, Bool, false, List, [], ◌∷◌, ◌++◌, Option}
+use Rattle.std.specs.Prelude.{◌≡◌, ◌≢◌, ◌⊎◌, ℕ, Bool, false, List, [], ◌∷◌, ◌++◌, Option, None, Some}
 use Rattle.std.specs.List.{flat_map}
 use Rattle.zf_command.specs.declared.job.Job.{Job}
 use Rattle.zf_command.specs.declared.job.Job.TheVariants.{Show, Why}
+use Rattle.zf_format.specs.declared.format.Format.{Format}
+use Rattle.zf_format.specs.Messages.{messages_in}
 use Rattle.zf_finite.specs.declared.not_finite.NotFinite.{NotFinite}
 use Rattle.zf_finite.specs.Finite.{IsFinite}
 use Rattle.zf_scan.specs.declared.fault.TextFault.{TextFault}
@@ -22,15 +24,18 @@ use Rattle.zf_why.specs.Causes.{RefutedBy, RefutedTogetherBy}
 use Rattle.zf_why.specs.Told.{nothing_beside, others_beside}
 use Rattle.zf_enum.specs.Portions.{Portion}
 use Rattle.zf_ranges.specs.Ranges.{IsNoneOut}
+use Rattle.zf_lines.specs.Searches.{HasLimit}
 use Rattle.zf_lines.specs.declared.fault.Status.{Status}
 use Rattle.zf_command.specs.declared.job.Request.{Request}
-use Rattle.zf_engine.specs.Answers.{Answer, AreHeld, HoldsNoValues, IsLimited, IsNamedRow, NamesNoRow, ShowsEvents, wants_details}
+use Rattle.zf_engine.specs.Answers.{Answer, AreHeld, format_of, HoldsNoValues, IsLimited, IsNamedRow, NamesNoRow, row_after, ShowsEvents, wants_details}
 use Rattle.zf_engine.specs.Settings.{Checks, HasSchema, stated, numbers_of}
 use Rattle.zf_messages.specs.Details.{Cited, text_fault_lines, not_finite_lines, AreLines}
 use Rattle.zf_engine.specs.Numbers.{AreSmall}
 use Rattle.zf_engine.specs.Reasons.{TellsConjuncts, TellsWhy}
-use Rattle.zf_messages.specs.Texts.{not_a_binding_line, not_held_line, type_fault_line}
+use Rattle.zf_messages.specs.Texts.{not_a_binding_line, not_components_line, not_held_line, type_fault_line}
+use Rattle.zf_engine.specs.Only.{AreShown}
 use Rattle.zf_answers.specs.Bindings.{ShowsBindings}
+use Rattle.zf_answers.specs.Parts.{ShowsEachPart}
 
 -- ---- what `show` answers
 
@@ -39,24 +44,34 @@ abbrev pub AnswersRequest : Request → (file source text : List ℕ) → Status
 AnswersRequest r file source text status = Answer (Show r) file source text status
 
 -- Nothing stands in the way of the request: a tree reads the source, it is well typed and this is its schema of the name, the numbers and the sizes fit and
--- this is the environment at them, the schema is finite, the named row is this row of the schema's types, if one is named, these values are held, if a line of some
--- components is given, and no declared set is out.
+-- this is the environment at them, the schema is finite, these components are shown, the named row is this row of their types, if one is named, and the search comes after it where all
+-- components are shown; these values are held, if a line of some components is given, and no declared set is out.
 pub record IsGranted (r : Request) (source : List ℕ) (globals : List Defined) (a : Schema) (e : Environment) (p : Portion) : Type 0 where
   pub has_schema : HasSchema source r.name globals a
   pub small : AreSmall (numbers_of r.setting)
   pub complete : AreComplete (given_sets globals) (stated globals r.setting)
   pub environment : IsEnvironment globals (stated globals r.setting) (numbers_of r.setting) e
   pub finite : IsFinite e.numbers globals a
-  pub named : IsNamedRow e a.comps r.after p.after
+  pub shown : List Comp
+  pub after : Option (List Value)
+  pub are_shown : AreShown a.comps r.only shown
+  pub named : IsNamedRow e shown r.after after
+  pub begins : p.after ≡ row_after r.only after
   pub held : AreHeld e a.comps r.held p.held
   pub none_out : IsNoneOut e a.comps
 
--- Then every answer has the lines of exactly the schema's bindings after the named row with the held values, each once, in ascending order, up to the limit or the first row that
+-- Then, where all components are shown, every answer has the lines of exactly the schema's bindings after the named row with the held values, each once, in ascending order, up to the limit or the first row that
 -- is out of bounds; then the last line, which says which of these ended it, and the number of tests, if it is asked for.
 abbrev pub EachBindingIsShown : Type 0
 EachBindingIsShown =
     (r : Request) (file source : List ℕ) (globals : List Defined) (a : Schema) (e : Environment) (p : Portion) (text : List ℕ) (status : Status)
-    → IsGranted r source globals a e p → AnswersRequest r file source text status → ShowsBindings r globals a e p text status
+    → r.only ≡ None → IsGranted r source globals a e p → AnswersRequest r file source text status → ShowsBindings r globals a e p text status
+
+-- Where some are, it has the lines of exactly what these have in such bindings.
+abbrev pub EachPartIsShown : Type 0
+EachPartIsShown =
+    (r : Request) (names file source : List ℕ) (globals : List Defined) (a : Schema) (e : Environment) (p : Portion) (text : List ℕ) (status : Status)
+    → r.only ≡ Some names → HasLimit r.limit → IsGranted r source globals a e p → AnswersRequest r file source text status → ShowsEachPart names r globals a e p text status
 
 -- So there is one answer.
 abbrev pub IsShownInOneWay : Type 0
@@ -68,7 +83,7 @@ IsShownInOneWay =
 abbrev pub EventsAreShown : Type 0
 EventsAreShown =
     (r : Request) (file source : List ℕ) (globals : List Defined) (a : Schema) (e : Environment) (p : Portion) (text : List ℕ) (status : Status)
-    → IsGranted r source globals a e p → AnswersRequest r file source text status → ShowsEvents r globals a e p text status
+    → r.only ≡ None → IsGranted r source globals a e p → AnswersRequest r file source text status → ShowsEvents r globals a e p text status
 
 -- ---- what `why` answers
 
@@ -76,7 +91,7 @@ EventsAreShown =
 abbrev pub ReasonIsTold : Type 0
 ReasonIsTold =
     (r : Request) (file source : List ℕ) (globals : List Defined) (a : Schema) (e : Environment) (p : Portion) (text : List ℕ) (status : Status)
-    → IsGranted r source globals a e p → Answer (Why r) file source text status → TellsWhy r.details file source globals a e p text status
+    → IsGranted r source globals a e p → Answer (Why r) file source text status → TellsWhy r.format r.details file source globals a e p text status
 
 -- ---- one answer
 
@@ -101,31 +116,37 @@ AreOfSame [] (f ∷ fs) = ⊥
 AreOfSame (e ∷ es) [] = ⊥
 AreOfSame (e ∷ es) (f ∷ fs) = ((g : List Defined) × (item : Item) × OffendsItem g item e.offence e.line × OffendsItem g item f.offence f.line) × AreOfSame es fs
 
--- Two texts are one, or differ in what is left open: which fault of the grammar an unread source has, which symbols a fault of it is about, which offence of
--- an ill typed paragraph is told and what is reported beside it, which schema without a component is reported, the byte at which a text is no binding, or no line of some components,
--- what is told of the sides of disjunctions, and which minimal set of conjuncts that can't hold together is told.
-pub data AreAlike (details : Bool) (file source one two : List ℕ) : Type 0 where
-  same : one ≡ two → AreAlike details file source one two
+-- Two texts of messages are one, or differ in what is left open: which fault of the grammar an unread source has, which symbols a fault of it is about, which offence of
+-- an ill typed paragraph is told and what is reported beside it, which schema without a component is reported, and the byte at which a text is no names of components, no binding, or no line of some components.
+pub data AreMessagesAlike (details : Bool) (file source one two : List ℕ) : Type 0 where
+  same : one ≡ two → AreMessagesAlike details file source one two
   symbols : (fault : TextFault) (first second : Cited) → RefusesSource source fault → one ≡ text_fault_lines details file fault first
-      → two ≡ text_fault_lines details file fault second → AreAlike details file source one two
-  grammar : TellsGrammar details file source one → TellsGrammar details file source two → AreAlike details file source one two
+      → two ≡ text_fault_lines details file fault second → AreMessagesAlike details file source one two
+  grammar : TellsGrammar details file source one → TellsGrammar details file source two → AreMessagesAlike details file source one two
   types : (globals : List Defined) (first second : List Fault) (ones twos listed : List ℕ) → Checks source globals first → Checks source globals second → first ≢ []
-      → AreOfSame first second → AreLines details file first ones → AreLines details file second twos → one ≡ ones ++ listed → two ≡ twos ++ listed → AreAlike details file source one two
+      → AreOfSame first second → AreLines details file first ones → AreLines details file second twos → one ≡ ones ++ listed → two ≡ twos ++ listed
+      → AreMessagesAlike details file source one two
   infinite : (globals : List Defined) (cause : NotFinite) (first second : List ℕ) → one ≡ not_finite_lines details file globals cause first
-      → two ≡ not_finite_lines details file globals cause second → AreAlike details file source one two
-  no_binding : (first second : ℕ) → one ≡ not_a_binding_line first → two ≡ not_a_binding_line second → AreAlike details file source one two
-  no_values : (first second : ℕ) → one ≡ not_held_line first → two ≡ not_held_line second → AreAlike details file source one two
+      → two ≡ not_finite_lines details file globals cause second → AreMessagesAlike details file source one two
+  no_components : (first second : ℕ) → one ≡ not_components_line first → two ≡ not_components_line second → AreMessagesAlike details file source one two
+  no_binding : (first second : ℕ) → one ≡ not_a_binding_line first → two ≡ not_a_binding_line second → AreMessagesAlike details file source one two
+  no_values : (first second : ℕ) → one ≡ not_held_line first → two ≡ not_held_line second → AreMessagesAlike details file source one two
+
+-- Two texts in a format are one, or those of messages that are alike, or differ in what is told of the sides of disjunctions, or in which minimal set of conjuncts that can't hold together is told.
+pub data AreAlike (f : Format) (details : Bool) (file source one two : List ℕ) : Type 0 where
+  same : one ≡ two → AreAlike f details file source one two
+  messages : (first second : List ℕ) → AreMessagesAlike details file source first second → one ≡ messages_in f file first → two ≡ messages_in f file second → AreAlike f details file source one two
   sides : (name : List ℕ) (globals : List Defined) (a : Schema) (sizes : List Size) (numbers : Option ℕ) (e : Environment) (held : List (Option Value)) (alone : List Bool) → HasSchema source name globals a
-      → IsEnvironment globals sizes numbers e → RefutedBy e a held alone → TellsConjuncts details file source a e held nothing_beside alone one
-      → TellsConjuncts details file source a e held nothing_beside alone two → AreAlike details file source one two
+      → IsEnvironment globals sizes numbers e → RefutedBy e a held alone → TellsConjuncts f details file source a e held nothing_beside alone one
+      → TellsConjuncts f details file source a e held nothing_beside alone two → AreAlike f details file source one two
   reasons : (name : List ℕ) (globals : List Defined) (a : Schema) (sizes : List Size) (numbers : Option ℕ) (e : Environment) (held : List (Option Value)) (first second : List Bool) → HasSchema source name globals a
       → IsEnvironment globals sizes numbers e → RefutedTogetherBy e a held first → RefutedTogetherBy e a held second
-      → TellsConjuncts details file source a e held (others_beside a.conjuncts first) first one
-      → TellsConjuncts details file source a e held (others_beside a.conjuncts second) second two → AreAlike details file source one two
+      → TellsConjuncts f details file source a e held (others_beside a.conjuncts first) first one
+      → TellsConjuncts f details file source a e held (others_beside a.conjuncts second) second two → AreAlike f details file source one two
 
 -- A source has one text for a job, but for what is left open.
 abbrev pub OneText : Type 0
-OneText = (job : Job) (file source one two : List ℕ) (s t : Status) → Answer job file source one s → Answer job file source two t → AreAlike (wants_details job) file source one two
+OneText = (job : Job) (file source one two : List ℕ) (s t : Status) → Answer job file source one s → Answer job file source two t → AreAlike (format_of job) (wants_details job) file source one two
 
 -- Without details nothing is reported beside an offence: each fault has its line, and no more.
 abbrev pub PlainLines : Type 0

@@ -1,4 +1,5 @@
 pub mod Bindings
+pub mod Parts
 pub mod Laws
 pub mod Reached
 pub mod Sought

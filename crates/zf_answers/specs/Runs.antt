@@ -1,5 +1,5 @@
 -- Runs of `show` that stop early, and runs that follow each other.
-use Rattle.std.specs.Prelude.{◌≡◌, ℕ, ◌+◌, false, List, ◌++◌, codes, Option, Some, None}
+use Rattle.std.specs.Prelude.{◌≡◌, ℕ, ◌+◌, false, List, ◌++◌, Option, Some, None}
 use Rattle.std.specs.List.{flat_map}
 use Rattle.zf_command.specs.declared.job.Job.{Job}
 use Rattle.zf_term.specs.Definitions.{Defined, Schema}
@@ -10,9 +10,8 @@ use Rattle.zf_texts.specs.BindingTexts.{binding_text}
 use Rattle.zf_texts.specs.Spellings.{spellings}
 use Rattle.zf_lines.specs.declared.fault.Status.{Status}
 use Rattle.zf_lines.specs.Faults.{IsFront}
-use Rattle.zf_lines.specs.Texts.{binding_line}
 use Rattle.zf_command.specs.declared.job.Request.{Request}
-use Rattle.zf_engine.specs.Answers.{Answer, IsLimited, IsPartOfAnswer, ShowBegins}
+use Rattle.zf_engine.specs.Answers.{Answer, IsLimited, IsPartOfAnswer, ShowBegins, wording}
 use Rattle.zf_answers.specs.Bindings.{ShowsBindings}
 use Rattle.zf_answers.specs.Laws.{AnswersRequest, IsGranted}
 
@@ -32,11 +31,11 @@ PartsAreFronts =
 
 -- the same request with another limit
 abbrev pub limited : Option ℕ → Request → Request
-limited limit r = record { name = r.name; setting = r.setting; after = r.after; held = r.held; limit = limit; tests = r.tests; details = r.details }
+limited limit r = record { name = r.name; setting = r.setting; after = r.after; held = r.held; only = r.only; limit = limit; tests = r.tests; details = r.details; format = r.format }
 
 -- the same request with another limit, for what comes after the row of this text
 abbrev pub resumed : List ℕ → Option ℕ → Request → Request
-resumed text limit r = record { name = r.name; setting = r.setting; after = Some text; held = r.held; limit = limit; tests = r.tests; details = r.details }
+resumed text limit r = record { name = r.name; setting = r.setting; after = Some text; held = r.held; only = r.only; limit = limit; tests = r.tests; details = r.details; format = r.format }
 
 -- so many bindings, and then up to a limit
 abbrev pub together : ℕ → Option ℕ → Option ℕ
@@ -44,11 +43,11 @@ together n None = None
 together n (Some m) = Some (n + m)
 
 -- Where a run with a limit ends with `more`, and another run comes after the last of its rows, the lines of the first and then the answer of the second are
--- the answer of one run, with both limits together. The number of tests is not asked for.
+-- the answer of one run, with both limits together. All components are shown, and the number of tests is not asked for.
 abbrev pub RunsMakeOne : Type 0
 RunsMakeOne =
     (r : Request) (n : ℕ) (limit : Option ℕ) (file source : List ℕ) (globals : List Defined) (a : Schema) (e : Environment) (p : Portion)
     (first second : List ℕ) (s t : Status) (run : ShowsBindings (limited (Some n) r) globals a e p first s) (row : List Value)
-    → IsGranted r source globals a e p → r.tests ≡ false → run.final ≡ codes "more\n" → run.last ≡ Some row
+    → IsGranted r source globals a e p → r.only ≡ None → r.tests ≡ false → run.final ≡ (wording r globals a).more → run.last ≡ Some row
     → AnswersRequest (resumed (binding_text (spellings globals) a.comps row) limit r) file source second t
-    → AnswersRequest (limited (together n limit) r) file source (flat_map (binding_line (spellings globals) a.comps) run.rows ++ second) t
+    → AnswersRequest (limited (together n limit) r) file source (flat_map (wording r globals a).line run.rows ++ second) t

@@ -1,9 +1,9 @@
 //! Laws over what is answered, above the answers of the engine: each source has one answer, that of `show` has each binding once, that of `why` the first one, or why there is none, and that of `reach` what can be reached, or a shortest way to a state that is sought.
 #![tactic(auto)]
 
-ghost use Rattle.zf_answers.specs.Laws.{EachBindingIsShown, EventsAreShown, EveryHeldLineIsJudged, EveryLineIsJudged, EveryRequestIsAnswered, EverySourceIsRead, IsShownInOneWay, OneStatus, OneText, PlainLines, ReasonIsTold};
+ghost use Rattle.zf_answers.specs.Laws.{EachBindingIsShown, EachPartIsShown, EventsAreShown, EveryHeldLineIsJudged, EveryLineIsJudged, EveryRequestIsAnswered, EverySourceIsRead, IsShownInOneWay, OneStatus, OneText, PlainLines, ReasonIsTold};
 ghost use Rattle.zf_answers.specs.Limits.{LimitsAre};
-ghost use Rattle.zf_answers.specs.NamedLines.{OneRowOfALine, RefusedLinesAreOfNoRow};
+ghost use Rattle.zf_answers.specs.NamedLines.{OneRowOfALine, OneRowOfAnObject, RefusedLinesAreOfNoRow};
 ghost use Rattle.zf_answers.specs.Reached.{ReachableAreMet, SchemasMakeOneMachine, WhatIsReachedIsTold};
 ghost use Rattle.zf_answers.specs.Runs.{FirstLinesAreAFront, PartsAreFronts, RunsMakeOne};
 ghost use Rattle.zf_answers.specs.Sought.{WhatIsSoughtIsTold};
@@ -13,6 +13,11 @@ pub fn each_binding_is_shown()
     ensures bindings { EachBindingIsShown }
     ensures events { EventsAreShown }
     ensures one { IsShownInOneWay }
+{}
+
+/// What `show` answers of some components, where nothing stands in its way: the line of what these have in bindings, once, in ascending order.
+pub fn each_part_is_shown()
+    ensures { EachPartIsShown }
 {}
 
 /// What `why` answers, where nothing stands in its way: the first binding or row that is out of bounds, or why there is none.
@@ -74,9 +79,10 @@ pub fn runs_make_one()
     zf_resuming::lines_are_rows();
 }
 
-/// A line is that of one row of a schema's types, and a text is refused exactly where it is that of none.
+/// A line is that of one row of a schema's types, and so is an object; a text is refused exactly where it is the line of none.
 pub fn lines_name_rows()
     ensures one { OneRowOfALine }
+    ensures object { OneRowOfAnObject }
     ensures none { RefusedLinesAreOfNoRow }
 {}
 

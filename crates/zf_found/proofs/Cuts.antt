@@ -1,5 +1,5 @@
 -- What is written of a list of events: up to the last one that is written, or all.
-use Rattle.zf_found.proofs.Prelude.{◌++◌, ◌+◌, ◌∙◌, ◌∷◌, ◌≡◌, ◌⊎◌, [], ap, append-nil, append_assoc, arith, inl, inr, length, length-append, List, None, Option, refl, Some, subst, sym, take, ℕ, ⊎_elim, cases_lt, IsTotalOrder, lists_total, slice_cmp, ◌≢◌, AllPairs, codes, Contains, Ordering, Greater, Less, Conjuncts, Event, IsEvent, IsEvents, ComesAfter, Truth, False, Out, True, AreEventsUpTo, breaks, ends, Hold, IsBelow, IsWritten, lines, out_line, pauses, Status}
+use Rattle.zf_found.proofs.Prelude.{◌++◌, ◌+◌, ◌∙◌, ◌∷◌, ◌≡◌, ◌⊎◌, [], ap, append-nil, append_assoc, arith, inl, inr, length, length-append, List, None, Option, refl, Some, subst, sym, take, ℕ, ⊎_elim, cases_lt, IsTotalOrder, lists_total, slice_cmp, ◌≢◌, AllPairs, Contains, Ordering, Greater, Less, Conjuncts, Event, IsEvent, IsEvents, ComesAfter, Truth, False, Out, True, AreEventsUpTo, breaks, ends, Hold, IsBelow, IsWritten, lines, pauses, Status, Wording}
 use Rattle.std.specs.Ordering.{ordering_reverse}
 use Rattle.std.proofs.lemmas.List.{take_all}
 use Rattle.std.proofs.lemmas.List.Elements.{All-nil, All-push}
@@ -15,45 +15,45 @@ IsCut {V} all last events =
     ((front : List (Event V)) × (e : Event V) × (rest : List (Event V)) × (all ≡ front ++ e ∷ rest) × (events ≡ front ++ e ∷ []) × (last ≡ Some e.row)) ⊎ ((events ≡ all) × (last ≡ None))
 
 -- what is written of all
-pub record AreWritten {V : Type 0} (line : List V → List ℕ) (limit : Option ℕ) (all : List (Event V)) : Type 0 where
+pub record AreWritten {V : Type 0} (w : Wording V) (limit : Option ℕ) (all : List (Event V)) : Type 0 where
   pub last : Option (List V)
   pub events : List (Event V)
   pub text : List ℕ
   pub status : Status
   pub cut : IsCut all last events
-  pub written : IsWritten line limit events last text status
+  pub written : IsWritten w limit events last text status
 
 -- one more reaches the limit or stays below it
 reached : (limit : Option ℕ) (n : ℕ) → IsBelow limit n → (limit ≡ Some (n + 1)) ⊎ IsBelow limit (n + 1)
 reached None n l = inr tt
 reached (Some k) n l = elim (cases_lt (n + 1) k) [ inl m ↦ inr m | inr m ↦ inl (let e : k ≡ n + 1 = omega arith in ap Some e) ]
 
-module _ {V : Type 0} (line : List V → List ℕ) (limit : Option ℕ) (all : List (Event V)) where
-  ended : (front : List (Event V)) → all ≡ front → Hold front → IsBelow limit (length front) → AreWritten line limit all
+module _ {V : Type 0} (w : Wording V) (limit : Option ℕ) (all : List (Event V)) where
+  ended : (front : List (Event V)) → all ≡ front → Hold front → IsBelow limit (length front) → AreWritten w limit all
   ended front e h l = record {
     last = None;
     events = front;
-    text = lines line front ++ codes "end\n";
+    text = lines w front ++ w.end;
     status = Done;
     cut = inr (sym e, refl);
     written = ends refl h l refl refl;
   }
 
-  broken : (front : List (Event V)) (e : Event V) (rest : List (Event V)) → all ≡ front ++ e ∷ rest → Hold front → e.truth ≡ Out → IsBelow limit (length front) → AreWritten line limit all
+  broken : (front : List (Event V)) (e : Event V) (rest : List (Event V)) → all ≡ front ++ e ∷ rest → Hold front → e.truth ≡ Out → IsBelow limit (length front) → AreWritten w limit all
   broken front e rest is h o l = record {
     last = Some e.row;
     events = front ++ e ∷ [];
-    text = lines line front ++ out_line line e.row;
+    text = lines w front ++ w.out e.row;
     status = PastBounds;
     cut = inl (front, e, rest, is, refl, refl);
     written = breaks front e refl refl h o l refl refl;
   }
 
-  paused : (front : List (Event V)) (e : Event V) (rest : List (Event V)) → all ≡ front ++ e ∷ rest → Hold (front ++ e ∷ []) → limit ≡ Some (length (front ++ e ∷ [])) → AreWritten line limit all
+  paused : (front : List (Event V)) (e : Event V) (rest : List (Event V)) → all ≡ front ++ e ∷ rest → Hold (front ++ e ∷ []) → limit ≡ Some (length (front ++ e ∷ [])) → AreWritten w limit all
   paused front e rest is h l = record {
     last = Some e.row;
     events = front ++ e ∷ [];
-    text = lines line (front ++ e ∷ []) ++ codes "more\n";
+    text = lines w (front ++ e ∷ []) ++ w.more;
     status = Done;
     cut = inl (front, e, rest, is, refl, refl);
     written = pauses front e refl refl h l refl refl;
@@ -61,7 +61,7 @@ module _ {V : Type 0} (line : List V → List ℕ) (limit : Option ℕ) (all : L
 
   -- an event that is not False, behind those that hold
   next_written : (front : List (Event V)) (x : Event V) (xs : List (Event V)) (t : Truth) → x.truth ≡ t → t ≢ False → all ≡ front ++ x ∷ xs → Hold front → IsBelow limit (length front)
-      → (all ≡ (front ++ x ∷ []) ++ xs → Hold (front ++ x ∷ []) → IsBelow limit (length (front ++ x ∷ [])) → AreWritten line limit all) → AreWritten line limit all
+      → (all ≡ (front ++ x ∷ []) ++ xs → Hold (front ++ x ∷ []) → IsBelow limit (length (front ++ x ∷ [])) → AreWritten w limit all) → AreWritten w limit all
   next_written front x xs False is n e h l on = absurd (n refl)
   next_written front x xs Out is n e h l on = broken front x xs e h is l
   next_written front x xs True is n e h l on =
@@ -69,11 +69,11 @@ module _ {V : Type 0} (line : List V → List ℕ) (limit : Option ℕ) (all : L
       let hold = All-push (λ (f : Event V). f.truth ≡ True) front x h is in
       ⊎_elim (λ r. paused front x xs e hold (r ∙ ap Some (sym longer))) (λ b. on (e ∙ sym (append_assoc front (x ∷ []) xs)) hold (subst (IsBelow limit) (sym longer) b)) (reached limit (length front) l)
 
-  written_from : (rest front : List (Event V)) → all ≡ front ++ rest → Hold front → IsBelow limit (length front) → ((f : Event V) → Contains rest f → f.truth ≢ False) → AreWritten line limit all
+  written_from : (rest front : List (Event V)) → all ≡ front ++ rest → Hold front → IsBelow limit (length front) → ((f : Event V) → Contains rest f → f.truth ≢ False) → AreWritten w limit all
   written_from [] front e h l n = ended front (e ∙ append-nil front) h l
   written_from (x ∷ xs) front e h l n = next_written front x xs x.truth refl (n x (Contains-head x xs)) e h l (λ e h l. written_from xs (front ++ x ∷ []) e h l (λ f m. n f (Contains-later x xs f m)))
 
-  pub some_written : IsBelow limit 0 → ((f : Event V) → Contains all f → f.truth ≢ False) → AreWritten line limit all
+  pub some_written : IsBelow limit 0 → ((f : Event V) → Contains all f → f.truth ≢ False) → AreWritten w limit all
   some_written l n = written_from all [] refl (All-nil (λ (f : Event V). f.truth ≡ True)) l n
 
 -- ---- the events up to a row

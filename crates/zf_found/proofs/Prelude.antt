@@ -31,5 +31,5 @@ pub use Rattle.zf_total.proofs.Terms.{some_outcome, some_truth}
 pub use Rattle.zf_total.proofs.Values.{listed_members, same_row, same_value}
 pub use Rattle.zf_ranges.specs.DeclaredSets.{IsCarrierOut, IsInCarrier, IsInOne, IsInPlain, IsInSet, IsInSets, IsOneOut, IsPlainOut, IsSetOut}
 pub use Rattle.zf_ranges.specs.Ranges.{AreRanges, first_held, IsFirstOut, IsHeld, IsNoneOut, IsOutAt, IsComponentRange, later_held}
-pub use Rattle.zf_lines.specs.Searches.{AreEventsUpTo, breaks, ends, HasEvents, Hold, IsBelow, IsTestsLine, IsWritten, lines, out_line, pauses}
+pub use Rattle.zf_lines.specs.Searches.{AreEventsUpTo, breaks, ends, HasEvents, Hold, IsBelow, IsTestsLine, IsWritten, lines, pauses, Wording}
 pub use Rattle.zf_lines.specs.declared.fault.Status.{Status}

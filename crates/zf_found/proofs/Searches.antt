@@ -1,5 +1,5 @@
 -- The property of a schema has one truth on each row, so a search has events and a number of tests.
-use Rattle.zf_found.proofs.Prelude.{◌<◌, ◌∷◌, ◌≡◌, [], arith, Bool, false, inl, inr, length, List, None, Option, refl, Some, subst, suc, true, zero, ℕ, ⊎_elim, slice_get, Event, IsEvents, cut, False, Out, True, value_order, Value, Schema, ResolvedTree, Environment, IsTruth, Decided, HasSome, some_truth, same_value, AreRanges, HasEvents, IsBelow, IsTestsLine, IsWritten, Status}
+use Rattle.zf_found.proofs.Prelude.{◌<◌, ◌∷◌, ◌≡◌, [], arith, Bool, false, inl, inr, length, List, None, Option, refl, Some, subst, suc, true, zero, ℕ, ⊎_elim, slice_get, Event, IsEvents, cut, False, Out, True, value_order, Value, Schema, ResolvedTree, Environment, IsTruth, Decided, HasSome, some_truth, same_value, AreRanges, HasEvents, IsBelow, IsTestsLine, IsWritten, Status, Wording}
 use Rattle.zf_value.specs.contracts.plain.ValueOrd.TheImpl.Laws.{total-law}
 use Rattle.zf_value.specs.declared.value.Truth.{Truth}
 use Rattle.zf_value.specs.declared.value.Truth.TheVariants as truth
@@ -10,7 +10,6 @@ use Rattle.zf_enum.specs.EventLaws.{AreEvents, IsBoundOf}
 use Rattle.zf_enum.specs.Portions.{Portion}
 use Rattle.zf_enum.specs.Property.{HasTruth, told, property}
 use Rattle.zf_enum.specs.PropertyLaws.{one_truth_in}
-use Rattle.zf_lines.specs.Texts.{tests_line}
 use Rattle.zf_found.proofs.Cuts.{some_written, cut_events, not_false}
 use Rattle.zf_found.proofs.Rows.{AreTold, same_truth, some_events}
 use Rattle.zf_found.proofs.Tests.{some_bound, some_number_of_tests}
@@ -56,16 +55,23 @@ some_bound_of e a held ranges r =
     let n = some_bound value_order (property e a.conjuncts) (property_told e a.conjuncts) ranges same_value in
     (n.0, record { ranges = ranges; of_components = r; counted = n.1 })
 
-pub some_search : (e : Environment) (a : Schema) (ranges : List (List Value)) (p : Portion) (limit : Option ℕ) (line : List Value → List ℕ) → AreRanges e a.comps p.held ranges → IsBelow limit 0
-    → (last : Option (List Value)) × (events : List (Event Value)) × (text : List ℕ) × (status : Status) × HasEvents e a p last events × IsWritten line limit events last text status
-some_search e a ranges p limit line r l =
+pub some_search : (e : Environment) (a : Schema) (ranges : List (List Value)) (p : Portion) (limit : Option ℕ) (w : Wording Value) → AreRanges e a.comps p.held ranges → IsBelow limit 0
+    → (last : Option (List Value)) × (events : List (Event Value)) × (text : List ℕ) × (status : Status) × HasEvents e a p last events × IsWritten w limit events last text status
+some_search e a ranges p limit w r l =
     let s = property e a.conjuncts in
     let all = events_of e a ranges p.after in
-    let w = some_written line limit all.0 l (not_false value_order total-law s ranges p.after all.0 all.1) in
-    (w.last, w.events, w.text, w.status, record { ranges = ranges; of_components = r; listed = cut_events value_order total-law s ranges p.after all.0 w.last w.events all.1 w.cut }, w.written)
+    let all_written = some_written w limit all.0 l (not_false value_order total-law s ranges p.after all.0 all.1) in (
+      all_written.last,
+      all_written.events,
+      all_written.text,
+      all_written.status,
+      record { ranges = ranges; of_components = r; listed = cut_events value_order total-law s ranges p.after all.0 all_written.last all_written.events all.1 all_written.cut },
+      all_written.written,
+    )
 
-pub some_tests_line : (e : Environment) (a : Schema) (ranges : List (List Value)) (p : Portion) (last : Option (List Value)) (tests : Bool) → AreRanges e a.comps p.held ranges → HasSome (IsTestsLine tests e a p last)
-some_tests_line e a ranges p last false r = ([], refl)
-some_tests_line e a ranges p last true r =
+pub some_tests_line : (e : Environment) (a : Schema) (ranges : List (List Value)) (p : Portion) (last : Option (List Value)) (w : Wording Value) (tests : Bool) → AreRanges e a.comps p.held ranges
+    → HasSome (IsTestsLine w tests e a p last)
+some_tests_line e a ranges p last w false r = ([], refl)
+some_tests_line e a ranges p last w true r =
     let n = some_number_of_tests value_order (property e a.conjuncts) (property_told e a.conjuncts) ranges same_value p.after last in
-    (tests_line (cut n.0), (n.0, record { ranges = ranges; of_components = r; counted = n.1 }, refl))
+    (w.tests (cut n.0), (n.0, record { ranges = ranges; of_components = r; counted = n.1 }, refl))

@@ -20,7 +20,7 @@ use Rattle.zf_steps.specs.Shapes.{test_in}
 use Rattle.zf_steps.specs.Systems.{System}
 use Rattle.zf_steps.specs.Words.{verdict, words}
 use Rattle.zf_lines.specs.declared.fault.Status.{Status}
-use Rattle.zf_lines.specs.Searches.{HasEvents, IsBelow, IsWritten, IsTestsLine}
+use Rattle.zf_lines.specs.Searches.{HasEvents, IsBelow, IsWritten, IsTestsLine, Wording}
 
 -- One component is the first with a declared set that is out, or none has one.
 abbrev pub OutIsDecided : Type 0
@@ -37,12 +37,14 @@ EveryEvent = (e : Environment) (a : Schema) (ranges : List (List Value)) (p : Po
 -- Where there are ranges, each search has events, after any row and up to any limit from 1 on, and something to write of them.
 abbrev pub EverySearch : Type 0
 EverySearch =
-    (e : Environment) (a : Schema) (ranges : List (List Value)) (p : Portion) (limit : Option ℕ) (line : List Value → List ℕ) → AreRanges e a.comps p.held ranges → IsBelow limit 0
-    → (last : Option (List Value)) × (events : List (Event Value)) × (text : List ℕ) × (status : Status) × HasEvents e a p last events × IsWritten line limit events last text status
+    (e : Environment) (a : Schema) (ranges : List (List Value)) (p : Portion) (limit : Option ℕ) (w : Wording Value) → AreRanges e a.comps p.held ranges → IsBelow limit 0
+    → (last : Option (List Value)) × (events : List (Event Value)) × (text : List ℕ) × (status : Status) × HasEvents e a p last events × IsWritten w limit events last text status
 
 -- Up to any row, or to the end, it has a number of tests.
 abbrev pub EveryNumberOfTests : Type 0
-EveryNumberOfTests = (e : Environment) (a : Schema) (ranges : List (List Value)) (p : Portion) (last : Option (List Value)) (tests : Bool) → AreRanges e a.comps p.held ranges → (text : List ℕ) × IsTestsLine tests e a p last text
+EveryNumberOfTests =
+    (e : Environment) (a : Schema) (ranges : List (List Value)) (p : Portion) (last : Option (List Value)) (w : Wording Value) (tests : Bool) → AreRanges e a.comps p.held ranges
+    → (text : List ℕ) × IsTestsLine w tests e a p last text
 
 -- The tests of all searches have a bound.
 abbrev pub EveryBound : Type 0
