@@ -8,7 +8,7 @@ use std::process::ExitCode;
 use std::rt::Files;
 use std::{fs, io};
 
-static NAMES: [&str; 31] = [
+static NAMES: [&str; 33] = [
     "answers",
     "calculus",
     "command_lines",
@@ -23,8 +23,10 @@ static NAMES: [&str; 31] = [
     "names",
     "needed",
     "numbers",
+    "objects",
     "order",
     "out_of_bounds",
+    "parts",
     "quoted",
     "ranges",
     "reach",
