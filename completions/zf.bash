@@ -54,7 +54,7 @@ _zf() {
             skip=no
         elif [[ $options == yes && $word == -- ]]; then
             options=no
-        elif [[ $options == yes && $word =~ ^--(after|with|limit|numbers|size|find)$ ]]; then
+        elif [[ $options == yes && $word =~ ^--(after|with|only|limit|numbers|size|find)$ ]]; then
             skip=$word
         elif [[ $options == yes && $word == -?* ]]; then
             continue
@@ -80,10 +80,10 @@ _zf() {
     [[ $skip == no ]] || return 0
     if [[ $options == yes && $current == -* ]]; then
         case $command in
-            check) mapfile -t COMPREPLY < <(compgen -W '-t -d --details -h --help' -- "$current") ;;
-            show) mapfile -t COMPREPLY < <(compgen -W '--after --with --limit --numbers --size --tests -d --details -h --help' -- "$current") ;;
-            reach) mapfile -t COMPREPLY < <(compgen -W '--find --dot --limit --numbers --size -d --details -h --help' -- "$current") ;;
-            why) mapfile -t COMPREPLY < <(compgen -W '--with --numbers --size -d --details -h --help' -- "$current") ;;
+            check) mapfile -t COMPREPLY < <(compgen -W '-t --json -d --details -h --help' -- "$current") ;;
+            show) mapfile -t COMPREPLY < <(compgen -W '--after --with --only --limit --numbers --size --tests --json -d --details -h --help' -- "$current") ;;
+            reach) mapfile -t COMPREPLY < <(compgen -W '--find --dot --limit --numbers --size --json -d --details -h --help' -- "$current") ;;
+            why) mapfile -t COMPREPLY < <(compgen -W '--with --numbers --size --json -d --details -h --help' -- "$current") ;;
             '') mapfile -t COMPREPLY < <(compgen -W '-h --help -V --version' -- "$current") ;;
         esac
     elif [[ -z $command ]]; then

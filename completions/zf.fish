@@ -6,7 +6,7 @@ function __zf_places
     for word in (commandline --tokenize --current-process --cut-at-cursor)
         if test $skip = yes
             set skip no
-        else if contains -- $word --after --with --limit --numbers --size --find
+        else if contains -- $word --after --with --only --limit --numbers --size --find
             set skip yes
         else if not string match --quiet -- '-?*' $word
             echo $word
@@ -65,19 +65,23 @@ complete -c zf -n '__zf_stands_at help 2' -a why -d 'Write a binding of a schema
 complete -c zf -n '__zf_stands_at help 2' -a reach -d 'Write what can be reached'
 complete -c zf -n '__zf_stands_after check 2' -s h -l help -d 'Print help'
 complete -c zf -n '__zf_stands_after check 2' -s t -d 'Write also what is defined, with its types'
+complete -c zf -n '__zf_stands_after check 2' -l json -d 'Write an object of JSON in place of each line'
 complete -c zf -n '__zf_stands_after check 2' -s d -l details -d 'Write after each fault what it is about'
 complete -c zf -n '__zf_stands_after show 2' -s h -l help -d 'Print help'
 complete -c zf -n '__zf_stands_after show 2' -x -l after -d 'Write only what follows this binding'
 complete -c zf -n '__zf_stands_after show 2' -x -l with -d 'Write only the bindings with these values'
+complete -c zf -n '__zf_stands_after show 2' -x -l only -d 'Write only what values these components have'
 complete -c zf -n '__zf_stands_after show 2' -x -l limit -d 'Write at most so many bindings'
 complete -c zf -n '__zf_stands_after show 2' -x -l numbers -d 'The greatest number'
 complete -c zf -n '__zf_stands_after show 2' -x -l size -d 'The size of each other given set'
 complete -c zf -n '__zf_stands_after show 2' -l tests -d 'Write also how many tests were finished'
+complete -c zf -n '__zf_stands_after show 2' -l json -d 'Write an object of JSON in place of each line'
 complete -c zf -n '__zf_stands_after show 2' -s d -l details -d 'Write after each fault what it is about'
 complete -c zf -n '__zf_stands_after why 2' -s h -l help -d 'Print help'
 complete -c zf -n '__zf_stands_after why 2' -x -l with -d 'Ask only of the bindings with these values'
 complete -c zf -n '__zf_stands_after why 2' -x -l numbers -d 'The greatest number'
 complete -c zf -n '__zf_stands_after why 2' -x -l size -d 'The size of each other given set'
+complete -c zf -n '__zf_stands_after why 2' -l json -d 'Write an object of JSON in place of each line'
 complete -c zf -n '__zf_stands_after why 2' -s d -l details -d 'Write after each fault what it is about, after a relation what its sides come to'
 complete -c zf -n '__zf_stands_after reach 2' -s h -l help -d 'Print help'
 complete -c zf -n '__zf_stands_after reach 2' -x -l find -a '(__zf_listed Schema)' -d 'Write only a shortest way to a state that satisfies this schema'
@@ -85,6 +89,7 @@ complete -c zf -n '__zf_stands_after reach 2' -l dot -d 'Write a graph for Graph
 complete -c zf -n '__zf_stands_after reach 2' -x -l limit -d 'Meet at most so many states'
 complete -c zf -n '__zf_stands_after reach 2' -x -l numbers -d 'The greatest number'
 complete -c zf -n '__zf_stands_after reach 2' -x -l size -d 'The size of each other given set'
+complete -c zf -n '__zf_stands_after reach 2' -l json -d 'Write an object of JSON in place of each line'
 complete -c zf -n '__zf_stands_after reach 2' -s d -l details -d 'Write after each fault what it is about'
 complete -c zf -n '__zf_stands_at check 2; or __zf_stands_at show 2; or __zf_stands_at why 2; or __zf_stands_at reach 2' -F
 complete -c zf -n '__zf_stands_at show 3; or __zf_stands_at why 3; or __zf_stands_after reach 3' -a '(__zf_listed Schema)' -d schema
