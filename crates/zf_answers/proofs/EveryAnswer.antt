@@ -73,8 +73,16 @@ module _ (Tells : List Defined → Schema → Environment → Portion → List �
           by : (them : List NotFinite) → causes (numbers_of r.setting) g a ≡ them → IsAnswered
           by [] none =
               let e = some_environment g (stated g r.setting) (numbers_of r.setting) complete in
-              some_at_components e.0 (record { has_schema = has; small = small; complete = complete; environment = e.1; finite = subst (λ n. IsFinite n g a) (sym e.1.3) ((finite_without_cause (numbers_of r.setting) g a).1 none) })
-          by (cause ∷ them) some = refused (not_finite_lines r.details file g cause []) BadSpec (RefusesRequest.not_finite g a cause [] has small complete (ap first some) (none_beside g cause) refl refl)
+              some_at_components e.0 (record {
+                has_schema = has;
+                small = small;
+                complete = complete;
+                environment = e.1;
+                finite = subst (λ n. IsFinite n g a)
+                    (sym e.1.3) ((finite_without_cause (numbers_of r.setting) g a).1 none);
+              })
+          by (cause ∷ them) some = refused (not_finite_lines r.details file g cause []) BadSpec
+              (RefusesRequest.not_finite g a cause [] has small complete (ap first some) (none_beside g cause) refl refl)
 
       some_at_sizes : HasSchema source r.name g a → AreSmall (numbers_of r.setting) → IsAnswered
       some_at_sizes has small = elim (complete_or_refused (given_sets g) (stated g r.setting)) [

@@ -132,7 +132,8 @@ one_schemas x g p q is also =
 pub out_apart : (e : Environment) (text : List ℕ) (status : Status) (n : Named) → TellsOut e n.schema.comps text status → IsNoneOut e n.schema.comps → ⊥
 out_apart e text status n out none = none out.0 out.1.here
 
-pub infinite_apart : (numbers : Option ℕ) (g : List Defined) (details : Bool) (file text : List ℕ) (status : Status) (n : Named) → TellsInfinite numbers g n.schema details file text status → IsFinite numbers g n.schema → ⊥
+pub infinite_apart : (numbers : Option ℕ) (g : List Defined) (details : Bool) (file text : List ℕ) (status : Status) (n : Named)
+    → TellsInfinite numbers g n.schema details file text status → IsFinite numbers g n.schema → ⊥
 infinite_apart numbers g details file text status n told finite = not_infinite numbers g n.schema told.0 finite told.2
 
 pub no_schema_apart : (details : Bool) (g : List Defined) (text : List ℕ) (status : Status) (name : List ℕ) → TellsNoSchema details g text status name → IsOfSchema g name → ⊥

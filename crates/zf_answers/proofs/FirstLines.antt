@@ -11,7 +11,8 @@ module _ {V : Type 0} (telling : Wording V) where
 
   module _ (limit : Option ℕ) (xs : List (Event V)) (hold : Hold xs) where
     -- the events that are written begin with those that hold
-    more_written : (ys more : List (Event V)) (last : Option (List V)) (text : List ℕ) (status : Status) → ys ≡ xs ++ more → IsWritten telling limit ys last text status → IsFront text (lines telling xs)
+    more_written : (ys more : List (Event V)) (last : Option (List V)) (text : List ℕ) (status : Status) → ys ≡ xs ++ more
+        → IsWritten telling limit ys last text status → IsFront text (lines telling xs)
     more_written ys more last text status q (IsWritten.pauses front e is up holds reached told done) =
         subst (λ t. IsFront t (lines telling xs)) (sym (told ∙ ap (λ zs. lines telling zs ++ telling.more) q)) (front_of_lines xs more telling.more)
     more_written ys more last text status q (IsWritten.ends none holds below told done) =

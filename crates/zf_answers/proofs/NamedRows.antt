@@ -5,8 +5,10 @@ use Rattle.zf_answers.proofs.ListedValues.{rows_listed}
 pub every_line_is_judged : EveryLineIsJudged
 every_line_is_judged e comps None = inl (None, refl)
 every_line_is_judged e comps (Some text) =
-    by (decided_some (λ row. text ≡ binding_text (spellings e.globals) comps row) (rows_listed e (types (map (λ c. c.type) comps))) (λ row. decided_lists cases_eq text (binding_text (spellings e.globals) comps row)))
+    by (decided_some (λ row. text ≡ binding_text (spellings e.globals) comps row) (rows_listed e (types (map (λ c. c.type) comps)))
+    (λ row. decided_lists cases_eq text (binding_text (spellings e.globals) comps row)))
   where
-    by : Decided ((row : List Value) × IsRow e comps row × (text ≡ binding_text (spellings e.globals) comps row)) → ((after : Option (List Value)) × IsNamedRow e comps (Some text) after) ⊎ NamesNoRow e comps (Some text)
+    by : Decided ((row : List Value) × IsRow e comps row × (text ≡ binding_text (spellings e.globals) comps row))
+        → ((after : Option (List Value)) × IsNamedRow e comps (Some text) after) ⊎ NamesNoRow e comps (Some text)
     by (inl found) = inl (Some found.0, (found.1, found.2))
     by (inr none) = inr (λ row line. none (row, line.0, line.1))

@@ -33,10 +33,12 @@ no_held_values e comps (Some text) held none are = none held are
 -- what is told of a search that is granted is one thing
 abbrev IsOneTold : (Tells : List Defined → Schema → Environment → Portion → List ℕ → Status → Type 0) → Request → (file source one two : List ℕ) → (s t : Status) → Type 0
 IsOneTold Tells r file source one two s t =
-    (g : List Defined) (a : Schema) (e : Environment) (p : Portion) → HasSchema source r.name g a → AreComplete (given_sets g) (stated g r.setting) → IsEnvironment g (stated g r.setting) (numbers_of r.setting) e → Tells g a e p one s → Tells g a e p two t
+    (g : List Defined) (a : Schema) (e : Environment) (p : Portion) → HasSchema source r.name g a → AreComplete (given_sets g) (stated g r.setting)
+    → IsEnvironment g (stated g r.setting) (numbers_of r.setting) e → Tells g a e p one s → Tells g a e p two t
     → IsOne r.format r.details file source one two s t
 
-module _ (Tells : List Defined → Schema → Environment → Portion → List ℕ → Status → Type 0) (r : Request) (file source one two : List ℕ) (s t : Status) (one_told : IsOneTold Tells r file source one two s t) where
+module _ (Tells : List Defined → Schema → Environment → Portion → List ℕ → Status
+    → Type 0) (r : Request) (file source one two : List ℕ) (s t : Status) (one_told : IsOneTold Tells r file source one two s t) where
   -- two refusals, with texts that are alike
   both_refused : (first second : List ℕ) → one ≡ messages_in r.format file first → two ≡ messages_in r.format file second → s ≡ t → AreMessagesAlike r.details file source first second
       → IsOne r.format r.details file source one two s t
@@ -54,7 +56,8 @@ module _ (Tells : List Defined → Schema → Environment → Portion → List �
         one_at_search p (inr x) (inl y) = absurd (x.0 y.1.place y.1.first_out.here)
         one_at_search p (inr x) (inr y) = one_told g a e p (record { checks = checks; named = named }) complete is x.1 y.1
 
-        one_at_values : (after : Option (List Value)) → AtHeldValues Tells r file source one s g a e after → AtHeldValues Tells r file source two t g a e after → IsOne r.format r.details file source one two s t
+        one_at_values : (after : Option (List Value)) → AtHeldValues Tells r file source one s g a e after → AtHeldValues Tells r file source two t g a e after
+            → IsOne r.format r.details file source one two s t
         one_at_values after (inl x) (inl y) = both_refused x.0 y.0 x.2 y.2 (x.1.bad ∙ sym y.1.bad) (AreMessagesAlike.no_values x.1.place y.1.place x.1.told y.1.told)
         one_at_values after (inl x) (inr y) = absurd (no_held_values e a.comps r.held y.0 x.1.none y.1)
         one_at_values after (inr x) (inl y) = absurd (no_held_values e a.comps r.held x.0 y.1.none x.1)
@@ -151,7 +154,8 @@ one_check_answer types details file source one two s t (g, es, p, (ones, are, to
 -- ---- answers of a job
 
 -- what is read is not refused
-read_request : (Tells : List Defined → Schema → Environment → Portion → List ℕ → Status → Type 0) (r : Request) (file source text : List ℕ) (status : Status) (fault : TextFault) → RefusesSource source fault
+read_request : (Tells : List Defined → Schema → Environment → Portion → List ℕ → Status
+    → Type 0) (r : Request) (file source text : List ℕ) (status : Status) (fault : TextFault) → RefusesSource source fault
     → RequestAnswer Tells r file source text status → ⊥
 read_request Tells r file source text status fault refused answer = go (staged Tells r file source text status answer)
   where
@@ -172,35 +176,46 @@ read_unread (Show r) file source one two s t (fault, about, refused, told, bad) 
 read_unread (Reach x) file source one two s t (fault, about, refused, told, bad) answer = read_exploration x file source two t fault refused answer
 read_unread (Why r) file source one two s t (fault, about, refused, told, bad) answer = read_request (TellsWhy r.format r.details file source) r file source two t fault refused answer
 
-one_unread : (details : Bool) (file source one two : List ℕ) (s t : Status) → UnreadAnswer details file source one s → UnreadAnswer details file source two t → AreOneMessages details file source one two s t
+one_unread : (details : Bool) (file source one two : List ℕ) (s t : Status) → UnreadAnswer details file source one s → UnreadAnswer details file source two t
+    → AreOneMessages details file source one two s t
 one_unread details file source one two s t (e, x, refused, told, bad) (f, y, other_refused, other_told, other_bad) =
     (bad ∙ sym other_bad, one_refused details file source one two e f x y refused other_refused told other_told)
 
-one_reason : (r : Request) (file source one two : List ℕ) (g : List Defined) (a : Schema) (e : Environment) (p : Portion) → HasSchema source r.name g a → IsEnvironment g (stated g r.setting) (numbers_of r.setting) e
+one_reason : (r : Request) (file source one two : List ℕ) (g : List Defined) (a : Schema) (e : Environment) (p : Portion) → HasSchema source r.name g a
+    → IsEnvironment g (stated g r.setting) (numbers_of r.setting) e
     → AreOneReason r.format r.details file source g a e p one two → AreAlike r.format r.details file source one two
 one_reason r file source one two g a e p has is (inl same) = AreAlike.same same
 one_reason r file source one two g a e p has is (inr (inl (alone, x, told, other_told))) = AreAlike.sides r.name g a (stated g r.setting) (numbers_of r.setting) e p.held alone has is x told other_told
-one_reason r file source one two g a e p has is (inr (inr (first, second, x, y, told, other_told))) = AreAlike.reasons r.name g a (stated g r.setting) (numbers_of r.setting) e p.held first second has is x y told other_told
+one_reason r file source one two g a e p has is (inr (inr (first, second, x, y, told, other_told))) = AreAlike.reasons r.name g a (stated g r.setting)
+    (numbers_of r.setting) e p.held first second has is x y told other_told
 
 -- what is shown is one text
-one_shown_told : (only : Option (List ℕ)) (r : Request) (file source one two : List ℕ) (s t : Status) (g : List Defined) (a : Schema) (e : Environment) (p : Portion) → AreClear (spellings e.globals) e.sizes
+one_shown_told : (only : Option (List ℕ)) (r : Request) (file source one two : List ℕ) (s t : Status) (g : List Defined) (a : Schema) (e : Environment)
+    (p : Portion) → AreClear (spellings e.globals) e.sizes
     → TellsShown only r g a e p one s → TellsShown only r g a e p two t → IsOne r.format r.details file source one two s t
 one_shown_told None r file source one two s t g a e p clear u v = let same = one_shown r g a e p one two s t u v in of_same r.format r.details file source one two s t same.1 same.0
 one_shown_told (Some names) r file source one two s t g a e p clear u v =
     let same = one_shown_parts names r g a e p one two s t clear u v in of_same r.format r.details file source one two s t same.1 same.0
 
-one_job_answer : (job : Job) (file source one two : List ℕ) (s t : Status) → JobAnswer job file source one s → JobAnswer job file source two t → IsOne (format_of job) (wants_details job) file source one two s t
+one_job_answer : (job : Job) (file source one two : List ℕ) (s t : Status) → JobAnswer job file source one s → JobAnswer job file source two t
+    → IsOne (format_of job) (wants_details job) file source one two s t
 one_job_answer (Check types details format) file source one two s t (first, x, is) (second, y, also) =
     in_format format details file source one two first second s t is also (one_check_answer types details file source first second s t x y)
 one_job_answer (Show r) file source one two s t x y =
-    one_at_types (TellsShown r.only r) r file source one two s t (λ g a e p has complete is u v. one_shown_told r.only r file source one two s t g a e p (clear_at source g [] (stated g r.setting) (numbers_of r.setting) e has.checks complete is) u v)
+    one_at_types (TellsShown r.only r) r file source one two s t (λ g a e p has complete is u v. one_shown_told r.only r file source one two s t g a e p
+    (clear_at source g [] (stated g r.setting) (numbers_of r.setting) e has.checks complete is) u v)
     (staged (TellsShown r.only r) r file source one s x) (staged (TellsShown r.only r) r file source two t y)
 one_job_answer (Reach e) file source one two s t x y = one_exploration_answer e file source one two s t x y
 one_job_answer (Why r) file source one two s t x y =
-    one_at_types (TellsWhy r.format r.details file source) r file source one two s t (λ g a e p has complete is u v. let told = one_told r.format r.details file source g a e p one two s t u v in (told.statuses, one_reason r file source one two g a e p has is told.reasons))
+    one_at_types (TellsWhy r.format r.details file source) r file source one two s t
+    (λ g a e p has complete is u v. let told = one_told r.format r.details file source g a e p one two s t u v in (
+      told.statuses,
+      one_reason r file source one two g a e p has is told.reasons,
+    ))
     (staged (TellsWhy r.format r.details file source) r file source one s x) (staged (TellsWhy r.format r.details file source) r file source two t y)
 
-pub one_answer : (job : Job) (file source one two : List ℕ) (s t : Status) → Answer job file source one s → Answer job file source two t → IsOne (format_of job) (wants_details job) file source one two s t
+pub one_answer : (job : Job) (file source one two : List ℕ) (s t : Status) → Answer job file source one s → Answer job file source two t
+    → IsOne (format_of job) (wants_details job) file source one two s t
 one_answer job file source one two s t (inl (first, x, is)) (inl (second, y, also)) =
     in_format (format_of job) (wants_details job) file source one two first second s t is also (one_unread (wants_details job) file source first second s t x y)
 one_answer job file source one two s t (inl (first, x, is)) (inr y) = absurd (read_unread job file source first two s t x y)

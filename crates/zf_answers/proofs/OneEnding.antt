@@ -49,23 +49,29 @@ module _ {V : Type 0} (telling : Wording V) (limit : Option ℕ) where
   -- the same events end in one way
   pub one_end : (events : List (Event V)) (last other_last : Option (List V)) (text other : List ℕ) (status other_status : Status)
       → IsWritten telling limit events last text status → IsWritten telling limit events other_last other other_status → AreOneEnd last other_last text other status other_status
-  one_end events last other_last text other status other_status (IsWritten.pauses front e is up hold reached told done) (IsWritten.pauses other_front f other_is other_up other_hold other_reached other_told other_done) =
+  one_end events last other_last text other status other_status (IsWritten.pauses front e is up hold reached told done)
+      (IsWritten.pauses other_front f other_is other_up other_hold other_reached other_told other_done) =
       let same = same_last front other_front e f (sym is ∙ other_is) in
       record { lasts = up ∙ ap (λ (x : Event V). Some x.row) same.1 ∙ sym other_up; texts = told ∙ sym other_told; statuses = done ∙ sym other_done }
-  one_end events last other_last text other status other_status (IsWritten.pauses front e is up hold reached told done) (IsWritten.breaks other_front f other_is other_up other_hold out below other_told past) =
+  one_end events last other_last text other status other_status (IsWritten.pauses front e is up hold reached told done)
+      (IsWritten.breaks other_front f other_is other_up other_hold out below other_told past) =
       absurd (held events f hold (subst (λ es. Contains es f) (sym other_is) (last_of other_front f)) out)
   one_end events last other_last text other status other_status (IsWritten.pauses front e is up hold reached told done) (IsWritten.ends none other_hold below other_told other_done) =
       absurd (let b : length events < length events = subst (λ l. IsBelow l (length events)) reached below in omega arith)
-  one_end events last other_last text other status other_status (IsWritten.breaks front e is up hold out below told past) (IsWritten.pauses other_front f other_is other_up other_hold other_reached other_told other_done) =
+  one_end events last other_last text other status other_status (IsWritten.breaks front e is up hold out below told past)
+      (IsWritten.pauses other_front f other_is other_up other_hold other_reached other_told other_done) =
       absurd (held events e other_hold (subst (λ es. Contains es e) (sym is) (last_of front e)) out)
-  one_end events last other_last text other status other_status (IsWritten.breaks front e is up hold out below told past) (IsWritten.breaks other_front f other_is other_up other_hold other_out other_below other_told other_past) =
+  one_end events last other_last text other status other_status (IsWritten.breaks front e is up hold out below told past)
+      (IsWritten.breaks other_front f other_is other_up other_hold other_out other_below other_told other_past) =
       let same = same_last front other_front e f (sym is ∙ other_is) in
       record { lasts = up ∙ ap (λ (x : Event V). Some x.row) same.1 ∙ sym other_up; texts = cc; statuses = past ∙ sym other_past }
   one_end events last other_last text other status other_status (IsWritten.breaks front e is up hold out below told past) (IsWritten.ends none other_hold other_below other_told other_done) =
       absurd (held events e other_hold (subst (λ es. Contains es e) (sym is) (last_of front e)) out)
-  one_end events last other_last text other status other_status (IsWritten.ends none hold below told done) (IsWritten.pauses other_front f other_is other_up other_hold other_reached other_told other_done) =
+  one_end events last other_last text other status other_status (IsWritten.ends none hold below told done)
+      (IsWritten.pauses other_front f other_is other_up other_hold other_reached other_told other_done) =
       absurd (let b : length events < length events = subst (λ l. IsBelow l (length events)) other_reached below in omega arith)
-  one_end events last other_last text other status other_status (IsWritten.ends none hold below told done) (IsWritten.breaks other_front f other_is other_up other_hold out other_below other_told past) =
+  one_end events last other_last text other status other_status (IsWritten.ends none hold below told done)
+      (IsWritten.breaks other_front f other_is other_up other_hold out other_below other_told past) =
       absurd (held events f hold (subst (λ es. Contains es f) (sym other_is) (last_of other_front f)) out)
   one_end events last other_last text other status other_status (IsWritten.ends none hold below told done) (IsWritten.ends other_none other_hold other_below other_told other_done) =
       record { lasts = none ∙ sym other_none; texts = told ∙ sym other_told; statuses = done ∙ sym other_done }

@@ -59,7 +59,8 @@ one_shown_parts names r g a e p one two s t clear x y =
     one_at (part_wording r.format (spellings g) (comps_at a.comps y.places) a.comps) r.limit e a p y.places y.after x.parts y.parts one two s t listed y.listed ends y.ends
 
 pub some_shown_parts : (names : List ℕ) (r : Request) (g : List Defined) (a : Schema) (e : Environment) (p : Portion) (ranges : List (List Value)) (places : List ℕ) (after : Option (List Value))
-    → AreRanges e a.comps p.held ranges → NamesParts a.comps names places → IsNamedRow e (comps_at a.comps places) r.after after → (text : List ℕ) × (status : Status) × ShowsParts names r g a e p text status
+    → AreRanges e a.comps p.held ranges → NamesParts a.comps names places → IsNamedRow e (comps_at a.comps places) r.after after → (text : List ℕ)
+    × (status : Status) × ShowsParts names r g a e p text status
 some_shown_parts names r g a e p ranges places after are named comes =
     let w = part_wording r.format (spellings g) (comps_at a.comps places) a.comps in
     let all = some_whole_list e a ranges p are in

@@ -132,7 +132,8 @@ one_stated sets stated all name k l h g =
 abbrev HasOneSize : List Size → Type 0
 HasOneSize stated = (name : List ℕ) (k l : ℕ) → IsStated stated name k → IsStated stated name l → k ≡ l
 
-one_added : (stated : List Size) → HasOneSize stated → (name : List ℕ) (d : Definition) (later other k l : List ℕ) → later ≡ other → AddsSize stated name d later k → AddsSize stated name d other l → k ≡ l
+one_added : (stated : List Size) → HasOneSize stated → (name : List ℕ) (d : Definition) (later other k l : List ℕ) → later ≡ other
+    → AddsSize stated name d later k → AddsSize stated name d other l → k ≡ l
 one_added stated one name (given_set n) later other k l e p q = p.2 ∙ ap (λ c. c ∷ later) (one name p.0 q.0 p.1 q.1) ∙ ap (λ cs. q.0 ∷ cs) e ∙ sym q.2
 one_added stated one name (free_type n names) later other k l e p q = p ∙ ap (λ cs. length names ∷ cs) e ∙ sym q
 one_added stated one name (constructor n of_type place) later other k l e p q = p ∙ e ∙ sym q

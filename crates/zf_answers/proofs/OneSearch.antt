@@ -20,7 +20,8 @@ not_infinite n g a cause finite e = let none : None ≡ Some cause = sym (ap fir
 -- ---- the environment
 
 -- sizes that fit make one environment
-pub one_environment_at : (g : List Defined) (sizes : List Size) (numbers : Option ℕ) (e f : Environment) → AreComplete (given_sets g) sizes → IsEnvironment g sizes numbers e → IsEnvironment g sizes numbers f → e ≡ f
+pub one_environment_at : (g : List Defined) (sizes : List Size) (numbers : Option ℕ) (e f : Environment) → AreComplete (given_sets g) sizes
+    → IsEnvironment g sizes numbers e → IsEnvironment g sizes numbers f → e ≡ f
 one_environment_at g sizes numbers e f complete p q =
     let globals = p.0 ∙ sym q.0 in
     let counts = one_sizes (given_sets g) sizes complete g e.sizes f.sizes p.1 q.1 in
@@ -30,7 +31,8 @@ one_environment_at g sizes numbers e f complete p q =
 
 -- ---- the named row
 
-pub clear_at : (source : List ℕ) (g : List Defined) (faults : List Fault) (sizes : List Size) (numbers : Option ℕ) (e : Environment) → Checks source g faults → AreComplete (given_sets g) sizes → IsEnvironment g sizes numbers e
+pub clear_at : (source : List ℕ) (g : List Defined) (faults : List Fault) (sizes : List Size) (numbers : Option ℕ) (e : Environment) → Checks source g faults
+    → AreComplete (given_sets g) sizes → IsEnvironment g sizes numbers e
     → AreClear (spellings e.globals) e.sizes
 clear_at source g faults sizes numbers e checks complete is =
     subst (λ h. AreClear (spellings h) e.sizes) (sym is.0) (globals_clear checks.boxes source g faults sizes numbers e checks.reads checks.judged complete is)
@@ -70,7 +72,8 @@ one_first_out e comps i j p q = go (cases_order i j)
 
 pub one_search : (e : Environment) (a : Schema) (p : Portion) (telling : Wording Value) (limit : Option ℕ) (xs ys : List (Event Value)) (last other_last : Option (List Value))
     (text other : List ℕ) (status other_status : Status)
-    → HasEvents e a p last xs → HasEvents e a p other_last ys → IsWritten telling limit xs last text status → IsWritten telling limit ys other_last other other_status → AreOneEnd telling limit last other_last text other status other_status
+    → HasEvents e a p last xs → HasEvents e a p other_last ys → IsWritten telling limit xs last text status
+    → IsWritten telling limit ys other_last other other_status → AreOneEnd telling limit last other_last text other status other_status
 one_search e a p telling limit xs ys last other_last text other status other_status h k w v =
     let same : k.ranges ≡ h.ranges = one_ranges e a p.held k.ranges h.ranges k.of_components h.of_components in
     one_ending value_order order_laws.total-law exact (property e a.conjuncts) (property_told e a.conjuncts) h.ranges p.after telling limit xs ys last other_last text other status other_status
@@ -89,7 +92,8 @@ one_number e a p whole m n h k =
     omega (arith, le, ge)
 
 -- the line of the number of tests is one
-one_tests_line : (telling : Wording Value) (tests : Bool) (e : Environment) (a : Schema) (p : Portion) (whole : Option (List Value)) (one two : List ℕ) → IsTestsLine telling tests e a p whole one → IsTestsLine telling tests e a p whole two → one ≡ two
+one_tests_line : (telling : Wording Value) (tests : Bool) (e : Environment) (a : Schema) (p : Portion) (whole : Option (List Value)) (one two : List ℕ)
+    → IsTestsLine telling tests e a p whole one → IsTestsLine telling tests e a p whole two → one ≡ two
 one_tests_line telling false e a p whole one two h k = h ∙ sym k
 one_tests_line telling true e a p whole one two h k = h.2 ∙ ap (λ n. telling.tests (cut n)) (one_number e a p whole h.0 k.0 h.1 k.1) ∙ sym k.2
 

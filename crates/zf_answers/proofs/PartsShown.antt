@@ -280,7 +280,8 @@ module _ (e : Environment) (a : Schema) (ranges : List (List Value)) (start : Op
         }
 
   -- all of them
-  ended : (w : Wording Value) (limit : Option ℕ) (text : List ℕ) (status : Status) → AllHold parts → IsBelow limit (length parts) → text ≡ part_lines w parts ++ w.end → status ≡ Done → AreWritten w limit text status
+  ended : (w : Wording Value) (limit : Option ℕ) (text : List ℕ) (status : Status) → AllHold parts → IsBelow limit (length parts)
+      → text ≡ part_lines w parts ++ w.end → status ≡ Done → AreWritten w limit text status
   ended w limit text status hold below told done =
       let none : (p : Part) → Contains [] p → ⊥ = λ p m. Contains-nil p m in
       let split : parts ≡ parts ++ [] = sym (append-nil parts) in
@@ -303,7 +304,8 @@ module _ (e : Environment) (a : Schema) (ranges : List (List Value)) (start : Op
   are_written w limit text status some (ArePartsWritten.breaks front p rest split hold doubt below told past) = broken w limit text status front p rest split hold doubt below told past
   are_written w limit text status some (ArePartsWritten.ends hold below told done) = ended w limit text status hold below told done
 
-pub each_part_of : (names : List ℕ) (r : Request) (g : List Defined) (a : Schema) (e : Environment) (p : Portion) (text : List ℕ) (status : Status) → HasLimit r.limit → ShowsParts names r g a e p text status
+pub each_part_of : (names : List ℕ) (r : Request) (g : List Defined) (a : Schema) (e : Environment) (p : Portion) (text : List ℕ) (status : Status)
+    → HasLimit r.limit → ShowsParts names r g a e p text status
     → ShowsEachPart names r g a e p text status
 each_part_of names r g a e p text status some s =
     let has = s.listed in

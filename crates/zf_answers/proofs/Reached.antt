@@ -32,7 +32,8 @@ module _ (x : Exploration) (file source text : List ℕ) (status : Status) (g : 
   at_finiteness (inl infinite) =
       let n = numbers_of x.setting in
       let finite = subst (λ n. AllByRecursion (λ (m : Named). IsFinite n g m.schema) (all_of p)) is.bounded.environment.3 is.bounded.finite in
-      absurd (not_all_and_first (λ (m : Named). IsFinite n g m.schema) (λ m. TellsInfinite n g m.schema x.details file infinite.0 status) (infinite_apart n g x.details file infinite.0 status) (all_of p) finite infinite.1)
+      absurd (not_all_and_first (λ (m : Named). IsFinite n g m.schema) (λ m. TellsInfinite n g m.schema x.details file infinite.0 status)
+      (infinite_apart n g x.details file infinite.0 status) (all_of p) finite infinite.1)
   at_finiteness (inr (ends, (f, also, at))) =
       let same = one_environment_at g (stated g x.setting) (numbers_of x.setting) f e is.bounded.settled.complete also is.bounded.environment in
       at_sets (subst (λ (h : Environment). AtSets x file source text status g p h) same at)
@@ -51,7 +52,8 @@ module _ (x : Exploration) (file source text : List ℕ) (status : Status) (g : 
 
   at_schemas : AtSchemas x file source text status g → TellsMachine x.sought x g p e text status
   at_schemas (inl lacks) =
-      absurd (not_all_and_first (IsOfSchema g) (TellsNoSchema x.details g lacks.0 status) (no_schema_apart x.details g lacks.0 status) (names_of x) (named_all g x p is.bounded.settled.has_schemas.named) lacks.1)
+      absurd (not_all_and_first (IsOfSchema g) (TellsNoSchema x.details g lacks.0 status) (no_schema_apart x.details g lacks.0 status) (names_of x)
+      (named_all g x p is.bounded.settled.has_schemas.named) lacks.1)
   at_schemas (inr (q, named, at)) =
       at_shape (subst (λ (r : Schemas). AtShape x file source text status g r) (one_schemas x g q p named is.bounded.settled.has_schemas.named) at)
 

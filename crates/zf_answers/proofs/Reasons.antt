@@ -60,7 +60,8 @@ module _ (f : Format) (details : Bool) (file source : List ℕ) (g : List Define
   -- two texts are one, or tell the same conjuncts with other sides, or two minimal sets of conjuncts
   abbrev pub AreOneReason : (one two : List ℕ) → Type 0
   AreOneReason one two = (one ≡ two)
-      ⊎ (((alone : List Bool) × RefutedBy e a p.held alone × TellsConjuncts f details file source a e p.held nothing_beside alone one × TellsConjuncts f details file source a e p.held nothing_beside alone two)
+      ⊎ (((alone : List Bool) × RefutedBy e a p.held alone × TellsConjuncts f details file source a e p.held nothing_beside alone one
+      × TellsConjuncts f details file source a e p.held nothing_beside alone two)
       ⊎ ((first : List Bool) × (second : List Bool) × RefutedTogetherBy e a p.held first × RefutedTogetherBy e a p.held second
       × TellsConjuncts f details file source a e p.held (others_beside a.conjuncts first) first one × TellsConjuncts f details file source a e p.held (others_beside a.conjuncts second) second two))
 
@@ -107,24 +108,35 @@ module _ (f : Format) (details : Bool) (file source : List ℕ) (g : List Define
     one_told (TellsWhy.doubtful ev listed out told past) (TellsWhy.emptied m none cause other_told done) = some_and_none ev.row (seen_out ev s listed out past) (seen_none t none done)
     one_told (TellsWhy.doubtful ev listed out told past) (TellsWhy.refuted m none cause other_told done) = some_and_none ev.row (seen_out ev s listed out past) (seen_none t none done)
     one_told (TellsWhy.doubtful ev listed out told past) (TellsWhy.refuted_together m none cause other_told done) = some_and_none ev.row (seen_out ev s listed out past) (seen_none t none done)
-    one_told (TellsWhy.emptied m none cause told done) (TellsWhy.satisfied other other_listed true other_told other_done) = none_and_some other.row (seen_none s none done) (seen_first other t other_listed true other_done)
-    one_told (TellsWhy.emptied m none cause told done) (TellsWhy.doubtful other other_listed out other_told past) = none_and_some other.row (seen_none s none done) (seen_out other t other_listed out past)
+    one_told (TellsWhy.emptied m none cause told done) (TellsWhy.satisfied other other_listed true other_told other_done) = none_and_some other.row
+        (seen_none s none done) (seen_first other t other_listed true other_done)
+    one_told (TellsWhy.emptied m none cause told done) (TellsWhy.doubtful other other_listed out other_told past) = none_and_some other.row
+        (seen_none s none done) (seen_out other t other_listed out past)
     one_told (TellsWhy.emptied m none cause told done) (TellsWhy.emptied n other_none other_cause other_told other_done) =
         same_lines (λ z. empty_lines f file (chosen_of a.comps z) ++ no_binding_line f) m n done other_done (same_empty e a p.held m n cause other_cause) told other_told
     one_told (TellsWhy.emptied m none cause told done) (TellsWhy.refuted n other_none other_cause other_told other_done) = absurd (no_row_when_empty e a p.held m cause other_cause.0)
     one_told (TellsWhy.emptied m none cause told done) (TellsWhy.refuted_together n other_none other_cause other_told other_done) = absurd (no_row_when_empty e a p.held m cause other_cause.2)
-    one_told (TellsWhy.refuted m none cause told done) (TellsWhy.satisfied other other_listed true other_told other_done) = none_and_some other.row (seen_none s none done) (seen_first other t other_listed true other_done)
-    one_told (TellsWhy.refuted m none cause told done) (TellsWhy.doubtful other other_listed out other_told past) = none_and_some other.row (seen_none s none done) (seen_out other t other_listed out past)
+    one_told (TellsWhy.refuted m none cause told done) (TellsWhy.satisfied other other_listed true other_told other_done) = none_and_some other.row
+        (seen_none s none done) (seen_first other t other_listed true other_done)
+    one_told (TellsWhy.refuted m none cause told done) (TellsWhy.doubtful other other_listed out other_told past) = none_and_some other.row
+        (seen_none s none done) (seen_out other t other_listed out past)
     one_told (TellsWhy.refuted m none cause told done) (TellsWhy.emptied n other_none other_cause other_told other_done) = absurd (no_row_when_empty e a p.held n other_cause cause.0)
     one_told (TellsWhy.refuted m none cause told done) (TellsWhy.refuted n other_none other_cause other_told other_done) =
         record {
           statuses = done ∙ sym other_done;
-          reasons = inr (inl (n, other_cause, subst (λ (z : List Bool). TellsConjuncts f details file source a e p.held nothing_beside z one) (same_alone e a p.held m n cause other_cause) told, other_told));
+          reasons = inr (inl (
+            n,
+            other_cause,
+            subst (λ (z : List Bool). TellsConjuncts f details file source a e p.held nothing_beside z one)
+                (same_alone e a p.held m n cause other_cause) told,
+            other_told,
+          ));
         }
     one_told (TellsWhy.refuted m none cause told done) (TellsWhy.refuted_together n other_none other_cause other_told other_done) = absurd (not_both e a p.held m n cause other_cause)
     one_told (TellsWhy.refuted_together m none cause told done) (TellsWhy.satisfied other other_listed true other_told other_done) =
         none_and_some other.row (seen_none s none done) (seen_first other t other_listed true other_done)
-    one_told (TellsWhy.refuted_together m none cause told done) (TellsWhy.doubtful other other_listed out other_told past) = none_and_some other.row (seen_none s none done) (seen_out other t other_listed out past)
+    one_told (TellsWhy.refuted_together m none cause told done) (TellsWhy.doubtful other other_listed out other_told past) = none_and_some other.row
+        (seen_none s none done) (seen_out other t other_listed out past)
     one_told (TellsWhy.refuted_together m none cause told done) (TellsWhy.emptied n other_none other_cause other_told other_done) = absurd (no_row_when_empty e a p.held n other_cause cause.2)
     one_told (TellsWhy.refuted_together m none cause told done) (TellsWhy.refuted n other_none other_cause other_told other_done) = absurd (not_both e a p.held n m other_cause cause)
     one_told (TellsWhy.refuted_together m none cause told done) (TellsWhy.refuted_together n other_none other_cause other_told other_done) =
@@ -148,7 +160,8 @@ module _ (f : Format) (details : Bool) (file source : List ℕ) (g : List Define
       let here : Contains events ev = subst (λ es. Contains es ev) (sym whole) (Contains-head ev []) in (
         telling.line ev.row ++ satisfied_line f,
         Done,
-        TellsWhy.satisfied ev (subst (λ l. HasEvents e a p l (ev ∷ [])) up (subst (HasEvents e a p last) whole listed)) (All-contains (λ (x : Event Value). x.truth ≡ True) events ev hold here) refl refl,
+        TellsWhy.satisfied ev (subst (λ l. HasEvents e a p l (ev ∷ [])) up (subst (HasEvents e a p last) whole listed))
+            (All-contains (λ (x : Event Value). x.truth ≡ True) events ev hold here) refl refl,
       )
   of_search last events text status listed (IsWritten.breaks front ev is up hold out below told past) none =
       let empty = alone_of front (length front + 1) refl (omega (arith, below)) in

@@ -28,7 +28,8 @@ rows_apart Objects ss comps row e = no_more_object (row_text Objects ss comps ro
 
 -- where the last line is `more`, as many rows as the limit are written, and the last of them is the last that was looked at
 paused : {V : Type 0} (InDoubt : List V → Type 0) (telling : Wording V) (limit : Option ℕ) (rows : List (List V)) (last : Option (List V)) (final : List ℕ) (status : Status) (row : List V)
-    → TellsApart telling → EndsLines InDoubt telling limit rows last final status → final ≡ telling.more → last ≡ Some row → ((front : List (List V)) × (rows ≡ front ++ row ∷ [])) × (limit ≡ Some (length rows))
+    → TellsApart telling → EndsLines InDoubt telling limit rows last final status → final ≡ telling.more → last ≡ Some row
+    → ((front : List (List V)) × (rows ≡ front ++ row ∷ [])) × (limit ≡ Some (length rows))
 paused InDoubt telling limit rows last final status row apart (EndsLines.enough front r split up reached told done) more at =
     let same : r ≡ row = (let q : Some r ≡ Some row = sym up ∙ at in cc) in
     ((front, subst (λ x. rows ≡ front ++ x ∷ []) same split), reached)
@@ -59,15 +60,18 @@ module _ (resuming : LinesAreRows) (r : Request) (n : ℕ) (limit : Option ℕ) 
   events = map (λ x. with_truth x True) run.rows
 
   listed : AreEventsUpTo value_order (property e a.conjuncts) run.ranges p.after (Some row) events
-  listed = rows_are_events value_order order_laws.total-law exact (property e a.conjuncts) run.ranges p.after (property_told e a.conjuncts) (IsBinding e a run.ranges p.after) (IsInDoubt e a run.ranges p.after)
+  listed = rows_are_events value_order order_laws.total-law exact (property e a.conjuncts) run.ranges p.after (property_told e a.conjuncts)
+      (IsBinding e a run.ranges p.after) (IsInDoubt e a run.ranges p.after)
       (binding_event e a run.ranges p.after) (doubt_event e a run.ranges p.after) run.rows as_many.0.0 row as_many.0.1 members run.ascending certain
 
   row_event : (x : Event Value) × Contains events x × (x.row ≡ row)
-  row_event = last_is_event value_order order_laws.total-law exact (property e a.conjuncts) run.ranges p.after (property_told e a.conjuncts) (IsBinding e a run.ranges p.after) (IsInDoubt e a run.ranges p.after)
+  row_event = last_is_event value_order order_laws.total-law exact (property e a.conjuncts) run.ranges p.after (property_told e a.conjuncts)
+      (IsBinding e a run.ranges p.after) (IsInDoubt e a run.ranges p.after)
       (binding_event e a run.ranges p.after) (doubt_event e a run.ranges p.after) run.rows as_many.0.0 row as_many.0.1 members run.ascending certain
 
   hold : Hold events
-  hold = rows_hold value_order order_laws.total-law exact (property e a.conjuncts) run.ranges p.after (property_told e a.conjuncts) (IsBinding e a run.ranges p.after) (IsInDoubt e a run.ranges p.after)
+  hold = rows_hold value_order order_laws.total-law exact (property e a.conjuncts) run.ranges p.after (property_told e a.conjuncts)
+      (IsBinding e a run.ranges p.after) (IsInDoubt e a run.ranges p.after)
       (binding_event e a run.ranges p.after) (doubt_event e a run.ranges p.after) run.rows as_many.0.0 row as_many.0.1 members run.ascending certain
 
   search : IsSearch r source g a e p
@@ -140,7 +144,14 @@ module _ (resuming : LinesAreRows) (r : Request) (n : ℕ) (limit : Option ℕ) 
 
     both_searched : IsSearch (limited (together n limit) r) source g a e p
     both_searched = record {
-      asked = record { has_schema = record { checks = granted.has_schema.checks; named = granted.has_schema.named }; small = granted.small; complete = granted.complete; environment = granted.environment; finite = granted.finite };
+      asked = record {
+        has_schema = record { checks = granted.has_schema.checks; named = granted.has_schema.named };
+        small = granted.small;
+        complete
+            = granted.complete;
+        environment = granted.environment;
+        finite = granted.finite;
+      };
       shown = granted.shown;
       after = granted.after;
       are_shown = granted.are_shown;

@@ -17,7 +17,9 @@ use Rattle.zf_answers.proofs.WrittenRows.{with_truth, written_rows}
 
 -- ---- the events
 
-module _ (Tells : List Defined → Schema → Environment → Portion → List ℕ → Status → Type 0) (r : Request) (file source : List ℕ) (g : List Defined) (a : Schema) (e : Environment) (p : Portion) (text : List ℕ) (status : Status) (granted : IsGranted r source g a e p) where
+module _ (Tells : List Defined → Schema → Environment → Portion → List ℕ → Status
+    → Type 0) (r : Request) (file source : List ℕ) (g : List Defined) (a : Schema) (e : Environment) (p : Portion) (text : List ℕ) (status : Status)
+    (granted : IsGranted r source g a e p) where
   searched : AtSearch Tells r file source text status g a e p → Tells g a e p text status
   searched (inl out) = absurd (granted.none_out out.1.place out.1.first_out.here)
   searched (inr shows) = shows.1
@@ -37,7 +39,8 @@ module _ (Tells : List Defined → Schema → Environment → Portion → List �
       are_held (Some text) held none are = none held are
   held_values (inr there) =
       let names = names_at source g [] r.name a granted.has_schema.checks granted.has_schema.named in
-      begun (subst (λ held. AtSearch Tells r file source text status g a e (portion (row_after r.only granted.after) held)) (one_held e a.comps r.held there.0 p.held clear names there.1 granted.held) there.2)
+      begun (subst (λ held. AtSearch Tells r file source text status g a e (portion (row_after r.only granted.after) held))
+      (one_held e a.comps r.held there.0 p.held clear names there.1 granted.held) there.2)
 
   named_row : AtNamedRow Tells r file source text status g a e granted.shown → Tells g a e p text status
   named_row (inl none) = absurd (is_named r.after granted.after none.1.none granted.named)

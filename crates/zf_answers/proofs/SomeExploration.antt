@@ -37,18 +37,22 @@ operations_finite : (e : Environment) (p : Schemas) (ns : List Named) → AllByR
 operations_finite e p [] finite = tt
 operations_finite e p (n ∷ ns) finite = (finite.0, operations_finite e p ns finite.1)
 
-can_explore : (e : Environment) (elements : List Spelling) (form : Form) (p : Schemas) (m : System) → IsMachineOf e elements form p m → AllByRecursion (λ n. IsFinite e.numbers e.globals n.schema) (all_of p) → CanExplore m
+can_explore : (e : Environment) (elements : List Spelling) (form : Form) (p : Schemas) (m : System) → IsMachineOf e elements form p m
+    → AllByRecursion (λ n. IsFinite e.numbers e.globals n.schema) (all_of p) → CanExplore m
 can_explore e elements form p m is finite = record {
   test = subst (λ (f : Environment). IsFinite f.numbers f.globals m.test.schema) (sym is.environment)
       (subst (λ (o : Operation). IsFinite e.numbers e.globals o.schema) (sym is.test) (of_test (λ (n : Named). IsFinite e.numbers e.globals n.schema) p finite));
   init = subst (λ (f : Environment). IsFinite f.numbers f.globals m.init.schema) (sym is.environment) (initial_finite e p m.init is.init finite.1.0);
   operations = subst (λ (f : Environment). AllByRecursion (λ (o : Operation). IsFinite f.numbers f.globals o.schema) m.operations) (sym is.environment)
-      (subst (λ os. AllByRecursion (λ (o : Operation). IsFinite e.numbers e.globals o.schema) os) (sym is.operations) (operations_finite e p p.operations (of_operations (λ (n : Named). IsFinite e.numbers e.globals n.schema) p finite)));
+      (subst (λ os. AllByRecursion (λ (o : Operation). IsFinite e.numbers e.globals o.schema) os) (sym is.operations)
+      (operations_finite e p p.operations (of_operations (λ (n : Named). IsFinite e.numbers e.globals n.schema) p finite)));
 }
 
-pub can_be_explored : (x : Exploration) (source : List ℕ) (g : List Defined) (p : Schemas) (e : Environment) → IsSearchable x source g p e → (m : System) → IsMachineOf e (spellings g) (form_of x) p m → CanExplore m
+pub can_be_explored : (x : Exploration) (source : List ℕ) (g : List Defined) (p : Schemas) (e : Environment) → IsSearchable x source g p e → (m : System)
+    → IsMachineOf e (spellings g) (form_of x) p m → CanExplore m
 can_be_explored x source g p e is m of =
-    can_explore e (spellings g) (form_of x) p m of (subst (λ (h : List Defined). AllByRecursion (λ (n : Named). IsFinite e.numbers h n.schema) (all_of p)) (sym is.bounded.environment.0) is.bounded.finite)
+    can_explore e (spellings g) (form_of x) p m of (subst (λ (h : List Defined). AllByRecursion (λ (n : Named). IsFinite e.numbers h n.schema) (all_of p))
+    (sym is.bounded.environment.0) is.bounded.finite)
 
 some_limit : (limit : Option ℕ) (x : Exploration) → x.limit ≡ limit → HasLimit limit → 1 ≤ states_limit x
 some_limit None x is h = rw is (omega arith)
@@ -110,12 +114,13 @@ module _ (x : Exploration) (file source : List ℕ) (limited : HasLimit x.limit)
           by (cause ∷ them) some = inr ((not_finite_lines x.details file g cause [], BadSpec), (cause, [], ap first some, none_beside g cause, refl, refl))
 
       some_at_finiteness : IsSettled x source g p → IsAnswered
-      some_at_finiteness settled = elim (all_or_first (λ (n : Named). IsFinite (numbers_of x.setting) g n.schema) (λ (b : List ℕ × Status) n. TellsInfinite (numbers_of x.setting) g n.schema x.details file b.0 b.1) finite_or_not (all_of p)) [
-        | inl finite ↦
-            let e = some_environment g (stated g x.setting) (numbers_of x.setting) settled.complete in
-            some_at_sets e.0 (record { settled = settled; environment = e.1; finite = subst (λ n. AllByRecursion (λ (m : Named). IsFinite n g m.schema) (all_of p)) (sym e.1.3) finite })
-        | inr infinite ↦ refused infinite.0.0 infinite.0.1 (RefusesExploration.not_finite g p settled infinite.1)
-      ]
+      some_at_finiteness settled = elim (all_or_first (λ (n : Named). IsFinite (numbers_of x.setting) g n.schema)
+          (λ (b : List ℕ × Status) n. TellsInfinite (numbers_of x.setting) g n.schema x.details file b.0 b.1) finite_or_not (all_of p)) [
+            | inl finite ↦
+                let e = some_environment g (stated g x.setting) (numbers_of x.setting) settled.complete in
+                some_at_sets e.0 (record { settled = settled; environment = e.1; finite = subst (λ n. AllByRecursion (λ (m : Named). IsFinite n g m.schema) (all_of p)) (sym e.1.3) finite })
+            | inr infinite ↦ refused infinite.0.0 infinite.0.1 (RefusesExploration.not_finite g p settled infinite.1)
+          ]
 
       some_at_sizes : HasSchemas x source g p → HasShape p → AreSmall (numbers_of x.setting) → IsAnswered
       some_at_sizes has shape small = elim (complete_or_refused (given_sets g) (stated g x.setting)) [

@@ -76,7 +76,8 @@ module _ (Tells : List Defined → Schema → Environment → Portion → List �
   AtSearch g a e p = Refused (λ t s. HasSetOut r file source t s a e) ⊎ (IsNoneOut e a.comps × Tells g a e p text status)
 
   abbrev pub AtHeldValues : List Defined → Schema → Environment → Option (List Value) → Type 0
-  AtHeldValues g a e after = Refused (λ t s. HoldsNothing r file source t s a e) ⊎ ((held : List (Option Value)) × AreHeld e a.comps r.held held × AtSearch g a e (portion (row_after r.only after) held))
+  AtHeldValues g a e after = Refused (λ t s. HoldsNothing r file source t s a e) ⊎ ((held : List (Option Value)) × AreHeld e a.comps r.held held
+      × AtSearch g a e (portion (row_after r.only after) held))
 
   abbrev pub AtNamedRow : List Defined → Schema → Environment → (shown : List Comp) → Type 0
   AtNamedRow g a e shown = Refused (λ t s. HasNoRow r file source t s e shown) ⊎ ((after : Option (List Value)) × IsNamedRow e shown r.after after × AtHeldValues g a e after)
@@ -85,7 +86,8 @@ module _ (Tells : List Defined → Schema → Environment → Portion → List �
   AtComponents g a e = Refused (λ t s. HasNoParts r file source t s a) ⊎ ((shown : List Comp) × AreShown a.comps r.only shown × AtNamedRow g a e shown)
 
   abbrev pub AtFiniteness : List Defined → Schema → Type 0
-  AtFiniteness g a = Refused (λ t s. IsInfinite r file source t s g a) ⊎ (IsFinite (numbers_of r.setting) g a × ((e : Environment) × IsEnvironment g (stated g r.setting) (numbers_of r.setting) e × AtComponents g a e))
+  AtFiniteness g a = Refused (λ t s. IsInfinite r file source t s g a) ⊎ (IsFinite (numbers_of r.setting) g a
+      × ((e : Environment) × IsEnvironment g (stated g r.setting) (numbers_of r.setting) e × AtComponents g a e))
 
   abbrev pub AtSizes : List Defined → Schema → Type 0
   AtSizes g a = Refused (λ t s. HasBadSizes r file source t s g) ⊎ (AreComplete (given_sets g) (stated g r.setting) × AtFiniteness g a)

@@ -6,7 +6,8 @@ use Rattle.zf_answers.proofs.OneEnding.{rows_compared, never_both, never_itself}
 abbrev pub with_truth : {V : Type 0} → List V → Truth → Event V
 with_truth row t = record { row = row; truth = t }
 
-pub record AreWritten {V : Type 0} (cmp : V → V → Ordering) (Found InDoubt : List V → Type 0) (telling : Wording V) (limit : Option ℕ) (last : Option (List V)) (text : List ℕ) (status : Status) : Type 0 where
+pub record AreWritten {V : Type 0} (cmp : V → V → Ordering) (Found InDoubt : List V
+    → Type 0) (telling : Wording V) (limit : Option ℕ) (last : Option (List V)) (text : List ℕ) (status : Status) : Type 0 where
   pub rows : List (List V)
   pub final : List ℕ
   pub members : (row : List V) → Contains rows row ↔ (Found row × IsNotPast cmp last row)

@@ -64,7 +64,8 @@ pub conjuncts_beside : (a b : Schema) → 4096 < length a.conjuncts + length b.c
 conjuncts_beside a b e w = omega (arith, both_long a b, w)
 
 -- the components are joined, and the conjuncts follow them
-pub both_made : (a b : Schema) (cs : List Comp) (ts : List ResolvedTree) (ps : List ℕ) → cs ≡ with_comps a.comps b.comps → AreAt cs ps b.comps → ts ≡ a.conjuncts ++ map (moved (place_in ps)) b.conjuncts → schema_with cs ts ≡ conjoined a b
+pub both_made : (a b : Schema) (cs : List Comp) (ts : List ResolvedTree) (ps : List ℕ) → cs ≡ with_comps a.comps b.comps → AreAt cs ps b.comps
+    → ts ≡ a.conjuncts ++ map (moved (place_in ps)) b.conjuncts → schema_with cs ts ≡ conjoined a b
 both_made a b cs ts ps joined at taken =
     ap (λ (us : List ResolvedTree). schema_with cs us) (taken ∙ ap (λ (f : ℕ → ℕ). a.conjuncts ++ map (moved f) b.conjuncts) (are_new_places cs ps b.comps at))
     ∙ ap (λ (ds : List Comp). schema_with ds (a.conjuncts ++ map (moved (new_place b.comps ds)) b.conjuncts)) joined

@@ -6,7 +6,8 @@ pub counted_at : {X Y : Type 0} (f : Y → ℕ) (g : X → Y) (xs : List X) (i :
 counted_at f g xs i x l e = ap (λ ys. sum_by f (map g ys)) (dropped xs i x l e) ∙ sum_by-cons f (g x) (map g (drop (i + 1) xs))
 
 -- all of the rest, where its first and all behind it are
-pub all_at : {X Y : Type 0} (P : Y → Type 0) (g : X → Y) (xs : List X) (i : ℕ) (x : X) → i < length xs → x ≡ get_or xs i x → P (g x) → AllByRecursion P (map g (drop (i + 1) xs)) → AllByRecursion P (map g (drop i xs))
+pub all_at : {X Y : Type 0} (P : Y → Type 0) (g : X → Y) (xs : List X) (i : ℕ) (x : X) → i < length xs → x ≡ get_or xs i x → P (g x)
+    → AllByRecursion P (map g (drop (i + 1) xs)) → AllByRecursion P (map g (drop i xs))
 all_at P g xs i x l e h r = subst (λ ys. AllByRecursion P (map g ys)) (sym (dropped xs i x l e)) (h, r)
 
 -- what holds of all holds of one

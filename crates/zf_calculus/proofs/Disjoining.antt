@@ -9,7 +9,9 @@ use Rattle.zf_calculus.proofs.Merging.{known_in_place, known_is, new_last, none_
 use Rattle.zf_calculus.proofs.Placing.{TooMany}
 use Rattle.zf_calculus.proofs.Renumbering.{all_same}
 
-pub either_seen : (c : Component) (cs ds : List Comp) (name : List ℕ) (t : ZType) (domains left right : List Domain) → name ≡ c.name → t ≡ c.ztype → map set_of left ≡ sets_on (comp_named c.name cs) (type_of c.ztype) → map set_of right ≡ sets_on (comp_named c.name ds) (type_of c.ztype) → domains ≡ v.Either left right ∷ [] → comp_of (record { name = name; ztype = t; domains = domains }) ≡ either_comp cs ds (comp_of c)
+pub either_seen : (c : Component) (cs ds : List Comp) (name : List ℕ) (t : ZType) (domains left right : List Domain) → name ≡ c.name → t ≡ c.ztype
+    → map set_of left ≡ sets_on (comp_named c.name cs) (type_of c.ztype) → map set_of right ≡ sets_on (comp_named c.name ds) (type_of c.ztype)
+    → domains ≡ v.Either left right ∷ [] → comp_of (record { name = name; ztype = t; domains = domains }) ≡ either_comp cs ds (comp_of c)
 either_seen c cs ds name t domains left right e f l r h =
     ap (λ (n : List ℕ). comp n (type_of t) (map set_of domains)) e
     ∙ ap (λ (u : ZType). comp c.name (type_of u) (map set_of domains)) f
@@ -36,7 +38,9 @@ pub place_kept : (cs ds xs : List Comp) (x : List ℕ) → place_named x (map (e
 place_kept cs ds [] x = refl
 place_kept cs ds (d ∷ es) x = by (bytes_eq d.name x) (place_kept cs ds es x)
   where
-    by : (b : Bool) → place_named x (map (either_comp cs ds) es) ≡ place_named x es → place_found (if b then Some (0, either_comp cs ds d) else later (comp_named x (map (either_comp cs ds) es))) ≡ place_found (if b then Some (0, d) else later (comp_named x es))
+    by : (b : Bool) → place_named x (map (either_comp cs ds) es) ≡ place_named x es
+        → place_found (if b then Some (0, either_comp cs ds d) else later (comp_named x (map (either_comp cs ds) es)))
+        ≡ place_found (if b then Some (0, d) else later (comp_named x es))
     by true rest = refl
     by false rest = later_found (comp_named x (map (either_comp cs ds) es)) (comp_named x es) rest
 
@@ -48,7 +52,8 @@ none_before : (o : Option (ℕ × Comp)) → place_found o ≡ None → o ≡ No
 none_before None h = refl
 none_before (Some p) h = absurd (none-some p.0 (sym h))
 
-place_among : (cs ds xs : List Comp) (x : List ℕ) (c : Component) (slice made : List Component) → x ≡ c.name → slice ≡ made → map comp_of made ≡ map (either_comp cs ds) xs → place_named x (map comp_of slice) ≡ place_named c.name xs
+place_among : (cs ds xs : List Comp) (x : List ℕ) (c : Component) (slice made : List Component) → x ≡ c.name → slice ≡ made
+    → map comp_of made ≡ map (either_comp cs ds) xs → place_named x (map comp_of slice) ≡ place_named c.name xs
 place_among cs ds xs x c slice made e f is =
     ap (λ (y : List ℕ). place_named y (map comp_of slice)) e
     ∙ ap (λ (es : List Component). place_named c.name (map comp_of es)) f
@@ -62,7 +67,8 @@ more_known cs ds x c slice made i e f h xs is =
     let there = found_before (comp_named c.name xs) i (sym (place_among cs ds xs x c slice made e f is) ∙ ap place_found h.1) in
     is ∙ sym (either_kept cs ds xs (comp_of c) there.0 i there.1)
 
-unknown : (cs ds : List Comp) (x : List ℕ) (c : Component) (slice made : List Component) → x ≡ c.name → slice ≡ made → comp_named x (map comp_of slice) ≡ None → (xs : List Comp) → map comp_of made ≡ map (either_comp cs ds) xs → with_comp xs (comp_of c) ≡ xs ++ comp_of c ∷ []
+unknown : (cs ds : List Comp) (x : List ℕ) (c : Component) (slice made : List Component) → x ≡ c.name → slice ≡ made → comp_named x (map comp_of slice) ≡ None
+    → (xs : List Comp) → map comp_of made ≡ map (either_comp cs ds) xs → with_comp xs (comp_of c) ≡ xs ++ comp_of c ∷ []
 unknown cs ds x c slice made e f h xs is = new_last xs (comp_of c) (none_before (comp_named c.name xs) (sym (place_among cs ds xs x c slice made e f is) ∙ ap place_found h))
 
 pub more_new :
@@ -85,15 +91,18 @@ more_than_few cs ds x c slice made e f h many xs is few =
 
 -- ---- all components
 
-further : (cs : List Comp) (xs : List Component) (i : ℕ) (x : Component) → x ≡ get_or xs i x → i < length xs → with_comps cs (map comp_of (take (suc i) xs)) ≡ with_comp (with_comps cs (map comp_of (take i xs))) (comp_of x)
+further : (cs : List Comp) (xs : List Component) (i : ℕ) (x : Component) → x ≡ get_or xs i x → i < length xs
+    → with_comps cs (map comp_of (take (suc i) xs)) ≡ with_comp (with_comps cs (map comp_of (take i xs))) (comp_of x)
 further cs [] i x at l = absurd (omega arith)
 further cs (y ∷ ys) zero x at l = ap (λ z. with_comp cs (comp_of z)) (sym at)
 further cs (y ∷ ys) (suc i) x at l = further (with_comp cs (comp_of y)) ys i x at (omega arith)
 
-pub one_further : (cs : List Comp) (xs : List Component) (i : ℕ) (x : Component) → x ≡ get_or xs i x → i < length xs → with_comps cs (map comp_of (take (i + 1) xs)) ≡ with_comp (with_comps cs (map comp_of (take i xs))) (comp_of x)
+pub one_further : (cs : List Comp) (xs : List Component) (i : ℕ) (x : Component) → x ≡ get_or xs i x → i < length xs
+    → with_comps cs (map comp_of (take (i + 1) xs)) ≡ with_comp (with_comps cs (map comp_of (take i xs))) (comp_of x)
 one_further cs xs i x at l = rw add-one (further cs xs i x at l)
 
-no_more : (cs : List Comp) (xs : List Component) (i : ℕ) (x : Component) → x ≡ get_or xs i x → i < length xs → length (with_comp (with_comps cs (map comp_of (take i xs))) (comp_of x)) ≤ length (with_comps cs (map comp_of xs))
+no_more : (cs : List Comp) (xs : List Component) (i : ℕ) (x : Component) → x ≡ get_or xs i x → i < length xs
+    → length (with_comp (with_comps cs (map comp_of (take i xs))) (comp_of x)) ≤ length (with_comps cs (map comp_of xs))
 no_more cs [] i x at l = absurd (omega arith)
 no_more cs (y ∷ ys) zero x at l = omega (arith, none_shorter (with_comp cs (comp_of y)) (map comp_of ys), ap (λ z. length (with_comp cs (comp_of z))) at)
 no_more cs (y ∷ ys) (suc i) x at l = no_more (with_comp cs (comp_of y)) ys i x at (omega arith)
@@ -148,7 +157,10 @@ sides_seen l all a b c conjuncts left right ps made is first second places =
     ∙ ap (λ (ts : List ResolvedTree). one_holds l ts (all_of (map batch_of right)) ∷ []) (first ∙ all_same (moved (numbering None)) (constraints a) unmoved)
     ∙ ap (λ (ts : List ResolvedTree). one_holds l (constraints a) ts ∷ []) (second ∙ all_alike (moved (numbering ps)) (moved (new_place b.comps all)) (constraints b) places)
 
-pub disjunction_made : (l : ℕ) (left right flat : Flat) (all given cs ds : List Component) → schema_of flat ≡ disjoined_over (map comp_of given) l (schema_of left) (schema_of right) → given ≡ all → map comp_of all ≡ either_comps (map comp_of cs) (map comp_of ds) → cs ≡ left.components → ds ≡ right.components → schema_of flat ≡ disjoined l (schema_of left) (schema_of right)
+pub disjunction_made : (l : ℕ) (left right flat : Flat) (all given cs ds : List Component)
+    → schema_of flat ≡ disjoined_over (map comp_of given) l (schema_of left) (schema_of right) → given ≡ all
+    → map comp_of all ≡ either_comps (map comp_of cs) (map comp_of ds) → cs ≡ left.components → ds ≡ right.components
+    → schema_of flat ≡ disjoined l (schema_of left) (schema_of right)
 disjunction_made l left right flat all given cs ds made g whole e f =
     let a = schema_of left in
     let b = schema_of right in
@@ -160,7 +172,8 @@ disjunction_made l left right flat all given cs ds made g whole e f =
     in
     made
     ∙ ap (λ (xs : List Comp). disjoined_over xs l a b) joined
-    ∙ ap (λ (ts : List ResolvedTree). record { comps = either_comps a.comps b.comps; conjuncts = one_holds l (constraints a) ts ∷ [] }) (carried_kept a.comps b.comps (with_comps a.comps b.comps) b.comps (constraints b))
+    ∙ ap (λ (ts : List ResolvedTree). record { comps = either_comps a.comps b.comps; conjuncts = one_holds l (constraints a) ts ∷ [] })
+    (carried_kept a.comps b.comps (with_comps a.comps b.comps) b.comps (constraints b))
 
 pub stops_disjoining : (clashes : Offence → Type 0) (agree : Type 0) (a b : Schema) → a ≡ b → agree → (k : Offence) → IsTooLarge a k → Stops clashes agree b k
 stops_disjoining clashes agree a b e ok k h = inr (ok, subst (λ (s : Schema). IsTooLarge s k) e h)

@@ -15,7 +15,8 @@ equality_seen l i p t ks e f =
     ∙ ap (λ (u : ResolvedTree). chain l (reference l (Component i)) (link Equal u no_links)) (of-Name l (Component p))
 
 -- one equality for each component from that place on
-pub all_equal : (l i : ℕ) (primed all cs : List Comp) (ps : List ℕ) → length ps ≡ length cs → ((k : ℕ) → k < length ps → get_or ps k 0 ≡ new_place primed all (i + k)) → equalities l i ps ≡ all_unchanged l primed all i cs
+pub all_equal : (l i : ℕ) (primed all cs : List Comp) (ps : List ℕ) → length ps ≡ length cs
+    → ((k : ℕ) → k < length ps → get_or ps k 0 ≡ new_place primed all (i + k)) → equalities l i ps ≡ all_unchanged l primed all i cs
 all_equal l i primed all [] [] e h = refl
 all_equal l i primed all [] (p ∷ ps) e h = absurd (omega arith)
 all_equal l i primed all (c ∷ cs) [] e h = absurd (omega arith)
@@ -32,12 +33,15 @@ same_equalities l primed all cs ps e h = all_equal l 0 primed all cs ps e (λ k 
     other (x ∷ xs) zero d e m = refl
     other (x ∷ xs) (suc k) d e m = other xs k d e (omega arith)
 
-pub stops_equalities : (a b : Schema) (l : ℕ) (ps : List ℕ) (i p : ℕ) (t : ResolvedTree) → i < length ps → p ≡ get_or ps i p → t ≡ equality l i p → constrained a (equalities l i (drop i ps)) ≡ constrained b (equalities l 0 ps) → (k : Offence) → IsTooLarge (constrained a (t ∷ [])) k → IsTooLarge (constrained b (equalities l 0 ps)) k
+pub stops_equalities : (a b : Schema) (l : ℕ) (ps : List ℕ) (i p : ℕ) (t : ResolvedTree) → i < length ps → p ≡ get_or ps i p → t ≡ equality l i p
+    → constrained a (equalities l i (drop i ps)) ≡ constrained b (equalities l 0 ps) → (k : Offence) → IsTooLarge (constrained a (t ∷ [])) k
+    → IsTooLarge (constrained b (equalities l 0 ps)) k
 stops_equalities a b l ps i p t m e g whole k h = still_large (constrained a (t ∷ [])) (constrained b (equalities l 0 ps)) k
     (λ x w.
     let rest = equalities l (i + 1) (drop (i + 1) ps) in
     let now : Keeps x (constrained a (equalities l i (drop i ps))) = subst (Keeps x) (sym whole) w in
     let next : Keeps x (constrained a (equality l i p ∷ rest)) = subst (λ (qs : List ℕ). Keeps x (constrained a (equalities l i qs))) (dropped ps i p m e) now in
-    let parted : Keeps x (calculus.schema_with a.comps ((a.conjuncts ++ equality l i p ∷ []) ++ rest)) = subst (λ (ts : List ResolvedTree). Keeps x (calculus.schema_with a.comps ts)) (sym (append_assoc a.conjuncts (equality l i p ∷ []) rest)) next in
+    let parted : Keeps x (calculus.schema_with a.comps ((a.conjuncts ++ equality l i p ∷ []) ++ rest)) = subst
+    (λ (ts : List ResolvedTree). Keeps x (calculus.schema_with a.comps ts)) (sym (append_assoc a.conjuncts (equality l i p ∷ []) rest)) next in
     let one : Keeps x (constrained a (equality l i p ∷ [])) = before_conjuncts x a.comps (a.conjuncts ++ equality l i p ∷ []) rest parted in
     subst (λ (u : ResolvedTree). Keeps x (constrained a (u ∷ []))) (sym g) one) h

@@ -4,7 +4,8 @@ use Rattle.std.proofs.Common.{◌+◌, ◌<◌, add-one, get_or, suc, take, zero
 use Rattle.std.proofs.lemmas.List.Concat.{flat_map-append}
 use Rattle.zf_term.specs.declared.schema.Domain.TheVariants as domains
 
-pub pushed : (i : ℕ) (d : Domain) (s : Resolved) (c : Conjunct) (old new : List Conjunct) → d ≡ domains.Plain s → conjunct_of c ≡ is_member i (resolved_of s) → new ≡ old ++ c ∷ [] → map conjunct_of new ≡ map conjunct_of old ++ membership i (set_of d)
+pub pushed : (i : ℕ) (d : Domain) (s : Resolved) (c : Conjunct) (old new : List Conjunct) → d ≡ domains.Plain s → conjunct_of c ≡ is_member i (resolved_of s)
+    → new ≡ old ++ c ∷ [] → map conjunct_of new ≡ map conjunct_of old ++ membership i (set_of d)
 pushed i d s c old new e f h =
     ap (map conjunct_of) h
     ∙ map-append conjunct_of old (c ∷ [])
@@ -25,7 +26,8 @@ numbered_anew ps cs = map (moved (numbering ps)) (map conjunct_of cs)
 pub all_append : (bs ds : List Batch) → all_of (map batch_of (bs ++ ds)) ≡ all_of (map batch_of bs) ++ all_of (map batch_of ds)
 all_append bs ds = ap all_of (map-append batch_of bs ds) ∙ flat_map-append (λ (ts : List ResolvedTree). ts) (map batch_of bs) (map batch_of ds)
 
-pub batch_pushed : (ps : Option (List ℕ)) (cs : List Conjunct) (b : Batch) (old new : List Batch) → batch_of b ≡ numbered_anew ps cs → new ≡ old ++ b ∷ [] → all_of (map batch_of new) ≡ all_of (map batch_of old) ++ numbered_anew ps cs
+pub batch_pushed : (ps : Option (List ℕ)) (cs : List Conjunct) (b : Batch) (old new : List Batch) → batch_of b ≡ numbered_anew ps cs → new ≡ old ++ b ∷ []
+    → all_of (map batch_of new) ≡ all_of (map batch_of old) ++ numbered_anew ps cs
 batch_pushed ps cs b old new is made =
     ap (λ (bs : List Batch). all_of (map batch_of bs)) made
     ∙ all_append old (b ∷ [])
@@ -65,5 +67,6 @@ pub constraints_made :
 constraints_made ps made cs own pieces members first second third listed same all none one two =
     two
     ∙ ap (λ (zs : List Conjunct). second ++ numbered_anew ps zs) all
-    ∙ ap (λ (ts : List ResolvedTree). ts ++ numbered_anew ps cs) (one ∙ ap (λ (ts : List ResolvedTree). ts ++ numbered_anew ps own) none ∙ ap (numbered_anew ps) same ∙ ap (map (moved (numbering ps))) listed)
+    ∙ ap (λ (ts : List ResolvedTree). ts ++ numbered_anew ps cs) (one ∙ ap (λ (ts : List ResolvedTree). ts ++ numbered_anew ps own) none
+    ∙ ap (numbered_anew ps) same ∙ ap (map (moved (numbering ps))) listed)
     ∙ sym (map-append (moved (numbering ps)) members (map conjunct_of cs))

@@ -5,7 +5,8 @@ some_alike : {A : Type 0} {x y : A} → Some x ≡ Some y → x ≡ y
 some_alike h = (cc)
 
 -- what is found is the first, or it is found behind it
-front : {A : Type 0} (b : Bool) (a d : A) (i : ℕ) (o : Option (ℕ × A)) → (if b then Some (0, a) else later o) ≡ Some (i, d) → ((b ≡ true) × (i ≡ 0) × (a ≡ d)) ⊎ ((b ≡ false) × ((j : ℕ) × (o ≡ Some (j, d)) × (i ≡ suc j)))
+front : {A : Type 0} (b : Bool) (a d : A) (i : ℕ) (o : Option (ℕ × A)) → (if b then Some (0, a) else later o) ≡ Some (i, d)
+    → ((b ≡ true) × (i ≡ 0) × (a ≡ d)) ⊎ ((b ≡ false) × ((j : ℕ) × (o ≡ Some (j, d)) × (i ≡ suc j)))
 front true a d i o h = let e = some_alike h in inl (refl, sym (ap (λ q. q.0) e), ap (λ q. q.1) e)
 front false a d i None h = absurd (cc)
 front false a d i (Some r) h =
@@ -54,7 +55,8 @@ pub counts_more : (f : DeclaredSet → ℕ) (cs : List Comp) (c : Comp) → coun
 counts_more f [] c = refl
 counts_more f (d ∷ ds) c = by (bytes_eq d.name c.name) (counts_more f ds c)
   where
-    by : (b : Bool) → counted f (with_comp ds c) ≡ counted f ds + sum_by f c.sets → counted f (if b then comp d.name d.type (d.sets ++ c.sets) ∷ ds else d ∷ with_comp ds c) ≡ counted f (d ∷ ds) + sum_by f c.sets
+    by : (b : Bool) → counted f (with_comp ds c) ≡ counted f ds + sum_by f c.sets
+        → counted f (if b then comp d.name d.type (d.sets ++ c.sets) ∷ ds else d ∷ with_comp ds c) ≡ counted f (d ∷ ds) + sum_by f c.sets
     by true e = omega (arith, sum_by-cons (λ e. sum_by f e.sets) (comp d.name d.type (d.sets ++ c.sets)) ds, sum_by-cons (λ e. sum_by f e.sets) d ds, sum_by-append f d.sets c.sets)
     by false e = omega (arith, sum_by-cons (λ e. sum_by f e.sets) d (with_comp ds c), sum_by-cons (λ e. sum_by f e.sets) d ds)
 
@@ -75,9 +77,12 @@ none_shorter cs (d ∷ ds) = omega (arith, no_shorter cs d, none_shorter (with_c
 pub named_below : (x : List ℕ) (cs ds : List Component) (i : ℕ) → cs ≡ ds → (d : Comp) × (comp_named x (map comp_of cs) ≡ Some (i, d)) → i < length ds
 named_below x cs ds i e h = let k = known_is x (map comp_of cs) h.0 i h.1 in omega (arith, length-map cs comp_of, ap length e)
 
-pub joined_known : (c : Component) (x : List ℕ) (cs ds new : List Component) (i : ℕ) → x ≡ c.name → cs ≡ ds → (d : Comp) × (comp_named x (map comp_of cs) ≡ Some (i, d)) → ((b : Component) → get_or ds i b ≡ b → new ≡ set ds i (enriched b c.domains)) → map comp_of new ≡ with_comp (map comp_of ds) (comp_of c)
+pub joined_known : (c : Component) (x : List ℕ) (cs ds new : List Component) (i : ℕ) → x ≡ c.name → cs ≡ ds → (d : Comp)
+    × (comp_named x (map comp_of cs) ≡ Some (i, d)) → ((b : Component) → get_or ds i b ≡ b → new ≡ set ds i (enriched b c.domains))
+    → map comp_of new ≡ with_comp (map comp_of ds) (comp_of c)
 joined_known c x cs ds new i e f h g =
-    let found : comp_named c.name (map comp_of ds) ≡ Some (i, h.0) = subst (λ (y : List ℕ). comp_named y (map comp_of ds) ≡ Some (i, h.0)) e (subst (λ (es : List Component). comp_named x (map comp_of es) ≡ Some (i, h.0)) f h.1) in
+    let found : comp_named c.name (map comp_of ds) ≡ Some (i, h.0) = subst (λ (y : List ℕ). comp_named y (map comp_of ds) ≡ Some (i, h.0)) e
+    (subst (λ (es : List Component). comp_named x (map comp_of es) ≡ Some (i, h.0)) f h.1) in
     let below = named_below x cs ds i f h in
     let b = get_or ds i c in
     let there : get_or ds i b ≡ b = get_or_default ds i b c below in
@@ -88,14 +93,17 @@ joined_known c x cs ds new i e f h g =
     ∙ ap (λ d. set (map comp_of ds) i (comp d.name d.type (d.sets ++ map set_of c.domains))) seen
     ∙ sym (known_in_place (map comp_of ds) (comp_of c) h.0 i found)
 
-pub joined_new : (c : Component) (x : List ℕ) (cs ds new : List Component) → x ≡ c.name → cs ≡ ds → comp_named x (map comp_of cs) ≡ None → new ≡ ds ++ c ∷ [] → map comp_of new ≡ with_comp (map comp_of ds) (comp_of c)
+pub joined_new : (c : Component) (x : List ℕ) (cs ds new : List Component) → x ≡ c.name → cs ≡ ds → comp_named x (map comp_of cs) ≡ None → new ≡ ds ++ c ∷ []
+    → map comp_of new ≡ with_comp (map comp_of ds) (comp_of c)
 joined_new c x cs ds new e f h g =
     let none : comp_named c.name (map comp_of ds) ≡ None = subst (λ (y : List ℕ). comp_named y (map comp_of ds) ≡ None) e (subst (λ (es : List Component). comp_named x (map comp_of es) ≡ None) f h) in
     ap (map comp_of) g ∙ map-append comp_of ds (c ∷ []) ∙ sym (new_last (map comp_of ds) (comp_of c) none)
 
-pub length_known : (c : Component) (x : List ℕ) (cs ds : List Component) (i : ℕ) → x ≡ c.name → cs ≡ ds → (d : Comp) × (comp_named x (map comp_of cs) ≡ Some (i, d)) → length (with_comp (map comp_of ds) (comp_of c)) ≡ length (map comp_of ds)
+pub length_known : (c : Component) (x : List ℕ) (cs ds : List Component) (i : ℕ) → x ≡ c.name → cs ≡ ds → (d : Comp)
+    × (comp_named x (map comp_of cs) ≡ Some (i, d)) → length (with_comp (map comp_of ds) (comp_of c)) ≡ length (map comp_of ds)
 length_known c x cs ds i e f h =
-    let found : comp_named c.name (map comp_of ds) ≡ Some (i, h.0) = subst (λ (y : List ℕ). comp_named y (map comp_of ds) ≡ Some (i, h.0)) e (subst (λ (es : List Component). comp_named x (map comp_of es) ≡ Some (i, h.0)) f h.1) in
+    let found : comp_named c.name (map comp_of ds) ≡ Some (i, h.0) = subst (λ (y : List ℕ). comp_named y (map comp_of ds) ≡ Some (i, h.0)) e
+    (subst (λ (es : List Component). comp_named x (map comp_of es) ≡ Some (i, h.0)) f h.1) in
     ap length (known_in_place (map comp_of ds) (comp_of c) h.0 i found) ∙ length-set (map comp_of ds) i (comp h.0.name h.0.type (h.0.sets ++ map set_of c.domains))
 
 pub length_new : (c : Component) (x : List ℕ) (cs ds : List Component) → x ≡ c.name → cs ≡ ds → comp_named x (map comp_of cs) ≡ None → length (with_comp (map comp_of ds) (comp_of c)) ≡ length ds + 1

@@ -18,15 +18,19 @@ stays : (x : List ℕ) (cs : List Comp) (c : Comp) (i : ℕ) → place_named x c
 stays x [] c i h = absurd (none-some i h)
 stays x (d ∷ ds) c i h = by (bytes_eq d.name c.name) (stays x ds c)
   where
-    known : (t : Bool) → place_found (if t then Some (0, d) else later (comp_named x ds)) ≡ Some i → place_found (if t then Some (0, comp d.name d.type (d.sets ++ c.sets)) else later (comp_named x ds)) ≡ Some i
+    known : (t : Bool) → place_found (if t then Some (0, d) else later (comp_named x ds)) ≡ Some i
+        → place_found (if t then Some (0, comp d.name d.type (d.sets ++ c.sets)) else later (comp_named x ds)) ≡ Some i
     known true g = g
     known false g = g
 
-    passed : (t : Bool) → ((j : ℕ) → place_named x ds ≡ Some j → place_named x (with_comp ds c) ≡ Some j) → place_found (if t then Some (0, d) else later (comp_named x ds)) ≡ Some i → place_found (if t then Some (0, d) else later (comp_named x (with_comp ds c))) ≡ Some i
+    passed : (t : Bool) → ((j : ℕ) → place_named x ds ≡ Some j → place_named x (with_comp ds c) ≡ Some j)
+        → place_found (if t then Some (0, d) else later (comp_named x ds)) ≡ Some i
+        → place_found (if t then Some (0, d) else later (comp_named x (with_comp ds c))) ≡ Some i
     passed true rest g = g
     passed false rest g = both_on (comp_named x ds) (comp_named x (with_comp ds c)) i rest g
 
-    by : (s : Bool) → ((j : ℕ) → place_named x ds ≡ Some j → place_named x (with_comp ds c) ≡ Some j) → place_named x (if s then comp d.name d.type (d.sets ++ c.sets) ∷ ds else d ∷ with_comp ds c) ≡ Some i
+    by : (s : Bool) → ((j : ℕ) → place_named x ds ≡ Some j → place_named x (with_comp ds c) ≡ Some j)
+        → place_named x (if s then comp d.name d.type (d.sets ++ c.sets) ∷ ds else d ∷ with_comp ds c) ≡ Some i
     by true rest = known (bytes_eq d.name x) h
     by false rest = passed (bytes_eq d.name x) rest h
 
@@ -44,21 +48,25 @@ new_place_last (d ∷ ds) c h =
     let u = nothing_before (bytes_eq d.name c.name) (0, d) (comp_named c.name ds) h in
     by (bytes_eq d.name c.name) u.0 (front (bytes_eq d.name c.name) u.0 (one_on (comp_named c.name (with_comp ds c)) (length ds) (new_place_last ds c u.1)))
   where
-    front : (t : Bool) → t ≡ false → place_found (later (comp_named c.name (with_comp ds c))) ≡ Some (suc (length ds)) → place_found (if t then Some (0, d) else later (comp_named c.name (with_comp ds c))) ≡ Some (suc (length ds))
+    front : (t : Bool) → t ≡ false → place_found (later (comp_named c.name (with_comp ds c))) ≡ Some (suc (length ds))
+        → place_found (if t then Some (0, d) else later (comp_named c.name (with_comp ds c))) ≡ Some (suc (length ds))
     front true e rest = absurd (cc)
     front false e rest = rest
 
-    by : (t : Bool) → t ≡ false → place_named c.name (d ∷ with_comp ds c) ≡ Some (suc (length ds)) → place_named c.name (if t then comp d.name d.type (d.sets ++ c.sets) ∷ ds else d ∷ with_comp ds c) ≡ Some (suc (length ds))
+    by : (t : Bool) → t ≡ false → place_named c.name (d ∷ with_comp ds c) ≡ Some (suc (length ds))
+        → place_named c.name (if t then comp d.name d.type (d.sets ++ c.sets) ∷ ds else d ∷ with_comp ds c) ≡ Some (suc (length ds))
     by true e rest = absurd (cc)
     by false e rest = rest
 
-pub placed_known : (c : Component) (x : List ℕ) (cs ds : List Component) (i : ℕ) → x ≡ c.name → cs ≡ ds → (d : Comp) × (comp_named x (map comp_of cs) ≡ Some (i, d)) → place_named c.name (with_comp (map comp_of ds) (comp_of c)) ≡ Some i
+pub placed_known : (c : Component) (x : List ℕ) (cs ds : List Component) (i : ℕ) → x ≡ c.name → cs ≡ ds → (d : Comp)
+    × (comp_named x (map comp_of cs) ≡ Some (i, d)) → place_named c.name (with_comp (map comp_of ds) (comp_of c)) ≡ Some i
 placed_known c x cs ds i e f h =
     let found : place_named c.name (map comp_of ds) ≡ Some i =
     ap (λ (y : List ℕ). place_named y (map comp_of ds)) (sym e) ∙ ap (λ (es : List Component). place_named x (map comp_of es)) (sym f) ∙ ap place_found h.1 in
     stays c.name (map comp_of ds) (comp_of c) i found
 
-pub placed_new : (c : Component) (x : List ℕ) (cs ds : List Component) (n : ℕ) → x ≡ c.name → cs ≡ ds → comp_named x (map comp_of cs) ≡ None → n ≡ length ds → place_named c.name (with_comp (map comp_of ds) (comp_of c)) ≡ Some n
+pub placed_new : (c : Component) (x : List ℕ) (cs ds : List Component) (n : ℕ) → x ≡ c.name → cs ≡ ds → comp_named x (map comp_of cs) ≡ None → n ≡ length ds
+    → place_named c.name (with_comp (map comp_of ds) (comp_of c)) ≡ Some n
 placed_new c x cs ds n e f h l =
     let none : comp_named c.name (map comp_of ds) ≡ None =
     ap (λ (y : List ℕ). comp_named y (map comp_of ds)) (sym e) ∙ ap (λ (es : List Component). comp_named x (map comp_of es)) (sym f) ∙ h in
@@ -94,7 +102,8 @@ abbrev pub ArePlaced : (all : List Comp) (places : List ℕ) (ahead first : List
 ArePlaced all places ahead first = (ps : List ℕ) → AreAt all ps (map comp_of ahead) → AreAt all (places ++ ps) (map comp_of first)
 
 -- one component further
-pub still_whole : (cs ds all : List Comp) (c : Component) (ahead rest : List Component) → ahead ≡ c ∷ rest → ds ≡ with_comp cs (comp_of c) → with_comps cs (map comp_of ahead) ≡ all → with_comps ds (map comp_of rest) ≡ all
+pub still_whole : (cs ds all : List Comp) (c : Component) (ahead rest : List Component) → ahead ≡ c ∷ rest → ds ≡ with_comp cs (comp_of c)
+    → with_comps cs (map comp_of ahead) ≡ all → with_comps ds (map comp_of rest) ≡ all
 still_whole cs ds all c ahead rest step joined whole =
     ap (λ (es : List Comp). with_comps es (map comp_of rest)) joined ∙ ap (λ (ys : List Component). with_comps cs (map comp_of ys)) (sym step) ∙ whole
 
@@ -119,7 +128,8 @@ all_placed all places ahead first none before =
 abbrev pub TooMany : List Comp → Offence → Type 0
 TooMany cs k = (k ≡ too_large limit.Components) × (AreFew cs → ⊥)
 
-pub stops_joining : (cs all : List Comp) (c : Component) (ahead rest : List Component) → ahead ≡ c ∷ rest → with_comps cs (map comp_of ahead) ≡ all → (k : Offence) → TooMany (with_comp cs (comp_of c)) k → TooMany all k
+pub stops_joining : (cs all : List Comp) (c : Component) (ahead rest : List Component) → ahead ≡ c ∷ rest → with_comps cs (map comp_of ahead) ≡ all
+    → (k : Offence) → TooMany (with_comp cs (comp_of c)) k → TooMany all k
 stops_joining cs all c ahead rest step whole k h =
     let less = none_shorter (with_comp cs (comp_of c)) (map comp_of rest) in
     let same = ap length (ap (λ (ys : List Component). with_comps cs (map comp_of ys)) (sym step) ∙ whole) in

@@ -7,16 +7,20 @@ use Rattle.zf_term.specs.declared.conjunct.Conjunct.{Conjunct}
 abbrev pub ArePlaces : List ℕ → List Component → List Component → Type 0
 ArePlaces places from among = AreFirst places (new_place (map comp_of from) (map comp_of among))
 
-at_place : (from among : List Component) (i : ℕ) (c : Component) → i < length from → c ≡ get_or from i c → new_place (map comp_of from) (map comp_of among) i ≡ place_or (comp_named c.name (map comp_of among)) i
+at_place : (from among : List Component) (i : ℕ) (c : Component) → i < length from → c ≡ get_or from i c
+    → new_place (map comp_of from) (map comp_of among) i ≡ place_or (comp_named c.name (map comp_of among)) i
 at_place from among i c l e =
-    ap (λ o. place_of o (map comp_of among) i) (slice_get-get_or (map comp_of from) i (comp_of c) (omega (arith, length-map from comp_of)) ∙ ap Some (get_or-map comp_of from i c (comp_of c) l ∙ ap comp_of (sym e)))
+    ap (λ o. place_of o (map comp_of among) i) (slice_get-get_or (map comp_of from) i (comp_of c) (omega (arith, length-map from comp_of))
+    ∙ ap Some (get_or-map comp_of from i c (comp_of c) l ∙ ap comp_of (sym e)))
 
-pub one_place_more : (places : List ℕ) (from among : List Component) (i n : ℕ) (c : Component) → length places ≡ i → i < length from → c ≡ get_or from i c → n ≡ place_or (comp_named c.name (map comp_of among)) i → ArePlaces places from among → ArePlaces (places ++ n ∷ []) from among
+pub one_place_more : (places : List ℕ) (from among : List Component) (i n : ℕ) (c : Component) → length places ≡ i → i < length from → c ≡ get_or from i c
+    → n ≡ place_or (comp_named c.name (map comp_of among)) i → ArePlaces places from among → ArePlaces (places ++ n ∷ []) from among
 one_place_more places from among i n c m l e h = one_more places (new_place (map comp_of from) (map comp_of among)) n i m (h ∙ sym (at_place from among i c l e))
 
 pub all_places : (places : List ℕ) (from among : List Component) → length places ≡ length from → ArePlaces places from among → place_in places ≡ new_place (map comp_of from) (map comp_of among)
 all_places places from among l =
-    in_full places (new_place (map comp_of from) (map comp_of among)) (λ k past. ap (λ o. place_of o (map comp_of among) k) (slice_get_past (map comp_of from) k (omega (arith, length-map from comp_of))))
+    in_full places (new_place (map comp_of from) (map comp_of among)) (λ k past. ap (λ o. place_of o (map comp_of among) k)
+    (slice_get_past (map comp_of from) k (omega (arith, length-map from comp_of))))
 
 -- ---- conjuncts
 
@@ -34,7 +38,8 @@ all_same f [] same = refl
 all_same f (t ∷ ts) same = let here = same t in let rest = all_same f ts same in (cc)
 
 -- further conjuncts that keep their places
-pub taken_as_they_are : (f : ℕ → ℕ) (old new further : List Conjunct) → ((t : ResolvedTree) → moved f t ≡ t) → new ≡ old ++ further → map conjunct_of new ≡ map conjunct_of old ++ map (moved f) (map conjunct_of further)
+pub taken_as_they_are : (f : ℕ → ℕ) (old new further : List Conjunct) → ((t : ResolvedTree) → moved f t ≡ t) → new ≡ old ++ further
+    → map conjunct_of new ≡ map conjunct_of old ++ map (moved f) (map conjunct_of further)
 taken_as_they_are f old new further same made =
     ap (map conjunct_of) made ∙ map-append conjunct_of old further ∙ ap (λ (ts : List ResolvedTree). map conjunct_of old ++ ts) (sym (all_same (moved f) (map conjunct_of further) same))
 

@@ -58,4 +58,5 @@ none_carried ds ts once =
 pub taken_whole : (a b : Schema) → a ≡ nothing → AreOnce b.comps → b ≡ conjoined a b
 taken_whole a b e once =
     let joined = all_new [] b.comps once (new_to_none b.comps) in
-    sym (ap (λ (s : Schema). conjoined s b) e ∙ ap (λ (cs : List Comp). schema_with cs (carried b.comps cs b.conjuncts)) joined ∙ ap (λ (ts : List ResolvedTree). schema_with b.comps ts) (none_carried b.comps b.conjuncts once))
+    sym (ap (λ (s : Schema). conjoined s b) e ∙ ap (λ (cs : List Comp). schema_with cs (carried b.comps cs b.conjuncts)) joined
+    ∙ ap (λ (ts : List ResolvedTree). schema_with b.comps ts) (none_carried b.comps b.conjuncts once))

@@ -76,7 +76,8 @@ not_both name rows (Check types details format) (inr (inl (is, bad))) (called, a
 not_both name rows (Check types details format) (inr (inr (other, no_reach, bad))) (called, asked) = other called
 not_both name rows (Show r) (inl (is, clash)) (no_check, no_reach, no_why, asked, shown) = no_check is
 not_both name rows (Show r) (inr (inl (is, bad))) (no_check, no_reach, no_why, asked, shown) = no_reach is
-not_both name rows (Show r) (inr (inr (other, no_reach, inl bad))) (no_check, not_reach, no_why, (named, set, held_so, told, formed), shown) = no_bad_setting (values_of (codes "NAME=SIZE") rows) rows r.setting bad set
+not_both name rows (Show r) (inr (inr (other, no_reach, inl bad))) (no_check, not_reach, no_why, (named, set, held_so, told, formed), shown) = no_bad_setting
+    (values_of (codes "NAME=SIZE") rows) rows r.setting bad set
 not_both name rows (Show r) (inr (inr (other, no_reach, inr (no_why, bad)))) (no_check, not_reach, is_no_why, asked, shown) = not_shown rows r bad shown
 not_both name rows (Why r) (inl (is, clash)) (called, asked, plain) = check_is_not_why (sym is ∙ called)
 not_both name rows (Why r) (inr (inl (is, bad))) (called, asked, plain) = reach_is_not_why (sym is ∙ called)

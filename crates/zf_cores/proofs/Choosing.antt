@@ -88,7 +88,8 @@ seen_chosen f (x ∷ xs) (false ∷ m) = seen_chosen f xs m
 
 -- ---- one after another
 
-one_more : {A : Type 0} (xs : List A) (m : List Bool) (i : ℕ) (x : A) (b : Bool) → slice_get xs i ≡ Some x → slice_get m i ≡ Some b → chosen_of (drop i xs) (drop i m) ≡ chosen_of (x ∷ drop (suc i) xs) (b ∷ drop (suc i) m)
+one_more : {A : Type 0} (xs : List A) (m : List Bool) (i : ℕ) (x : A) (b : Bool) → slice_get xs i ≡ Some x → slice_get m i ≡ Some b
+    → chosen_of (drop i xs) (drop i m) ≡ chosen_of (x ∷ drop (suc i) xs) (b ∷ drop (suc i) m)
 one_more [] m i x b at is = absurd (cc)
 one_more (y ∷ ys) [] i x b at is = absurd (cc)
 one_more (y ∷ ys) (c ∷ m) zero x b at is = let e : y ≡ x = cc in let f : c ≡ b = cc in (cc)

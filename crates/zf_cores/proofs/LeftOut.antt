@@ -12,7 +12,8 @@ pub record IsTrimmed (Possible : List Bool → Type 0) (n i : ℕ) (left : List 
   pub needed : (c : ℕ) → c < i → IsChosen left c → Possible (slice_set left c false)
   pub rest : (c : ℕ) → i ≤ c → c < n → IsChosen left c
 
-module _ (Possible : List Bool → Type 0) (fewer : (small large : List Bool) → IsFewer small large → Possible large → Possible small) (n i : ℕ) (m : List Bool) (old : IsTrimmed Possible n i m) (within : i < n) where
+module _ (Possible : List Bool → Type 0) (fewer : (small large : List Bool) → IsFewer small large → Possible large
+    → Possible small) (n i : ℕ) (m : List Bool) (old : IsTrimmed Possible n i m) (within : i < n) where
   -- one that can be left out
   pub drops : (Possible (slice_set m i false) → ⊥) → IsTrimmed Possible n (i + 1) (slice_set m i false)
   drops never = record {

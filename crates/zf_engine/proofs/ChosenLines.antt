@@ -33,5 +33,6 @@ module _ {A : Type 0} (f : A → List ℕ) (xs : List A) (m : List Bool) where
     all_told l = h.told ∙ ap (flat_map f) (sym (h.split ∙ none_further h.part xs m i l))
 
 -- where the lines are those of what each is seen as
-pub seen_told : {A B : Type 0} (f : B → List ℕ) (g : A → B) (xs : List A) (m : List Bool) (lines : List ℕ) → lines ≡ flat_map (λ x. f (g x)) (chosen_of xs m) → lines ≡ flat_map f (chosen_of (map g xs) m)
+pub seen_told : {A B : Type 0} (f : B → List ℕ) (g : A → B) (xs : List A) (m : List Bool) (lines : List ℕ) → lines ≡ flat_map (λ x. f (g x)) (chosen_of xs m)
+    → lines ≡ flat_map f (chosen_of (map g xs) m)
 seen_told f g xs m lines h = h ∙ sym (flat_map-map f g (chosen_of xs m)) ∙ ap (flat_map f) (seen_chosen g xs m)

@@ -29,7 +29,8 @@ use Rattle.zf_engine.proofs.Refusing.{well_typed}
 
 -- ---- each of the schemas can be searched
 
-can_search_all : (e : Environment) → AreWellTyped e.globals → (names : List (List ℕ)) (ns : List Named) → AllZip (IsSchemaOf e.globals) names ns → AllByRecursion (λ n. IsFinite e.numbers e.globals n.schema) ns
+can_search_all : (e : Environment) → AreWellTyped e.globals → (names : List (List ℕ)) (ns : List Named) → AllZip (IsSchemaOf e.globals) names ns
+    → AllByRecursion (λ n. IsFinite e.numbers e.globals n.schema) ns
     → AllByRecursion (λ n. IsNoneOut e n.schema.comps) ns → AllByRecursion (λ n. CanSearch e n.schema) ns
 can_search_all e well [] [] named finite none = tt
 can_search_all e well [] (n ∷ ns) named finite none = absurd named
@@ -109,19 +110,22 @@ module _ (x : Exploration) (file source : List ℕ) (p : Schemas) (e : Environme
     is_machine m of = subst (λ ss. IsMachineOf e ss (form_of x) p m) same (subst (λ (f : Form). IsMachineOf e elements f p m) formed of)
 
     -- a run that stops early has written nothing, or a part
-    pub explored_early : x.sought ≡ None → Appends old new [] ⊎ ((m : System) × IsMachineOf e elements form p m × StopsEarly (explored_in m) (words m) limit old new) → StopsInSource (Reach x) file source old new
+    pub explored_early : x.sought ≡ None → Appends old new [] ⊎ ((m : System) × IsMachineOf e elements form p m
+        × StopsEarly (explored_in m) (words m) limit old new) → StopsInSource (Reach x) file source old new
     explored_early none (inl nothing) = ([], inl refl, nothing)
     explored_early none (inr (m, of, stops)) = explored_part none m (is_machine m of) old new (subst (λ n. StopsEarly (explored_in m) (words m) n old new) bound stops)
 
     pub sought_early : (name : List ℕ) → x.sought ≡ Some name
-        → Appends old new [] ⊎ ((m : System) × IsMachineOf e elements form p m × StopsSearch (explored_in m) (sought_in m) (words m) (verdict m) limit old new) → StopsInSource (Reach x) file source old new
+        → Appends old new [] ⊎ ((m : System) × IsMachineOf e elements form p m × StopsSearch (explored_in m) (sought_in m) (words m) (verdict m) limit old new)
+        → StopsInSource (Reach x) file source old new
     sought_early name some (inl nothing) = ([], inl refl, nothing)
     sought_early name some (inr (m, of, stops)) =
         sought_part name some m (is_machine m of) old new (subst (λ n. StopsSearch (explored_in m) (sought_in m) (words m) (verdict m) n old new) bound stops)
 
     -- and one that ends the whole
     pub explored_whole : x.sought ≡ None → (ending : code.Ending) (status : Status) → status ≡ ending_status (ending_of ending [])
-        → (m : System) × IsMachineOf e elements form p m × (at text : List ℕ) × IsWritten (explored_in m) (words m) limit (ending_of ending at) text × Appends old new text → Reaches x file source old new (Ok status)
+        → (m : System) × IsMachineOf e elements form p m × (at text : List ℕ) × IsWritten (explored_in m) (words m) limit (ending_of ending at) text
+        × Appends old new text → Reaches x file source old new (Ok status)
     explored_whole none ending status ends (m, of, at, text, w, written) =
         subst (λ s. Reaches x file source old new (Ok s)) (sym ends)
         (explored_text none m (is_machine m of) old new ending at text (subst (λ n. IsWritten (explored_in m) (words m) n (ending_of ending at) text) bound w) written)

@@ -44,7 +44,8 @@ no_comma_at_all text i l before =
 name_length : (rest : List ℕ) → length (before_first is_comma rest) ≡ position_or_len is_comma rest
 name_length rest = let l = prefix_len-le-length (λ b. not (is_comma b)) rest in length-take (position_or_len is_comma rest) rest ∙ grind (arith, l)
 
-comma_behind : (rest name later : List ℕ) → name ≡ before_first is_comma rest → length name < length rest → later ≡ drop (length name + 1) rest → names_between rest ≡ trimmed name ∷ names_between later
+comma_behind : (rest name later : List ℕ) → name ≡ before_first is_comma rest → length name < length rest → later ≡ drop (length name + 1) rest
+    → names_between rest ≡ trimmed name ∷ names_between later
 comma_behind rest name later is l behind =
     let n : length name ≡ position_or_len is_comma rest = ap (λ (t : List ℕ). length t) is ∙ name_length rest in
     let within : position_or_len is_comma rest < length rest = omega (arith, l, n) in
@@ -115,14 +116,16 @@ module _ (comps : List Comp) where
       ∙ ap (λ ps. ps ++ rest) (sym (ap (map Some) added.added ∙ map-append Some places (added.place ∷ [])))
 
   -- one more, and the last one
-  pub one_more : (text rest name later places new : List ℕ) → SoFar text rest places → name ≡ before_first is_comma rest → length name < length rest → later ≡ drop (length name + 1) rest → IsAdded comps name places new
+  pub one_more : (text rest name later places new : List ℕ) → SoFar text rest places → name ≡ before_first is_comma rest → length name < length rest
+      → later ≡ drop (length name + 1) rest → IsAdded comps name places new
       → SoFar text later new
   one_more text rest name later places new so_far is l behind added = record {
     named = so_far.named ∙ ap (λ ns. map Some places ++ found ns) (comma_behind rest name later is l behind) ∙ places_more name places new added (found (names_between later));
     once = once_more name places new added so_far.once;
   }
 
-  pub all_read : (text rest name places new : List ℕ) → SoFar text rest places → name ≡ before_first is_comma rest → length rest ≤ length name → IsAdded comps name places new → NamesParts comps text new
+  pub all_read : (text rest name places new : List ℕ) → SoFar text rest places → name ≡ before_first is_comma rest → length rest ≤ length name
+      → IsAdded comps name places new → NamesParts comps text new
   all_read text rest name places new so_far is l added = record {
     named = so_far.named ∙ ap (λ ns. map Some places ++ found ns) (no_comma rest name is l) ∙ places_more name places new added [] ∙ append-nil (map Some new);
     once = once_more name places new added so_far.once;

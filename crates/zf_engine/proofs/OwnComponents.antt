@@ -36,7 +36,8 @@ found_more x (d ∷ ds) c h = by (bytes_eq d.name c.name) (found_more x ds c)
     known true g = tt
     known false g = g
 
-    passed : (t : Bool) → (IsFound (comp_named x ds) → IsFound (comp_named x (with_comp ds c))) → IsFound (if t then Some (0, d) else later (comp_named x ds)) → IsFound (if t then Some (0, d) else later (comp_named x (with_comp ds c)))
+    passed : (t : Bool) → (IsFound (comp_named x ds) → IsFound (comp_named x (with_comp ds c))) → IsFound (if t then Some (0, d) else later (comp_named x ds))
+        → IsFound (if t then Some (0, d) else later (comp_named x (with_comp ds c)))
     passed true rest g = tt
     passed false rest g = found_later (comp_named x (with_comp ds c)) (rest (later_found (comp_named x ds) g))
 
@@ -60,7 +61,8 @@ found_own (d ∷ ds) c = by (bytes_eq d.name c.name) refl (found_own ds c)
     other true g = tt
     other false g = found_later (comp_named c.name (with_comp ds c)) g
 
-    by : (s : Bool) → bytes_eq d.name c.name ≡ s → IsFound (comp_named c.name (with_comp ds c)) → IsFound (comp_named c.name (if s then comp d.name d.type (d.sets ++ c.sets) ∷ ds else d ∷ with_comp ds c))
+    by : (s : Bool) → bytes_eq d.name c.name ≡ s → IsFound (comp_named c.name (with_comp ds c))
+        → IsFound (comp_named c.name (if s then comp d.name d.type (d.sets ++ c.sets) ∷ ds else d ∷ with_comp ds c))
     by true e rest = first (bytes_eq d.name c.name) e
     by false e rest = other (bytes_eq d.name c.name) rest
 
@@ -164,7 +166,10 @@ own_decorated strokes a h = (
 
 unchanged_due : (n l : ℕ) (primed all : List Comp) (i : ℕ) (cs : List Comp) → ((j : ℕ) → j < i + length cs → (j < n) × (new_place primed all j < n)) → AreDue n (all_unchanged l primed all i cs)
 unchanged_due n l primed all i [] h = tt
-unchanged_due n l primed all i (c ∷ cs) h = let k = h i (omega arith) in let k0 = k.0 in let k1 = k.1 in (omega (arith, k0, k1), unchanged_due n l primed all (i + 1) cs (λ j m. h j (omega (arith, m))))
+unchanged_due n l primed all i (c ∷ cs) h = let k = h i (omega arith) in let k0 = k.0 in let k1 = k.1 in (
+  omega (arith, k0, k1),
+  unchanged_due n l primed all (i + 1) cs (λ j m. h j (omega (arith, m))),
+)
 
 own_delta : (a : Schema) → IsOwn a → IsOwn (delta a)
 own_delta a h = own_conjoined a (decorated prime a) h (own_decorated prime a h)
@@ -199,7 +204,8 @@ sets_due n i (d ∷ ds) l h = due_joined n (membership i d) (flat_map (membershi
 
 memberships_due : (n i : ℕ) (cs : List Comp) → i + length cs ≤ n → HaveClosed cs → AreDue n (memberships i cs)
 memberships_due n i [] l h = tt
-memberships_due n i (c ∷ cs) l h = due_joined n (flat_map (membership i) c.sets) (memberships (i + 1) cs) (sets_due n i c.sets (omega (arith, l)) h.0) (memberships_due n (i + 1) cs (omega (arith, l)) h.1)
+memberships_due n i (c ∷ cs) l h = due_joined n (flat_map (membership i) c.sets) (memberships (i + 1) cs) (sets_due n i c.sets (omega (arith, l)) h.0)
+    (memberships_due n (i + 1) cs (omega (arith, l)) h.1)
 
 constraints_due : (a : Schema) → IsOwn a → AreDue (length a.comps) (constraints a)
 constraints_due a h = due_joined (length a.comps) (memberships 0 a.comps) a.conjuncts (memberships_due (length a.comps) 0 a.comps (omega arith) h.1) h.0
@@ -220,7 +226,8 @@ own_disjoined l a b h k =
       (
         due_both n (joined l (constraints a)) (joined l (carried b.comps all (constraints b)))
             (joined_due n l (constraints a) (due_longer (length a.comps) n (constraints a) (let g = longer_all a.comps b.comps in omega (arith, g, same)) (constraints_due a h)))
-            (joined_due n l (carried b.comps all (constraints b)) (due_longer (length all) n (carried b.comps all (constraints b)) (omega (arith, same)) (carried_due a.comps b.comps (constraints b) (constraints_due b k)))),
+            (joined_due n l (carried b.comps all (constraints b)) (due_longer (length all) n (carried b.comps all (constraints b)) (omega (arith, same))
+            (carried_due a.comps b.comps (constraints b) (constraints_due b k)))),
         tt,
       ),
       closed_sides _ all (λ c. (tt, tt)),

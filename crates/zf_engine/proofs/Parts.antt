@@ -65,7 +65,8 @@ pub why_told_so : (r : Request) (file source : List ℕ) (stop : Stop) (a b : Op
     → Writes (Why r) file source a b result
 why_told_so r file source stop a b result answer h = told_written (Why r) r.format (IsRefused r file source) file source (why_refused r file source) stop a b result answer h
 
-pub checked_told : (types details : Bool) (format : Format) (file source : List ℕ) (stop : Stop) (a b : Option (List ℕ)) (result : Result Status RunFault) → IfAnswered stop (ToldOfFaults types details file source)
+pub checked_told : (types details : Bool) (format : Format) (file source : List ℕ) (stop : Stop) (a b : Option (List ℕ)) (result : Result Status RunFault)
+    → IfAnswered stop (ToldOfFaults types details file source)
     → Tells format file stop a b result → Writes (Check types details format) file source a b result
 checked_told types details format file source stop a b result answer h =
     told_written (Check types details format) format (ToldOfFaults types details file source) file source (faults_told types details format file source) stop a b result answer h
@@ -102,7 +103,8 @@ nothing_stops job file source text old new none (f, (rest, split), written) = (f
 
 -- ---- the lines of a search
 
-module _ (r : Request) (file source : List ℕ) (a : Schema) (g : Goal) (b : Stage Value) (k : Wording Value) (e : Environment) (p : Portion) (search : IsSearch r source e.globals a e p) (begins : Begins e a p g b) where
+module _ (r : Request) (file source : List ℕ) (a : Schema) (g : Goal) (b : Stage Value) (k : Wording Value) (e : Environment) (p : Portion)
+    (search : IsSearch r source e.globals a e p) (begins : Begins e a p g b) where
   listed : (last : Option (List Value)) (events : List (Event Value)) → FindsEvents g.environment a b last events → HasEvents e a p last events
   listed last events h = record {
     ranges = b.ranges;
@@ -161,7 +163,8 @@ module _ (r : Request) (file source : List ℕ) (a : Schema) (g : Goal) (b : Sta
     shown tests old new (Err fault) same all_told (inr (text, status, w, (f, front, written))) = (f, inr (inl (text, status, inr (whole_answer tests text status same w), front)), written)
 
   -- ---- what some components have in them
-  module _ (names places : List ℕ) (after : Option (List Value)) (some : r.only ≡ Some names) (named : NamesParts a.comps names places) (comes_after : IsNamedRow e (comps_at a.comps places) r.after after)
+  module _ (names places : List ℕ) (after : Option (List Value)) (some : r.only ≡ Some names) (named : NamesParts a.comps names places)
+      (comes_after : IsNamedRow e (comps_at a.comps places) r.after after)
       (worded : k ≡ part_wording r.format (spellings e.globals) (comps_at a.comps places) a.comps) where
     parts_answer : (text : List ℕ) (status : Status) → WritesParts k r.limit g.environment a b places after text status → ShowAnswer r file source text status
     parts_answer text status w = granted (Some names) some text status (record {

@@ -77,7 +77,8 @@ listed f (Some x) xs is = ap (map f) is
 
 -- ---- refusals
 
-pub reach_told : (x : Exploration) (file source : List ℕ) (stop : Stop) (a b : Option (List ℕ)) (result : Result Status RunFault) → AnswersExploration x file source stop → Tells x.format file stop a b result
+pub reach_told : (x : Exploration) (file source : List ℕ) (stop : Stop) (a b : Option (List ℕ)) (result : Result Status RunFault)
+    → AnswersExploration x file source stop → Tells x.format file stop a b result
     → Reaches x file source a b result
 reach_told x file source stop a b result answer h = told_written (Reach x) x.format (IsUnexplored x file source) file source (reach_refused x file source) stop a b result answer h
 

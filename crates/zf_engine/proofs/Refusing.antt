@@ -79,23 +79,30 @@ no_row_told ss e comps text bytes stop place same is none told clear =
     weaker stop (λ written status t. ((λ row line. none clear row line.0 (is ∙ line.1 ∙ ap (λ k. binding_text k comps row) (sym same))), (place, t))) told
 
 -- what a text is read to hold it holds
-pub line_told : (ss : List Spelling) (e : Environment) (comps : List Comp) (text bytes : List ℕ) (held : List (Option Value)) → ss ≡ spellings e.globals → bytes ≡ text → IsHeldLine ss e comps bytes held
+pub line_told : (ss : List Spelling) (e : Environment) (comps : List Comp) (text bytes : List ℕ) (held : List (Option Value)) → ss ≡ spellings e.globals
+    → bytes ≡ text → IsHeldLine ss e comps bytes held
     → AreHeld e comps (Some text) held
 line_told ss e comps text bytes held same is h =
     held_is_line (spellings e.globals) e comps text held (subst (λ l. IsHeldLine (spellings e.globals) e comps l held) is (subst (λ k. IsHeldLine k e comps bytes held) same h))
 
 -- where spellings and names are clear, a text that is read as the line of no components holds no values
-pub no_values_told : (ss : List Spelling) (e : Environment) (comps : List Comp) (text bytes : List ℕ) (stop : Stop) (place : ℕ) → ss ≡ spellings e.globals → bytes ≡ text → IsNoHeldLine ss e comps bytes
+pub no_values_told : (ss : List Spelling) (e : Environment) (comps : List Comp) (text bytes : List ℕ) (stop : Stop) (place : ℕ) → ss ≡ spellings e.globals
+    → bytes ≡ text → IsNoHeldLine ss e comps bytes
     → IfAnswered stop (TellsPlaceHeld place) → AreClear ss e.sizes → HaveClearNames comps → IfAnswered stop (TellsNoValues e comps (Some text))
 unfolding IsNoHeldLine
 no_values_told ss e comps text bytes stop place same is none told clear names =
-    weaker stop (λ written status t. ((λ held line. none clear held (subst (λ l. IsHeldLine ss e comps l held) (sym is) (subst (λ k. IsHeldLine k e comps text held) (sym same) (line_is_held (spellings e.globals) e comps text held names line)))), (place, t))) told
+    weaker stop (λ written status t. (
+      (λ held line. none clear held (subst (λ l. IsHeldLine ss e comps l held) (sym is)
+          (subst (λ k. IsHeldLine k e comps text held) (sym same) (line_is_held (spellings e.globals) e comps text held names line)))),
+      (place, t),
+    )) told
 
 -- the spellings of what is asked for are clear
 pub clear_of : (r : Request) (source : List ℕ) (a : Schema) (e : Environment) → IsAsked r source e.globals a e → (ss : List Spelling) → ss ≡ spellings e.globals → AreClear ss e.sizes
 clear_of r source a e is ss same =
     let checks = is.has_schema.checks in
-    subst (λ k. AreClear k e.sizes) (sym same) (globals_clear checks.boxes source e.globals [] (stated e.globals r.setting) (numbers_of r.setting) e checks.reads checks.judged is.complete is.environment)
+    subst (λ k. AreClear k e.sizes) (sym same) (globals_clear checks.boxes source e.globals [] (stated e.globals r.setting)
+    (numbers_of r.setting) e checks.reads checks.judged is.complete is.environment)
 
 -- so are the names of its components
 pub names_of : (r : Request) (source : List ℕ) (a : Schema) (e : Environment) → IsAsked r source e.globals a e → HaveClearNames a.comps
@@ -122,23 +129,29 @@ module _ (r : Request) (file source : List ℕ) (g : List Defined) (a : Schema) 
   pub numbers_answer : HasSchema source r.name g a → (stop : Stop) → IfAnswered stop (TellsNumbers (numbers_of r.setting)) → AnswersRequest r file source stop
   numbers_answer has stop h = weaker stop (λ text status t. inr (RefusesRequest.large_numbers g a has t.0 t.1 t.2)) h
 
-  pub misfit_answers : HasSchema source r.name g a → AreSmall (numbers_of r.setting) → (stop : Stop) → IfAnswered stop (TellsMisfit r.details g (stated g r.setting)) → AnswersRequest r file source stop
+  pub misfit_answers : HasSchema source r.name g a → AreSmall (numbers_of r.setting) → (stop : Stop)
+      → IfAnswered stop (TellsMisfit r.details g (stated g r.setting)) → AnswersRequest r file source stop
   misfit_answers has small stop h = weaker stop (λ text status t. inr (RefusesRequest.bad_sizes g a t.0 has small t.1 t.2.0 t.2.1 t.2.2)) h
 
-  pub infinite_answers : HasSchema source r.name g a → AreSmall (numbers_of r.setting) → AreComplete (given_sets g) (stated g r.setting) → (stop : Stop) → IfAnswered stop (TellsInfinite (numbers_of r.setting) g a r.details file) → AnswersRequest r file source stop
+  pub infinite_answers : HasSchema source r.name g a → AreSmall (numbers_of r.setting) → AreComplete (given_sets g) (stated g r.setting) → (stop : Stop)
+      → IfAnswered stop (TellsInfinite (numbers_of r.setting) g a r.details file) → AnswersRequest r file source stop
   infinite_answers has small complete stop h = weaker stop (λ text status t. inr (RefusesRequest.not_finite g a t.0 t.1 has small complete t.2 t.3 t.4 t.5)) h
 
   -- the same of the globals and the numbers of this environment
-  pub infinite_here : (e : Environment) → IsEnvironment g (stated g r.setting) (numbers_of r.setting) e → (stop : Stop) → IfAnswered stop (TellsInfinite e.numbers e.globals a r.details file) → IfAnswered stop (TellsInfinite (numbers_of r.setting) g a r.details file)
+  pub infinite_here : (e : Environment) → IsEnvironment g (stated g r.setting) (numbers_of r.setting) e → (stop : Stop)
+      → IfAnswered stop (TellsInfinite e.numbers e.globals a r.details file) → IfAnswered stop (TellsInfinite (numbers_of r.setting) g a r.details file)
   infinite_here e is stop h =
       subst (λ n. IfAnswered stop (TellsInfinite n g a r.details file)) is.3 (subst (λ (h : List Defined). IfAnswered stop (TellsInfinite e.numbers h a r.details file)) is.0 h)
 
   -- the schema is asked for in this environment
-  pub asked : (e : Environment) → HasSchema source r.name g a → AreSmall (numbers_of r.setting) → AreComplete (given_sets g) (stated g r.setting) → IsEnvironment g (stated g r.setting) (numbers_of r.setting) e → IsFinite e.numbers e.globals a → IsAsked r source e.globals a e
-  asked e has small complete is ends = subst (λ h. IsAsked r source h a e) (sym is.0) (record { has_schema = has; small = small; complete = complete; environment = is; finite = subst (λ h. IsFinite e.numbers h a) is.0 ends })
+  pub asked : (e : Environment) → HasSchema source r.name g a → AreSmall (numbers_of r.setting) → AreComplete (given_sets g) (stated g r.setting)
+      → IsEnvironment g (stated g r.setting) (numbers_of r.setting) e → IsFinite e.numbers e.globals a → IsAsked r source e.globals a e
+  asked e has small complete is ends = subst (λ h. IsAsked r source h a e) (sym is.0)
+      (record { has_schema = has; small = small; complete = complete; environment = is; finite = subst (λ h. IsFinite e.numbers h a) is.0 ends })
 
   module _ (e : Environment) (is : IsAsked r source g a e) where
-    pub no_values_answers : (shown : List Comp) (after : Option (List Value)) → AreShown a.comps r.only shown → IsNamedRow e shown r.after after → (stop : Stop) → IfAnswered stop (TellsNoValues e a.comps r.held) → AnswersRequest r file source stop
+    pub no_values_answers : (shown : List Comp) (after : Option (List Value)) → AreShown a.comps r.only shown → IsNamedRow e shown r.after after
+        → (stop : Stop) → IfAnswered stop (TellsNoValues e a.comps r.held) → AnswersRequest r file source stop
     no_values_answers shown after are named stop h = weaker stop (λ text status t. inr (RefusesRequest.holds_nothing g a e shown after t.1.0 is are named t.0 t.1.1.0 t.1.1.1)) h
 
     bounds_refused : (shown : List Comp) → AreShown a.comps r.only shown → (text : List ℕ) (status : Status) → TellsBounds e a.comps shown r text status → IsRefused r file source text status
@@ -152,7 +165,8 @@ module _ (r : Request) (file source : List ℕ) (g : List Defined) (a : Schema) 
     pub misnamed_answers : (stop : Stop) → IfAnswered stop (TellsMisnamed e a.comps r) → AnswersRequest r file source stop
     misnamed_answers stop h = weaker stop misnamed_refused h
 
-    pub out_answers : (shown : List Comp) (after : Option (List Value)) (held : List (Option Value)) → AreShown a.comps r.only shown → IsNamedRow e shown r.after after → AreHeld e a.comps r.held held → (stop : Stop)
+    pub out_answers : (shown : List Comp) (after : Option (List Value)) (held : List (Option Value)) → AreShown a.comps r.only shown
+        → IsNamedRow e shown r.after after → AreHeld e a.comps r.held held → (stop : Stop)
         → IfAnswered stop (TellsOut e a.comps) → AnswersRequest r file source stop
     out_answers shown after held are named holds stop h =
         weaker stop (λ text status t. inr (RefusesRequest.declared_out g a e shown after held t.0 t.2.0 is are named holds t.1 t.2.1 t.2.2 t.2.3)) h

@@ -53,7 +53,8 @@ module _ (r : Request) (source : List ℕ) (s : Subject) (is : IsSubjectOf r sou
 
   -- the wording of parts, where these are their components
   pub part_worded : (places : List ℕ) (c : Chosen) → (schema_of c.schema.now).comps ≡ comps_at (schema_in s).comps places
-      → part_wording s.style.now.format s.style.now.elements.now (schema_of c.schema.now).comps (schema_in s).comps ≡ part_wording r.format (spellings (environment_in s).globals) (comps_at (schema_in s).comps places) (schema_in s).comps
+      → part_wording s.style.now.format s.style.now.elements.now (schema_of c.schema.now).comps (schema_in s).comps
+      ≡ part_wording r.format (spellings (environment_in s).globals) (comps_at (schema_in s).comps places) (schema_in s).comps
   part_worded places c same =
       ap (λ f. part_wording f s.style.now.elements.now (schema_of c.schema.now).comps (schema_in s).comps) is.formed
       ∙ ap (λ k. part_wording r.format k (schema_of c.schema.now).comps (schema_in s).comps) is.spelled

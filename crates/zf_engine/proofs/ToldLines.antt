@@ -32,11 +32,13 @@ same_read (x ∷ xs) (suc i) d e l = same_read xs i d e (omega arith)
 pub read_ahead : (xs : List ℕ) (i d : ℕ) → i < length xs → drop i xs ≡ get_or xs i d ∷ drop (i + 1) xs
 read_ahead xs i d l = dropped xs i (get_or xs i d) l (same_read xs i d (get_or xs i d) l)
 
-pub one_read : (f : ℕ → List ℕ) (xs : List ℕ) (i d : ℕ) (before after whole : List ℕ) → i < length xs → after ≡ before ++ f (get_or xs i d) → before ++ flat_map f (drop i xs) ≡ whole → after ++ flat_map f (drop (i + 1) xs) ≡ whole
+pub one_read : (f : ℕ → List ℕ) (xs : List ℕ) (i d : ℕ) (before after whole : List ℕ) → i < length xs → after ≡ before ++ f (get_or xs i d)
+    → before ++ flat_map f (drop i xs) ≡ whole → after ++ flat_map f (drop (i + 1) xs) ≡ whole
 one_read f xs i d before after whole l step is = one_more f xs i (get_or xs i d) before after whole (same_read xs i d (get_or xs i d) l) l step is
 
 module _ (file source : List ℕ) where
-  pub all_told : {R E : Type 0} (r : Result R E) (ss : List Spelling) (t : Told) (old first mid new : List ℕ) → first ≡ old ++ source_line file source t.line → mid ≡ first ++ sides_lines_of file source t.sides
+  pub all_told : {R E : Type 0} (r : Result R E) (ss : List Spelling) (t : Told) (old first mid new : List ℕ) → first ≡ old ++ source_line file source t.line
+      → mid ≡ first ++ sides_lines_of file source t.sides
       → OnOk r (new ≡ mid ++ operands_lines_of ss t.operands) → OnOk r (new ≡ old ++ told_line Lines file source ss t)
   all_told (Err x) ss t old first mid new one two h = tt
   all_told (Ok x) ss t old first mid new one two h =
@@ -57,7 +59,8 @@ module _ (file source : List ℕ) where
       ∙ append_assoc old (before ++ codes "    or\n") behind
 
 -- what both operands come to, piece by piece
-pub operands_told : (ss : List Spelling) (o : Operands) (old one two three four new : List ℕ) → one ≡ old ++ codes "    left: " → two ≡ one ++ outcome_text ss o.left → three ≡ two ++ codes "\n    right: "
+pub operands_told : (ss : List Spelling) (o : Operands) (old one two three four new : List ℕ) → one ≡ old ++ codes "    left: "
+    → two ≡ one ++ outcome_text ss o.left → three ≡ two ++ codes "\n    right: "
     → four ≡ three ++ outcome_text ss o.right → new ≡ four ++ codes "\n" → new ≡ old ++ operands_lines ss o
 operands_told ss o old one two three four new a b c d e =
     let first = codes "    left: " in

@@ -19,8 +19,10 @@ use Rattle.zf_engine.proofs.Refusing.{after_all, all_shown, out_answers}
 pub none_named : (r : Request) (e : Environment) (a : Schema) → IsBare r → IsNamedRow e a.comps r.after None
 none_named r e a plain = subst (λ t. IsNamedRow e a.comps t None) (sym plain.0) refl
 
-module _ (r : Request) (file source : List ℕ) (a : Schema) (e : Environment) (held : List (Option Value)) (plain : IsBare r) (is : IsAsked r source e.globals a e) (are : AreHeld e a.comps r.held held) where
-  pub why_told : (text : List ℕ) (status : Status) → IsNoneOut e a.comps → TellsWhy r.format r.details file source e.globals a e (portion None held) text status → Answer (Why r) file source text status
+module _ (r : Request) (file source : List ℕ) (a : Schema) (e : Environment) (held : List (Option Value)) (plain : IsBare r)
+    (is : IsAsked r source e.globals a e) (are : AreHeld e a.comps r.held held) where
+  pub why_told : (text : List ℕ) (status : Status) → IsNoneOut e a.comps
+      → TellsWhy r.format r.details file source e.globals a e (portion None held) text status → Answer (Why r) file source text status
   why_told text status none_out told =
       inr (RequestAnswer.granted e.globals a e (portion None held) (record {
         asked = is;
@@ -35,14 +37,16 @@ module _ (r : Request) (file source : List ℕ) (a : Schema) (e : Environment) (
 
   pub why_found : {E : Type 0} (result : Result (Vec ℕ Global × Status) E) (details : Bool) → details ≡ r.details → OnOk result (IsNoneOut e a.comps)
       → IfOk result (λ p. TellsWhy r.format details file source e.globals a e (portion None held) p.0.items p.1) → IfOk result (λ p. Answer (Why r) file source p.0.items p.1)
-  why_found (Ok (text, status)) details same none_out told = why_told text.items status none_out (subst (λ (d : Bool). TellsWhy r.format d file source e.globals a e (portion None held) text.items status) same told)
+  why_found (Ok (text, status)) details same none_out told = why_told text.items status none_out
+      (subst (λ (d : Bool). TellsWhy r.format d file source e.globals a e (portion None held) text.items status) same told)
   why_found (Err stop) details same none_out told = tt
 
   pub why_out : (stop : Stop) → IfAnswered stop (TellsOut e a.comps) → AnswersRequest r file source stop
   why_out stop h = out_answers r file source e.globals a e is a.comps None held (all_shown r e a.comps plain.1) (none_named r e a plain) are stop h
 
 -- a cause of empty ranges speaks of each component
-pub of_schema : (e : Environment) (a : Schema) (held : List (Option Value)) (details : Bool) (disjunctions : ℕ → Bool) (cause : Cause) → Explains e a held details disjunctions cause → IsOfSchema a cause
+pub of_schema : (e : Environment) (a : Schema) (held : List (Option Value)) (details : Bool) (disjunctions : ℕ → Bool) (cause : Cause)
+    → Explains e a held details disjunctions cause → IsOfSchema a cause
 of_schema e a held details disjunctions (Empty empty) h = h.0.each
 of_schema e a held details disjunctions (Alone told) h = tt
 of_schema e a held details disjunctions (Together told) h = tt
@@ -51,6 +55,16 @@ of_schema e a held details disjunctions (Together told) h = tt
 pub none_told : (s : Subject) → CanBeSearched s → (details : Bool) (file source text : List ℕ) → HasNone s → TellsNone s details file source text → TellsOf s details file source text Done
 none_told s can details file source text none (Empty empty, explains, told) = TellsWhy.emptied empty.items none.events explains told refl
 none_told s can details file source text none (Alone tellings, (alone, refuted, are), told) =
-    TellsWhy.refuted alone none.events refuted (disjunction_at s.schema.now.conjuncts, tellings.items, are, told ∙ ap (λ ss. told_lines s.style.now.format file source ss tellings.items ++ no_binding_line s.style.now.format) can.spelled) refl
+    TellsWhy.refuted alone none.events refuted (
+      disjunction_at s.schema.now.conjuncts,
+      tellings.items,
+      are,
+      told ∙ ap (λ ss. told_lines s.style.now.format file source ss tellings.items ++ no_binding_line s.style.now.format) can.spelled,
+    ) refl
 none_told s can details file source text none (Together tellings, (core, refuted, are), told) =
-    TellsWhy.refuted_together core none.events refuted (disjunction_at s.schema.now.conjuncts, tellings.items, are, told ∙ ap (λ ss. told_lines s.style.now.format file source ss tellings.items ++ no_binding_line s.style.now.format) can.spelled) refl
+    TellsWhy.refuted_together core none.events refuted (
+      disjunction_at s.schema.now.conjuncts,
+      tellings.items,
+      are,
+      told ∙ ap (λ ss. told_lines s.style.now.format file source ss tellings.items ++ no_binding_line s.style.now.format) can.spelled,
+    ) refl

@@ -55,11 +55,13 @@ named_within n s x h = local (last_named (λ v. v.name) x s.locals)
     global None = omega arith
     global (Some p) = omega arith
 
-    component : (o : Option (ℕ × Comp)) → ((p : ℕ × Comp) → o ≡ Some p → p.0 < length s.comps) → place_named (referent (or_else (component_meaning o) (global_meaning (first_named (λ d. d.name) x s.globals)))) ≤ n
+    component : (o : Option (ℕ × Comp)) → ((p : ℕ × Comp) → o ≡ Some p → p.0 < length s.comps)
+        → place_named (referent (or_else (component_meaning o) (global_meaning (first_named (λ d. d.name) x s.globals)))) ≤ n
     component None k = global (first_named (λ d. d.name) x s.globals)
     component (Some p) k = let l = k p refl in omega (arith, l, h)
 
-    local : (o : Option (ℕ × Var)) → place_named (referent (or_else (variable_meaning o) (or_else (component_meaning (first_named (λ c. c.name) x s.comps)) (global_meaning (first_named (λ d. d.name) x s.globals))))) ≤ n
+    local : (o : Option (ℕ × Var)) → place_named (referent (or_else (variable_meaning o)
+        (or_else (component_meaning (first_named (λ c. c.name) x s.comps)) (global_meaning (first_named (λ d. d.name) x s.globals))))) ≤ n
     local None = component (first_named (λ c. c.name) x s.comps) (first_below (λ c. c.name) x s.comps)
     local (Some p) = omega arith
 

@@ -63,7 +63,8 @@ below v b h = below_form v (out-Value v) b refl h
 above : (a n : ℤ) → value_order (Int a) (Int n) ≡ Less → a <ℤ n
 above a n h = int_ranked a n Less (sym (sym (compared_numbers a n) ∙ h))
 
-pub over : (range : List Value) (w first last : Value) (a b : ℤ) → AllPairs (λ u v. value_order u v ≡ Less) range → 0 < length range → first ≡ get_or range 0 first → last ≡ get_or range (length range - 1) last → first ≡ Int a → last ≡ Int b → Contains range w
+pub over : (range : List Value) (w first last : Value) (a b : ℤ) → AllPairs (λ u v. value_order u v ≡ Less) range → 0 < length range
+    → first ≡ get_or range 0 first → last ≡ get_or range (length range - 1) last → first ≡ Int a → last ≡ Int b → Contains range w
     → (m : ℤ) × (w ≡ Int m) × (a ≤ℤ m) × (m ≤ℤ b)
 over range w first last a b rises some at_first at_last is_a is_b (k, l, here) =
     let end = length range - 1 in
@@ -115,7 +116,8 @@ negation_outcome m f = rw (number_of-Int m) (refl, f)
 link_false : (c : Context) (r : Relation) (t : ResolvedTree) (a b : ℤ) → is_membership r ≡ false → (Holds r (Int a) (Int b) → ⊥) → IsLink (infinite_right c r t) r (Is (Int a)) (Is (Int b)) truth.False
 link_false c r t a b e never = subst (λ (q : Bool). IsLink (if q then infinite_in c.environment t else None) r (Is (Int a)) (Is (Int b)) truth.False) (sym e) never
 
-pub balanced : (e : Environment) (ts : List ResolvedTree) (leaf line : ℕ) (left right : ResolvedTree) (r : Relation) (s : Span) (ranges : List (List Value)) (places found : List ℕ) → slice_get ts leaf ≡ Some (chain line left (link r right no_links))
+pub balanced : (e : Environment) (ts : List ResolvedTree) (leaf line : ℕ) (left right : ResolvedTree) (r : Relation) (s : Span) (ranges : List (List Value))
+    (places found : List ℕ) → slice_get ts leaf ≡ Some (chain line left (link r right no_links))
     → IsDifferenceOf e left right ranges places s → AreRuledOut r s (get_or ranges (length places) []) found → Leaves (property e ts) leaf ranges places found
 balanced e ts leaf line left right r s ranges places found at differ out i v more there apart is =
     let ruled = out i v there apart in
@@ -153,7 +155,8 @@ module _ (e : Environment) (ranges : List (List Value)) (places : List ℕ) wher
       let r = p (front ++ Int v ∷ more) v is (get_next front more (Int v) (length places) (sym (length-picked ranges places within))) in
       (r.0, sym (ap value_or r.1), r.2)
 
-  pub value_span : (t : ResolvedTree) (s : Span) (n : ℤ) → AreWithin ranges places → ((k : ℕ) → k < length ranges → uses t k ≡ true → k < length places) → HasOutcome (in_row e (picked ranges places)) t (Is (Int n)) → ((v : ℤ) → Spans s v n) → IsSpanOf e t ranges places s
+  pub value_span : (t : ResolvedTree) (s : Span) (n : ℤ) → AreWithin ranges places → ((k : ℕ) → k < length ranges → uses t k ≡ true → k < length places)
+      → HasOutcome (in_row e (picked ranges places)) t (Is (Int n)) → ((v : ℤ) → Spans s v n) → IsSpanOf e t ranges places s
   value_span t s n within first here p v more g is =
       let front = picked ranges places in
       let row = front ++ Int v ∷ more in
@@ -169,7 +172,8 @@ module _ (e : Environment) (ranges : List (List Value)) (places : List ℕ) wher
         p v,
       )
 
-  pub negated_span : (l : ℕ) (t : ResolvedTree) (s u : Span) → IsSmall u → ((v n : ℤ) → Spans s v n → Spans u v (negsuc 0 *ℤ n)) → IsSpanOf e t ranges places s → IsSpanOf e (unary l (unaries.Sign Minus) t) ranges places u
+  pub negated_span : (l : ℕ) (t : ResolvedTree) (s u : Span) → IsSmall u → ((v n : ℤ) → Spans s v n → Spans u v (negsuc 0 *ℤ n)) → IsSpanOf e t ranges places s
+      → IsSpanOf e (unary l (unaries.Sign Minus) t) ranges places u
   negated_span l t s u small op h v more g is =
       let r = h v more g is in
       let p = op v r.0 r.2 in
@@ -200,13 +204,16 @@ name_is t l k r is of = ap resolved_of is ∙ of-Name l r ∙ ap (λ q. referenc
 pub number_is : (t : Resolved) (l n : ℕ) → t ≡ form.Number l n → resolved_of t ≡ number l n
 number_is t l n is = ap resolved_of is ∙ of-Number l n
 
-pub minus_is : (t x inner : Resolved) (l : ℕ) (op : Unary) (s : Sign) → t ≡ form.Unary l op inner → x ≡ inner → op ≡ unaries.Sign s → s ≡ Minus → resolved_of t ≡ unary l (unaries.Sign Minus) (resolved_of x)
+pub minus_is : (t x inner : Resolved) (l : ℕ) (op : Unary) (s : Sign) → t ≡ form.Unary l op inner → x ≡ inner → op ≡ unaries.Sign s → s ≡ Minus
+    → resolved_of t ≡ unary l (unaries.Sign Minus) (resolved_of x)
 minus_is t x inner l op s is here of minus =
     ap resolved_of is ∙ of-Unary l op inner ∙ ap (λ u. unary l op (resolved_of u)) (sym here) ∙ ap (λ (o : Unary). unary l o (resolved_of x)) (of ∙ ap unaries.Sign minus)
 
-pub function_is : (t x y a b : Resolved) (l : ℕ) (op : Operator) (f : Infix) → t ≡ form.Binary l op a b → x ≡ a → y ≡ b → op ≡ Function f → resolved_of t ≡ binary l (Function f) (resolved_of x) (resolved_of y)
+pub function_is : (t x y a b : Resolved) (l : ℕ) (op : Operator) (f : Infix) → t ≡ form.Binary l op a b → x ≡ a → y ≡ b → op ≡ Function f
+    → resolved_of t ≡ binary l (Function f) (resolved_of x) (resolved_of y)
 function_is t x y a b l op f is first second of =
-    ap resolved_of is ∙ of-Binary l op a b ∙ ap₂ (λ (u v : Resolved). binary l op (resolved_of u) (resolved_of v)) (sym first) (sym second) ∙ ap (λ (o : Operator). binary l o (resolved_of x) (resolved_of y)) of
+    ap resolved_of is ∙ of-Binary l op a b ∙ ap₂ (λ (u v : Resolved). binary l op (resolved_of u) (resolved_of v)) (sym first) (sym second)
+    ∙ ap (λ (o : Operator). binary l o (resolved_of x) (resolved_of y)) of
 
 -- ---- what was tried
 

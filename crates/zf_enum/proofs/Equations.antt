@@ -15,7 +15,8 @@ one_link (x ∷ []) k least most at = ap (λ y. y ∷ []) (sym at)
 one_link (x ∷ y ∷ ys) k least most at = absurd (omega arith)
 
 -- a chain of one link
-pub relation_seen : (t : Resolved) (l : ℕ) (first x : Resolved) (ks xs : List ResolvedLink) (k : ResolvedLink) → t ≡ form.Chain l first ks → xs ≡ ks → x ≡ first → 1 ≤ length xs → length xs ≤ 1 → k ≡ get_or xs 0 k
+pub relation_seen : (t : Resolved) (l : ℕ) (first x : Resolved) (ks xs : List ResolvedLink) (k : ResolvedLink) → t ≡ form.Chain l first ks → xs ≡ ks
+    → x ≡ first → 1 ≤ length xs → length xs ≤ 1 → k ≡ get_or xs 0 k
     → resolved_of t ≡ chain l (resolved_of x) (link k.relation (resolved_of k.right) no_links)
 relation_seen t l first x ks xs k is same here least most at =
     ap resolved_of is ∙ of-Chain l first ks ∙ ap (λ z. chain l (resolved_of z) (links (map resolved_link_of ks))) (sym here)
@@ -23,7 +24,8 @@ relation_seen t l first x ks xs k is same here least most at =
     ∙ ap (λ p. chain l (resolved_of x) (link p.0 p.1 no_links)) (link-seen k)
 
 -- a chain of one link, an equality
-pub equation_seen : (t : Resolved) (l : ℕ) (first x : Resolved) (ks xs : List ResolvedLink) (k : ResolvedLink) → t ≡ form.Chain l first ks → xs ≡ ks → x ≡ first → 1 ≤ length xs → length xs ≤ 1 → k ≡ get_or xs 0 k → k.relation ≡ Equal
+pub equation_seen : (t : Resolved) (l : ℕ) (first x : Resolved) (ks xs : List ResolvedLink) (k : ResolvedLink) → t ≡ form.Chain l first ks → xs ≡ ks
+    → x ≡ first → 1 ≤ length xs → length xs ≤ 1 → k ≡ get_or xs 0 k → k.relation ≡ Equal
     → resolved_of t ≡ chain l (resolved_of x) (link Equal (resolved_of k.right) no_links)
 equation_seen t l first x ks xs k is same here least most at equal =
     relation_seen t l first x ks xs k is same here least most at ∙ ap (λ r. chain l (resolved_of x) (link r (resolved_of k.right) no_links)) equal

@@ -85,14 +85,18 @@ get_next [] ys y (suc k) l = absurd (omega arith)
 get_next (x ∷ xs) ys y zero l = absurd (omega arith)
 get_next (x ∷ xs) ys y (suc k) l = get_next xs ys y k (omega arith)
 
-pub truth_at : (e : Environment) (row : List Value) (ts : List ResolvedTree) (c : ℕ) (p : ResolvedTree) → slice_get ts c ≡ Some p → IsTruth (in_row e row) p truth.False → HasTruth e row (slice_get ts c) truth.False
+pub truth_at : (e : Environment) (row : List Value) (ts : List ResolvedTree) (c : ℕ) (p : ResolvedTree) → slice_get ts c ≡ Some p
+    → IsTruth (in_row e row) p truth.False → HasTruth e row (slice_get ts c) truth.False
 truth_at e row ts c p at h = subst (λ q. HasTruth e row q truth.False) (sym at) h
 
 -- an equation leaves the candidates of its expression
-pub candidates_left : (e : Environment) (ts : List ResolvedTree) (c k : ℕ) (p t : ResolvedTree) (ranges : List (List Value)) (places left : List ℕ) → slice_get ts c ≡ Some p → k ≡ length places → Fixes p k t → AreWithin ranges places
+pub candidates_left : (e : Environment) (ts : List ResolvedTree) (c k : ℕ) (p t : ResolvedTree) (ranges : List (List Value)) (places left : List ℕ)
+    → slice_get ts c ≡ Some p → k ≡ length places → Fixes p k t → AreWithin ranges places
     → AreCandidates tie.Value e t ranges (picked ranges places) (get_or ranges (length places) []) left → Leaves (property e ts) c ranges places left
 candidates_left e ts c k p t ranges places left at next fixed within candidates i v more there out is =
     let front = picked ranges places in
     let row = front ++ v ∷ more in
     let r = candidates row is (λ k l u. get_front front (v ∷ more) k l) in
-    truth_at e row ts c p at (false_in (in_row e row) k p t v r.0 fixed (sym (ap value_or (get_next front more v k (next ∙ sym (length-picked ranges places within))))) r.1 (other_at r.0 v (get_or ranges (length places) []) left i r.2 there out))
+    truth_at e row ts c p at (false_in (in_row e row) k p t v r.0 fixed (sym
+    (ap value_or (get_next front more v k (next ∙ sym (length-picked ranges places within))))) r.1
+    (other_at r.0 v (get_or ranges (length places) []) left i r.2 there out))

@@ -7,18 +7,21 @@ at_place [] i x at l = absurd (omega arith)
 at_place (y ∷ ys) zero x at l = ap (λ z. Some (resolved_of z)) (sym at)
 at_place (y ∷ ys) (suc i) x at l = at_place ys i x at (omega arith)
 
-pub has_truth : (e : Environment) (row : List Value) (xs : List Resolved) (i : ℕ) (x : Resolved) (t u : Truth) → x ≡ get_or xs i x → i < length (map resolved_of xs) → IsTruth (in_row e row) (resolved_of x) t → u ≡ t → HasTruth e row (slice_get (map resolved_of xs) i) u
+pub has_truth : (e : Environment) (row : List Value) (xs : List Resolved) (i : ℕ) (x : Resolved) (t u : Truth) → x ≡ get_or xs i x
+    → i < length (map resolved_of xs) → IsTruth (in_row e row) (resolved_of x) t → u ≡ t → HasTruth e row (slice_get (map resolved_of xs) i) u
 has_truth e row xs i x t u at l h same =
     subst (λ p. HasTruth e row p u) (sym (at_place xs i x at l)) (subst (λ v. IsTruth (in_row e row) (resolved_of x) v) (sym same) h)
 
 -- ---- how many components conjuncts need
 
-front : (xs : List Resolved) (i : ℕ) (x : Resolved) → x ≡ get_or xs i x → i < length xs → map due (map resolved_of (take (suc i) xs)) ≡ map due (map resolved_of (take i xs)) ++ due (resolved_of x) ∷ []
+front : (xs : List Resolved) (i : ℕ) (x : Resolved) → x ≡ get_or xs i x → i < length xs
+    → map due (map resolved_of (take (suc i) xs)) ≡ map due (map resolved_of (take i xs)) ++ due (resolved_of x) ∷ []
 front [] i x at l = absurd (omega arith)
 front (y ∷ ys) zero x at l = ap (λ z. due (resolved_of z) ∷ []) (sym at)
 front (y ∷ ys) (suc i) x at l = ap (λ ns. due (resolved_of y) ∷ ns) (front ys i x at (omega arith))
 
-pub one_need_more : (ns : List ℕ) (xs : List Resolved) (i n : ℕ) (x : Resolved) → x ≡ get_or xs i x → i < length xs → ns ≡ map due (map resolved_of (take i xs)) → n ≡ due (resolved_of x) → ns ++ n ∷ [] ≡ map due (map resolved_of (take (i + 1) xs))
+pub one_need_more : (ns : List ℕ) (xs : List Resolved) (i n : ℕ) (x : Resolved) → x ≡ get_or xs i x → i < length xs
+    → ns ≡ map due (map resolved_of (take i xs)) → n ≡ due (resolved_of x) → ns ++ n ∷ [] ≡ map due (map resolved_of (take (i + 1) xs))
 one_need_more ns xs i n x at l h e = rw add-one (ap₂ (λ (ms : List ℕ) (m : ℕ). ms ++ m ∷ []) h e ∙ sym (front xs i x at l))
 
 whole : (xs : List Resolved) (i : ℕ) → length xs ≤ i → take i xs ≡ xs

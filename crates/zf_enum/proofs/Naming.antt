@@ -92,7 +92,8 @@ module _ (l m : Conjuncts Value) (says : (c : ℕ) (row : List Value) (t : Truth
   tree_truth (both a b) row t h = of_both (IsTreeTruth l a row) (IsTreeTruth l b row) (IsTreeTruth m a row) (IsTreeTruth m b row) (tree_truth a row) (tree_truth b row) t h
   tree_truth (either a b) row t h = of_either (IsTreeTruth l a row) (IsTreeTruth l b row) (IsTreeTruth m a row) (IsTreeTruth m b row) (tree_truth a row) (tree_truth b row) t h
 
-pub named_alike : (f e : Environment) (ts leaves ps : List ResolvedTree) (trees : List Tree) → AreLifted f e ts leaves → SayTheSame (planted (property e leaves) trees) (property e ps) → SayTheSame (planted (property f ts) trees) (property e ps)
+pub named_alike : (f e : Environment) (ts leaves ps : List ResolvedTree) (trees : List Tree) → AreLifted f e ts leaves
+    → SayTheSame (planted (property e leaves) trees) (property e ps) → SayTheSame (planted (property f ts) trees) (property e ps)
 named_alike f e ts leaves ps trees h same = record {
   number = same.number;
   says = λ c l row t.

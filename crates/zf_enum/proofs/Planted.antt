@@ -74,14 +74,18 @@ truths_stay e xs ys row (negated a) t l = truths_stay e xs ys row a (opposite t)
 truths_stay e xs ys row (both a b) t l =
     let more = property e (map resolved_of (xs ++ ys)) in
     let few = property e (map resolved_of xs) in (
-      both_kept (IsTreeTruth more a row) (IsTreeTruth more b row) (IsTreeTruth few a row) (IsTreeTruth few b row) (λ u. (truths_stay e xs ys row a u l.0).0) (λ u. (truths_stay e xs ys row b u l.1).0) t,
-      both_kept (IsTreeTruth few a row) (IsTreeTruth few b row) (IsTreeTruth more a row) (IsTreeTruth more b row) (λ u. (truths_stay e xs ys row a u l.0).1) (λ u. (truths_stay e xs ys row b u l.1).1) t,
+      both_kept (IsTreeTruth more a row) (IsTreeTruth more b row) (IsTreeTruth few a row) (IsTreeTruth few b row) (λ u. (truths_stay e xs ys row a u l.0).0)
+          (λ u. (truths_stay e xs ys row b u l.1).0) t,
+      both_kept (IsTreeTruth few a row) (IsTreeTruth few b row) (IsTreeTruth more a row) (IsTreeTruth more b row) (λ u. (truths_stay e xs ys row a u l.0).1)
+          (λ u. (truths_stay e xs ys row b u l.1).1) t,
     )
 truths_stay e xs ys row (either a b) t l =
     let more = property e (map resolved_of (xs ++ ys)) in
     let few = property e (map resolved_of xs) in (
-      either_kept (IsTreeTruth more a row) (IsTreeTruth more b row) (IsTreeTruth few a row) (IsTreeTruth few b row) (λ u. (truths_stay e xs ys row a u l.0).0) (λ u. (truths_stay e xs ys row b u l.1).0) t,
-      either_kept (IsTreeTruth few a row) (IsTreeTruth few b row) (IsTreeTruth more a row) (IsTreeTruth more b row) (λ u. (truths_stay e xs ys row a u l.0).1) (λ u. (truths_stay e xs ys row b u l.1).1) t,
+      either_kept (IsTreeTruth more a row) (IsTreeTruth more b row) (IsTreeTruth few a row) (IsTreeTruth few b row) (λ u. (truths_stay e xs ys row a u l.0).0)
+          (λ u. (truths_stay e xs ys row b u l.1).0) t,
+      either_kept (IsTreeTruth few a row) (IsTreeTruth few b row) (IsTreeTruth more a row) (IsTreeTruth more b row) (λ u. (truths_stay e xs ys row a u l.0).1)
+          (λ u. (truths_stay e xs ys row b u l.1).1) t,
     )
 
 longer : (xs ys : List Resolved) → length (map resolved_of xs) ≤ length (map resolved_of (xs ++ ys))
@@ -154,10 +158,12 @@ or_planted ls l p q a b h k = record {
 }
 
 -- an implication is the disjunction of the left side's negation and the right side
-pub implies_planted : (ls : List ResolvedTree) (l : ℕ) (p q : ResolvedTree) (a b : Tree) → IsPlanted ls (unary l Not p) a → IsPlanted ls q b → IsPlanted ls (binary l (Connective connectives.Implies) p q) (either a b)
+pub implies_planted : (ls : List ResolvedTree) (l : ℕ) (p q : ResolvedTree) (a b : Tree) → IsPlanted ls (unary l Not p) a → IsPlanted ls q b
+    → IsPlanted ls (binary l (Connective connectives.Implies) p q) (either a b)
 implies_planted ls l p q a b h k = record {
   within = (h.within, k.within);
-  same = λ e row t. either_same (IsTreeTruth (property e ls) a row) (IsTreeTruth (property e ls) b row) (λ u. IsTruth (in_row e row) p (meaning.opposite u)) (IsTruth (in_row e row) q) (h.same e row) (k.same e row) t;
+  same = λ e row t. either_same (IsTreeTruth (property e ls) a row) (IsTreeTruth (property e ls) b row) (λ u. IsTruth (in_row e row) p (meaning.opposite u))
+      (IsTruth (in_row e row) q) (h.same e row) (k.same e row) t;
 }
 
 -- ---- how many components the leaves need
@@ -261,13 +267,15 @@ module _ (xs ys zs : List Resolved) (g h i j : Grove) (t p q : ResolvedTree) (l 
   plants_and e u v w =
       let due_of_both = due_binary l (Connective connectives.And) p q in
       subst (λ r. Plants xs g r place zs j) (sym e)
-      (plants_both xs ys zs g h i j p q (binary l (Connective connectives.And) p q) a b place (both left right) u v w (and_planted (map resolved_of zs) l p q left right) (omega (arith, due_of_both)) (omega (arith, due_of_both)))
+      (plants_both xs ys zs g h i j p q (binary l (Connective connectives.And) p q) a b place (both left right) u v w
+      (and_planted (map resolved_of zs) l p q left right) (omega (arith, due_of_both)) (omega (arith, due_of_both)))
 
   pub plants_or : t ≡ binary l (Connective connectives.Or) p q → Plants xs g p a ys h → Plants ys h q b zs i → Grows i (either left right) place j → Plants xs g t place zs j
   plants_or e u v w =
       let due_of_both = due_binary l (Connective connectives.Or) p q in
       subst (λ r. Plants xs g r place zs j) (sym e)
-      (plants_both xs ys zs g h i j p q (binary l (Connective connectives.Or) p q) a b place (either left right) u v w (or_planted (map resolved_of zs) l p q left right) (omega (arith, due_of_both)) (omega (arith, due_of_both)))
+      (plants_both xs ys zs g h i j p q (binary l (Connective connectives.Or) p q) a b place (either left right) u v w
+      (or_planted (map resolved_of zs) l p q left right) (omega (arith, due_of_both)) (omega (arith, due_of_both)))
 
   -- over the negation of the left side
   pub plants_implies : t ≡ binary l (Connective connectives.Implies) p q → Plants xs g (unary l Not p) a ys h → Plants ys h q b zs i → Grows i (either left right) place j → Plants xs g t place zs j
@@ -275,7 +283,8 @@ module _ (xs ys zs : List Resolved) (g h i j : Grove) (t p q : ResolvedTree) (l 
       let due_of_both = due_binary l (Connective connectives.Implies) p q in
       let first : due p ≤ due (binary l (Connective connectives.Implies) p q) = omega (arith, due_of_both) in
       subst (λ r. Plants xs g r place zs j) (sym e)
-      (plants_both xs ys zs g h i j (unary l Not p) q (binary l (Connective connectives.Implies) p q) a b place (either left right) u v w (implies_planted (map resolved_of zs) l p q left right) first (omega (arith, due_of_both)))
+      (plants_both xs ys zs g h i j (unary l Not p) q (binary l (Connective connectives.Implies) p q) a b place (either left right) u v w
+      (implies_planted (map resolved_of zs) l p q left right) first (omega (arith, due_of_both)))
 
 -- ---- all conjuncts
 
@@ -332,7 +341,8 @@ there [] c l = absurd (omega arith)
 there (p ∷ ps) zero l = (p, refl)
 there (p ∷ ps) (suc c) l = there ps c (omega arith)
 
-pub say_the_same : (ps : List ResolvedTree) (leaves : List Resolved) (trees : List Tree) → ArePlanted ps leaves trees → (e : Environment) → SayTheSame (planted (property e (map resolved_of leaves)) trees) (property e ps)
+pub say_the_same : (ps : List ResolvedTree) (leaves : List Resolved) (trees : List Tree) → ArePlanted ps leaves trees → (e : Environment)
+    → SayTheSame (planted (property e (map resolved_of leaves)) trees) (property e ps)
 say_the_same ps leaves trees h e = record {
   number = h.number;
   says = λ c l row t.

@@ -13,7 +13,8 @@ front (d ∷ ds) (suc i) c at l = ap (λ rs. conjunct_of d ∷ rs) (front ds i c
 pub one_conjunct_more : (cs : List Conjunct) (i : ℕ) (c : Conjunct) → c ≡ get_or cs i c → i < length cs → map conjunct_of (take (i + 1) cs) ≡ map conjunct_of (take i cs) ++ conjunct_of c ∷ []
 one_conjunct_more cs i c at l = rw add-one (front cs i c at l)
 
-pub one_more : (ts : List Resolved) (cs : List Conjunct) (i : ℕ) (c : Conjunct) (t : Resolved) → c ≡ get_or cs i c → i < length cs → map resolved_of ts ≡ map conjunct_of (take i cs) → resolved_of t ≡ conjunct_of c
+pub one_more : (ts : List Resolved) (cs : List Conjunct) (i : ℕ) (c : Conjunct) (t : Resolved) → c ≡ get_or cs i c → i < length cs
+    → map resolved_of ts ≡ map conjunct_of (take i cs) → resolved_of t ≡ conjunct_of c
     → map resolved_of (ts ++ t ∷ []) ≡ map conjunct_of (take (i + 1) cs)
 one_more ts cs i c t at l h e =
     rw add-one (pushed ts t ∙ ap₂ (λ (rs : List ResolvedTree) (r : ResolvedTree). rs ++ r ∷ []) h e ∙ sym (front cs i c at l))

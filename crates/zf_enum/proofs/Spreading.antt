@@ -17,7 +17,8 @@ use Rattle.zf_enum.proofs.Fixed.{IsOther, false_in, side_need, truth_at, get_fro
 
 -- ---- what the body says
 
-equated_false : (c : Context) (p : ResolvedTree) (k : ℕ) (t : ResolvedTree) (v : Value) (o : Outcome) → Equates p k t → Is v ≡ outcome_in c (Component k) → HasOutcome c t o → IsOther o v → IsTruth c p truth.False
+equated_false : (c : Context) (p : ResolvedTree) (k : ℕ) (t : ResolvedTree) (v : Value) (o : Outcome) → Equates p k t → Is v ≡ outcome_in c (Component k)
+    → HasOutcome c t o → IsOther o v → IsTruth c p truth.False
 equated_false c (bracket l p) k t v o h at is other = equated_false c p k t v o h at is other
 equated_false c (binary l (Connective connective.And) p q) k t v o (inl h) at is other = inl (equated_false c p k t v o h at is other)
 equated_false c (binary l (Connective connective.And) p q) k t v o (inr h) at is other = inr (equated_false c q k t v o h at is other)
@@ -41,7 +42,8 @@ equated_false c (quantified l q rs p b) k t v o h at is other = absurd h
 -- ---- what the quantifier says
 
 module _ (c : Context) (body t : ResolvedTree) (k : ℕ) (v s : Value) (equates : Equates body k t) (at : Is v ≡ outcome_in c (Component k)) (apart : IsMember v (members s) → ⊥) where
-  each_row : (R : List Value → Type 0) → IsBuiltOver R (λ vs u. IsConstraint (within c vs) absent u) (λ vs x. Builds (within c vs) vs (present t) x) (Is s) → (vs : List Value) → R vs → IsTruth (within c vs) body truth.False
+  each_row : (R : List Value → Type 0) → IsBuiltOver R (λ vs u. IsConstraint (within c vs) absent u) (λ vs x. Builds (within c vs) vs (present t) x) (Is s)
+      → (vs : List Value) → R vs → IsTruth (within c vs) body truth.False
   each_row R (bounds, is) vs r =
       ⊎_elim (λ no. let wrong : truth.False ≡ truth.True = no in absurd (cc))
       (λ yes.
@@ -62,7 +64,8 @@ module _ (c : Context) (body t : ResolvedTree) (k : ℕ) (v s : Value) (equates 
   not_over ExistsOne p (values ss) there built = inr (λ vs r. inr (each_row (λ us. AreFrom us ss) built vs r))
 
 -- the set has a value, and the component another than its members
-spread_apart : (c : Context) (p set : ResolvedTree) (k : ℕ) (v s : Value) → IsSpread p k set → Is v ≡ outcome_in c (Component k) → (IsMember v (members s) → ⊥) → HasOutcome c set (Is s) → IsTruth c p truth.False
+spread_apart : (c : Context) (p set : ResolvedTree) (k : ℕ) (v s : Value) → IsSpread p k set → Is v ≡ outcome_in c (Component k) → (IsMember v (members s) → ⊥)
+    → HasOutcome c set (Is s) → IsTruth c p truth.False
 spread_apart c (quantified l q rs part body) set k v s (t, (there, equates), (m, over)) at apart has =
     let built = subst (λ u. HasOutcome c u (Is s)) over has in
     (built.0, built.1, not_over c body t k v s equates at apart q part built.0 there built.2)
@@ -77,20 +80,23 @@ spread_apart c (unary l op p) set k v s is at apart has = absurd is.1
 spread_apart c (binary l op p q) set k v s is at apart has = absurd is.1
 spread_apart c (chain l p ks) set k v s is at apart has = absurd is.1
 
-spread_false : (c : Context) (p set : ResolvedTree) (k : ℕ) (v : Value) (o : Outcome) (range : List Value) (left : List ℕ) (i : ℕ) → IsSpread p k set → Is v ≡ outcome_in c (Component k) → HasOutcome c set o → IsKept tie.Members o range left → slice_get range i ≡ Some v → (Contains left i → ⊥)
+spread_false : (c : Context) (p set : ResolvedTree) (k : ℕ) (v : Value) (o : Outcome) (range : List Value) (left : List ℕ) (i : ℕ) → IsSpread p k set
+    → Is v ≡ outcome_in c (Component k) → HasOutcome c set o → IsKept tie.Members o range left → slice_get range i ≡ Some v → (Contains left i → ⊥)
     → IsTruth c p truth.False
 spread_false c p set k v (Is s) range left i is at has kept there out = spread_apart c p set k v s is at (λ m. out (kept v m i there)) has
 spread_false c p set k v Undefined range left i is at has kept there out = absurd kept
 spread_false c p set k v Out range left i is at has kept there out = absurd kept
 
 -- the set leaves its members
-pub members_left : (e : Environment) (ts : List ResolvedTree) (c k : ℕ) (p set : ResolvedTree) (ranges : List (List Value)) (places left : List ℕ) → slice_get ts c ≡ Some p → k ≡ length places → IsSpread p k set → AreWithin ranges places
+pub members_left : (e : Environment) (ts : List ResolvedTree) (c k : ℕ) (p set : ResolvedTree) (ranges : List (List Value)) (places left : List ℕ)
+    → slice_get ts c ≡ Some p → k ≡ length places → IsSpread p k set → AreWithin ranges places
     → AreCandidates tie.Members e set ranges (picked ranges places) (get_or ranges (length places) []) left → Leaves (property e ts) c ranges places left
 members_left e ts c k p set ranges places left at next is within candidates i v more there out rows =
     let front = picked ranges places in
     let row = front ++ v ∷ more in
     let r = candidates row rows (λ k l u. get_front front (v ∷ more) k l) in
-    truth_at e row ts c p at (spread_false (in_row e row) p set k v r.0 (get_or ranges (length places) []) left i is (sym (ap value_or (get_next front more v k (next ∙ sym (length-picked ranges places within))))) r.1 r.2 there out)
+    truth_at e row ts c p at (spread_false (in_row e row) p set k v r.0 (get_or ranges (length places) []) left i is
+    (sym (ap value_or (get_next front more v k (next ∙ sym (length-picked ranges places within))))) r.1 r.2 there out)
 
 -- ---- how many components it needs
 

@@ -32,7 +32,8 @@ one_place xs i j z h l m a b =
     ⊎_elim (λ s. absurd (not_below (get_or xs i z) (get_or xs j z) (a ∙ sym b) (h i j z s m)))
     (λ g. ⊎_elim (λ s. absurd (not_below (get_or xs j z) (get_or xs i z) (b ∙ sym a) (h j i z s l))) (λ k. omega (arith, g, k)) (cases_lt j i)) (cases_lt i j)
 
-pub found_at : (z : Value) (xs : List Value) (place i : ℕ) → AllPairs Below xs → place < length xs → IsBinarySearchResult (λ y. value_order y z) xs (Ok place) → slice_get xs i ≡ Some z → Some place ≡ Some i
+pub found_at : (z : Value) (xs : List Value) (place i : ℕ) → AllPairs Below xs → place < length xs → IsBinarySearchResult (λ y. value_order y z) xs (Ok place)
+    → slice_get xs i ≡ Some z → Some place ≡ Some i
 found_at z xs place i h l s at = let r = at_place xs i z at in ap Some (one_place xs place i z h l r.0 (exact _ z (s z)) r.1)
 
 pub found_none : (z : Value) (xs : List Value) (end i : ℕ) → AllPairs Below xs → IsBinarySearchResult (λ y. value_order y z) xs (Err end) → slice_get xs i ≡ Some z → ⊥

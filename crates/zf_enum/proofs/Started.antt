@@ -31,7 +31,8 @@ module _ (e : Environment) where
   as_many (c ∷ cs) held (xs ∷ rs) h = ap suc (as_many cs (later_held held) rs h.1)
 
   -- so many components are due
-  pub needs_within : (cs : List Comp) (held : List (Option Value)) (rs : List (List Value)) (ps : List ResolvedTree) → AreRanges e cs held rs → AreDueWithin (property e ps) (length cs) → NeedWithin (length rs) ps
+  pub needs_within : (cs : List Comp) (held : List (Option Value)) (rs : List (List Value)) (ps : List ResolvedTree) → AreRanges e cs held rs
+      → AreDueWithin (property e ps) (length cs) → NeedWithin (length rs) ps
   needs_within cs held rs ps h d = subst (λ n. NeedWithin n ps) (as_many cs held rs h) (need_at_all (length cs) ps d)
 
   pub ranges_ascend : (cs : List Comp) (held : List (Option Value)) (rs : List (List Value)) → AreRanges e cs held rs → AreAscending value_order rs
@@ -41,12 +42,15 @@ module _ (e : Environment) where
   ranges_ascend (c ∷ cs) held (xs ∷ rs) h zero d l = ascending_pairs xs h.0.ascending
   ranges_ascend (c ∷ cs) held (xs ∷ rs) h (suc k) d l = ranges_ascend cs (later_held held) rs h.1 k d (omega arith)
 
-  pub named_within : (cs : List Comp) (held : List (Option Value)) (rs : List (List Value)) (after : Option (List Value)) → AreRanges e cs held rs → HasLength after (length cs) → HasLength after (length rs)
+  pub named_within : (cs : List Comp) (held : List (Option Value)) (rs : List (List Value)) (after : Option (List Value)) → AreRanges e cs held rs
+      → HasLength after (length cs) → HasLength after (length rs)
   named_within cs held rs after h n = subst (HasLength after) (as_many cs held rs h) n
 
-  pub due_within : (cs : List Comp) (held : List (Option Value)) (rs : List (List Value)) (ps ts : List ResolvedTree) → AreRanges e cs held rs → ts ≡ ps → AreDueWithin (property e ps) (length cs) → AreDueWithin (property e ts) (length rs)
+  pub due_within : (cs : List Comp) (held : List (Option Value)) (rs : List (List Value)) (ps ts : List ResolvedTree) → AreRanges e cs held rs → ts ≡ ps
+      → AreDueWithin (property e ps) (length cs) → AreDueWithin (property e ts) (length rs)
   due_within cs held rs ps ts h same d = subst (AreDueWithin (property e ts)) (as_many cs held rs h) (subst (λ (us : List ResolvedTree). AreDueWithin (property e us) (length cs)) (sym same) d)
 
-  pub ahead_of : (ps ts : List ResolvedTree) (rs ws : List (List Value)) (after : Option (List Value)) (a : Ahead Value) → ts ≡ ps → ws ≡ rs → AreAllAhead value_order (property e ts) rs after a → AreAllAhead value_order (property e ps) ws after a
+  pub ahead_of : (ps ts : List ResolvedTree) (rs ws : List (List Value)) (after : Option (List Value)) (a : Ahead Value) → ts ≡ ps → ws ≡ rs
+      → AreAllAhead value_order (property e ts) rs after a → AreAllAhead value_order (property e ps) ws after a
   ahead_of ps ts rs ws after a same there h =
       subst (λ (us : List ResolvedTree). AreAllAhead value_order (property e us) ws after a) same (subst (λ (vs : List (List Value)). AreAllAhead value_order (property e ts) vs after a) (sym there) h)

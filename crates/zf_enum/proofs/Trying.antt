@@ -21,7 +21,8 @@ stays_on xs ys zs one two i h = two i (one i h)
 
 -- ---- one value more
 
-pub within_push : (ranges : List (List Value)) (places : List ℕ) (i : ℕ) → AreWithin ranges places → length places < length ranges → i < length (get_or ranges (length places) []) → AreWithin ranges (places ++ i ∷ [])
+pub within_push : (ranges : List (List Value)) (places : List ℕ) (i : ℕ) → AreWithin ranges places → length places < length ranges
+    → i < length (get_or ranges (length places) []) → AreWithin ranges (places ++ i ∷ [])
 within_push ranges places i within near there = let n = nth-at (get_or ranges (length places) []) i there in AreWithin-push ranges places i n.0 within near n.1
 
 pub row_value : (ranges : List (List Value)) (row : List Value) (k : ℕ) → IsRowOf ranges row → k < length ranges → (i : ℕ) × (v : Value) × IsNth (get_or ranges k []) i v × (slice_get row k ≡ Some v)
@@ -30,7 +31,8 @@ row_value (r ∷ ranges) [] k m l = absurd m
 row_value (r ∷ ranges) (v ∷ row) zero m l = (m.0.0, v, record { within = m.0.1; is = m.0.2 }, refl)
 row_value (r ∷ ranges) (v ∷ row) (suc k) m l = row_value ranges row k m.1 (omega arith)
 
-goes_on : (t : ResolvedTree) (front : List Value) (v : Value) (row : List Value) → GoesOn t front row → (uses t (length front) ≡ true → slice_get row (length front) ≡ Some v) → GoesOn t (front ++ v ∷ []) row
+goes_on : (t : ResolvedTree) (front : List Value) (v : Value) (row : List Value) → GoesOn t front row
+    → (uses t (length front) ≡ true → slice_get row (length front) ≡ Some v) → GoesOn t (front ++ v ∷ []) row
 goes_on t front v row on here k l u =
     ⊎_elim (λ less. sym (get_front front (v ∷ []) k less) ∙ on k less u)
     (λ more.
@@ -54,7 +56,8 @@ module _ (n : Tie) (e : Environment) (t : ResolvedTree) (ranges : List (List Val
   abbrev pub TriedUpTo : List ℕ → ℕ → List ℕ → Type 0
   TriedUpTo places end xs = (j : ℕ) → j < end → AreCandidates n e t ranges (picked ranges (places ++ j ∷ [])) range xs
 
-  pub one_tried : (places : List ℕ) (end : ℕ) (xs ys : List ℕ) → StaysIn xs ys → TriedUpTo places end xs → AreCandidates n e t ranges (picked ranges (places ++ end ∷ [])) range ys → TriedUpTo places (end + 1) ys
+  pub one_tried : (places : List ℕ) (end : ℕ) (xs ys : List ℕ) → StaysIn xs ys → TriedUpTo places end xs
+      → AreCandidates n e t ranges (picked ranges (places ++ end ∷ [])) range ys → TriedUpTo places (end + 1) ys
   one_tried places end xs ys stay before this j l =
       ⊎_elim (λ less. candidates_more (picked ranges (places ++ j ∷ [])) xs ys stay (before j less))
       (λ more. let last : end ≡ j = omega (arith, l, more) in subst (λ m. AreCandidates n e t ranges (picked ranges (places ++ m ∷ [])) range ys) last this)

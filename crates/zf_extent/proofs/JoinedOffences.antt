@@ -84,7 +84,9 @@ in_either g l left right bs ds ps whole found a b is one other first_side second
     ∙ or_else_assoc found (first (side g left)) (first (side g right))
     ∙ ap (or_else found) (sym (first_of_both (side g left) (side g right)))
     ∙ ap (λ os. or_else found (first os))
-    (sym (ap (λ c. offending g (conjunct_of c)) is ∙ ap (offending g) (of-Either l left right ps) ∙ same_offences g (numbering ps) (one_holds l (all_of (map batch_of left)) (all_of (map batch_of right))) ∙ of_either g l (all_of (map batch_of left)) (all_of (map batch_of right))))
+    (sym (ap (λ c. offending g (conjunct_of c)) is ∙ ap (offending g) (of-Either l left right ps)
+    ∙ same_offences g (numbering ps) (one_holds l (all_of (map batch_of left)) (all_of (map batch_of right)))
+    ∙ of_either g l (all_of (map batch_of left)) (all_of (map batch_of right))))
 
 -- ---- one further
 

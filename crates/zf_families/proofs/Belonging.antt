@@ -35,7 +35,8 @@ functional_from [] h u v w m n = absurd m
 functional_from (z ∷ r) h u v w m n =
     let low = lower z r h in
     let same : (y : Value) → z ≡ pair u y → (t : Value) → IsMember (pair u t) r → ⊥ = λ y e t k.
-    not_below_itself u (subst (λ p. value_order p u ≡ Less) (ap first e ∙ first-pair u y) (subst (λ p. value_order (first z) p ≡ Less) (first-pair u t) (every_at (λ p. value_order (first z) (first p) ≡ Less) r (pair u t) low k))) in
+    not_below_itself u (subst (λ p. value_order p u ≡ Less) (ap first e ∙ first-pair u y)
+    (subst (λ p. value_order (first z) p ≡ Less) (first-pair u t) (every_at (λ p. value_order (first z) (first p) ≡ Less) r (pair u t) low k))) in
     ⊎_elim
     (λ e. ⊎_elim (λ k. (pair_parts u v u w (sym e ∙ k)).1) (λ k. absurd (same v e w k)) n)
     (λ l. ⊎_elim (λ k. absurd (same w k v l)) (λ k. functional_from r (rise_rest z r h) u v w l k) n)
@@ -54,7 +55,8 @@ functional_to a b (z ∷ w ∷ r) h k f =
     let p = k z (inl refl) in
     let q = k w (inr (inl refl)) in
     let firsts : value_order (first z) (first w) ≡ value_order p.0 q.0 =
-    ap (λ u. value_order (first u) (first w)) p.2 ∙ ap (λ u. value_order (first (pair p.0 p.1)) (first u)) q.2 ∙ ap (λ u. value_order u (first (pair q.0 q.1))) (first-pair p.0 p.1) ∙ ap (value_order p.0) (first-pair q.0 q.1) in
+    ap (λ u. value_order (first u) (first w)) p.2 ∙ ap (λ u. value_order (first (pair p.0 p.1)) (first u)) q.2
+    ∙ ap (λ u. value_order u (first (pair q.0 q.1))) (first-pair p.0 p.1) ∙ ap (value_order p.0) (first-pair q.0 q.1) in
     let low : value_order z w ≡ Less = h.0.0 in
     and_from (is_lt (value_order (first z) (first w))) (firsts_rise (w ∷ r))
     (cases (value_order p.0 q.0) firsts refl
@@ -147,14 +149,16 @@ relation_at P a b r v t e h k = (
 pub no_relation : (P : List Value → Type 0) (a b : List Value) (v : Value) → ((r : List Value) → v ≡ SetOf r → ⊥) → IsTrue false ↔ IsRelationThat P a b v
 no_relation P a b v h = (λ e. absurd (false≢true e), λ p. absurd (h p.0 p.1))
 
-pub total_at : (a b r : List Value) (v : Value) (t : Bool) → IsAscending a → v ≡ SetOf r → IsAscending r → IsTrue t ↔ IsGraph b a r → IsTrue t ↔ IsRelationThat (λ r. IsFunctional r × IsTotal a r) a b v
+pub total_at : (a b r : List Value) (v : Value) (t : Bool) → IsAscending a → v ≡ SetOf r → IsAscending r → IsTrue t ↔ IsGraph b a r
+    → IsTrue t ↔ IsRelationThat (λ r. IsFunctional r × IsTotal a r) a b v
 total_at a b r v t h e g k =
     relation_at (λ r. IsFunctional r × IsTotal a r) a b r v t e g (
       λ m. let q = graph_from a b r h (k.0 m) in (q.0.1, (q.0.2, q.1)),
       λ p. k.1 (graph_to a b r h ((g, p.0, p.1.0), p.1.1)),
     )
 
-pub total_injection_at : (a b r : List Value) (v : Value) (t : Bool) → IsAscending a → v ≡ SetOf r → IsAscending r → IsGraph b a r → t ≡ seconds_apart r → IsTrue t ↔ IsRelationThat (λ r. IsFunctional r × IsInjective r × IsTotal a r) a b v
+pub total_injection_at : (a b r : List Value) (v : Value) (t : Bool) → IsAscending a → v ≡ SetOf r → IsAscending r → IsGraph b a r → t ≡ seconds_apart r
+    → IsTrue t ↔ IsRelationThat (λ r. IsFunctional r × IsInjective r × IsTotal a r) a b v
 total_injection_at a b r v t h e g k s =
     let q = graph_from a b r h k in
     relation_at (λ r. IsFunctional r × IsInjective r × IsTotal a r) a b r v t e g (
@@ -162,7 +166,8 @@ total_injection_at a b r v t h e g k s =
       λ p. s ∙ apart_to a b r g p.0 p.1.1,
     )
 
-pub no_total_injection : (a b r : List Value) (v : Value) (t : Bool) → IsAscending a → v ≡ SetOf r → IsAscending r → IsTrue t ↔ IsGraph b a r → t ≡ false → IsTrue t ↔ IsRelationThat (λ r. IsFunctional r × IsInjective r × IsTotal a r) a b v
+pub no_total_injection : (a b r : List Value) (v : Value) (t : Bool) → IsAscending a → v ≡ SetOf r → IsAscending r → IsTrue t ↔ IsGraph b a r → t ≡ false
+    → IsTrue t ↔ IsRelationThat (λ r. IsFunctional r × IsInjective r × IsTotal a r) a b v
 no_total_injection a b r v t h e g k f =
     relation_at (λ r. IsFunctional r × IsInjective r × IsTotal a r) a b r v t e g (
       λ m. absurd (both_ways t f m),

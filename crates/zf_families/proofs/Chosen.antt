@@ -50,7 +50,8 @@ module _ (f : Value → List Value → Bool) (layer : Value → List Value) (Goo
             (in_either (extensions f (layer x) rows) (some f (map layer xs)) r n))
             m,
         λ q. ⊎_elim
-            (λ t. inr (in_left (extensions f (layer x) rows) (some f (map layer xs)) r (in_extensions f (layer x) rows r (takes_weaker f (layer x) (Q xs) (λ s. In s rows) r (λ s. (h s (rest x xs g)).1) t))))
+            (λ t. inr (in_left (extensions f (layer x) rows) (some f (map layer xs)) r
+            (in_extensions f (layer x) rows r (takes_weaker f (layer x) (Q xs) (λ s. In s rows) r (λ s. (h s (rest x xs g)).1) t))))
             (λ k. ⊎_elim (λ e. inl e) (λ n. inr (in_right (extensions f (layer x) rows) (some f (map layer xs)) r n)) ((h r (rest x xs g)).1 k))
             ((step x xs r g).0 q),
       )

@@ -31,7 +31,8 @@ length_some [] = refl
 length_some (l ∷ ls) =
     let rows = [] ∷ some fits_any ls in
     let ext : length (extensions fits_any l rows) ≡ length l * length rows = length_extensions l rows in
-    let all : length (extensions fits_any l rows ++ some fits_any ls) ≡ length (extensions fits_any l rows) + length (some fits_any ls) = length-append (extensions fits_any l rows) (some fits_any ls) in
+    let all : length (extensions fits_any l rows ++ some fits_any ls) ≡ length (extensions fits_any l rows) + length (some fits_any ls) = length-append
+    (extensions fits_any l rows) (some fits_any ls) in
     let one : suc (length (extensions fits_any l rows ++ some fits_any ls)) ≡ suc (length l) * length rows = grind (arith, ext, all) in
     one ∙ ap (λ n. suc (length l) * n) (length_some ls)
 
@@ -45,7 +46,9 @@ sizes_push more [] l = grind arith
 sizes_push more (k ∷ ls) l = ap (λ n. more (length k) * n) (sizes_push more ls l) ∙ sym (mul_assoc (more (length k)) (sizes more ls) (more (length l)))
 
 -- one more set of a product is counted
-pub count_more : (sets : List Value) (i : ℕ) (x : Value) (count next c : ℕ) → i < length sets → x ≡ get_or sets i x → count ≡ min (sizes (λ n. n) (map members (take i sets))) c → next ≡ min (count * length (members x)) c → next ≡ min (sizes (λ n. n) (map members (take (i + 1) sets))) c
+pub count_more : (sets : List Value) (i : ℕ) (x : Value) (count next c : ℕ) → i < length sets → x ≡ get_or sets i x
+    → count ≡ min (sizes (λ n. n) (map members (take i sets))) c → next ≡ min (count * length (members x)) c
+    → next ≡ min (sizes (λ n. n) (map members (take (i + 1) sets))) c
 count_more sets i x count next c h e k n =
     let taken : map members (take (i + 1) sets) ≡ map members (take i sets) ++ members x ∷ [] =
     map_more members sets i x h ∙ ap (λ y. map members (take i sets) ++ members y ∷ []) (sym e) in

@@ -29,16 +29,20 @@ min_sum a b n c =
 none_left : (d n c m : ℕ) → n ≡ 0 → min (d * n) c ≡ min (n * m) c
 none_left d n c m e = ap (λ k. min (d * k) c) e ∙ grind arith
 
-one_step : (k n c d left : ℕ) → (min k n ≤ suc left → c ≡ min (partial_injection_count k n) (SET_MAX + 1)) → (min k (n - 1) ≤ left → d ≡ min (partial_injection_count k (n - 1)) (SET_MAX + 1)) → min (suc k) n ≤ suc left → min (c + min (d * n) (SET_MAX + 1)) (SET_MAX + 1) ≡ min (partial_injection_count (suc k) n) (SET_MAX + 1)
+one_step : (k n c d left : ℕ) → (min k n ≤ suc left → c ≡ min (partial_injection_count k n) (SET_MAX + 1))
+    → (min k (n - 1) ≤ left → d ≡ min (partial_injection_count k (n - 1)) (SET_MAX + 1)) → min (suc k) n ≤ suc left
+    → min (c + min (d * n) (SET_MAX + 1)) (SET_MAX + 1) ≡ min (partial_injection_count (suc k) n) (SET_MAX + 1)
 one_step k n c d left f g h = at (SET_MAX + 1) f g
   where
-    at : (m : ℕ) → (min k n ≤ suc left → c ≡ min (partial_injection_count k n) m) → (min k (n - 1) ≤ left → d ≡ min (partial_injection_count k (n - 1)) m) → min (c + min (d * n) m) m ≡ min (partial_injection_count k n + n * partial_injection_count k (n - 1)) m
+    at : (m : ℕ) → (min k n ≤ suc left → c ≡ min (partial_injection_count k n) m) → (min k (n - 1) ≤ left → d ≡ min (partial_injection_count k (n - 1)) m)
+        → min (c + min (d * n) m) m ≡ min (partial_injection_count k n + n * partial_injection_count k (n - 1)) m
     at m f g = ⊎_elim
         (λ l.
         let zero_n : n ≡ 0 = omega arith in
         ap (λ u. min (u + min (d * n) m) m) (f (omega arith)) ∙ ap (λ u. min (min (partial_injection_count k n) m + u) m) (none_left d n m (partial_injection_count k (n - 1)) zero_n) ∙ omega arith)
         (λ l.
-        ap (λ u. min (u + min (d * n) m) m) (f (omega arith)) ∙ ap (λ u. min (min (partial_injection_count k n) m + min (u * n) m) m) (g (omega arith)) ∙ min_sum (partial_injection_count k n) (partial_injection_count k (n - 1)) n m)
+        ap (λ u. min (u + min (d * n) m) m) (f (omega arith)) ∙ ap (λ u. min (min (partial_injection_count k n) m + min (u * n) m) m) (g (omega arith))
+        ∙ min_sum (partial_injection_count k n) (partial_injection_count k (n - 1)) n m)
         (cases_lt n 1)
 
 pub counts_turn : (k n : ℕ) (cs : List ℕ) → AreCutCounts k n cs → AreCutCounts (suc k) n (stepped n cs)

@@ -14,13 +14,15 @@ total_rows a b = whole fits_any (map (pairs b) a)
 
 -- ---- partial functions
 
-pub partial_functions_out : (a b : List Value) → IsAscending a → IsAscending b → (count : ℕ) → count ≡ min (suc (length b) ^ length a) (SET_MAX + 1) → TellsOut (ArePartialFunctions a b) (ltb SET_MAX count)
+pub partial_functions_out : (a b : List Value) → IsAscending a → IsAscending b → (count : ℕ) → count ≡ min (suc (length b) ^ length a) (SET_MAX + 1)
+    → TellsOut (ArePartialFunctions a b) (ltb SET_MAX count)
 unfolding ArePartialFunctions
 partial_functions_out a b h k count e =
     out_by_size SetOf (IsRelationThat IsFunctional a b) (partial_rows a b) (partial_told b fits_any IsFunctional functions a h k) (suc (length b) ^ length a) count
     (length_some (map (pairs b) a) ∙ sizes_same suc (length b) (pairs b) a (λ x. length-map b (pair x))) e
 
-pub partial_functions_built : (a b : List Value) → IsAscending a → IsAscending b → (ArePartialFunctions a b Out → ⊥) → (rows : List (List Value)) → rows ≡ partial_rows a b → (r : Result Outcome AllocError) → IfOk r (λ o. o ≡ Is (SetOf (map SetOf rows))) → IfOk r (ArePartialFunctions a b)
+pub partial_functions_built : (a b : List Value) → IsAscending a → IsAscending b → (ArePartialFunctions a b Out → ⊥) → (rows : List (List Value))
+    → rows ≡ partial_rows a b → (r : Result Outcome AllocError) → IfOk r (λ o. o ≡ Is (SetOf (map SetOf rows))) → IfOk r (ArePartialFunctions a b)
 unfolding ArePartialFunctions
 partial_functions_built a b h k few rows e r g = built_result SetOf (IsRelationThat IsFunctional a b) (partial_rows a b) rows (partial_told b fits_any IsFunctional functions a h k) few e r g
 
@@ -35,12 +37,15 @@ total_functions_out a b h k count e =
     out_by_size SetOf (IsRelationThat (λ r. IsFunctional r × IsTotal a r) a b) (total_rows a b) (total_told b fits_any IsFunctional functions a h k) (length b ^ length a) count
     (length_whole (map (pairs b) a) ∙ sizes_same (λ n. n) (length b) (pairs b) a (λ x. length-map b (pair x))) e
 
-pub total_functions_built : (a b : List Value) → IsAscending a → IsAscending b → (AreTotalFunctions a b Out → ⊥) → (rows : List (List Value)) → rows ≡ total_rows a b → (r : Result Outcome AllocError) → IfOk r (λ o. o ≡ Is (SetOf (map SetOf rows))) → IfOk r (AreTotalFunctions a b)
+pub total_functions_built : (a b : List Value) → IsAscending a → IsAscending b → (AreTotalFunctions a b Out → ⊥) → (rows : List (List Value))
+    → rows ≡ total_rows a b → (r : Result Outcome AllocError) → IfOk r (λ o. o ≡ Is (SetOf (map SetOf rows))) → IfOk r (AreTotalFunctions a b)
 unfolding AreTotalFunctions
-total_functions_built a b h k few rows e r g = built_result SetOf (IsRelationThat (λ r. IsFunctional r × IsTotal a r) a b) (total_rows a b) rows (total_told b fits_any IsFunctional functions a h k) few e r g
+total_functions_built a b h k few rows e r g = built_result SetOf (IsRelationThat (λ r. IsFunctional r × IsTotal a r) a b) (total_rows a b) rows
+    (total_told b fits_any IsFunctional functions a h k) few e r g
 
 pub total_functions_sets : (a b : List Value) → IsAscending a → IsAscending b → (rows : List (List Value)) → rows ≡ total_rows a b → AreSets rows
-total_functions_sets a b h k rows e = are_sets (IsRelationThat (λ r. IsFunctional r × IsTotal a r) a b) (total_rows a b) rows (total_told b fits_any IsFunctional functions a h k) (relation_ascends (λ r. IsFunctional r × IsTotal a r) a b) e
+total_functions_sets a b h k rows e = are_sets (IsRelationThat (λ r. IsFunctional r × IsTotal a r) a b) (total_rows a b) rows
+    (total_told b fits_any IsFunctional functions a h k) (relation_ascends (λ r. IsFunctional r × IsTotal a r) a b) e
 
 -- of functions to one member there is one, which is constant
 pub constant : (a : List Value) (y : Value) → whole fits_any (map (pairs (y ∷ [])) a) ≡ map (λ x. pair x y) a ∷ []

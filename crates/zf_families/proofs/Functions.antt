@@ -157,7 +157,8 @@ module _ (b : List Value) (f : Value → List Value → Bool) (Law : List Value 
   ladder [] h k = tt
   ladder (x ∷ a) h k = (
     pairs_ascending x b k,
-    every_map (λ p. Each (Every (λ q. value_order p q ≡ Less)) (map (pairs b) a)) (pair x) b (every_from (λ y. Each (Every (λ q. value_order (pair x y) q ≡ Less)) (map (pairs b) a)) b (λ y m. above x a h.0 y)),
+    every_map (λ p. Each (Every (λ q. value_order p q ≡ Less)) (map (pairs b) a)) (pair x) b
+        (every_from (λ y. Each (Every (λ q. value_order (pair x y) q ≡ Less)) (map (pairs b) a)) b (λ y m. above x a h.0 y)),
     ladder a h.1 k,
   )
 

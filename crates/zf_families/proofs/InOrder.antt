@@ -20,7 +20,8 @@ each_extended P f rows p h = each_map P (λ r. p ∷ r) (filter (f p) rows) (all
     all [] = tt
     all (r ∷ rs) = (h r, all rs)
 
-pub each_extension : (P : List Value → Type 0) (f : Value → List Value → Bool) (rows : List (List Value)) (layer : List Value) → Every (λ p. (r : List Value) → P (p ∷ r)) layer → Each P (extensions f layer rows)
+pub each_extension : (P : List Value → Type 0) (f : Value → List Value → Bool) (rows : List (List Value)) (layer : List Value)
+    → Every (λ p. (r : List Value) → P (p ∷ r)) layer → Each P (extensions f layer rows)
 each_extension P f rows [] h = tt
 each_extension P f rows (p ∷ layer) h = each_append P (extended f rows p) (extensions f layer rows) (each_extended P f rows p h.0) (each_extension P f rows layer h.1)
 

@@ -22,7 +22,8 @@ filter_swap : {X : Type 0} (p q : X → Bool) (xs : List X) → filter p (filter
 filter_swap p q [] = refl
 filter_swap {X} p q (x ∷ xs) = go (p x) (q x) refl refl (filter_swap p q xs)
   where
-    go : (a b : Bool) → p x ≡ a → q x ≡ b → filter p (filter q xs) ≡ filter q (filter p xs) → filter p (cond (q x) (x ∷ filter q xs) (filter q xs)) ≡ filter q (cond (p x) (x ∷ filter p xs) (filter p xs))
+    go : (a b : Bool) → p x ≡ a → q x ≡ b → filter p (filter q xs) ≡ filter q (filter p xs)
+        → filter p (cond (q x) (x ∷ filter q xs) (filter q xs)) ≡ filter q (cond (p x) (x ∷ filter p xs) (filter p xs))
     go true true e f h = grind arith
     go true false e f h = grind arith
     go false true e f h = grind arith
@@ -65,7 +66,9 @@ module _ (x y : Value) where
       filter-append free (extended fits_apart rows (pair u v)) (extensions fits_apart (pairs b u) rows)
       ∙ ap (λ rs. rs ++ filter free (extensions fits_apart (pairs b u) rows)) (free_extended u v rows)
       ∙ ap (λ rs. cond (is_other y v) (extended fits_apart (filter free rows) (pair u v)) [] ++ rs) (free_extensions u b rows)
-      ∙ elim (is_other y v) as (λ t. cond t (extended fits_apart (filter free rows) (pair u v)) [] ++ extensions fits_apart (pairs (others y b) u) (filter free rows) ≡ extensions fits_apart (pairs (cond t (v ∷ others y b) (others y b)) u) (filter free rows)) [
+      ∙ elim (is_other y v) as (λ t. cond t (extended fits_apart (filter free rows) (pair u v)) []
+      ++ extensions fits_apart (pairs (others y b) u) (filter free rows)
+      ≡ extensions fits_apart (pairs (cond t (v ∷ others y b) (others y b)) u) (filter free rows)) [
         | true ↦ refl
         | false ↦ refl
       ]
@@ -129,7 +132,8 @@ ascending_others y (v ∷ b) h = elim (is_other y v) as (λ t. IsAscending (cond
 
 -- ---- counts
 
-length_fitting : (x : Value) (b : List Value) (rows : List (List Value)) (n : ℕ) → ((y : Value) → IsMember y b → length (filter (fits_apart (pair x y)) rows) ≡ n) → length (extensions fits_apart (pairs b x) rows) ≡ length b * n
+length_fitting : (x : Value) (b : List Value) (rows : List (List Value)) (n : ℕ)
+    → ((y : Value) → IsMember y b → length (filter (fits_apart (pair x y)) rows) ≡ n) → length (extensions fits_apart (pairs b x) rows) ≡ length b * n
 length_fitting x [] rows n h = grind arith
 length_fitting x (y ∷ b) rows n h =
     let here : length (extended fits_apart rows (pair x y)) ≡ n = length-map (filter (fits_apart (pair x y)) rows) (λ r. pair x y ∷ r) ∙ h y (inl refl) in
@@ -153,5 +157,6 @@ length_partial_injections (x ∷ a) b h =
     length_fitting x b ([] ∷ rows) (partial_injection_count (length a) (length b - 1)) (λ y m.
     ap (λ rs. suc (length rs)) (free_some x y a b) ∙ length_partial_injections a (others y b) (ascending_others y b h) ∙ ap (partial_injection_count (length a)) (one_less y b h m)) in
     let rest : suc (length rows) ≡ partial_injection_count (length a) (length b) = length_partial_injections a b h in
-    let all : length (extensions fits_apart (pairs b x) ([] ∷ rows) ++ rows) ≡ length (extensions fits_apart (pairs b x) ([] ∷ rows)) + length rows = length-append (extensions fits_apart (pairs b x) ([] ∷ rows)) rows in
+    let all : length (extensions fits_apart (pairs b x) ([] ∷ rows) ++ rows)
+    ≡ length (extensions fits_apart (pairs b x) ([] ∷ rows)) + length rows = length-append (extensions fits_apart (pairs b x) ([] ∷ rows)) rows in
     omega (arith, here, rest, all)

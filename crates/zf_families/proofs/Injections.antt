@@ -18,18 +18,22 @@ IsInjection r = IsFunctional r × IsInjective r
 
 -- ---- partial injections
 
-pub partial_injections_out : (a b : List Value) → IsAscending a → IsAscending b → (count : ℕ) → count ≡ min (partial_injection_count (length a) (length b)) (SET_MAX + 1) → TellsOut (ArePartialInjections a b) (ltb SET_MAX count)
+pub partial_injections_out : (a b : List Value) → IsAscending a → IsAscending b → (count : ℕ)
+    → count ≡ min (partial_injection_count (length a) (length b)) (SET_MAX + 1) → TellsOut (ArePartialInjections a b) (ltb SET_MAX count)
 unfolding ArePartialInjections
 partial_injections_out a b h k count e =
     out_by_size SetOf (IsRelationThat IsInjection a b) (partial_injection_rows a b) (partial_told b fits_apart IsInjection injections a h k) (partial_injection_count (length a) (length b)) count
     (length_partial_injections a b k) e
 
-pub partial_injections_built : (a b : List Value) → IsAscending a → IsAscending b → (ArePartialInjections a b Out → ⊥) → (rows : List (List Value)) → rows ≡ partial_injection_rows a b → (r : Result Outcome AllocError) → IfOk r (λ o. o ≡ Is (SetOf (map SetOf rows))) → IfOk r (ArePartialInjections a b)
+pub partial_injections_built : (a b : List Value) → IsAscending a → IsAscending b → (ArePartialInjections a b Out → ⊥) → (rows : List (List Value))
+    → rows ≡ partial_injection_rows a b → (r : Result Outcome AllocError) → IfOk r (λ o. o ≡ Is (SetOf (map SetOf rows))) → IfOk r (ArePartialInjections a b)
 unfolding ArePartialInjections
-partial_injections_built a b h k few rows e r g = built_result SetOf (IsRelationThat IsInjection a b) (partial_injection_rows a b) rows (partial_told b fits_apart IsInjection injections a h k) few e r g
+partial_injections_built a b h k few rows e r g = built_result SetOf (IsRelationThat IsInjection a b) (partial_injection_rows a b) rows
+    (partial_told b fits_apart IsInjection injections a h k) few e r g
 
 pub partial_injections_sets : (a b : List Value) → IsAscending a → IsAscending b → (rows : List (List Value)) → rows ≡ partial_injection_rows a b → AreSets rows
-partial_injections_sets a b h k rows e = are_sets (IsRelationThat IsInjection a b) (partial_injection_rows a b) rows (partial_told b fits_apart IsInjection injections a h k) (relation_ascends IsInjection a b) e
+partial_injections_sets a b h k rows e = are_sets (IsRelationThat IsInjection a b) (partial_injection_rows a b) rows
+    (partial_told b fits_apart IsInjection injections a h k) (relation_ascends IsInjection a b) e
 
 -- ---- total injections
 
@@ -44,19 +48,22 @@ total_injections_told a b h k =
       found = λ z p. t.found z (p.0, p.1, p.2, p.3, ((p.4.0, p.4.1), p.4.2));
     }
 
-pub total_injections_out : (a b : List Value) → IsAscending a → IsAscending b → (count : ℕ) → count ≡ min (falling (length b) (length a)) (SET_MAX + 1) → TellsOut (AreTotalInjections a b) (ltb SET_MAX count)
+pub total_injections_out : (a b : List Value) → IsAscending a → IsAscending b → (count : ℕ) → count ≡ min (falling (length b) (length a)) (SET_MAX + 1)
+    → TellsOut (AreTotalInjections a b) (ltb SET_MAX count)
 unfolding AreTotalInjections
 total_injections_out a b h k count e =
     out_by_size SetOf (IsRelationThat (λ r. IsFunctional r × IsInjective r × IsTotal a r) a b) (injection_rows a b) (total_injections_told a b h k) (falling (length b) (length a)) count
     (length_injections a b k) e
 
-pub total_injections_built : (a b : List Value) → IsAscending a → IsAscending b → (AreTotalInjections a b Out → ⊥) → (rows : List (List Value)) → rows ≡ injection_rows a b → (r : Result Outcome AllocError) → IfOk r (λ o. o ≡ Is (SetOf (map SetOf rows))) → IfOk r (AreTotalInjections a b)
+pub total_injections_built : (a b : List Value) → IsAscending a → IsAscending b → (AreTotalInjections a b Out → ⊥) → (rows : List (List Value))
+    → rows ≡ injection_rows a b → (r : Result Outcome AllocError) → IfOk r (λ o. o ≡ Is (SetOf (map SetOf rows))) → IfOk r (AreTotalInjections a b)
 unfolding AreTotalInjections
 total_injections_built a b h k few rows e r g =
     built_result SetOf (IsRelationThat (λ r. IsFunctional r × IsInjective r × IsTotal a r) a b) (injection_rows a b) rows (total_injections_told a b h k) few e r g
 
 pub total_injections_sets : (a b : List Value) → IsAscending a → IsAscending b → (rows : List (List Value)) → rows ≡ injection_rows a b → AreSets rows
-total_injections_sets a b h k rows e = are_sets (IsRelationThat (λ r. IsFunctional r × IsInjective r × IsTotal a r) a b) (injection_rows a b) rows (total_injections_told a b h k) (relation_ascends (λ r. IsFunctional r × IsInjective r × IsTotal a r) a b) e
+total_injections_sets a b h k rows e = are_sets (IsRelationThat (λ r. IsFunctional r × IsInjective r × IsTotal a r) a b) (injection_rows a b) rows
+    (total_injections_told a b h k) (relation_ascends (λ r. IsFunctional r × IsInjective r × IsTotal a r) a b) e
 
 falling_none : (n k : ℕ) → n < k → falling n k ≡ 0
 falling_none n zero h = absurd (omega arith)

@@ -74,7 +74,8 @@ min_power n c = ⊎_elim
     ap (λ k. min (2 ^ k) c) e ∙ omega (arith, p, q))
     (cases_lt n c)
 
-pub relations_out : (a b : List Value) → IsAscending a → IsAscending b → (size count : ℕ) → size ≡ min (length a * length b) (SET_MAX + 1) → count ≡ min (2 ^ size) (SET_MAX + 1) → TellsOut (AreRelations a b) (ltb SET_MAX count)
+pub relations_out : (a b : List Value) → IsAscending a → IsAscending b → (size count : ℕ) → size ≡ min (length a * length b) (SET_MAX + 1)
+    → count ≡ min (2 ^ size) (SET_MAX + 1) → TellsOut (AreRelations a b) (ltb SET_MAX count)
 unfolding AreRelations
 relations_out a b h k size count e f =
     let all : length ([] ∷ some fits_any (singles (product_of a b))) ≡ 2 ^ (length a * length b) =
@@ -82,7 +83,9 @@ relations_out a b h k size count e f =
     out_by_size SetOf (IsRelationThat (λ r. Unit {0}) a b) ([] ∷ some fits_any (singles (product_of a b))) (relations_told a b h k) (2 ^ (length a * length b)) count all
     (f ∙ ap (λ n. min (2 ^ n) (SET_MAX + 1)) e ∙ min_power (length a * length b) (SET_MAX + 1))
 
-pub relations_built : (a b : List Value) → IsAscending a → IsAscending b → (AreRelations a b Out → ⊥) → (rows : List (List Value)) → rows ≡ [] ∷ some fits_any (singles (product_of a b)) → (r : Result Outcome AllocError) → IfOk r (λ o. o ≡ Is (SetOf (map SetOf rows))) → IfOk r (AreRelations a b)
+pub relations_built : (a b : List Value) → IsAscending a → IsAscending b → (AreRelations a b Out → ⊥) → (rows : List (List Value))
+    → rows ≡ [] ∷ some fits_any (singles (product_of a b)) → (r : Result Outcome AllocError) → IfOk r (λ o. o ≡ Is (SetOf (map SetOf rows)))
+    → IfOk r (AreRelations a b)
 unfolding AreRelations
 relations_built a b h k few rows e r g = built_result SetOf (IsRelationThat (λ r. Unit {0}) a b) ([] ∷ some fits_any (singles (product_of a b))) rows (relations_told a b h k) few e r g
 

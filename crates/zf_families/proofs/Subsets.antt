@@ -69,7 +69,8 @@ power_out a h count e =
     let size : length ([] ∷ some fits_any (singles a)) ≡ 2 ^ length a = length_some (singles a) ∙ sizes_same suc 1 (λ x. x ∷ []) a (λ x. refl) in
     out_by_size SetOf (IsSubset a) ([] ∷ some fits_any (singles a)) (power_told a h) (2 ^ length a) count size e
 
-pub power_built : (a : List Value) → IsAscending a → (IsPower a Out → ⊥) → (rows : List (List Value)) → rows ≡ [] ∷ some fits_any (singles a) → (r : Result Outcome AllocError) → IfOk r (λ o. o ≡ Is (SetOf (map SetOf rows))) → IfOk r (IsPower a)
+pub power_built : (a : List Value) → IsAscending a → (IsPower a Out → ⊥) → (rows : List (List Value)) → rows ≡ [] ∷ some fits_any (singles a)
+    → (r : Result Outcome AllocError) → IfOk r (λ o. o ≡ Is (SetOf (map SetOf rows))) → IfOk r (IsPower a)
 unfolding IsPower
 power_built a h few rows e r k = built_result SetOf (IsSubset a) ([] ∷ some fits_any (singles a)) rows (power_told a h) few e r k
 

@@ -35,7 +35,8 @@ pub record Tells (make : List Value → Value) (P : Value → Type 0) (rows : Li
   pub passes : (r : List Value) → In r rows → P (make r)
   pub found : (z : Value) → P z → (r : List Value) × (make r ≡ z) × In r rows
 
-pub made_ascending : (make : List Value → Value) → ((r s : List Value) → value_order (make r) (make s) ≡ row_order r s) → (rows : List (List Value)) → IsOrdered Below rows → IsAscending (map make rows)
+pub made_ascending : (make : List Value → Value) → ((r s : List Value) → value_order (make r) (make s) ≡ row_order r s) → (rows : List (List Value))
+    → IsOrdered Below rows → IsAscending (map make rows)
 made_ascending make k rows h = ascending_from (map make rows) (ordered_map Below (λ x y. value_order x y ≡ Less) make rows (λ r s l. k r s ∙ l) h)
 
 pub told : (make : List Value → Value) (P : Value → Type 0) (rows : List (List Value)) → Tells make P rows → length rows ≤ SET_MAX → IsSetOf P (Is (SetOf (map make rows)))
@@ -81,7 +82,8 @@ told_in make P rows t h o = let e = one_set P (Is (SetOf (map make rows))) Out (
 abbrev pub TellsOut : (Outcome → Type 0) → Bool → Type 0
 TellsOut S b = (IsTrue b ↔ S Out) × (IsTrue b ⊎ ((v : Value) × S (Is v)))
 
-pub out_by_size : (make : List Value → Value) (P : Value → Type 0) (rows : List (List Value)) → Tells make P rows → (n count : ℕ) → length rows ≡ n → count ≡ min n (SET_MAX + 1) → TellsOut (IsSetOf P) (ltb SET_MAX count)
+pub out_by_size : (make : List Value → Value) (P : Value → Type 0) (rows : List (List Value)) → Tells make P rows → (n count : ℕ) → length rows ≡ n
+    → count ≡ min n (SET_MAX + 1) → TellsOut (IsSetOf P) (ltb SET_MAX count)
 out_by_size make P rows t n count e h = (
   (
     λ g. let l = ltb-true SET_MAX count g in told_out make P rows t (omega (arith, e, h, l)),
@@ -93,8 +95,10 @@ out_by_size make P rows t n count e h = (
 built : (make : List Value → Value) (P : Value → Type 0) (rows : List (List Value)) → Tells make P rows → (IsSetOf P Out → ⊥) → IsSetOf P (Is (SetOf (map make rows)))
 built make P rows t few = ⊎_elim (λ l. absurd (few (told_out make P rows t (omega (arith, l))))) (λ l. told make P rows t l) (cases_lt SET_MAX (length rows))
 
-pub built_result : (make : List Value → Value) (P : Value → Type 0) (rows these : List (List Value)) → Tells make P rows → (IsSetOf P Out → ⊥) → these ≡ rows → (r : Result Outcome AllocError) → IfOk r (λ o. o ≡ Is (SetOf (map make these))) → IfOk r (IsSetOf P)
-built_result make P rows these t few e r h = IfOk-weaker r (λ o. o ≡ Is (SetOf (map make these))) (IsSetOf P) (λ o q. subst (IsSetOf P) (ap (λ rs. Is (SetOf (map make rs))) (sym e) ∙ sym q) (built make P rows t few)) h
+pub built_result : (make : List Value → Value) (P : Value → Type 0) (rows these : List (List Value)) → Tells make P rows → (IsSetOf P Out → ⊥) → these ≡ rows
+    → (r : Result Outcome AllocError) → IfOk r (λ o. o ≡ Is (SetOf (map make these))) → IfOk r (IsSetOf P)
+built_result make P rows these t few e r h = IfOk-weaker r (λ o. o ≡ Is (SetOf (map make these))) (IsSetOf P)
+    (λ o q. subst (IsSetOf P) (ap (λ rs. Is (SetOf (map make rs))) (sym e) ∙ sym q) (built make P rows t few)) h
 
 -- ---- rows of which sets are made
 

@@ -35,12 +35,15 @@ cross_told sets h =
       found = λ z p. (p.0, sym p.1, (chosen p.0 tt).1 p.2);
     }
 
-pub cross_out : (sets : List Value) → Every (λ s. IsAscending (members s)) sets → (count : ℕ) → count ≡ min (sizes (λ n. n) (map members sets)) (SET_MAX + 1) → TellsOut (IsCross sets) (ltb SET_MAX count)
+pub cross_out : (sets : List Value) → Every (λ s. IsAscending (members s)) sets → (count : ℕ) → count ≡ min (sizes (λ n. n) (map members sets)) (SET_MAX + 1)
+    → TellsOut (IsCross sets) (ltb SET_MAX count)
 unfolding IsCross
 cross_out sets h count e =
-    out_by_size Tuple (λ z. (vs : List Value) × (z ≡ Tuple vs) × AreFrom vs sets) (whole fits_any (map members sets)) (cross_told sets h) (sizes (λ n. n) (map members sets)) count (length_whole (map members sets)) e
+    out_by_size Tuple (λ z. (vs : List Value) × (z ≡ Tuple vs) × AreFrom vs sets) (whole fits_any (map members sets)) (cross_told sets h)
+    (sizes (λ n. n) (map members sets)) count (length_whole (map members sets)) e
 
-pub cross_built : (sets : List Value) → Every (λ s. IsAscending (members s)) sets → (IsCross sets Out → ⊥) → (rows : List (List Value)) → rows ≡ whole fits_any (map members sets) → (r : Result Outcome AllocError) → IfOk r (λ o. o ≡ Is (SetOf (map Tuple rows))) → IfOk r (IsCross sets)
+pub cross_built : (sets : List Value) → Every (λ s. IsAscending (members s)) sets → (IsCross sets Out → ⊥) → (rows : List (List Value))
+    → rows ≡ whole fits_any (map members sets) → (r : Result Outcome AllocError) → IfOk r (λ o. o ≡ Is (SetOf (map Tuple rows))) → IfOk r (IsCross sets)
 unfolding IsCross
 cross_built sets h few rows e r k =
     built_result Tuple (λ z. (vs : List Value) × (z ≡ Tuple vs) × AreFrom vs sets) (whole fits_any (map members sets)) rows (cross_told sets h) few e r k
@@ -73,4 +76,5 @@ as_many (v ∷ vs) (s ∷ sets) f = ap suc (as_many vs sets f.1)
 
 -- what holds of the first and of the next
 pub every_next : (P : Value → Type 0) (xs : List Value) (i : ℕ) (x : Value) → i < length xs → x ≡ get_or xs i x → P x → Every P (take i xs) → Every P (take (i + 1) xs)
-every_next P xs i x l e p h = every_from P (take (i + 1) xs) (λ z m. ⊎_elim (λ n. every_at P (take i xs) z h n) (λ s. subst P s p) ((members-take_more xs i x e l z).0 (subst (λ n. IsMember z (take n xs)) (add-one i) m)))
+every_next P xs i x l e p h = every_from P (take (i + 1) xs) (λ z m. ⊎_elim (λ n. every_at P (take i xs) z h n) (λ s. subst P s p)
+    ((members-take_more xs i x e l z).0 (subst (λ n. IsMember z (take n xs)) (add-one i) m)))

@@ -76,7 +76,8 @@ begun file text old objects l at is =
     ap (λ t. t ++ (rest ++ codes "}\n")) (is ∙ ap (λ t. t ++ message_members file (before_first is_newline text)) at)
     ∙ sym (append_assoc (codes "{" ++ message_members file (before_first is_newline text)) rest (codes "}\n")) ∙ ap (objects_of file) (sym (first_line text l))
 
-pub one_line : (file text objects new whole : List ℕ) → 0 < length text → objects ++ (flat_map (further file) (text_lines text) ++ codes "}\n") ≡ whole → new ≡ objects ++ further file (before_first is_newline text)
+pub one_line : (file text objects new whole : List ℕ) → 0 < length text → objects ++ (flat_map (further file) (text_lines text) ++ codes "}\n") ≡ whole
+    → new ≡ objects ++ further file (before_first is_newline text)
     → new ++ (flat_map (further file) (text_lines (after_first is_newline text)) ++ codes "}\n") ≡ whole
 one_line file text objects new whole l ahead is =
     let line = further file (before_first is_newline text) in

@@ -67,7 +67,8 @@ module _ {V : Type 0} (w : Wording V) (limit : Option ℕ) (all : List (Event V)
   next_written front x xs True is n e h l on =
       let longer : length (front ++ x ∷ []) ≡ length front + 1 = length-append front (x ∷ []) in
       let hold = All-push (λ (f : Event V). f.truth ≡ True) front x h is in
-      ⊎_elim (λ r. paused front x xs e hold (r ∙ ap Some (sym longer))) (λ b. on (e ∙ sym (append_assoc front (x ∷ []) xs)) hold (subst (IsBelow limit) (sym longer) b)) (reached limit (length front) l)
+      ⊎_elim (λ r. paused front x xs e hold (r ∙ ap Some (sym longer))) (λ b. on (e ∙ sym (append_assoc front (x ∷ []) xs)) hold
+      (subst (IsBelow limit) (sym longer) b)) (reached limit (length front) l)
 
   written_from : (rest front : List (Event V)) → all ≡ front ++ rest → Hold front → IsBelow limit (length front) → ((f : Event V) → Contains rest f → f.truth ≢ False) → AreWritten w limit all
   written_from [] front e h l n = ended front (e ∙ append-nil front) h l
@@ -92,7 +93,8 @@ module _ {V : Type 0} (cmp : V → V → Ordering) (order : IsTotalOrder cmp) (s
   front_ascending : (front rest : List (Event V)) (e : Event V) → AllPairs IsBefore (front ++ e ∷ rest) → AllPairs IsBefore (front ++ e ∷ [])
   front_ascending [] rest e h = AllPairs-cons IsBefore e [] (λ f m. absurd (Contains-nil f m)) (AllPairs-nil IsBefore)
   front_ascending (x ∷ front) rest e h = AllPairs-cons IsBefore x (front ++ e ∷ [])
-      (λ f m. AllPairs-head IsBefore x (front ++ e ∷ rest) h f (⊎_elim (λ a. Contains-left front (e ∷ rest) f a) (λ b. Contains-right front (e ∷ rest) f (first f b)) (Contains-either front (e ∷ []) f m)))
+      (λ f m. AllPairs-head IsBefore x (front ++ e ∷ rest) h f (⊎_elim (λ a. Contains-left front (e ∷ rest) f a)
+      (λ b. Contains-right front (e ∷ rest) f (first f b)) (Contains-either front (e ∷ []) f m)))
       (front_ascending front rest e (AllPairs-tail IsBefore x (front ++ e ∷ rest) h))
     where
       first : (f : Event V) → Contains (e ∷ []) f → Contains (e ∷ rest) f
@@ -101,7 +103,10 @@ module _ {V : Type 0} (cmp : V → V → Ordering) (order : IsTotalOrder cmp) (s
   up_to_event : (front rest : List (Event V)) (e : Event V) → IsEvents cmp s ranges after (front ++ e ∷ rest) → AreEventsUpTo cmp s ranges after (Some e.row) (front ++ e ∷ [])
   up_to_event front rest e h = record {
     ascending = front_ascending front rest e h.ascending;
-    members = λ f. (λ m. let i = (h.members f).0 (there f m) in (i, λ c. not_after f m (subst (λ r. slice_cmp cmp r f.row ≡ Less) (up_to_of e f here i) c)), λ i. back f i.0 (λ c. i.1 (subst (λ r. slice_cmp cmp r f.row ≡ Less) (sym (up_to_of e f here i.0)) c)));
+    members = λ f. (
+      λ m. let i = (h.members f).0 (there f m) in (i, λ c. not_after f m (subst (λ r. slice_cmp cmp r f.row ≡ Less) (up_to_of e f here i) c)),
+      λ i. back f i.0 (λ c. i.1 (subst (λ r. slice_cmp cmp r f.row ≡ Less) (sym (up_to_of e f here i.0)) c)),
+    );
   }
     where
       here : IsEvent cmp s ranges after e
@@ -111,7 +116,8 @@ module _ {V : Type 0} (cmp : V → V → Ordering) (order : IsTotalOrder cmp) (s
       alone f m = ⊎_elim (λ q. q) (λ n. absurd (Contains-nil f n)) (Contains-cases e [] f m)
 
       there : (f : Event V) → Contains (front ++ e ∷ []) f → Contains (front ++ e ∷ rest) f
-      there f m = ⊎_elim (λ a. Contains-left front (e ∷ rest) f a) (λ b. Contains-right front (e ∷ rest) f (subst (Contains (e ∷ rest)) (alone f b) (Contains-head e rest))) (Contains-either front (e ∷ []) f m)
+      there f m = ⊎_elim (λ a. Contains-left front (e ∷ rest) f a) (λ b. Contains-right front (e ∷ rest) f
+          (subst (Contains (e ∷ rest)) (alone f b) (Contains-head e rest))) (Contains-either front (e ∷ []) f m)
 
       not_after : (f : Event V) → Contains (front ++ e ∷ []) f → ComesAfter cmp e.row f.row → ⊥
       not_after f m c =
@@ -121,16 +127,19 @@ module _ {V : Type 0} (cmp : V → V → Ordering) (order : IsTotalOrder cmp) (s
       back : (f : Event V) → IsEvent cmp s ranges after f → (ComesAfter cmp e.row f.row → ⊥) → Contains (front ++ e ∷ []) f
       back f i n =
           ⊎_elim (λ a. Contains-left front (e ∷ []) f a)
-          (λ b. ⊎_elim (λ q. Contains-right front (e ∷ []) f (subst (Contains (e ∷ [])) q (Contains-head e []))) (λ k. absurd (n (after_it f k))) (Contains-cases e rest f b)) (Contains-either front (e ∷ rest) f ((h.members f).1 i))
+          (λ b. ⊎_elim (λ q. Contains-right front (e ∷ []) f (subst (Contains (e ∷ [])) q (Contains-head e []))) (λ k. absurd (n (after_it f k)))
+          (Contains-cases e rest f b)) (Contains-either front (e ∷ rest) f ((h.members f).1 i))
         where
           after_it : (f : Event V) → Contains rest f → ComesAfter cmp e.row f.row
           after_it f k = AllPairs-head IsBefore e rest (AllPairs-back IsBefore front (e ∷ rest) h.ascending) f k
 
   pub cut_events : (all : List (Event V)) (last : Option (List V)) (events : List (Event V)) → IsEvents cmp s ranges after all → IsCut all last events → AreEventsUpTo cmp s ranges after last events
   cut_events all last events h (inl c) =
-      subst (λ l. AreEventsUpTo cmp s ranges after l events) (sym c.5) (subst (AreEventsUpTo cmp s ranges after (Some c.1.row)) (sym c.4) (up_to_event c.0 c.2 c.1 (subst (IsEvents cmp s ranges after) c.3 h)))
+      subst (λ l. AreEventsUpTo cmp s ranges after l events) (sym c.5) (subst (AreEventsUpTo cmp s ranges after (Some c.1.row)) (sym c.4)
+      (up_to_event c.0 c.2 c.1 (subst (IsEvents cmp s ranges after) c.3 h)))
   cut_events all last events h (inr c) =
-      subst (λ l. AreEventsUpTo cmp s ranges after l events) (sym c.1) (subst (AreEventsUpTo cmp s ranges after None) (sym c.0) (record { ascending = h.ascending; members = λ f. (λ m. ((h.members f).0 m, tt), λ i. (h.members f).1 i.0) }))
+      subst (λ l. AreEventsUpTo cmp s ranges after l events) (sym c.1) (subst (AreEventsUpTo cmp s ranges after None) (sym c.0)
+      (record { ascending = h.ascending; members = λ f. (λ m. ((h.members f).0 m, tt), λ i. (h.members f).1 i.0) }))
 
   pub not_false : (all : List (Event V)) → IsEvents cmp s ranges after all → (f : Event V) → Contains all f → f.truth ≢ False
   not_false all h f m = let i = (h.members f).0 m in i.not_false

@@ -85,11 +85,13 @@ mutual
   listed_in_set : (e : Environment) (d : DeclaredSet) → bounds e.numbers e.globals d ≡ true → Listed (IsInSet e d)
   listed_in_set e (plain t) b = listed_in_plain e (infinite_in e t) t (bounding e t b)
   listed_in_set e (carrier t) b = listed_in_carrier e (has_endless e.numbers t) t (endless e.numbers t b)
-  listed_in_set e (sides ds es) b = let both = and_parts (one_bounds e.numbers e.globals ds) (one_bounds e.numbers e.globals es) b in listed_either (listed_in_sets e ds both.0) (listed_in_sets e es both.1)
+  listed_in_set e (sides ds es) b = let both = and_parts (one_bounds e.numbers e.globals ds) (one_bounds e.numbers e.globals es) b in listed_either
+      (listed_in_sets e ds both.0) (listed_in_sets e es both.1)
 
   -- where one of them bounds
   pub listed_in_sets : (e : Environment) (ds : DeclaredSets) → one_bounds e.numbers e.globals ds ≡ true → Listed (IsInSets e ds)
   listed_in_sets e no_sets b = absurd (cc)
   listed_in_sets e (set d ds) b =
       ⊎_elim (λ here. listed_kept (IsInSets e ds) (listed_in_set e d here) (λ v. decided_in_sets e ds v))
-      (λ there. listed_same (listed_kept (IsInSet e d) (listed_in_sets e ds there) (λ v. decided_in_set e d v)) (λ v. (λ h. (h.1, h.0), λ h. (h.1, h.0)))) (or_cases (bounds e.numbers e.globals d) (one_bounds e.numbers e.globals ds) b)
+      (λ there. listed_same (listed_kept (IsInSet e d) (listed_in_sets e ds there) (λ v. decided_in_set e d v)) (λ v. (λ h. (h.1, h.0), λ h. (h.1, h.0))))
+      (or_cases (bounds e.numbers e.globals d) (one_bounds e.numbers e.globals ds) b)

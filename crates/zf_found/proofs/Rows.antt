@@ -51,7 +51,8 @@ fronts_of {V} [] = listed_same (listed_one []) (λ row. none row)
     none [] = (λ e. tt, λ h. refl)
     none (v ∷ row) = (λ e. absurd (cc), λ h. absurd h)
 fronts_of {V} (range ∷ ranges) =
-    listed_same (listed_either (listed_one []) (listed_image (λ (p : V × List V). p.0 ∷ p.1) (listed_pairs (λ v row. IsFrontOf ranges row) (members_of range) (λ v. fronts_of ranges)))) (λ row. longer row)
+    listed_same (listed_either (listed_one []) (listed_image (λ (p : V × List V). p.0 ∷ p.1)
+    (listed_pairs (λ v row. IsFrontOf ranges row) (members_of range) (λ v. fronts_of ranges)))) (λ row. longer row)
   where
     longer : (row : List V) → (([] ≡ row) ⊎ ((p : V × List V) × (Contains range p.0 × IsFrontOf ranges p.1) × (p.0 ∷ p.1 ≡ row))) ↔ IsFrontOf (range ∷ ranges) row
     longer [] = (λ h. tt, λ h. inl refl)
@@ -76,10 +77,11 @@ false_or P Out p = inr (inr p)
 
 module _ {V : Type 0} (s : Conjuncts V) (told : AreTold s) where
   pub some_truth_of : (row : List V) → HasSome (IsTruthOf s row)
-  some_truth_of row = elim (one_or_all (λ c. s.says c row False) (λ c. s.says c row True ⊎ s.says c row Out) (listed_below s.number) (λ c l. let h = told.some c row l in false_or (s.says c row) h.0 h.1)) [
-    | inl h ↦ (False, h)
-    | inr g ↦ ⊎_elim (λ o. (Out, (g, o))) (λ a. (True, a)) (one_or_all (λ c. s.says c row Out) (λ c. s.says c row True) (listed_below s.number) (λ c l. swapped (g c l)))
-  ]
+  some_truth_of row = elim (one_or_all (λ c. s.says c row False) (λ c. s.says c row True ⊎ s.says c row Out) (listed_below s.number)
+      (λ c l. let h = told.some c row l in false_or (s.says c row) h.0 h.1)) [
+        | inl h ↦ (False, h)
+        | inr g ↦ ⊎_elim (λ o. (Out, (g, o))) (λ a. (True, a)) (one_or_all (λ c. s.says c row Out) (λ c. s.says c row True) (listed_below s.number) (λ c l. swapped (g c l)))
+      ]
 
   apart : (c : ℕ) (row : List V) (t u : Truth) → s.says c row t → s.says c row u → (t ≡ u → ⊥) → ⊥
   apart c row t u h k n = n (told.one c row t u h k)
@@ -106,7 +108,8 @@ module _ {V : Type 0} (s : Conjuncts V) (told : AreTold s) where
 
     found : Listed IsFound
     found =
-        listed_kept (λ row. (some_truth_of row).0 ≢ False) (listed_kept (λ row. IsLater cmp after row) (rows_of ranges) (λ row. decided_later cmp after row)) (λ row. decided_not (same_truth (some_truth_of row).0 False))
+        listed_kept (λ row. (some_truth_of row).0 ≢ False) (listed_kept (λ row. IsLater cmp after row) (rows_of ranges) (λ row. decided_later cmp after row))
+        (λ row. decided_not (same_truth (some_truth_of row).0 False))
 
     is_event : (row : List V) → IsFound row → IsEvent cmp s ranges after (event_of row)
     is_event row h = record { within = h.0.0; later = h.0.1; truth_of = (some_truth_of row).1; not_false = h.1 }

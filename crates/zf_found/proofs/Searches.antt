@@ -28,7 +28,8 @@ some_of e row (Some p) q s = let u = some_truth (in_row e row) p in walked_of (I
 
 decided_of : (e : Environment) (row : List Value) (p : Option ResolvedTree) (t : walk.Truth) → Decided (HasTruth e row p (told t))
 decided_of e row None t = inr (λ h. h)
-decided_of e row (Some p) t = let u = some_of e row (Some p) p refl in ⊎_elim (λ s. inl (subst (λ x. HasTruth e row (Some p) (told x)) s u.1)) (λ n. inr (λ h. n (one_truth_in e row (Some p) u.0 t u.1 h))) (same_truth u.0 t)
+decided_of e row (Some p) t = let u = some_of e row (Some p) p refl in ⊎_elim (λ s. inl (subst (λ x. HasTruth e row (Some p) (told x)) s u.1))
+    (λ n. inr (λ h. n (one_truth_in e row (Some p) u.0 t u.1 h))) (same_truth u.0 t)
 
 got : {A : Type 0} (xs : List A) (i : ℕ) → i < length xs → (x : A) × (slice_get xs i ≡ Some x)
 got [] i l = absurd (omega arith)

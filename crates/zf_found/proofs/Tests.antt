@@ -28,26 +28,32 @@ module _ {V : Type 0} (cmp : V → V → Ordering) where
     IsKept row = (d : ℕ) → d < s.number → s.due d < length row → s.says d row False → ⊥
 
     decided_kept : (row : List V) → Decided (IsKept row)
-    decided_kept row = decided_all (λ d. s.due d < length row → s.says d row False → ⊥) (listed_below s.number) (λ d. decided_then (decided_lt (s.due d) (length row)) (decided_not (told.decided d row False)))
+    decided_kept row = decided_all (λ d. s.due d < length row → s.says d row False
+        → ⊥) (listed_below s.number) (λ d. decided_then (decided_lt (s.due d) (length row)) (decided_not (told.decided d row False)))
 
     -- no earlier conjunct that needs as many is False on the row
     abbrev IsUnbroken : List V → ℕ → Type 0
     IsUnbroken row c = (d : ℕ) → d < c → s.due d ≡ length row → s.says d row False → ⊥
 
     decided_unbroken : (row : List V) (c : ℕ) → Decided (IsUnbroken row c)
-    decided_unbroken row c = decided_all (λ d. s.due d ≡ length row → s.says d row False → ⊥) (listed_below c) (λ d. decided_then (cases_eq (s.due d) (length row)) (decided_not (told.decided d row False)))
+    decided_unbroken row c = decided_all (λ d. s.due d ≡ length row → s.says d row False
+        → ⊥) (listed_below c) (λ d. decided_then (cases_eq (s.due d) (length row)) (decided_not (told.decided d row False)))
 
     module _ (ranges : List (List V)) where
       listed_due : Listed (λ (p : List V × ℕ). IsDueTest s ranges p)
       listed_due =
-          listed_same (listed_kept (λ (p : List V × ℕ). IsKept p.0 × (s.due p.1 ≡ length p.0)) (listed_pairs (λ row c. c < s.number) (fronts_of ranges) (λ row. listed_below s.number)) (λ p. decided_both (decided_kept p.0) (cases_eq (s.due p.1) (length p.0)))) (λ p. (
+          listed_same (listed_kept (λ (p : List V × ℕ). IsKept p.0 × (s.due p.1 ≡ length p.0))
+          (listed_pairs (λ row c. c < s.number) (fronts_of ranges) (λ row. listed_below s.number))
+          (λ p. decided_both (decided_kept p.0) (cases_eq (s.due p.1) (length p.0)))) (λ p. (
             λ h. record { candidate = record { front = h.0.0; kept = h.1.0 }; conjunct = h.0.1; due = h.1.1 },
             λ h. let c = h.candidate in ((c.front, h.conjunct), (c.kept, h.due)),
           ))
 
       listed_tests : (after whole : Option (List V)) → Listed (λ (p : List V × ℕ). IsWalked cmp s ranges after p × IsUpTo cmp whole p.0)
       listed_tests after whole =
-          listed_same (listed_kept (λ (p : List V × ℕ). IsUnbroken p.0 p.1 × (IsReached cmp after (length ranges) p.0 × IsUpTo cmp whole p.0)) listed_due (λ p. decided_both (decided_unbroken p.0 p.1) (decided_both (decided_reached after (length ranges) p.0) (decided_up_to whole p.0)))) (λ p. (
+          listed_same (listed_kept (λ (p : List V × ℕ). IsUnbroken p.0 p.1
+          × (IsReached cmp after (length ranges) p.0 × IsUpTo cmp whole p.0)) listed_due
+          (λ p. decided_both (decided_unbroken p.0 p.1) (decided_both (decided_reached after (length ranges) p.0) (decided_up_to whole p.0)))) (λ p. (
             λ h. (record { is_pair = h.0; first = h.1.0; reached = h.1.1.0 }, h.1.1.1),
             λ h. let w = h.0 in (w.is_pair, (w.first, (w.reached, h.1))),
           ))

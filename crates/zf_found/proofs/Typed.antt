@@ -24,7 +24,8 @@ number_here v = elim (number_or_not v) [
 element_of : (x : Option ℕ) (n : ℕ) (v : Value) → Decided ((k i : ℕ) × (x ≡ Some k) × (i < k) × (v ≡ Elem n i))
 element_of None n v = inr (λ h. let e = h.2 in (cc))
 element_of (Some k) n v =
-    decided_same (λ h. (k, h.0, refl, h.1, h.2)) (λ h. (h.1, (let e : k ≡ h.0 = (let s = h.2 in (cc)) in subst (λ j. h.1 < j) (sym e) h.3), h.4)) (decided_some (λ i. v ≡ Elem n i) (listed_below k) (λ i. same_value v (Elem n i)))
+    decided_same (λ h. (k, h.0, refl, h.1, h.2)) (λ h. (h.1, (let e : k ≡ h.0 = (let s = h.2 in (cc)) in subst (λ j. h.1 < j) (sym e) h.3), h.4))
+    (decided_some (λ i. v ≡ Elem n i) (listed_below k) (λ i. same_value v (Elem n i)))
 
 decided_element : (e : Environment) (n : Option ℕ) (v : Value) → Decided (IsExistingElement e n v)
 decided_element e None v = inr (λ h. h)

@@ -20,7 +20,8 @@ module _ {N L : Type 0} (eq : N → N → Bool) (a : Met N L) (met : List (Met N
   pub new_behind : (es : List (Edge N L)) (e : Edge N L) → is_met eq (arrive_all eq a met es) e.to ≡ false → arrive_all eq a met (es ++ e ∷ []) ≡ arrive_all eq a met es ++ beyond a e ∷ []
   new_behind es e fresh = arrive_all-push eq a met es e ∙ cond-false (is_met eq (arrive_all eq a met es) e.to) (arrive_all eq a met es) (arrive_all eq a met es ++ beyond a e ∷ []) fresh
 
-  pub new_at : (es : List (Edge N L)) (e : Edge N L) → is_met eq (arrive_all eq a met es) e.to ≡ false → slice_get (arrive_all eq a met (es ++ e ∷ [])) (length (arrive_all eq a met es)) ≡ Some (beyond a e)
+  pub new_at : (es : List (Edge N L)) (e : Edge N L) → is_met eq (arrive_all eq a met es) e.to ≡ false
+      → slice_get (arrive_all eq a met (es ++ e ∷ [])) (length (arrive_all eq a met es)) ≡ Some (beyond a e)
   new_at es e fresh = subst (λ m. slice_get m (length (arrive_all eq a met es)) ≡ Some (beyond a e)) (sym (new_behind es e fresh)) (at_last (arrive_all eq a met es) (beyond a e))
 
   pub new_is_met : (es : List (Edge N L)) (e : Edge N L) → is_met eq (arrive_all eq a met es) e.to ≡ false → IsMet (arrive_all eq a met (es ++ e ∷ [])) e.to

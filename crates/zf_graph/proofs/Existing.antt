@@ -30,10 +30,15 @@ module _ {N L : Type 0} (eq : N → N → Bool) (a : Met N L) (met : List (Met N
       parted : edges ≡ (done ++ e ∷ []) ++ rest
       parted = is ∙ sym (append_assoc done (e ∷ []) rest)
 
-      by : (is_met eq (arrive_all eq a met done) e.to ≡ true) ⊎ (is_met eq (arrive_all eq a met done) e.to ≡ false) → (length (arrive_all eq a met done) < limit) ⊎ (limit ≤ length (arrive_all eq a met done))
+      by : (is_met eq (arrive_all eq a met done) e.to ≡ true) ⊎ (is_met eq (arrive_all eq a met done) e.to ≡ false)
+          → (length (arrive_all eq a met done) < limit) ⊎ (limit ≤ length (arrive_all eq a met done))
           → (length (arrive_all eq a met (done ++ e ∷ [])) ≤ limit → (length (arrive_all eq a met edges) ≤ limit) ⊎ IsCrossed edges) → (length (arrive_all eq a met edges) ≤ limit) ⊎ IsCrossed edges
-      by (inl known) lt next = next (let k = ap (λ xs. length xs) (arrive_all-push eq a met done e ∙ cond-true (is_met eq (arrive_all eq a met done) e.to) (arrive_all eq a met done) (arrive_all eq a met done ++ beyond a e ∷ []) known) in omega (arith, k, few))
-      by (inr fresh) (inl lt) next = next (let k = ap (λ xs. length xs) (arrive_all-push eq a met done e ∙ cond-false (is_met eq (arrive_all eq a met done) e.to) (arrive_all eq a met done) (arrive_all eq a met done ++ beyond a e ∷ []) fresh) in let m = length-append (arrive_all eq a met done) (beyond a e ∷ []) in omega (arith, k, m, lt))
+      by (inl known) lt next = next (let k = ap (λ xs. length xs) (arrive_all-push eq a met done e
+          ∙ cond-true (is_met eq (arrive_all eq a met done) e.to) (arrive_all eq a met done) (arrive_all eq a met done ++ beyond a e ∷ []) known) in omega
+          (arith, k, few))
+      by (inr fresh) (inl lt) next = next (let k = ap (λ xs. length xs) (arrive_all-push eq a met done e
+          ∙ cond-false (is_met eq (arrive_all eq a met done) e.to) (arrive_all eq a met done) (arrive_all eq a met done ++ beyond a e ∷ []) fresh) in let m
+          = length-append (arrive_all eq a met done) (beyond a e ∷ []) in omega (arith, k, m, lt))
       by (inr fresh) (inr ge) next = inr (record { front = done; edge = e; more = rest; split = parted; full = omega (arith, ge, few); fresh = fresh })
 
 module _ {N L : Type 0} (p : Explored N L) (w : Words N L) (limit : ℕ) (each : EachNodeHasTurn p) where

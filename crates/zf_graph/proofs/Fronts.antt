@@ -21,7 +21,8 @@ before : (whole more first : List ℕ) → IsTextFront whole first → IsTextFro
 before whole more first f = (f.0 ++ more, ap (λ t. t ++ more) f.1 ∙ append_assoc first f.0 more)
 
 module _ {N L : Type 0} where
-  edges_text-append : (w : Words N L) (eq : N → N → Bool) (from : ℕ) (nodes : List N) (es more : List (Edge N L)) → edges_text w eq from nodes (es ++ more) ≡ edges_text w eq from nodes es ++ edges_text w eq from (with_ends eq nodes es) more
+  edges_text-append : (w : Words N L) (eq : N → N → Bool) (from : ℕ) (nodes : List N) (es more : List (Edge N L))
+      → edges_text w eq from nodes (es ++ more) ≡ edges_text w eq from nodes es ++ edges_text w eq from (with_ends eq nodes es) more
   edges_text-append w eq from nodes [] more = refl
   edges_text-append w eq from nodes (e ∷ es) more =
       ap (λ t. edge_text w eq from nodes e ++ t) (edges_text-append w eq from (with_node eq nodes e.to) es more)
@@ -120,7 +121,8 @@ module _ {N L : Type 0} where
           let begun = begun_front (length b.turns) (nodes_of b.met) b.now l.turn (front_turn l.turn (subst (λ x. p.HasTurn x.node l.turn) item l.has) b.begins) in
           let shifted : end (0 + length b.turns) ≡ end (length b.turns) = ap end (omega arith) in
           let parted : w.head ++ turns_text w p.eq 0 (p.root ∷ []) us ≡ (w.head ++ old) ++ end (length b.turns) =
-          ap (λ xs. w.head ++ turns_text w p.eq 0 (p.root ∷ []) xs) l.split ∙ ap (λ t. w.head ++ t) (turns_text-append p w (at_first p.root) 0 b.turns (l.turn ∷ l.rest) b.met b.up_to.explores ∙ ap (λ t. old ++ t) shifted)
+          ap (λ xs. w.head ++ turns_text w p.eq 0 (p.root ∷ []) xs) l.split
+          ∙ ap (λ t. w.head ++ t) (turns_text-append p w (at_first p.root) 0 b.turns (l.turn ∷ l.rest) b.met b.up_to.explores ∙ ap (λ t. old ++ t) shifted)
           ∙ sym (append_assoc w.head old (end (length b.turns))) in
           let later = turns_text w p.eq (length b.turns + 1) (with_ends p.eq (nodes_of b.met) l.turn.edges) l.rest in
           subst (λ t. IsTextFront t first) (sym parted) (subst (IsTextFront ((w.head ++ old) ++ end (length b.turns))) (sym b.written)
@@ -129,12 +131,16 @@ module _ {N L : Type 0} where
           (before (begun_text w p.eq (length b.turns) (nodes_of b.met) l.turn) (stuck_text w p.eq (length b.turns) l.turn.edges) (begun_text w p.eq (length b.turns) (nodes_of b.met) b.now) begun))))
 
       -- the text of an end begins with that of its turns
-      turns_first : (e : Ending) (text : List ℕ) (turns : List (Turn N L)) (met : List (Met N L)) → Tail p w limit turns met e text → IsTextFront text (w.head ++ turns_text w p.eq 0 (p.root ∷ []) turns)
-      turns_first e text turns met (all each is written) = subst (λ t. IsTextFront t (w.head ++ turns_text w p.eq 0 (p.root ∷ []) turns)) (sym written) (before (text_up_to p w turns met no_turn) _ _ ([], refl))
+      turns_first : (e : Ending) (text : List ℕ) (turns : List (Turn N L)) (met : List (Met N L)) → Tail p w limit turns met e text
+          → IsTextFront text (w.head ++ turns_text w p.eq 0 (p.root ∷ []) turns)
+      turns_first e text turns met (all each is written) = subst (λ t. IsTextFront t (w.head ++ turns_text w p.eq 0 (p.root ∷ []) turns)) (sym written)
+          (before (text_up_to p w turns met no_turn) _ _ ([], refl))
       turns_first e text turns met (full a now d at begun many fresh is written) =
-          subst (λ t. IsTextFront t (w.head ++ turns_text w p.eq 0 (p.root ∷ []) turns)) (sym written) (before (text_up_to p w turns met (with_edge now d)) _ _ (begun_text w p.eq (length turns) (nodes_of met) (with_edge now d), refl))
+          subst (λ t. IsTextFront t (w.head ++ turns_text w p.eq 0 (p.root ∷ []) turns)) (sym written)
+          (before (text_up_to p w turns met (with_edge now d)) _ _ (begun_text w p.eq (length turns) (nodes_of met) (with_edge now d), refl))
       turns_first e text turns met (out a now stop at break few is written) =
-          subst (λ t. IsTextFront t (w.head ++ turns_text w p.eq 0 (p.root ∷ []) turns)) (sym written) (before (text_up_to p w turns met now) _ _ (begun_text w p.eq (length turns) (nodes_of met) now, refl))
+          subst (λ t. IsTextFront t (w.head ++ turns_text w p.eq 0 (p.root ∷ []) turns)) (sym written)
+          (before (text_up_to p w turns met now) _ _ (begun_text w p.eq (length turns) (nodes_of met) now, refl))
 
       longer_front : (whole middle : List ℕ) → IsTextFront whole middle → IsTextFront middle first → IsTextFront whole first
       longer_front whole middle f h = (h.0 ++ f.0, f.1 ∙ ap (λ t. t ++ f.0) h.1 ∙ append_assoc first h.0 f.0)
@@ -144,7 +150,8 @@ module _ {N L : Type 0} where
       begun_is_front_by e text g (shorter l) = longer_front text (w.head ++ turns_text w p.eq 0 (p.root ∷ []) g.turns) (turns_first e text g.turns g.met g.tail) (front_longer g.turns g.met l)
       begun_is_front_by e text g (longer l) = absurd (not_longer p w limit sure g.turns g.met e text b.turns b.met g.tail l b.few)
 
-    parts_are_fronts_by : (e : Ending) (part text : List ℕ) → (part ≡ []) ⊎ (IsBegun p w limit part ⊎ ((ending : Ending) × IsWritten p w limit ending part)) → IsWritten p w limit e text → IsTextFront text part
+    parts_are_fronts_by : (e : Ending) (part text : List ℕ) → (part ≡ []) ⊎ (IsBegun p w limit part ⊎ ((ending : Ending) × IsWritten p w limit ending part))
+        → IsWritten p w limit e text → IsTextFront text part
     parts_are_fronts_by e part text (inl none) h = (text, ap (λ t. t ++ text) (sym none))
     parts_are_fronts_by e part text (inr (inl b)) h =
         let g = stop_of p w limit e text h in

@@ -22,8 +22,15 @@ module _ {N L O X : Type 0} (s : Searched N L O X) (a : N) where
   one_more_part n [] k o es xs at h all hold = absurd (none_some o at)
   one_more_part n (p ∷ os) zero o es xs at h all hold =
       let same : o ≡ p = sym (one_some p o at) in
-      let number : n + 0 ≡ n = omega arith in
-      (xs, [], subst (λ q. AreFinds s a q xs) same all, hold, refl, ap (λ w. w ++ map (s.edge (n + 0) o) xs) h ∙ ap (λ m. map (s.edge m o) xs) number ∙ ap (λ q. map (s.edge n q) xs) same ∙ sym (append-nil (map (s.edge n p) xs)))
+      let number : n + 0 ≡ n = omega arith in (
+        xs,
+        [],
+        subst (λ q. AreFinds s a q xs) same all,
+        hold,
+        refl,
+        ap (λ w. w ++ map (s.edge (n + 0) o) xs) h ∙ ap (λ m. map (s.edge m o) xs) number
+            ∙ ap (λ q. map (s.edge n q) xs) same ∙ sym (append-nil (map (s.edge n p) xs)),
+      )
   one_more_part n (p ∷ os) (suc k) o es xs at (ys, rest, whole, held, later, is) all hold =
       let number : n + suc k ≡ n + 1 + k = omega arith in (
         ys,

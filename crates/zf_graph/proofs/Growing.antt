@@ -37,7 +37,8 @@ module _ {N L : Type 0} where
 
   pub longer-Explores : (p : Explored N L) (met : List (Met N L)) (place : ℕ) (ts : List (Turn N L)) (after : List (Met N L)) → Explores p met place ts after → length met ≤ length after
   longer-Explores p met place [] after h = let l = ap (λ xs. length xs) h in omega (arith, l)
-  longer-Explores p met place (t ∷ ts) after h = let l = longer-arrive_all p.eq h.0 met t.edges in let m = longer-Explores p (arrive_all p.eq h.0 met t.edges) (place + 1) ts after h.3 in omega (arith, l, m)
+  longer-Explores p met place (t ∷ ts) after h = let l = longer-arrive_all p.eq h.0 met t.edges in let m = longer-Explores p (arrive_all p.eq h.0 met t.edges)
+      (place + 1) ts after h.3 in omega (arith, l, m)
 
 module _ {N L : Type 0} (p : Explored N L) where
   -- what is met stays

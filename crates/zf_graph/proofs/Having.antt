@@ -158,5 +158,6 @@ module _ {N L O X : Type 0} (s : Searched N L O X) (orderly : IsOrderly s) (a : 
   some_turn (inl told) each = stray_turn told.0 told.1 (parts 0 (s.parts a) each)
   some_turn (inr doubt) each = inr (no_turn, doubt.0, inl (refl, doubt.1), record { fronts = λ es e more is. absurd (no_last es e (no_front (es ++ e ∷ []) more is)) })
 
-pub each_turn : {N L O X : Type 0} (s : Searched N L O X) (orderly : IsOrderly s) → ((a : N) → IsStrayTold s orderly a) → ((a : N) (o : O) → Contains (s.parts a) o → AreListed s orderly a o) → EachNodeHasTurn (explored_of s)
+pub each_turn : {N L O X : Type 0} (s : Searched N L O X) (orderly : IsOrderly s) → ((a : N) → IsStrayTold s orderly a)
+    → ((a : N) (o : O) → Contains (s.parts a) o → AreListed s orderly a o) → EachNodeHasTurn (explored_of s)
 each_turn s orderly told each = λ a. some_turn s orderly a (told a) (each a)

@@ -120,7 +120,13 @@ module _ {N L : Type 0} (g : Graph N L) where
           short : (other : List (Edge N L)) → Follows g g.root other → P (end_of g.root other) → length other ≤ length a.way → ⊥
           short other f h le =
               let m = level_from_root before (0 + length turns) [] s (length a.way) had other f le in
-              none (end_of g.root other) (record { place = m.is_met.place; item = m.is_met.item; stands = at-arrive_all p.eq a before now.edges m.is_met.place m.is_met.item m.is_met.stands; node = m.is_met.node }) h
+              none (end_of g.root other) (record {
+                place = m.is_met.place;
+                item = m.is_met.item;
+                stands = at-arrive_all p.eq a before now.edges m.is_met.place
+                    m.is_met.item m.is_met.stands;
+                node = m.is_met.node;
+              }) h
 
           shortest : (other : List (Edge N L)) → Follows g g.root other → P (end_of g.root other) → length (beyond a e).way ≤ length other
           shortest other f h = elim (cases_lt (length a.way) (length other)) [

@@ -10,7 +10,8 @@ use Rattle.zf_graph.specs.Stages.{IsNumbered}
 use Rattle.zf_graph.specs.Texts.{Words}
 
 -- the first that passes
-position_at : {X : Type 0} (test : X → Bool) (xs : List X) (i : ℕ) (b : X) → slice_get xs i ≡ Some b → test b ≡ true → ((j : ℕ) (c : X) → slice_get xs j ≡ Some c → test c ≡ true → j < i → ⊥) → position_or_len test xs ≡ i
+position_at : {X : Type 0} (test : X → Bool) (xs : List X) (i : ℕ) (b : X) → slice_get xs i ≡ Some b → test b ≡ true
+    → ((j : ℕ) (c : X) → slice_get xs j ≡ Some c → test c ≡ true → j < i → ⊥) → position_or_len test xs ≡ i
 position_at test [] i b at passes first = absurd (none_some b at)
 position_at test (x ∷ xs) zero b at passes first = cond-false (not (test x)) (1 + position_or_len test xs) 0 (ap not (ap test (one_some x b at) ∙ passes))
 position_at test (x ∷ xs) (suc i) b at passes first = go (cases_Bool (test x)) (position_at test xs i b at passes (λ j c there h lt. first (suc j) c there h (omega (arith, lt))))
@@ -39,10 +40,12 @@ module _ {N L : Type 0} (g : Graph N L) (p : Explored N L) (of : IsOf p g) where
           omega (arith, same, lt)
 
   -- in the turn of a node
-  pub numbered : (turns : List (Turn N L)) (before : List (Met N L)) (item : Met N L) (now : Turn N L) → ExploresUpTo p turns before item → p.BeginsTurn item.node now → IsNumbered p (arrive_all p.eq item before now.edges)
+  pub numbered : (turns : List (Turn N L)) (before : List (Met N L)) (item : Met N L) (now : Turn N L) → ExploresUpTo p turns before item
+      → p.BeginsTurn item.node now → IsNumbered p (arrive_all p.eq item before now.edges)
   numbered turns before item now to begun =
       numbered_by (arrive_all p.eq item before now.edges) (0 + length turns) ([] ++ now.edges)
-      (Stands-arrive_all g p.eq of.sound of.itself item before (0 + length turns) [] now.edges (Stands-from_root g p of turns before to.explores) (subst (λ k. slice_get before k ≡ Some item) (omega arith) to.next)
+      (Stands-arrive_all g p.eq of.sound of.itself item before (0 + length turns) [] now.edges (Stands-from_root g p of turns before to.explores)
+      (subst (λ k. slice_get before k ≡ Some item) (omega arith) to.next)
       (of.some_edges item.node now begun))
 
 module _ {N L : Type 0} (w : Words N L) (eq : N → N → Bool) (nodes : List N) where
@@ -53,4 +56,5 @@ module _ {N L : Type 0} (w : Words N L) (eq : N → N → Bool) (nodes : List N)
   way_text-push a (d ∷ es) e =
       let here = w.node (number_of eq nodes a) (number_of eq nodes d.to) d.to ++ w.edge (number_of eq nodes a) d.label (number_of eq nodes d.to) in
       ap (λ t. here ++ t) (way_text-push d.to es e)
-      ∙ sym (append_assoc here (way_text w eq nodes d.to es) (w.node (number_of eq nodes (end_of d.to es)) (number_of eq nodes e.to) e.to ++ w.edge (number_of eq nodes (end_of d.to es)) e.label (number_of eq nodes e.to)))
+      ∙ sym (append_assoc here (way_text w eq nodes d.to es) (w.node (number_of eq nodes (end_of d.to es)) (number_of eq nodes e.to) e.to
+      ++ w.edge (number_of eq nodes (end_of d.to es)) e.label (number_of eq nodes e.to)))

@@ -19,7 +19,8 @@ module _ {N L : Type 0} (p : Explored N L) (s : Sought N) (w : Words N L) (last 
   shown (untold at) nodes way = w.head
 
   abbrev text_at : Result → List (Turn N L) → List (Met N L) → Met N L → Turn N L → Edge N L → List ℕ
-  text_at r turns met a now e = shown r (nodes_of (arrive_all p.eq a met (now.edges ++ e ∷ []))) (beyond a e).way ++ last r (length (arrive_all p.eq a met now.edges)) (inner_edges turns (with_edge now e))
+  text_at r turns met a now e = shown r (nodes_of (arrive_all p.eq a met (now.edges ++ e ∷ []))) (beyond a e).way
+      ++ last r (length (arrive_all p.eq a met now.edges)) (inner_edges turns (with_edge now e))
 
   -- how a search with these turns ends
   data Tail (turns : List (Turn N L)) (met : List (Met N L)) (result : Result) (text : List ℕ) : Type 0 where
@@ -47,7 +48,8 @@ module _ {N L : Type 0} (p : Explored N L) (s : Sought N) (w : Words N L) (last 
         clear = IsClear-before p s limit a met now.edges clear;
         tail = at_edge a now e h.next begun fresh clear (is_sought sought is) (subst (λ r. text ≡ text_at r turns met a now e) (sym is) written);
       }
-  stop_of result text (misses turns met h few others is written) = record { turns = turns; met = met; explores = h.explores; clear = record { few = few; others = others }; tail = all h.each is written }
+  stop_of result text (misses turns met h few others is written) = record
+      { turns = turns; met = met; explores = h.explores; clear = record { few = few; others = others }; tail = all h.each is written }
   stop_of result text (pauses turns met a now e h begun full fresh others is written) =
       let whole = λ (b : N) (m : IsMet (arrive_all p.eq a met (now.edges ++ e ∷ [])) b). others b m in
       let clear : IsClear p s limit (arrive_all p.eq a met now.edges) = record {
@@ -81,15 +83,18 @@ module _ {N L : Type 0} (p : Explored N L) (s : Sought N) (w : Words N L) (last 
     open_after : (a : Met N L) → slice_get met (length turns) ≡ Some a → length turns ≡ length met → ⊥
     open_after a at each = let l = slice_get_within met (length turns) a at in omega (arith, l, each)
 
-    edge_out : (a b : Met N L) (now other : Turn N L) (e : Edge N L) (r : Result) (stop : List ℕ) → slice_get met (length turns) ≡ Some a → slice_get met (length turns) ≡ Some b → p.BeginsTurn a.node (with_edge now e)
-        → is_met p.eq (arrive_all p.eq a met now.edges) e.to ≡ false → Decides p s limit (arrive_all p.eq a met now.edges) e.to r → p.BreaksTurn b.node other stop → IsClear p s limit (arrive_all p.eq b met other.edges) → ⊥
+    edge_out : (a b : Met N L) (now other : Turn N L) (e : Edge N L) (r : Result) (stop : List ℕ) → slice_get met (length turns) ≡ Some a
+        → slice_get met (length turns) ≡ Some b → p.BeginsTurn a.node (with_edge now e)
+        → is_met p.eq (arrive_all p.eq a met now.edges) e.to ≡ false → Decides p s limit (arrive_all p.eq a met now.edges) e.to r
+        → p.BreaksTurn b.node other stop → IsClear p s limit (arrive_all p.eq b met other.edges) → ⊥
     edge_out a b now other e r stop at there begun fresh d break clear =
         let item : a ≡ b = one_at met (length turns) a b at there in
         let f = sure.begins_broken a.node (with_edge now e) other stop begun (subst (λ x. p.BreaksTurn x.node other stop) (sym item) break) in
         none_behind p s limit decisive a met now.edges e f.more other.edges r fresh d f.edges (subst (λ x. IsClear p s limit (arrive_all p.eq x met other.edges)) (sym item) clear)
 
     -- of two turns that end so, one of which begins the other, both are one
-    one_edge : (a : Met N L) (now other : Turn N L) (e d : Edge N L) (r : Result) → is_met p.eq (arrive_all p.eq a met now.edges) e.to ≡ false → Decides p s limit (arrive_all p.eq a met now.edges) e.to r
+    one_edge : (a : Met N L) (now other : Turn N L) (e d : Edge N L) (r : Result) → is_met p.eq (arrive_all p.eq a met now.edges) e.to ≡ false
+        → Decides p s limit (arrive_all p.eq a met now.edges) e.to r
         → IsClear p s limit (arrive_all p.eq a met other.edges) → IsFrontTurn (with_edge now e) (with_edge other d) → (now ≡ other) × (e ≡ d)
     one_edge a now other e d r fresh dec clear f = go f.more f.edges
       where
@@ -102,13 +107,16 @@ module _ {N L : Type 0} (p : Explored N L) (s : Sought N) (w : Words N L) (last 
             let parted = same_from_push other.edges ((now.edges ++ e ∷ []) ++ l.0) d l.1 (is ∙ ap (λ x. (now.edges ++ e ∷ []) ++ x) l.2 ∙ sym (append_assoc (now.edges ++ e ∷ []) l.0 (l.1 ∷ []))) in
             absurd (none_behind p s limit decisive a met now.edges e l.0 other.edges r fresh dec parted.0 clear)
 
-    either_edge : (a : Met N L) (now other : Turn N L) (e d : Edge N L) (q r : Result) → is_met p.eq (arrive_all p.eq a met now.edges) e.to ≡ false → is_met p.eq (arrive_all p.eq a met other.edges) d.to ≡ false
-        → Decides p s limit (arrive_all p.eq a met now.edges) e.to q → Decides p s limit (arrive_all p.eq a met other.edges) d.to r → IsClear p s limit (arrive_all p.eq a met now.edges) → IsClear p s limit (arrive_all p.eq a met other.edges)
+    either_edge : (a : Met N L) (now other : Turn N L) (e d : Edge N L) (q r : Result) → is_met p.eq (arrive_all p.eq a met now.edges) e.to ≡ false
+        → is_met p.eq (arrive_all p.eq a met other.edges) d.to ≡ false
+        → Decides p s limit (arrive_all p.eq a met now.edges) e.to q → Decides p s limit (arrive_all p.eq a met other.edges) d.to r
+        → IsClear p s limit (arrive_all p.eq a met now.edges) → IsClear p s limit (arrive_all p.eq a met other.edges)
         → IsFrontTurn (with_edge now e) (with_edge other d) ⊎ IsFrontTurn (with_edge other d) (with_edge now e) → (now ≡ other) × (e ≡ d)
     either_edge a now other e d q r fresh new one two c k (inl f) = one_edge a now other e d q fresh one k f
     either_edge a now other e d q r fresh new one two c k (inr f) = let same' = one_edge a other now d e r new two c f in (sym same'.0, sym same'.1)
 
-    same_end : (a : Met N L) (now other : Turn N L) (e d : Edge N L) (q r : Result) (t u : List ℕ) → (now ≡ other) × (e ≡ d) → Decides p s limit (arrive_all p.eq a met now.edges) e.to q → Decides p s limit (arrive_all p.eq a met other.edges) d.to r
+    same_end : (a : Met N L) (now other : Turn N L) (e d : Edge N L) (q r : Result) (t u : List ℕ) → (now ≡ other) × (e ≡ d)
+        → Decides p s limit (arrive_all p.eq a met now.edges) e.to q → Decides p s limit (arrive_all p.eq a met other.edges) d.to r
         → t ≡ text_at q turns met a now e → u ≡ text_at r turns met a other d → (q ≡ r) × (t ≡ u)
     same_end a now other e d q r t u is one two written shown' =
         let one' = subst (λ x. Decides p s limit (arrive_all p.eq a met x.edges) d.to q) is.0 (subst (λ x. Decides p s limit (arrive_all p.eq a met now.edges) x.to q) is.1 one) in
@@ -132,9 +140,11 @@ module _ {N L : Type 0} (p : Explored N L) (s : Sought N) (w : Words N L) (last 
               ∙ ap (λ x. w.head ++ last (untold stop2) (length (arrive_all p.eq x met other.edges) - 1) (inner_edges turns other)) (sym item)
               ∙ sym text2,
         )
-    one_tail q r t u (out a now stop at break clear is text) (at_edge b other d there begun2 fresh2 clear2 dec2 text2) = absurd (edge_out b a other now d r stop there at begun2 fresh2 dec2 break clear)
+    one_tail q r t u (out a now stop at break clear is text) (at_edge b other d there begun2 fresh2 clear2 dec2 text2) = absurd
+        (edge_out b a other now d r stop there at begun2 fresh2 dec2 break clear)
     one_tail q r t u (at_edge a now e at begun fresh clear dec text) (all each2 is2 text2) = absurd (open_after a at each2)
-    one_tail q r t u (at_edge a now e at begun fresh clear dec text) (out b other stop2 there break2 clear2 is2 text2) = absurd (edge_out a b now other e q stop2 at there begun fresh dec break2 clear2)
+    one_tail q r t u (at_edge a now e at begun fresh clear dec text) (out b other stop2 there break2 clear2 is2 text2) = absurd
+        (edge_out a b now other e q stop2 at there begun fresh dec break2 clear2)
     one_tail q r t u (at_edge a now e at begun fresh clear dec text) (at_edge b other d there begun2 fresh2 clear2 dec2 text2) =
         let item : b ≡ a = one_at met (length turns) b a there at in
         let dec3 = subst (λ x. Decides p s limit (arrive_all p.eq x met other.edges) d.to r) item dec2 in
@@ -156,7 +166,13 @@ module _ {N L : Type 0} (p : Explored N L) (s : Sought N) (w : Words N L) (last 
         let more = longer-Explores p ahead ((0 + length turns) + 1) l.rest after l.explores in
         let clear3 : IsClear p s limit ahead = record {
           few = (let c = clear.few in omega (arith, c, more));
-          others = λ b m. clear.others b (record { place = m.place; item = m.item; stands = at-Explores p ahead ((0 + length turns) + 1) l.rest after l.explores m.place m.item m.stands; node = m.node });
+          others = λ b m. clear.others b (record {
+            place = m.place;
+            item = m.item;
+            stands = at-Explores p ahead
+                ((0 + length turns) + 1) l.rest after l.explores m.place m.item m.stands;
+            node = m.node;
+          });
         } in
         none_behind p s limit decisive a met now.edges e f.more l.turn.edges r fresh dec f.edges (subst (λ x. IsClear p s limit (arrive_all p.eq x met l.turn.edges)) item clear3)
 

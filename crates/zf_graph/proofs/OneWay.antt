@@ -29,7 +29,8 @@ module _ {N L : Type 0} where
     pub has : p.HasTurn item.node turn
     pub explores : Explores p (arrive_all p.eq item met turn.edges) ((place + length ts) + 1) rest after
 
-  IsLonger-shift : (p : Explored N L) (place : ℕ) (t u : Turn N L) (ts us : List (Turn N L)) (met after : List (Met N L)) → t ≡ u → IsLonger p (place + 1) ts us met after → IsLonger p place (t ∷ ts) (u ∷ us) met after
+  IsLonger-shift : (p : Explored N L) (place : ℕ) (t u : Turn N L) (ts us : List (Turn N L)) (met after : List (Met N L)) → t ≡ u
+      → IsLonger p (place + 1) ts us met after → IsLonger p place (t ∷ ts) (u ∷ us) met after
   IsLonger-shift p place t u ts us met after e l =
       let same : (place + 1) + length ts ≡ place + suc (length ts) = omega arith in
       record {
@@ -48,12 +49,14 @@ module _ {N L : Type 0} where
     shorter : IsLonger p place ts us one two → IsCompared p place ts us one two
     longer : IsLonger p place us ts two one → IsCompared p place ts us one two
 
-  behind : (p : Explored N L) (place : ℕ) (t u : Turn N L) (ts us : List (Turn N L)) (one two : List (Met N L)) → t ≡ u → IsCompared p (place + 1) ts us one two → IsCompared p place (t ∷ ts) (u ∷ us) one two
+  behind : (p : Explored N L) (place : ℕ) (t u : Turn N L) (ts us : List (Turn N L)) (one two : List (Met N L)) → t ≡ u
+      → IsCompared p (place + 1) ts us one two → IsCompared p place (t ∷ ts) (u ∷ us) one two
   behind p place t u ts us one two e (same f g) = same (ap (λ x. x ∷ ts) e ∙ ap (λ xs. u ∷ xs) f) g
   behind p place t u ts us one two e (shorter l) = shorter (IsLonger-shift p place t u ts us one two e l)
   behind p place t u ts us one two e (longer l) = longer (IsLonger-shift p place u t us ts two one (sym e) l)
 
-  begins_longer : (p : Explored N L) (met : List (Met N L)) (place : ℕ) (u : Turn N L) (us : List (Turn N L)) (one two : List (Met N L)) → one ≡ met → Explores p met place (u ∷ us) two → IsLonger p place [] (u ∷ us) one two
+  begins_longer : (p : Explored N L) (met : List (Met N L)) (place : ℕ) (u : Turn N L) (us : List (Turn N L)) (one two : List (Met N L)) → one ≡ met
+      → Explores p met place (u ∷ us) two → IsLonger p place [] (u ∷ us) one two
   begins_longer p met place u us one two g h =
       let none : place ≡ place + 0 = omega arith in
       record {
@@ -87,7 +90,8 @@ module _ {N L : Type 0} where
         → is_met p.eq (arrive_all p.eq a met now.edges) e.to ≡ false → ending ≡ paused → text ≡ text_up_to p w turns met (with_edge now e) ++ w.last paused limit (inner_edges turns (with_edge now e))
         → Tail p w limit turns met ending text
     out : (a : Met N L) (now : Turn N L) (stop : List ℕ) → slice_get met (length turns) ≡ Some a → p.BreaksTurn a.node now stop → length (arrive_all p.eq a met now.edges) ≤ limit
-        → ending ≡ broken stop → text ≡ text_up_to p w turns met now ++ w.last (broken stop) (length (arrive_all p.eq a met now.edges) - 1) (inner_edges turns now) → Tail p w limit turns met ending text
+        → ending ≡ broken stop → text ≡ text_up_to p w turns met now ++ w.last (broken stop) (length (arrive_all p.eq a met now.edges) - 1)
+        (inner_edges turns now) → Tail p w limit turns met ending text
 
   pub record Stop (p : Explored N L) (w : Words N L) (limit : ℕ) (ending : Ending) (text : List ℕ) : Type 0 where
     pub turns : List (Turn N L)
@@ -120,7 +124,8 @@ module _ {N L : Type 0} where
 
   module _ (p : Explored N L) (w : Words N L) (limit : ℕ) (sure : IsSure p) where
     -- what goes on behind a full turn meets more than the limit has
-    pub too_many : (a : Met N L) (met : List (Met N L)) (now : Turn N L) (e : Edge N L) (more es : List (Edge N L)) → length (arrive_all p.eq a met now.edges) ≡ limit → is_met p.eq (arrive_all p.eq a met now.edges) e.to ≡ false
+    pub too_many : (a : Met N L) (met : List (Met N L)) (now : Turn N L) (e : Edge N L) (more es : List (Edge N L))
+        → length (arrive_all p.eq a met now.edges) ≡ limit → is_met p.eq (arrive_all p.eq a met now.edges) e.to ≡ false
         → es ≡ (now.edges ++ e ∷ []) ++ more → length (arrive_all p.eq a met es) ≤ limit → ⊥
     too_many a met now e more es many fresh is few =
         let l = one_more p.eq a met now.edges e fresh in
@@ -148,11 +153,14 @@ module _ {N L : Type 0} where
       open_after a at each = let l = slice_get_within met (length turns) a at in omega (arith, l, each)
 
       full_text : (now other : Turn N L) (e d : Edge N L) (s t : List ℕ) → with_edge now e ≡ with_edge other d
-          → s ≡ text_up_to p w turns met (with_edge now e) ++ w.last paused limit (inner_edges turns (with_edge now e)) → t ≡ text_up_to p w turns met (with_edge other d) ++ w.last paused limit (inner_edges turns (with_edge other d)) → s ≡ t
+          → s ≡ text_up_to p w turns met (with_edge now e) ++ w.last paused limit (inner_edges turns (with_edge now e))
+          → t ≡ text_up_to p w turns met (with_edge other d) ++ w.last paused limit (inner_edges turns (with_edge other d)) → s ≡ t
       full_text now other e d s t is one two = one ∙ ap (λ u. text_up_to p w turns met u ++ w.last paused limit (inner_edges turns u)) is ∙ sym two
 
-      full_broken : (a b : Met N L) (now other : Turn N L) (e : Edge N L) (stop : List ℕ) → slice_get met (length turns) ≡ Some a → slice_get met (length turns) ≡ Some b → p.BeginsTurn a.node (with_edge now e)
-          → length (arrive_all p.eq a met now.edges) ≡ limit → is_met p.eq (arrive_all p.eq a met now.edges) e.to ≡ false → p.BreaksTurn b.node other stop → length (arrive_all p.eq b met other.edges) ≤ limit → ⊥
+      full_broken : (a b : Met N L) (now other : Turn N L) (e : Edge N L) (stop : List ℕ) → slice_get met (length turns) ≡ Some a
+          → slice_get met (length turns) ≡ Some b → p.BeginsTurn a.node (with_edge now e)
+          → length (arrive_all p.eq a met now.edges) ≡ limit → is_met p.eq (arrive_all p.eq a met now.edges) e.to ≡ false → p.BreaksTurn b.node other stop
+          → length (arrive_all p.eq b met other.edges) ≤ limit → ⊥
       full_broken a b now other e stop at there begun many fresh break few =
           let item : a ≡ b = one_at met (length turns) a b at there in
           let f = sure.begins_broken a.node (with_edge now e) other stop begun (subst (λ x. p.BreaksTurn x.node other stop) (sym item) break) in
@@ -171,7 +179,8 @@ module _ {N L : Type 0} where
       one_tail e f s t (full a now c at begun many fresh is text) (all each2 is2 text2) = absurd (open_after a at each2)
       one_tail e f s t (full a now c at begun many fresh is text) (full b other d there begun2 many2 fresh2 is2 text2) =
           let item : b ≡ a = one_at met (length turns) b a there at in
-          let same = both_full a now other c d many fresh (subst (λ x. length (arrive_all p.eq x met other.edges) ≡ limit) item many2) (subst (λ x. is_met p.eq (arrive_all p.eq x met other.edges) d.to ≡ false) item fresh2)
+          let same = both_full a now other c d many fresh (subst (λ x. length (arrive_all p.eq x met other.edges) ≡ limit) item many2)
+          (subst (λ x. is_met p.eq (arrive_all p.eq x met other.edges) d.to ≡ false) item fresh2)
           (sure.begins_both a.node (with_edge now c) (with_edge other d) begun (subst (λ x. p.BeginsTurn x.node (with_edge other d)) item begun2)) in
           (is ∙ sym is2, full_text now other c d s t same text text2)
       one_tail e f s t (full a now c at begun many fresh is text) (out b other stop2 there break2 few2 is2 text2) = absurd (full_broken a b now other c stop2 at there begun many fresh break2 few2)

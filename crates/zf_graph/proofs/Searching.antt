@@ -57,7 +57,8 @@ module _ {N L : Type 0} (p : Explored N L) (s : Sought N) (limit : ℕ) where
           same : met ≡ arrive_all p.eq k.item k.before (now.edges ++ e ∷ [])
           same =
               k.of_met
-              ∙ sym (cond-true (is_met p.eq (arrive_all p.eq k.item k.before now.edges) e.to) (arrive_all p.eq k.item k.before now.edges) (arrive_all p.eq k.item k.before now.edges ++ beyond k.item e ∷ [])
+              ∙ sym (cond-true (is_met p.eq (arrive_all p.eq k.item k.before now.edges) e.to) (arrive_all p.eq k.item k.before now.edges)
+              (arrive_all p.eq k.item k.before now.edges ++ beyond k.item e ∷ [])
               (ap (λ m. is_met p.eq m e.to) (sym k.of_met) ∙ known))
               ∙ sym (arrive_all-push p.eq k.item k.before now.edges e)
 
@@ -89,7 +90,8 @@ module _ {N L : Type 0} (p : Explored N L) (s : Sought N) (limit : ℕ) where
     seeks_over turn = record {
       turns = k.turns ++ now ∷ [];
       explores = subst (λ m. Explores p (at_first p.root) 0 (k.turns ++ now ∷ []) m) (sym k.of_met)
-          (Explores-push p (at_first p.root) 0 k.turns k.before k.item now k.up_to.explores (subst (λ n. slice_get k.before n ≡ Some k.item) (omega arith) k.up_to.next) (subst (λ n. p.HasTurn n now) (sym k.of_node) turn));
+          (Explores-push p (at_first p.root) 0 k.turns k.before k.item now k.up_to.explores
+          (subst (λ n. slice_get k.before n ≡ Some k.item) (omega arith) k.up_to.next) (subst (λ n. p.HasTurn n now) (sym k.of_node) turn));
       placed = length-append k.turns (now ∷ []) ∙ ap (λ n. n + 1) k.placed;
       few = k.few;
       others = k.others;
@@ -98,7 +100,9 @@ module _ {N L : Type 0} (p : Explored N L) (s : Sought N) (limit : ℕ) where
 
     -- the node is the one at the place
     pub item_at : slice_get met place ≡ Some k.item
-    item_at = subst (λ m. slice_get m place ≡ Some k.item) (sym k.of_met) (subst (λ n. slice_get (arrive_all p.eq k.item k.before now.edges) n ≡ Some k.item) k.placed (at-arrive_all p.eq k.item k.before now.edges (length k.turns) k.item k.up_to.next))
+    item_at = subst (λ m. slice_get m place ≡ Some k.item) (sym k.of_met)
+        (subst (λ n. slice_get (arrive_all p.eq k.item k.before now.edges) n ≡ Some k.item) k.placed
+        (at-arrive_all p.eq k.item k.before now.edges (length k.turns) k.item k.up_to.next))
 
     pub place_before : place < length met
     place_before = slice_get_within met place k.item item_at
@@ -115,7 +119,8 @@ module _ {N L : Type 0} (p : Explored N L) (s : Sought N) (w : Words N L) (last 
     -- the search for an edge breaks off
     pub seeks_broken : (at : List ℕ) → p.BreaksTurn node now at → IsSearched p s w last limit (untold at) (w.head ++ last (untold at) (length met - 1) inner)
     seeks_broken at break =
-        breaks k.turns k.before k.item now at k.up_to (subst (λ n. p.BreaksTurn n now at) (sym k.of_node) break) (subst (λ m. length m ≤ limit) k.of_met k.few) (subst (AreOthers p s) k.of_met k.others) refl
+        breaks k.turns k.before k.item now at k.up_to (subst (λ n. p.BreaksTurn n now at) (sym k.of_node) break) (subst (λ m. length m ≤ limit) k.of_met k.few)
+        (subst (AreOthers p s) k.of_met k.others) refl
         (ap (λ m. w.head ++ last (untold at) (length m - 1) inner) k.of_met ∙ ap (λ n. w.head ++ last (untold at) (length (arrive_all p.eq k.item k.before now.edges) - 1) n) k.counted)
 
     module _ (e : Edge N L) (next : ℕ) (none : place ≡ 0 → next ≡ inner) (some : 0 < place → next ≡ inner + 1) (fresh : is_met p.eq met e.to ≡ false) where
@@ -124,21 +129,30 @@ module _ {N L : Type 0} (p : Explored N L) (s : Sought N) (w : Words N L) (last 
         there = subst (λ n. p.BeginsTurn n (with_edge now e)) (sym k.of_node) begun
 
         -- it is sought
-        pub seeks_found : s.IsSought e.to → IsSearched p s w last limit found ((w.head ++ way_text w p.eq (nodes_of (met ++ beyond k.item e ∷ [])) p.root (k.item.way ++ e ∷ [])) ++ last found (length met) next)
+        pub seeks_found : s.IsSought e.to → IsSearched p s w last limit found
+            ((w.head ++ way_text w p.eq (nodes_of (met ++ beyond k.item e ∷ [])) p.root (k.item.way ++ e ∷ [])) ++ last found (length met) next)
         seeks_found sought =
-            finds k.turns k.before k.item now e k.up_to there (subst (λ m. length m ≤ limit) k.of_met k.few) (fresh_there p s limit node now met place inner k e next none some fresh) (subst (AreOthers p s) k.of_met k.others) sought refl
+            finds k.turns k.before k.item now e k.up_to there (subst (λ m. length m ≤ limit) k.of_met k.few)
+            (fresh_there p s limit node now met place inner k e next none some fresh) (subst (AreOthers p s) k.of_met k.others) sought refl
             (ap (λ m. (w.head ++ way_text w p.eq (nodes_of m) p.root (k.item.way ++ e ∷ [])) ++ last found (length met) next) (met_with_new p s limit node now met place inner k e next none some fresh)
             ∙ ap (λ m. (w.head ++ way_text w p.eq (nodes_of (arrive_all p.eq k.item k.before (now.edges ++ e ∷ []))) p.root (k.item.way ++ e ∷ [])) ++ last found (length m) next) k.of_met
-            ∙ ap (λ n. (w.head ++ way_text w p.eq (nodes_of (arrive_all p.eq k.item k.before (now.edges ++ e ∷ []))) p.root (k.item.way ++ e ∷ [])) ++ last found (length (arrive_all p.eq k.item k.before now.edges)) n) (count p s limit node now met place inner k e next none some))
+            ∙ ap (λ n. (w.head ++ way_text w p.eq (nodes_of (arrive_all p.eq k.item k.before (now.edges ++ e ∷ []))) p.root (k.item.way ++ e ∷ []))
+            ++ last found (length (arrive_all p.eq k.item k.before now.edges)) n) (count p s limit node now met place inner k e next none some))
 
         -- it can't be told
         pub seeks_untold : (at : List ℕ) → s.IsUntold e.to at → IsSearched p s w last limit (untold at) (w.head ++ last (untold at) (length met) next)
         seeks_untold at doubt =
-            doubts k.turns k.before k.item now e at k.up_to there (subst (λ m. length m ≤ limit) k.of_met k.few) (fresh_there p s limit node now met place inner k e next none some fresh) (subst (AreOthers p s) k.of_met k.others) doubt refl
-            (ap (λ m. w.head ++ last (untold at) (length m) next) k.of_met ∙ ap (λ n. w.head ++ last (untold at) (length (arrive_all p.eq k.item k.before now.edges)) n) (count p s limit node now met place inner k e next none some))
+            doubts k.turns k.before k.item now e at k.up_to there (subst (λ m. length m ≤ limit) k.of_met k.few)
+            (fresh_there p s limit node now met place inner k e next none some fresh) (subst (AreOthers p s) k.of_met k.others) doubt refl
+            (ap (λ m. w.head ++ last (untold at) (length m) next) k.of_met
+            ∙ ap (λ n. w.head ++ last (untold at) (length (arrive_all p.eq k.item k.before now.edges)) n)
+            (count p s limit node now met place inner k e next none some))
 
         -- it is another, and as many are met as are asked for
         pub seeks_full : s.IsOther e.to → length met ≡ limit → IsSearched p s w last limit open_ended (w.head ++ last open_ended (length met) next)
         seeks_full other full =
-            pauses k.turns k.before k.item now e k.up_to there (ap (λ m. length m) (sym k.of_met) ∙ full) (fresh_there p s limit node now met place inner k e next none some fresh) (subst (AreOthers p s) (met_with_new p s limit node now met place inner k e next none some fresh) (others-push p s met (beyond k.item e) k.others (inr other))) refl
+            pauses k.turns k.before k.item now e k.up_to there (ap (λ m. length m) (sym k.of_met) ∙ full)
+            (fresh_there p s limit node now met place inner k e next none some fresh)
+            (subst (AreOthers p s) (met_with_new p s limit node now met place inner k e next none some fresh)
+            (others-push p s met (beyond k.item e) k.others (inr other))) refl
             (ap (λ n. w.head ++ last open_ended n next) full ∙ ap (λ n. w.head ++ last open_ended limit n) (count p s limit node now met place inner k e next none some))

@@ -40,16 +40,20 @@ module _ {N L : Type 0} (p : Explored N L) (s : Sought N) (limit : ℕ) (told : 
         now : List (Met N L)
         now = arrive_all p.eq a met done
 
-        with_new : is_met p.eq (arrive_all p.eq a met done) e.to ≡ false → (e.to ≡ p.root) ⊎ s.IsOther e.to → (length (arrive_all p.eq a met done) < limit) ⊎ (limit ≤ length (arrive_all p.eq a met done)) → IsPassed a met done e
+        with_new : is_met p.eq (arrive_all p.eq a met done) e.to ≡ false → (e.to ≡ p.root) ⊎ s.IsOther e.to
+            → (length (arrive_all p.eq a met done) < limit) ⊎ (limit ≤ length (arrive_all p.eq a met done)) → IsPassed a met done e
         with_new fresh other (inl lt) = on (record {
           few = (let k = ap (λ xs. length xs) (new_behind p.eq a met done e fresh) in let m = length-append (arrive_all p.eq a met done) (beyond a e ∷ []) in omega (arith, k, m, lt));
           others = subst (AreOthers p s) (sym (new_behind p.eq a met done e fresh)) (others-push p s (arrive_all p.eq a met done) (beyond a e) clear.others other);
         })
         with_new fresh other (inr ge) = ended_there open_ended fresh (is_full other (let f = clear.few in omega (arith, f, ge)) refl)
 
-        by : (is_met p.eq (arrive_all p.eq a met done) e.to ≡ true) ⊎ (is_met p.eq (arrive_all p.eq a met done) e.to ≡ false) → (e.to ≡ p.root) ⊎ (s.IsSought e.to ⊎ (s.IsOther e.to ⊎ ((at : List ℕ) × s.IsUntold e.to at)))
+        by : (is_met p.eq (arrive_all p.eq a met done) e.to ≡ true) ⊎ (is_met p.eq (arrive_all p.eq a met done) e.to ≡ false)
+            → (e.to ≡ p.root) ⊎ (s.IsSought e.to ⊎ (s.IsOther e.to ⊎ ((at : List ℕ) × s.IsUntold e.to at)))
             → (length (arrive_all p.eq a met done) < limit) ⊎ (limit ≤ length (arrive_all p.eq a met done)) → IsPassed a met done e
-        by (inl known) t l = on (subst (IsClear p s limit) (sym (arrive_all-push p.eq a met done e ∙ cond-true (is_met p.eq (arrive_all p.eq a met done) e.to) (arrive_all p.eq a met done) (arrive_all p.eq a met done ++ beyond a e ∷ []) known)) clear)
+        by (inl known) t l = on (subst (IsClear p s limit) (sym (arrive_all-push p.eq a met done e
+            ∙ cond-true (is_met p.eq (arrive_all p.eq a met done) e.to) (arrive_all p.eq a met done)
+            (arrive_all p.eq a met done ++ beyond a e ∷ []) known)) clear)
         by (inr fresh) (inl root) l = with_new fresh (inl root) l
         by (inr fresh) (inr (inl sought)) l = ended_there found fresh (is_sought sought refl)
         by (inr fresh) (inr (inr (inl other))) l = with_new fresh (inr other) l
@@ -73,7 +77,8 @@ module _ {N L : Type 0} (p : Explored N L) (s : Sought N) (limit : ℕ) (told : 
         parted : edges ≡ (done ++ e ∷ []) ++ rest
         parted = is ∙ sym (append_assoc done (e ∷ []) rest)
 
-        by : IsPassed a met done e → (IsClear p s limit (arrive_all p.eq a met (done ++ e ∷ [])) → IsClear p s limit (arrive_all p.eq a met edges) ⊎ IsCrossed edges) → IsClear p s limit (arrive_all p.eq a met edges) ⊎ IsCrossed edges
+        by : IsPassed a met done e → (IsClear p s limit (arrive_all p.eq a met (done ++ e ∷ []))
+            → IsClear p s limit (arrive_all p.eq a met edges) ⊎ IsCrossed edges) → IsClear p s limit (arrive_all p.eq a met edges) ⊎ IsCrossed edges
         by (ended_there result fresh d) next = inr (record { front = done; edge = e; more = rest; split = parted; clear = clear; fresh = fresh; result = result; decides = d })
         by (on clear2) next = next clear2
 
@@ -97,7 +102,8 @@ module _ {N L : Type 0} (p : Explored N L) (s : Sought N) (w : Words N L) (last 
       stops_by c result (is_sought sought is) =
           let now : Turn N L = record { stray = t.stray; edges = c.front } in (
             found,
-            (w.head ++ way_text w p.eq (nodes_of (arrive_all p.eq a met (c.front ++ c.edge ∷ []))) p.root (beyond a c.edge).way) ++ last found (length (arrive_all p.eq a met c.front)) (inner_edges turns (with_edge now c.edge)),
+            (w.head ++ way_text w p.eq (nodes_of (arrive_all p.eq a met (c.front ++ c.edge ∷ []))) p.root (beyond a c.edge).way)
+                ++ last found (length (arrive_all p.eq a met c.front)) (inner_edges turns (with_edge now c.edge)),
             finds turns met a now c.edge (record { explores = f.explores; next = at }) (begins.fronts c.front c.edge c.more c.split) c.clear.few c.fresh c.clear.others sought refl refl,
           )
       stops_by c result (is_untold stop doubt is) =

@@ -98,7 +98,8 @@ module _ {N L : Type 0} (p : Explored N L) (w : Words N L) (limit : ℕ) where
     stands_over turn = record {
       turns = s.turns ++ now ∷ [];
       met = arrive_all p.eq s.item s.met now.edges;
-      explores = Explores-push p (at_first p.root) 0 s.turns s.met s.item now s.up_to.explores (subst (λ k. slice_get s.met k ≡ Some s.item) (omega arith) s.up_to.next) (subst (λ n. p.HasTurn n now) (sym s.of_node) turn);
+      explores = Explores-push p (at_first p.root) 0 s.turns s.met s.item now s.up_to.explores
+          (subst (λ k. slice_get s.met k ≡ Some s.item) (omega arith) s.up_to.next) (subst (λ n. p.HasTurn n now) (sym s.of_node) turn);
       placed = length-append s.turns (now ∷ []) ∙ ap (λ k. k + 1) s.placed;
       of_nodes = s.of_nodes;
       within = s.within;
@@ -127,7 +128,9 @@ module _ {N L : Type 0} (p : Explored N L) (w : Words N L) (limit : ℕ) where
         → (place ≡ 0 → next ≡ inner) → (0 < place → next ≡ inner + 1) → IsWritten p w limit paused ((text ++ edge_text w p.eq place nodes e) ++ w.last paused limit next)
     ends_paused e next begun full fresh none some =
         pauses s.turns s.met s.item now e s.up_to (subst (λ n. p.BeginsTurn n (with_edge now e)) (sym s.of_node) begun) (sym length_nodes ∙ full) fresh refl
-        (ap (λ t. t ++ w.last paused limit next) (text_with_edge e) ∙ ap (λ k. text_up_to p w s.turns s.met (with_edge now e) ++ w.last paused limit k) (inner_edges-edge s.turns now e next (λ z. none (sym s.placed ∙ z) ∙ s.counted) (λ l. some (subst (λ k. 0 < k) s.placed l) ∙ ap (λ n. n + 1) s.counted)))
+        (ap (λ t. t ++ w.last paused limit next) (text_with_edge e) ∙ ap (λ k. text_up_to p w s.turns s.met (with_edge now e) ++ w.last paused limit k)
+        (inner_edges-edge s.turns now e next (λ z. none (sym s.placed ∙ z) ∙ s.counted)
+        (λ l. some (subst (λ k. 0 < k) s.placed l) ∙ ap (λ n. n + 1) s.counted)))
 
     -- the search for an edge breaks off
     pub ends_broken : (at : List ℕ) → p.BreaksTurn node now at → IsWritten p w limit (broken at) (text ++ w.last (broken at) (length nodes - 1) inner)
@@ -182,7 +185,9 @@ module _ {N L : Type 0} (p : Explored N L) (w : Words N L) (limit : ℕ) where
     -- the node is the one at the place
     pub node_at : slice_get nodes place ≡ Some node
     node_at = subst (λ n. slice_get nodes place ≡ Some n) s.of_node (subst (λ ns. slice_get ns place ≡ Some s.item.node) (sym s.of_nodes)
-        (at_map (λ (x : Met N L). x.node) (arrive_all p.eq s.item s.met now.edges) place s.item (subst (λ k. slice_get (arrive_all p.eq s.item s.met now.edges) k ≡ Some s.item) s.placed (at-arrive_all p.eq s.item s.met now.edges (length s.turns) s.item s.up_to.next))))
+        (at_map (λ (x : Met N L). x.node) (arrive_all p.eq s.item s.met now.edges) place s.item
+        (subst (λ k. slice_get (arrive_all p.eq s.item s.met now.edges) k ≡ Some s.item) s.placed
+        (at-arrive_all p.eq s.item s.met now.edges (length s.turns) s.item s.up_to.next))))
 
     pub place_within : place < length nodes
     place_within = slice_get_within nodes place node node_at

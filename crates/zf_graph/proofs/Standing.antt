@@ -159,7 +159,11 @@ module _ {N L : Type 0} where
           closed i x d lt p h = IsMetWithin-left met (beyond a e ∷ []) d.to (length x.way + 1) (s.closed i x d lt (old_at i x (omega (arith, lt)) p) h)
 
           this : (x : Met N L) → x ≡ a → IsMetWithin (met ++ beyond a e ∷ []) e.to (length x.way + 1)
-          this x same = record { is_met = record { place = length met; item = beyond a e; stands = at_last met (beyond a e); node = refl }; within = (let l = length-beyond a e in let m = ap (λ z. length z.way) same in omega (arith, l, m)) }
+          this x same = record {
+            is_met = record { place = length met; item = beyond a e; stands = at_last met (beyond a e); node = refl };
+            within
+                = (let l = length-beyond a e in let m = ap (λ z. length z.way) same in omega (arith, l, m));
+          }
 
           gone : (x : Met N L) (d : Edge N L) → slice_get (met ++ beyond a e ∷ []) place ≡ Some x → Contains (passed ++ e ∷ []) d → IsMetWithin (met ++ beyond a e ∷ []) d.to (length x.way + 1)
           gone x d p c = elim (Contains-push_cases passed e d c) [
@@ -170,7 +174,16 @@ module _ {N L : Type 0} where
     -- the end of a turn, all of whose edges are passed
     pub Stands-next : (met : List (Met N L)) (place : ℕ) (passed : List (Edge N L)) (a : Met N L) → Stands met place passed → slice_get met place ≡ Some a
         → ((e : Edge N L) → g.IsEdge a.node e → Contains passed e) → Stands met (place + 1) []
-    Stands-next met place passed a s turn all = record { first = s.first; ways = s.ways; apart = s.apart; rising = s.rising; near = near; closed = closed; gone = λ x e p c. absurd (omega (arith, c.1)) }
+    Stands-next met place passed a s turn all = record {
+      first = s.first;
+      ways = s.ways;
+      apart = s.apart;
+      rising = s.rising;
+      near = near;
+      closed = closed;
+      gone
+          = λ x e p c. absurd (omega (arith, c.1));
+    }
       where
         near : (j : ℕ) (x y : Met N L) → slice_get met (place + 1) ≡ Some x → slice_get met j ≡ Some y → length y.way ≤ length x.way + 1
         near j x y p q = let l = s.near j a y turn q in let r = s.rising place (place + 1) a x turn p (omega arith) in omega (arith, l, r)
@@ -190,8 +203,10 @@ module _ {N L : Type 0} where
       Stands-arrive met place passed a e s turn edge = go (cases_Bool (is_met eq met e.to))
         where
           go : (is_met eq met e.to ≡ true) ⊎ (is_met eq met e.to ≡ false) → Stands (arrive eq a met e) place (passed ++ e ∷ [])
-          go (inl known) = subst (λ m. Stands m place (passed ++ e ∷ [])) (sym (cond-true (is_met eq met e.to) met (met ++ beyond a e ∷ []) known)) (Stands-known met place passed s a turn e (is_met-true eq sound itself met e.to known))
-          go (inr fresh) = subst (λ m. Stands m place (passed ++ e ∷ [])) (sym (cond-false (is_met eq met e.to) met (met ++ beyond a e ∷ []) fresh)) (Stands-new met place passed s a turn e edge (is_met-false eq sound itself met e.to fresh))
+          go (inl known) = subst (λ m. Stands m place (passed ++ e ∷ [])) (sym (cond-true (is_met eq met e.to) met (met ++ beyond a e ∷ []) known))
+              (Stands-known met place passed s a turn e (is_met-true eq sound itself met e.to known))
+          go (inr fresh) = subst (λ m. Stands m place (passed ++ e ∷ [])) (sym (cond-false (is_met eq met e.to) met (met ++ beyond a e ∷ []) fresh))
+              (Stands-new met place passed s a turn e edge (is_met-false eq sound itself met e.to fresh))
 
     module _ (eq : N → N → Bool) (sound : (a b : N) → eq a b ≡ true → a ≡ b) (itself : (a : N) → eq a a ≡ true) where
       -- some edges
@@ -200,7 +215,8 @@ module _ {N L : Type 0} where
       Stands-arrive_all a met place passed [] s turn edges = subst (Stands met place) (sym (append-nil passed)) s
       Stands-arrive_all a met place passed (e ∷ es) s turn edges =
           subst (Stands (arrive_all eq a (arrive eq a met e) es) place) (append_assoc passed (e ∷ []) es)
-          (Stands-arrive_all a (arrive eq a met e) place (passed ++ e ∷ []) es (Stands-arrive eq sound itself met place passed a e s turn (edges e (in_place (e ∷ es) 0 e refl))) (at-arrive eq met a e place a turn)
+          (Stands-arrive_all a (arrive eq a met e) place (passed ++ e ∷ []) es
+          (Stands-arrive eq sound itself met place passed a e s turn (edges e (in_place (e ∷ es) 0 e refl))) (at-arrive eq met a e place a turn)
           (λ d c. edges d (let p = place_in es d c in in_place (e ∷ es) (suc p.0) d p.1)))
 
     module _ (p : Explored N L) where
@@ -209,7 +225,8 @@ module _ {N L : Type 0} where
         pub Stands-turn : (met : List (Met N L)) (place : ℕ) (a : Met N L) (t : Turn N L) → Stands met place [] → slice_get met place ≡ Some a
             → p.HasTurn a.node t → Stands (arrive_all p.eq a met t.edges) (place + 1) []
         Stands-turn met place a t s turn h =
-            Stands-next (arrive_all p.eq a met t.edges) place t.edges a (Stands-arrive_all p.eq of.sound of.itself a met place [] t.edges s turn (λ e c. (of.edges a.node t h e).0 c)) (at-arrive_all p.eq a met t.edges place a turn) (λ e c. (of.edges a.node t h e).1 c)
+            Stands-next (arrive_all p.eq a met t.edges) place t.edges a (Stands-arrive_all p.eq of.sound of.itself a met place [] t.edges s turn
+            (λ e c. (of.edges a.node t h e).0 c)) (at-arrive_all p.eq a met t.edges place a turn) (λ e c. (of.edges a.node t h e).1 c)
 
         -- turns
         pub Stands-Explores : (met : List (Met N L)) (place : ℕ) (ts : List (Turn N L)) (after : List (Met N L)) → Stands met place []

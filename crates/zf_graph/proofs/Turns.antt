@@ -81,7 +81,8 @@ module _ {N L O X : Type 0} (s : Searched N L O X) (orderly : IsOrderly s) (a : 
   -- the same first part, and more
   joined : (n : ℕ) (o : O) (xs ys : List X) (rest others es fs : Edges) → xs ≡ ys → IsFront rest others → es ≡ map (s.edge n o) xs ++ rest → fs ≡ map (s.edge n o) ys ++ others → IsFront es fs
   joined n o xs ys rest others es fs same f is is' =
-      subst (λ u. IsFront u fs) (sym is) (subst (λ v. IsFront (map (s.edge n o) xs ++ rest) v) (sym (is' ∙ ap (λ w. map (s.edge n o) w ++ others) (sym same))) (front_more (map (s.edge n o) xs) rest others f))
+      subst (λ u. IsFront u fs) (sym is) (subst (λ v. IsFront (map (s.edge n o) xs ++ rest) v) (sym (is' ∙ ap (λ w. map (s.edge n o) w ++ others) (sym same)))
+      (front_more (map (s.edge n o) xs) rest others f))
 
   -- a front of the first part
   opened : (n : ℕ) (o : O) (xs ys : List X) (others es fs : Edges) → IsFront xs ys → es ≡ map (s.edge n o) xs → fs ≡ map (s.edge n o) ys ++ others → IsFront es fs
@@ -194,7 +195,16 @@ module _ {N L O X : Type 0} (s : Searched N L O X) (orderly : IsOrderly s) (a : 
       ))
 
   found : (e : Edge N L) → IsIn 0 (s.parts a) e → IsFound s a e
-  found e h = record { number = h.place; part = h.part; find = h.find; stands = h.stands; has = h.has; holds = h.holds; is = let same : 0 + h.place ≡ h.place = omega arith in sym (ap (λ m. s.edge m h.part h.find) same) ∙ h.is }
+  found e h = record {
+    number = h.place;
+    part = h.part;
+    find = h.find;
+    stands = h.stands;
+    has = h.has;
+    holds = h.holds;
+    is = let same : 0 + h.place
+        ≡ h.place = omega arith in sym (ap (λ m. s.edge m h.part h.find) same) ∙ h.is;
+  }
 
 module _ {N L O X : Type 0} (s : Searched N L O X) (orderly : IsOrderly s) where
   pub of_graph : IsOf (explored_of s) (graph_of s)

@@ -12,7 +12,8 @@ module _ {N L : Type 0} where
     where
       go : (is_met eq met e.to ≡ true) ⊎ (is_met eq met e.to ≡ false) → nodes_of (arrive eq a met e) ≡ with_node eq (nodes_of met) e.to
       go (inl known) = ap nodes_of (cond-true (is_met eq met e.to) met (met ++ beyond a e ∷ []) known) ∙ sym (cond-true (is_met eq met e.to) (nodes_of met) (nodes_of met ++ e.to ∷ []) known)
-      go (inr fresh) = ap nodes_of (cond-false (is_met eq met e.to) met (met ++ beyond a e ∷ []) fresh) ∙ map-append (λ x. x.node) met (beyond a e ∷ []) ∙ sym (cond-false (is_met eq met e.to) (nodes_of met) (nodes_of met ++ e.to ∷ []) fresh)
+      go (inr fresh) = ap nodes_of (cond-false (is_met eq met e.to) met (met ++ beyond a e ∷ []) fresh) ∙ map-append (λ x. x.node) met (beyond a e ∷ [])
+          ∙ sym (cond-false (is_met eq met e.to) (nodes_of met) (nodes_of met ++ e.to ∷ []) fresh)
 
   pub nodes_of-arrive_all : (eq : N → N → Bool) (a : Met N L) (met : List (Met N L)) (es : List (Edge N L)) → nodes_of (arrive_all eq a met es) ≡ with_ends eq (nodes_of met) es
   nodes_of-arrive_all eq a met [] = refl
@@ -35,20 +36,23 @@ module _ {N L : Type 0} where
   -- ---- texts
 
   module _ (w : Words N L) (eq : N → N → Bool) where
-    pub edges_text-push : (from : ℕ) (nodes : List N) (es : List (Edge N L)) (e : Edge N L) → edges_text w eq from nodes (es ++ e ∷ []) ≡ edges_text w eq from nodes es ++ edge_text w eq from (with_ends eq nodes es) e
+    pub edges_text-push : (from : ℕ) (nodes : List N) (es : List (Edge N L)) (e : Edge N L)
+        → edges_text w eq from nodes (es ++ e ∷ []) ≡ edges_text w eq from nodes es ++ edge_text w eq from (with_ends eq nodes es) e
     edges_text-push from nodes [] e = append-nil (edge_text w eq from nodes e)
     edges_text-push from nodes (d ∷ es) e =
         ap (λ t. edge_text w eq from nodes d ++ t) (edges_text-push from (with_node eq nodes d.to) es e)
         ∙ sym (append_assoc (edge_text w eq from nodes d) (edges_text w eq from (with_node eq nodes d.to) es) (edge_text w eq from (with_ends eq (with_node eq nodes d.to) es) e))
 
-    pub begun_text-push : (from : ℕ) (nodes : List N) (now : Turn N L) (e : Edge N L) → begun_text w eq from nodes (with_edge now e) ≡ begun_text w eq from nodes now ++ edge_text w eq from (with_ends eq nodes now.edges) e
+    pub begun_text-push : (from : ℕ) (nodes : List N) (now : Turn N L) (e : Edge N L)
+        → begun_text w eq from nodes (with_edge now e) ≡ begun_text w eq from nodes now ++ edge_text w eq from (with_ends eq nodes now.edges) e
     begun_text-push from nodes now e =
         ap (λ t. cond now.stray (w.stray from) [] ++ t) (edges_text-push from nodes now.edges e)
         ∙ sym (append_assoc (cond now.stray (w.stray from) []) (edges_text w eq from nodes now.edges) (edge_text w eq from (with_ends eq nodes now.edges) e))
 
   module _ (p : Explored N L) (w : Words N L) where
     pub turns_text-push : (met : List (Met N L)) (place : ℕ) (ts : List (Turn N L)) (after : List (Met N L)) (t : Turn N L) → Explores p met place ts after
-        → turns_text w p.eq place (nodes_of met) (ts ++ t ∷ []) ≡ turns_text w p.eq place (nodes_of met) ts ++ (begun_text w p.eq (place + length ts) (nodes_of after) t ++ stuck_text w p.eq (place + length ts) t.edges)
+        → turns_text w p.eq place (nodes_of met) (ts ++ t ∷ []) ≡ turns_text w p.eq place (nodes_of met) ts
+        ++ (begun_text w p.eq (place + length ts) (nodes_of after) t ++ stuck_text w p.eq (place + length ts) t.edges)
     turns_text-push met place [] after t h =
         append-nil (begun_text w p.eq place (nodes_of met) t ++ stuck_text w p.eq place t.edges)
         ∙ ap (λ m. begun_text w p.eq place (nodes_of m) t ++ stuck_text w p.eq place t.edges) (sym h)

@@ -14,7 +14,8 @@ seen_closed : (e : Environment) (t u : ResolvedTree) → u ≡ t → IsClosed e 
 seen_closed e t u q h = subst (λ y. IsClosed e y) (sym q) h
 
 -- a part by what it was taken from and what it is put in
-boxed_lift : (b : Bool) (f e : Environment) (inner got part boxed : Resolved) → got ≡ inner → boxed ≡ part → IsLift b f e (resolved_of part) (resolved_of got) → IsLift b f e (resolved_of boxed) (resolved_of inner)
+boxed_lift : (b : Bool) (f e : Environment) (inner got part boxed : Resolved) → got ≡ inner → boxed ≡ part → IsLift b f e (resolved_of part) (resolved_of got)
+    → IsLift b f e (resolved_of boxed) (resolved_of inner)
 boxed_lift b f e inner got part boxed p q h = across b f e (resolved_of part) (resolved_of boxed) (resolved_of got) (resolved_of inner) (ap resolved_of q) (ap resolved_of (sym p)) h
 
 got_closed : (e : Environment) (inner got : Resolved) → got ≡ inner → IsClosed e (resolved_of got) → IsClosed e (resolved_of inner)
@@ -22,7 +23,8 @@ got_closed e inner got p h = seen_closed e (resolved_of got) (resolved_of inner)
 
 -- ---- forms without parts
 
-pub name : (b : Bool) (f e : Environment) (l : ℕ) (r : Reference) (whole : Resolved) → whole ≡ v.Name l r → ((i : ℕ) → r ≡ Global i → i < length e.outcomes) → IsLonger e f → IsLift b f e (resolved_of (v.Name l r)) (resolved_of whole)
+pub name : (b : Bool) (f e : Environment) (l : ℕ) (r : Reference) (whole : Resolved) → whole ≡ v.Name l r → ((i : ℕ) → r ≡ Global i → i < length e.outcomes)
+    → IsLonger e f → IsLift b f e (resolved_of (v.Name l r)) (resolved_of whole)
 name b f e l r whole is known h = across b f e _ _ _ _ (of-Name l r) (ap resolved_of is ∙ of-Name l r) (made.name_lift b e f l r known h)
 
 pub name_closed : (e : Environment) (l : ℕ) (r : Reference) (whole : Resolved) → whole ≡ v.Name l r → IsClosed e (reference l r) → IsClosed e (resolved_of whole)
@@ -40,7 +42,8 @@ constant b f e l k whole is h = across b f e _ _ _ _ (of-Constant l k) (ap resol
 pub constant_closed : (e : Environment) (l : ℕ) (k : Constant) (whole : Resolved) → whole ≡ v.Constant l k → IsClosed e (resolved_of whole)
 constant_closed e l k whole is = seen_closed e _ _ (ap resolved_of is ∙ of-Constant l k) (made.constant_closed e l k)
 
-pub empty_set : (b : Bool) (f e : Environment) (l : ℕ) (of got copied t whole : Resolved) → whole ≡ v.EmptySet l of → got ≡ of → copied ≡ got → t ≡ copied → IsLift b f e (resolved_of (v.EmptySet l t)) (resolved_of whole)
+pub empty_set : (b : Bool) (f e : Environment) (l : ℕ) (of got copied t whole : Resolved) → whole ≡ v.EmptySet l of → got ≡ of → copied ≡ got → t ≡ copied
+    → IsLift b f e (resolved_of (v.EmptySet l t)) (resolved_of whole)
 empty_set b f e l of got copied t whole is p q r =
     let same : need (resolved_of t) ≤ need (resolved_of of) = subst (λ x. need (resolved_of x) ≤ need (resolved_of of)) (sym (r ∙ q ∙ p)) (omega arith) in
     across b f e _ _ _ _ (of-EmptySet l t) (ap resolved_of is ∙ of-EmptySet l of) (made.empty_set_lift b f e l (resolved_of t) (resolved_of of) same)
@@ -50,7 +53,8 @@ empty_set_closed e l of whole is = seen_closed e _ _ (ap resolved_of is ∙ of-E
 
 -- ---- forms with operands
 
-pub bracketed : (b : Bool) (f e : Environment) (l : ℕ) (inner got part boxed whole : Resolved) → whole ≡ v.Bracket l inner → got ≡ inner → boxed ≡ part → IsLift b f e (resolved_of part) (resolved_of got) → IsLift b f e (resolved_of (v.Bracket l boxed)) (resolved_of whole)
+pub bracketed : (b : Bool) (f e : Environment) (l : ℕ) (inner got part boxed whole : Resolved) → whole ≡ v.Bracket l inner → got ≡ inner → boxed ≡ part
+    → IsLift b f e (resolved_of part) (resolved_of got) → IsLift b f e (resolved_of (v.Bracket l boxed)) (resolved_of whole)
 bracketed b f e l inner got part boxed whole is p q h =
     across b f e _ _ _ _ (of-Bracket l boxed) (ap resolved_of is ∙ of-Bracket l inner) (made.bracket_lift b f e l (resolved_of boxed) (resolved_of inner) (boxed_lift b f e inner got part boxed p q h))
 
@@ -58,67 +62,92 @@ pub bracketed_closed : (e : Environment) (l : ℕ) (inner got whole : Resolved) 
 bracketed_closed e l inner got whole is p h = seen_closed e _ _ (ap resolved_of is ∙ of-Bracket l inner) (made.bracket_closed e l (resolved_of inner) (got_closed e inner got p h))
 
 -- without its brackets
-pub bare : (b : Bool) (f e : Environment) (l : ℕ) (inner got part whole : Resolved) → whole ≡ v.Bracket l inner → got ≡ inner → IsLift b f e (resolved_of part) (resolved_of got) → IsLift b f e (resolved_of part) (resolved_of whole)
+pub bare : (b : Bool) (f e : Environment) (l : ℕ) (inner got part whole : Resolved) → whole ≡ v.Bracket l inner → got ≡ inner
+    → IsLift b f e (resolved_of part) (resolved_of got) → IsLift b f e (resolved_of part) (resolved_of whole)
 bare b f e l inner got part whole is p h =
     across b f e _ _ _ _ refl (ap resolved_of is ∙ of-Bracket l inner) (made.inner_lift b f e l (resolved_of part) (resolved_of inner) (boxed_lift b f e inner got part part p refl h))
 
-pub signed : (b : Bool) (f e : Environment) (l : ℕ) (op : Unary) (inner got part boxed whole : Resolved) → whole ≡ v.Unary l op inner → got ≡ inner → boxed ≡ part → IsLift b f e (resolved_of part) (resolved_of got) → IsLift b f e (resolved_of (v.Unary l op boxed)) (resolved_of whole)
+pub signed : (b : Bool) (f e : Environment) (l : ℕ) (op : Unary) (inner got part boxed whole : Resolved) → whole ≡ v.Unary l op inner → got ≡ inner
+    → boxed ≡ part → IsLift b f e (resolved_of part) (resolved_of got) → IsLift b f e (resolved_of (v.Unary l op boxed)) (resolved_of whole)
 signed b f e l op inner got part boxed whole is p q h =
-    across b f e _ _ _ _ (of-Unary l op boxed) (ap resolved_of is ∙ of-Unary l op inner) (made.unary_lift b f e l op (resolved_of boxed) (resolved_of inner) (boxed_lift b f e inner got part boxed p q h))
+    across b f e _ _ _ _ (of-Unary l op boxed) (ap resolved_of is ∙ of-Unary l op inner)
+    (made.unary_lift b f e l op (resolved_of boxed) (resolved_of inner) (boxed_lift b f e inner got part boxed p q h))
 
 pub signed_closed : (e : Environment) (l : ℕ) (op : Unary) (inner got whole : Resolved) → whole ≡ v.Unary l op inner → got ≡ inner → IsClosed e (resolved_of got) → IsClosed e (resolved_of whole)
 signed_closed e l op inner got whole is p h = seen_closed e _ _ (ap resolved_of is ∙ of-Unary l op inner) (made.unary_closed e l op (resolved_of inner) (got_closed e inner got p h))
 
-pub many : (b : Bool) (f e : Environment) (l : ℕ) (form : Listed) (items parts : List Resolved) (whole : Resolved) → whole ≡ v.Listed l form items → AreLifts b f e (terms (map resolved_of parts)) (terms (map resolved_of items)) → IsLift b f e (resolved_of (v.Listed l form parts)) (resolved_of whole)
+pub many : (b : Bool) (f e : Environment) (l : ℕ) (form : Listed) (items parts : List Resolved) (whole : Resolved) → whole ≡ v.Listed l form items
+    → AreLifts b f e (terms (map resolved_of parts)) (terms (map resolved_of items)) → IsLift b f e (resolved_of (v.Listed l form parts)) (resolved_of whole)
 many b f e l form items parts whole is h =
     across b f e _ _ _ _ (of-Listed l form parts) (ap resolved_of is ∙ of-Listed l form items) (made.listed_lift b f e l form _ _ h)
 
-pub many_closed : (e : Environment) (l : ℕ) (form : Listed) (items : List Resolved) (whole : Resolved) → whole ≡ v.Listed l form items → AreClosed e (terms (map resolved_of items)) → IsClosed e (resolved_of whole)
+pub many_closed : (e : Environment) (l : ℕ) (form : Listed) (items : List Resolved) (whole : Resolved) → whole ≡ v.Listed l form items
+    → AreClosed e (terms (map resolved_of items)) → IsClosed e (resolved_of whole)
 many_closed e l form items whole is h = seen_closed e _ _ (ap resolved_of is ∙ of-Listed l form items) (made.listed_closed e l form _ h)
 
-pub combined : (b : Bool) (f e : Environment) (l : ℕ) (op : Operator) (left got_left part_left boxed_left right got_right part_right boxed_right whole : Resolved) → whole ≡ v.Binary l op left right → got_left ≡ left → boxed_left ≡ part_left → got_right ≡ right → boxed_right ≡ part_right
-    → IsLift b f e (resolved_of part_left) (resolved_of got_left) → IsLift b f e (resolved_of part_right) (resolved_of got_right) → IsLift b f e (resolved_of (v.Binary l op boxed_left boxed_right)) (resolved_of whole)
+pub combined : (b : Bool) (f e : Environment) (l : ℕ) (op : Operator) (left got_left part_left boxed_left right got_right part_right boxed_right whole
+    : Resolved) → whole ≡ v.Binary l op left right → got_left ≡ left → boxed_left ≡ part_left → got_right ≡ right → boxed_right ≡ part_right
+    → IsLift b f e (resolved_of part_left) (resolved_of got_left) → IsLift b f e (resolved_of part_right) (resolved_of got_right)
+    → IsLift b f e (resolved_of (v.Binary l op boxed_left boxed_right)) (resolved_of whole)
 combined b f e l op x gx px bx y gy py by whole is p q r s h k =
-    across b f e _ _ _ _ (of-Binary l op bx by) (ap resolved_of is ∙ of-Binary l op x y) (made.binary_lift b f e l op (resolved_of bx) (resolved_of by) (resolved_of x) (resolved_of y) (boxed_lift b f e x gx px bx p q h) (boxed_lift b f e y gy py by r s k))
+    across b f e _ _ _ _ (of-Binary l op bx by) (ap resolved_of is ∙ of-Binary l op x y)
+    (made.binary_lift b f e l op (resolved_of bx) (resolved_of by) (resolved_of x) (resolved_of y) (boxed_lift b f e x gx px bx p q h)
+    (boxed_lift b f e y gy py by r s k))
 
-pub combined_closed : (e : Environment) (l : ℕ) (op : Operator) (left got_left right got_right whole : Resolved) → whole ≡ v.Binary l op left right → got_left ≡ left → got_right ≡ right → IsClosed e (resolved_of got_left) → IsClosed e (resolved_of got_right) → IsClosed e (resolved_of whole)
-combined_closed e l op x gx y gy whole is p r h k = seen_closed e _ _ (ap resolved_of is ∙ of-Binary l op x y) (made.binary_closed e l op (resolved_of x) (resolved_of y) (got_closed e x gx p h) (got_closed e y gy r k))
+pub combined_closed : (e : Environment) (l : ℕ) (op : Operator) (left got_left right got_right whole : Resolved) → whole ≡ v.Binary l op left right
+    → got_left ≡ left → got_right ≡ right → IsClosed e (resolved_of got_left) → IsClosed e (resolved_of got_right) → IsClosed e (resolved_of whole)
+combined_closed e l op x gx y gy whole is p r h k = seen_closed e _ _ (ap resolved_of is ∙ of-Binary l op x y)
+    (made.binary_closed e l op (resolved_of x) (resolved_of y) (got_closed e x gx p h) (got_closed e y gy r k))
 
-pub chained : (b : Bool) (f e : Environment) (l : ℕ) (first got part boxed : Resolved) (further parts : List ResolvedLink) (whole : Resolved) → whole ≡ v.Chain l first further → got ≡ first → boxed ≡ part
-    → IsLift b f e (resolved_of part) (resolved_of got) → AreLinkLifts b f e (links (map resolved_link_of parts)) (links (map resolved_link_of further)) → IsLift b f e (resolved_of (v.Chain l boxed parts)) (resolved_of whole)
+pub chained : (b : Bool) (f e : Environment) (l : ℕ) (first got part boxed : Resolved) (further parts : List ResolvedLink) (whole : Resolved)
+    → whole ≡ v.Chain l first further → got ≡ first → boxed ≡ part
+    → IsLift b f e (resolved_of part) (resolved_of got) → AreLinkLifts b f e (links (map resolved_link_of parts)) (links (map resolved_link_of further))
+    → IsLift b f e (resolved_of (v.Chain l boxed parts)) (resolved_of whole)
 chained b f e l first got part boxed further parts whole is p q h k =
-    across b f e _ _ _ _ (of-Chain l boxed parts) (ap resolved_of is ∙ of-Chain l first further) (made.chain_lift b f e l (resolved_of boxed) (resolved_of first) _ _ (boxed_lift b f e first got part boxed p q h) k)
+    across b f e _ _ _ _ (of-Chain l boxed parts) (ap resolved_of is ∙ of-Chain l first further)
+    (made.chain_lift b f e l (resolved_of boxed) (resolved_of first) _ _ (boxed_lift b f e first got part boxed p q h) k)
 
-pub chained_closed : (e : Environment) (l : ℕ) (first got : Resolved) (further : List ResolvedLink) (whole : Resolved) → whole ≡ v.Chain l first further → got ≡ first → IsClosed e (resolved_of got) → AreLinksClosed e (links (map resolved_link_of further)) → IsClosed e (resolved_of whole)
+pub chained_closed : (e : Environment) (l : ℕ) (first got : Resolved) (further : List ResolvedLink) (whole : Resolved) → whole ≡ v.Chain l first further
+    → got ≡ first → IsClosed e (resolved_of got) → AreLinksClosed e (links (map resolved_link_of further)) → IsClosed e (resolved_of whole)
 chained_closed e l first got further whole is p h k = seen_closed e _ _ (ap resolved_of is ∙ of-Chain l first further) (made.chain_closed e l (resolved_of first) _ (got_closed e first got p h) k)
 
 -- ---- forms that bind
 
 pub built : (b : Bool) (f e : Environment) (l : ℕ) (rs ss : List Range) (p q t u : Option Resolved) (whole : Resolved) → whole ≡ v.Builder l ss q u
-    → AreRangeLifts b f e (ranges (map range_of rs)) (ranges (map range_of ss)) → IsPartLift false f e (part_of p) (part_of q) → IsPartLift false f e (part_of t) (part_of u) → IsLift b f e (resolved_of (v.Builder l rs p t)) (resolved_of whole)
+    → AreRangeLifts b f e (ranges (map range_of rs)) (ranges (map range_of ss)) → IsPartLift false f e (part_of p) (part_of q)
+    → IsPartLift false f e (part_of t) (part_of u) → IsLift b f e (resolved_of (v.Builder l rs p t)) (resolved_of whole)
 built b f e l rs ss p q t u whole is g h k =
     across b f e _ _ _ _ (of-Builder l rs p t) (ap resolved_of is ∙ of-Builder l ss q u) (made.builder_lift b f e l _ _ _ _ _ _ g h k)
 
-pub built_closed : (e : Environment) (l : ℕ) (ss : List Range) (q u : Option Resolved) (whole : Resolved) → whole ≡ v.Builder l ss q u → AreRangesClosed e (ranges (map range_of ss)) → IsPartClosed e (part_of q) → IsPartClosed e (part_of u) → IsClosed e (resolved_of whole)
+pub built_closed : (e : Environment) (l : ℕ) (ss : List Range) (q u : Option Resolved) (whole : Resolved) → whole ≡ v.Builder l ss q u
+    → AreRangesClosed e (ranges (map range_of ss)) → IsPartClosed e (part_of q) → IsPartClosed e (part_of u) → IsClosed e (resolved_of whole)
 built_closed e l ss q u whole is g h k = seen_closed e _ _ (ap resolved_of is ∙ of-Builder l ss q u) (made.builder_closed e l _ _ _ g h k)
 
-pub bound : (b : Bool) (f e : Environment) (l : ℕ) (n : Quantifier) (rs ss : List Range) (p q : Option Resolved) (body got part boxed whole : Resolved) → whole ≡ v.Quantified n l ss q body → got ≡ body → boxed ≡ part
-    → AreRangeLifts b f e (ranges (map range_of rs)) (ranges (map range_of ss)) → IsPartLift false f e (part_of p) (part_of q) → IsLift false f e (resolved_of part) (resolved_of got) → IsLift b f e (resolved_of (v.Quantified n l rs p boxed)) (resolved_of whole)
+pub bound : (b : Bool) (f e : Environment) (l : ℕ) (n : Quantifier) (rs ss : List Range) (p q : Option Resolved) (body got part boxed whole : Resolved)
+    → whole ≡ v.Quantified n l ss q body → got ≡ body → boxed ≡ part
+    → AreRangeLifts b f e (ranges (map range_of rs)) (ranges (map range_of ss)) → IsPartLift false f e (part_of p) (part_of q)
+    → IsLift false f e (resolved_of part) (resolved_of got) → IsLift b f e (resolved_of (v.Quantified n l rs p boxed)) (resolved_of whole)
 bound b f e l n rs ss p q body got part boxed whole is x y g h k =
-    across b f e _ _ _ _ (of-Quantified l n rs p boxed) (ap resolved_of is ∙ of-Quantified l n ss q body) (made.quantified_lift b f e l n _ _ _ _ (resolved_of boxed) (resolved_of body) g h (boxed_lift false f e body got part boxed x y k))
+    across b f e _ _ _ _ (of-Quantified l n rs p boxed) (ap resolved_of is ∙ of-Quantified l n ss q body)
+    (made.quantified_lift b f e l n _ _ _ _ (resolved_of boxed) (resolved_of body) g h (boxed_lift false f e body got part boxed x y k))
 
-pub bound_closed : (e : Environment) (l : ℕ) (n : Quantifier) (ss : List Range) (q : Option Resolved) (body got whole : Resolved) → whole ≡ v.Quantified n l ss q body → got ≡ body → AreRangesClosed e (ranges (map range_of ss)) → IsPartClosed e (part_of q) → IsClosed e (resolved_of got) → IsClosed e (resolved_of whole)
-bound_closed e l n ss q body got whole is x g h k = seen_closed e _ _ (ap resolved_of is ∙ of-Quantified l n ss q body) (made.quantified_closed e l n _ _ (resolved_of body) g h (got_closed e body got x k))
+pub bound_closed : (e : Environment) (l : ℕ) (n : Quantifier) (ss : List Range) (q : Option Resolved) (body got whole : Resolved)
+    → whole ≡ v.Quantified n l ss q body → got ≡ body → AreRangesClosed e (ranges (map range_of ss)) → IsPartClosed e (part_of q)
+    → IsClosed e (resolved_of got) → IsClosed e (resolved_of whole)
+bound_closed e l n ss q body got whole is x g h k = seen_closed e _ _ (ap resolved_of is ∙ of-Quantified l n ss q body)
+    (made.quantified_closed e l n _ _ (resolved_of body) g h (got_closed e body got x k))
 
 -- ---- parts
 
 pub no_part : (f e : Environment) (field whole : Option Resolved) → whole ≡ None → field ≡ None → IsPartLift false f e (part_of field) (part_of whole)
-no_part f e field whole is made_is = subst (λ p. IsPartLift false f e (part_of p) (part_of whole)) (sym made_is) (subst (λ q. IsPartLift false f e (part_of None) (part_of q)) (sym is) (made.absent_lift false f e))
+no_part f e field whole is made_is = subst (λ p. IsPartLift false f e (part_of p) (part_of whole)) (sym made_is)
+    (subst (λ q. IsPartLift false f e (part_of None) (part_of q)) (sym is) (made.absent_lift false f e))
 
 pub no_part_closed : (e : Environment) (whole : Option Resolved) → whole ≡ None → IsPartClosed e (part_of whole)
 no_part_closed e whole is = subst (λ q. IsPartClosed e (part_of q)) (sym is) (made.absent_closed e)
 
-pub some_part : (f e : Environment) (t got found inner : Resolved) (field whole : Option Resolved) → whole ≡ Some t → got ≡ t → inner ≡ found → field ≡ Some inner → IsLift false f e (resolved_of found) (resolved_of got) → IsPartLift false f e (part_of field) (part_of whole)
+pub some_part : (f e : Environment) (t got found inner : Resolved) (field whole : Option Resolved) → whole ≡ Some t → got ≡ t → inner ≡ found
+    → field ≡ Some inner → IsLift false f e (resolved_of found) (resolved_of got) → IsPartLift false f e (part_of field) (part_of whole)
 some_part f e t got found inner field whole is p q made_is h =
     subst (λ x. IsPartLift false f e (part_of x) (part_of whole)) (sym made_is)
     (subst (λ y. IsPartLift false f e (part_of (Some inner)) (part_of y)) (sym is) (made.present_lift false f e (resolved_of inner) (resolved_of t) (boxed_lift false f e t got found inner p q h)))
@@ -126,14 +155,17 @@ some_part f e t got found inner field whole is p q made_is h =
 pub some_part_closed : (e : Environment) (t got : Resolved) (whole : Option Resolved) → whole ≡ Some t → got ≡ t → IsClosed e (resolved_of got) → IsPartClosed e (part_of whole)
 some_part_closed e t got whole is p h = subst (λ y. IsPartClosed e (part_of y)) (sym is) (made.present_closed e (resolved_of t) (got_closed e t got p h))
 
-pub one_link : (b : Bool) (f e : Environment) (k : ResolvedLink) (t : Resolved) → IsLift b f e (resolved_of t) (resolved_of k.right) → IsLinkLift b f e (resolved_link_of (new_link k.relation t)) (resolved_link_of k)
-one_link b f e k t h = subst (λ p. IsLinkLift b f e p (resolved_link_of k)) (sym (of-link k.relation t)) (subst (λ (q : Relation × ResolvedTree). IsLinkLift b f e (k.relation, resolved_of t) q) (sym (link-seen k)) (refl, h))
+pub one_link : (b : Bool) (f e : Environment) (k : ResolvedLink) (t : Resolved) → IsLift b f e (resolved_of t) (resolved_of k.right)
+    → IsLinkLift b f e (resolved_link_of (new_link k.relation t)) (resolved_link_of k)
+one_link b f e k t h = subst (λ p. IsLinkLift b f e p (resolved_link_of k)) (sym (of-link k.relation t))
+    (subst (λ (q : Relation × ResolvedTree). IsLinkLift b f e (k.relation, resolved_of t) q) (sym (link-seen k)) (refl, h))
 
 pub one_link_closed : (e : Environment) (k : ResolvedLink) → IsClosed e (resolved_of k.right) → IsLinkClosed e (resolved_link_of k)
 one_link_closed e k h = subst (λ (q : Relation × ResolvedTree). IsLinkClosed e q) (sym (link-seen k)) h
 
 pub one_range : (b : Bool) (f e : Environment) (r : Range) (t : Resolved) → IsLift b f e (resolved_of t) (resolved_of r.set) → IsRangeLift b f e (range_of (new_range r.variables t)) (range_of r)
-one_range b f e r t h = subst (λ p. IsRangeLift b f e p (range_of r)) (sym (of-range r.variables t)) (subst (λ (q : ℕ × ResolvedTree). IsRangeLift b f e (r.variables, resolved_of t) q) (sym (range-seen r)) (refl, h))
+one_range b f e r t h = subst (λ p. IsRangeLift b f e p (range_of r)) (sym (of-range r.variables t))
+    (subst (λ (q : ℕ × ResolvedTree). IsRangeLift b f e (r.variables, resolved_of t) q) (sym (range-seen r)) (refl, h))
 
 pub one_range_closed : (e : Environment) (r : Range) → IsClosed e (resolved_of r.set) → IsRangeClosed e (range_of r)
 one_range_closed e r h = subst (λ (q : ℕ × ResolvedTree). IsRangeClosed e q) (sym (range-seen r)) h
@@ -143,10 +175,13 @@ one_range_closed e r h = subst (λ (q : ℕ × ResolvedTree). IsRangeClosed e q)
 pub none_yet : {A B : Type 0} → (g : B → A) (R : A → A → Type 0) (ps : List B) → ps ≡ [] → AreEach R (map g ps) []
 none_yet g R ps is = subst (λ qs. AreEach R (map g qs) []) (sym is) tt
 
-pub one_more : {A B : Type 0} → (g : B → A) (R S : A → A → Type 0) (ps xs new : List B) (i : ℕ) (x p : B) → x ≡ get_or xs i x → i < length xs → new ≡ ps ++ p ∷ [] → ((y z : A) → R y z → S y z) → AreEach R (map g ps) (map g (take i xs)) → S (g p) (g x) → AreEach S (map g new) (map g (take (i + 1) xs))
+pub one_more : {A B : Type 0} → (g : B → A) (R S : A → A → Type 0) (ps xs new : List B) (i : ℕ) (x p : B) → x ≡ get_or xs i x → i < length xs
+    → new ≡ ps ++ p ∷ [] → ((y z : A) → R y z → S y z) → AreEach R (map g ps) (map g (take i xs)) → S (g p) (g x)
+    → AreEach S (map g new) (map g (take (i + 1) xs))
 one_more g R S ps xs new i x p at l is f h s = subst (λ qs. AreEach S (map g qs) (map g (take (i + 1) xs))) (sym is) (each_more g S ps xs i x p at l (each_also R S _ _ f h) s)
 
-pub all_done : {A B : Type 0} → (g : B → A) (R : A → A → Type 0) (ps part xs items : List B) (i : ℕ) → part ≡ ps → xs ≡ items → length xs ≤ i → AreEach R (map g ps) (map g (take i xs)) → AreEach R (map g part) (map g items)
+pub all_done : {A B : Type 0} → (g : B → A) (R : A → A → Type 0) (ps part xs items : List B) (i : ℕ) → part ≡ ps → xs ≡ items → length xs ≤ i
+    → AreEach R (map g ps) (map g (take i xs)) → AreEach R (map g part) (map g items)
 all_done g R ps part xs items i p q l h = subst (λ zs. AreEach R (map g zs) (map g items)) (sym p) (subst (λ ys. AreEach R (map g ps) (map g ys)) q (each_done g R _ xs i l h))
 
 -- ---- names of globals

@@ -7,14 +7,16 @@ each_also R S [] (y ∷ ys) f h = h
 each_also R S (x ∷ xs) [] f h = h
 each_also R S (x ∷ xs) (y ∷ ys) f h = (f x y h.0, each_also R S xs ys f h.1)
 
-one_more : {A B : Type 0} → (g : B → A) (R : A → A → Type 0) (ps xs : List B) (i : ℕ) (x p : B) → x ≡ get_or xs i x → i < length xs → AreEach R (map g ps) (map g (take i xs)) → R (g p) (g x) → AreEach R (map g (ps ++ p ∷ [])) (map g (take (suc i) xs))
+one_more : {A B : Type 0} → (g : B → A) (R : A → A → Type 0) (ps xs : List B) (i : ℕ) (x p : B) → x ≡ get_or xs i x → i < length xs
+    → AreEach R (map g ps) (map g (take i xs)) → R (g p) (g x) → AreEach R (map g (ps ++ p ∷ [])) (map g (take (suc i) xs))
 one_more g R ps [] i x p at l h r = absurd (omega arith)
 one_more g R [] (y ∷ ys) zero x p at l h r = (subst (λ z. R (g p) (g z)) at r, tt)
 one_more g R (q ∷ ps) (y ∷ ys) zero x p at l h r = absurd h
 one_more g R [] (y ∷ ys) (suc i) x p at l h r = absurd h
 one_more g R (q ∷ ps) (y ∷ ys) (suc i) x p at l h r = (h.0, one_more g R ps ys i x p at (omega arith) h.1 r)
 
-pub each_more : {A B : Type 0} → (g : B → A) (R : A → A → Type 0) (ps xs : List B) (i : ℕ) (x p : B) → x ≡ get_or xs i x → i < length xs → AreEach R (map g ps) (map g (take i xs)) → R (g p) (g x) → AreEach R (map g (ps ++ p ∷ [])) (map g (take (i + 1) xs))
+pub each_more : {A B : Type 0} → (g : B → A) (R : A → A → Type 0) (ps xs : List B) (i : ℕ) (x p : B) → x ≡ get_or xs i x → i < length xs
+    → AreEach R (map g ps) (map g (take i xs)) → R (g p) (g x) → AreEach R (map g (ps ++ p ∷ [])) (map g (take (i + 1) xs))
 each_more g R ps xs i x p at l h r = rw add-one (one_more g R ps xs i x p at l h r)
 
 whole : {B : Type 0} → (xs : List B) (i : ℕ) → length xs ≤ i → take i xs ≡ xs

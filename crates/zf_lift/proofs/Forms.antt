@@ -18,7 +18,8 @@ opposite_way c t d u h = record { outcome = λ o. ((h.outcome o).1, (h.outcome o
 
 -- ---- forms without parts
 
-pub same_reference : (c d : Context) (l : ℕ) (r : Reference) → outcome_in c r ≡ outcome_in d r → c.environment.globals ≡ d.environment.globals → c.environment.numbers ≡ d.environment.numbers → IsSame c (reference l r) d (reference l r)
+pub same_reference : (c d : Context) (l : ℕ) (r : Reference) → outcome_in c r ≡ outcome_in d r → c.environment.globals ≡ d.environment.globals
+    → c.environment.numbers ≡ d.environment.numbers → IsSame c (reference l r) d (reference l r)
 same_reference c d l r e g m = record {
   outcome = λ o. (λ x. subst (λ y. o ≡ y) e x, λ x. subst (λ y. o ≡ y) (sym e) x);
   truth = λ a. (λ x. x, λ x. x);
@@ -65,7 +66,8 @@ same_unary c d l op t u h = let k = opposite_way c t d u h in record {
   infinite = refl;
 }
 
-binary_outcome : (c d : Context) (l : ℕ) (op : Operator) (t u v w : ResolvedTree) → IsSame c t d v → IsSame c u d w → (o : Outcome) → HasOutcome c (binary l op t u) o → HasOutcome d (binary l op v w) o
+binary_outcome : (c d : Context) (l : ℕ) (op : Operator) (t u v w : ResolvedTree) → IsSame c t d v → IsSame c u d w → (o : Outcome)
+    → HasOutcome c (binary l op t u) o → HasOutcome d (binary l op v w) o
 binary_outcome c d l op t u v w h k o x = (x.0, x.1, (h.outcome x.0).0 x.2, (k.outcome x.1).0 x.3, x.4)
 
 binary_truth : (c d : Context) (l : ℕ) (op : Operator) (t u v w : ResolvedTree) → IsSame c t d v → IsSame c u d w → (a : Truth) → IsTruth c (binary l op t u) a → IsTruth d (binary l op v w) a
@@ -91,26 +93,31 @@ same_chain c d l t u ks ls h k = record {
 
 -- ---- forms that bind
 
-rows_told : (c d : Context) (q : Quantifier) (p r : ResolvedPart) (t u : ResolvedTree) → ((vs : List Value) → IsSamePart (within c vs) p (within d vs) r) → ((vs : List Value) → IsSame (within c vs) t (within d vs) u)
-    → (vs : List Value) (w : Truth) → IsTold q (λ a. IsConstraint (within c vs) p a) (λ b. IsTruth (within c vs) t b) w → IsTold q (λ a. IsConstraint (within d vs) r a) (λ b. IsTruth (within d vs) u b) w
+rows_told : (c d : Context) (q : Quantifier) (p r : ResolvedPart) (t u : ResolvedTree) → ((vs : List Value) → IsSamePart (within c vs) p (within d vs) r)
+    → ((vs : List Value) → IsSame (within c vs) t (within d vs) u)
+    → (vs : List Value) (w : Truth) → IsTold q (λ a. IsConstraint (within c vs) p a) (λ b. IsTruth (within c vs) t b) w
+    → IsTold q (λ a. IsConstraint (within d vs) r a) (λ b. IsTruth (within d vs) u b) w
 rows_told c d q p r t u h k vs w x =
     mapped.told q (IsConstraint (within c vs) p) (IsTruth (within c vs) t) (IsConstraint (within d vs) r) (IsTruth (within d vs) u) (λ a. ((h vs).constraint a).0) (λ b. ((k vs).truth b).0) w x
 
 other_part : (c d : Context) (p r : ResolvedPart) → IsSamePart c p d r → IsSamePart d r c p
 other_part c d p r h = record { constraint = λ a. ((h.constraint a).1, (h.constraint a).0); builds = λ vs o. ((h.builds vs o).1, (h.builds vs o).0) }
 
-quantified_truth : (c d : Context) (l : ℕ) (q : Quantifier) (rs ss : Ranges) (p r : ResolvedPart) (t u : ResolvedTree) → AreSameRanges c rs d ss → ((vs : List Value) → IsSamePart (within c vs) p (within d vs) r) → ((vs : List Value) → IsSame (within c vs) t (within d vs) u)
+quantified_truth : (c d : Context) (l : ℕ) (q : Quantifier) (rs ss : Ranges) (p r : ResolvedPart) (t u : ResolvedTree) → AreSameRanges c rs d ss
+    → ((vs : List Value) → IsSamePart (within c vs) p (within d vs) r) → ((vs : List Value) → IsSame (within c vs) t (within d vs) u)
     → (a : Truth) → IsTruth c (quantified l q rs p t) a → IsTruth d (quantified l q ss r u) a
 quantified_truth c d l q rs ss p r t u g h k a x = (
   x.0,
   (g x.0).0 x.1,
-  mapped.quantified q x.0 (λ vs w. IsTold q (λ a. IsConstraint (within c vs) p a) (λ b. IsTruth (within c vs) t b) w) (λ vs w. IsTold q (λ a. IsConstraint (within d vs) r a) (λ b. IsTruth (within d vs) u b) w)
+  mapped.quantified q x.0 (λ vs w. IsTold q (λ a. IsConstraint (within c vs) p a) (λ b. IsTruth (within c vs) t b) w)
+      (λ vs w. IsTold q (λ a. IsConstraint (within d vs) r a) (λ b. IsTruth (within d vs) u b) w)
       (rows_told c d q p r t u h k)
       (rows_told d c q r p u t (λ vs. other_part (within c vs) (within d vs) p r (h vs)) (λ vs. opposite_way (within c vs) t (within d vs) u (k vs)))
       a x.2,
 )
 
-pub same_quantified : (c d : Context) (l : ℕ) (q : Quantifier) (rs ss : Ranges) (p r : ResolvedPart) (t u : ResolvedTree) → AreSameRanges c rs d ss → ((vs : List Value) → IsSamePart (within c vs) p (within d vs) r) → ((vs : List Value) → IsSame (within c vs) t (within d vs) u)
+pub same_quantified : (c d : Context) (l : ℕ) (q : Quantifier) (rs ss : Ranges) (p r : ResolvedPart) (t u : ResolvedTree) → AreSameRanges c rs d ss
+    → ((vs : List Value) → IsSamePart (within c vs) p (within d vs) r) → ((vs : List Value) → IsSame (within c vs) t (within d vs) u)
     → IsSame c (quantified l q rs p t) d (quantified l q ss r u)
 same_quantified c d l q rs ss p r t u g h k = record {
   outcome = λ o. (λ x. x, λ x. x);
@@ -121,7 +128,8 @@ same_quantified c d l q rs ss p r t u g h k = record {
   infinite = refl;
 }
 
-builder_outcome : (c d : Context) (l : ℕ) (rs ss : Ranges) (p r t u : ResolvedPart) → AreSameRanges c rs d ss → ((vs : List Value) → IsSamePart (within c vs) p (within d vs) r) → ((vs : List Value) → IsSamePart (within c vs) t (within d vs) u)
+builder_outcome : (c d : Context) (l : ℕ) (rs ss : Ranges) (p r t u : ResolvedPart) → AreSameRanges c rs d ss
+    → ((vs : List Value) → IsSamePart (within c vs) p (within d vs) r) → ((vs : List Value) → IsSamePart (within c vs) t (within d vs) u)
     → (o : Outcome) → HasOutcome c (builder l rs p t) o → HasOutcome d (builder l ss r u) o
 builder_outcome c d l rs ss p r t u g h k o x = (
   x.0,
@@ -130,7 +138,8 @@ builder_outcome c d l rs ss p r t u g h k o x = (
       (record { filter = λ vs a. (h vs).constraint a; term = λ vs z. (k vs).builds vs z }) o x.2,
 )
 
-pub same_builder : (c d : Context) (l : ℕ) (rs ss : Ranges) (p r t u : ResolvedPart) → AreSameRanges c rs d ss → ((vs : List Value) → IsSamePart (within c vs) p (within d vs) r) → ((vs : List Value) → IsSamePart (within c vs) t (within d vs) u)
+pub same_builder : (c d : Context) (l : ℕ) (rs ss : Ranges) (p r t u : ResolvedPart) → AreSameRanges c rs d ss
+    → ((vs : List Value) → IsSamePart (within c vs) p (within d vs) r) → ((vs : List Value) → IsSamePart (within c vs) t (within d vs) u)
     → IsSame c (builder l rs p t) d (builder l ss r u)
 same_builder c d l rs ss p r t u g h k = record {
   outcome = λ o. (
@@ -172,7 +181,8 @@ same_ranges c d n t u rs ss h k = λ s. (
 pub same_no_links : (c d : Context) → AreSameLinks c no_links d no_links
 same_no_links c d = λ x a. (λ y. y, λ y. y)
 
-link_truth : (c d : Context) (r : Relation) (t u : ResolvedTree) (ks ls : ResolvedLinks) → IsSame c t d u → AreSameLinks c ks d ls → (x : Outcome) (a : Truth) → AreLinked c x (link r t ks) a → AreLinked d x (link r u ls) a
+link_truth : (c d : Context) (r : Relation) (t u : ResolvedTree) (ks ls : ResolvedLinks) → IsSame c t d u → AreSameLinks c ks d ls → (x : Outcome) (a : Truth)
+    → AreLinked c x (link r t ks) a → AreLinked d x (link r u ls) a
 link_truth c d r t u ks ls h k x a y =
     let e : infinite_right c r t ≡ infinite_right d r u = ap (λ (z : Option Infinite). if is_membership r then z else None) h.infinite in (
       y.0,

@@ -37,7 +37,8 @@ part_later b f g e p q h x = record { needs = x.needs; same = longer_ones.later 
 
 -- ---- names
 
-same_named : (e g : Environment) (row locals : List Value) (r : Reference) → IsLonger e g → ((i : ℕ) → r ≡ Global i → i < length e.outcomes) → outcome_in (at g row locals) r ≡ outcome_in (at e row locals) r
+same_named : (e g : Environment) (row locals : List Value) (r : Reference) → IsLonger e g → ((i : ℕ) → r ≡ Global i → i < length e.outcomes)
+    → outcome_in (at g row locals) r ≡ outcome_in (at e row locals) r
 same_named e g row locals (Component i) h k = refl
 same_named e g row locals (Local i) h k = refl
 same_named e g row locals (Global i) h k = ap outcome_or (longer_ones.same_outcome e g i (k i refl) h)
@@ -71,7 +72,11 @@ number_closed e l n row locals = forms.same_number (at e [] locals) (at e row lo
 
 pub constant_lift : (b : Bool) (f e : Environment) (l : ℕ) (k : Constant) → IsLonger e f → IsLift b f e (constant l k) (constant l k)
 unfolding IsLift
-constant_lift b f e l k h = record { needs = omega arith; same = λ g x row locals o. forms.same_constant (at g row locals) (at e row locals) l k (longer_ones.same_numbers e g (longer_ones.further e f g h x)) }
+constant_lift b f e l k h = record {
+  needs = omega arith;
+  same = λ g x row locals o. forms.same_constant (at g row locals) (at e row locals) l k
+      (longer_ones.same_numbers e g (longer_ones.further e f g h x));
+}
 
 pub constant_closed : (e : Environment) (l : ℕ) (k : Constant) → IsClosed e (constant l k)
 unfolding IsClosed
@@ -118,7 +123,11 @@ unary_closed e l op t h row locals = forms.same_unary (at e [] locals) (at e row
 
 pub binary_lift : (b : Bool) (f e : Environment) (l : ℕ) (op : Operator) (t u v w : ResolvedTree) → IsLift b f e t v → IsLift b f e u w → IsLift b f e (binary l op t u) (binary l op v w)
 unfolding IsLift
-binary_lift b f e l op t u v w h k = record { needs = omega (arith, h.needs, k.needs); same = λ g x row locals o. forms.same_binary (at g row locals) (at e row locals) l op t u v w (h.same g x row locals o) (k.same g x row locals o) }
+binary_lift b f e l op t u v w h k = record {
+  needs = omega (arith, h.needs, k.needs);
+  same = λ g x row locals o. forms.same_binary (at g row locals)
+      (at e row locals) l op t u v w (h.same g x row locals o) (k.same g x row locals o);
+}
 
 pub binary_closed : (e : Environment) (l : ℕ) (op : Operator) (t u : ResolvedTree) → IsClosed e t → IsClosed e u → IsClosed e (binary l op t u)
 unfolding IsClosed
@@ -126,7 +135,11 @@ binary_closed e l op t u h k row locals = forms.same_binary (at e [] locals) (at
 
 pub chain_lift : (b : Bool) (f e : Environment) (l : ℕ) (t u : ResolvedTree) (ks ls : ResolvedLinks) → IsLift b f e t u → AreLinkLifts b f e ks ls → IsLift b f e (chain l t ks) (chain l u ls)
 unfolding IsLift AreLinkLifts
-chain_lift b f e l t u ks ls h k = record { needs = omega (arith, h.needs, k.needs); same = λ g x row locals o. forms.same_chain (at g row locals) (at e row locals) l t u ks ls (h.same g x row locals o) (k.same g x row locals o) }
+chain_lift b f e l t u ks ls h k = record {
+  needs = omega (arith, h.needs, k.needs);
+  same = λ g x row locals o. forms.same_chain (at g row locals)
+      (at e row locals) l t u ks ls (h.same g x row locals o) (k.same g x row locals o);
+}
 
 pub chain_closed : (e : Environment) (l : ℕ) (t : ResolvedTree) (ks : ResolvedLinks) → IsClosed e t → AreLinksClosed e ks → IsClosed e (chain l t ks)
 unfolding IsClosed AreLinksClosed
@@ -137,11 +150,13 @@ chain_closed e l t ks h k row locals = forms.same_chain (at e [] locals) (at e r
 not_outside : (xs : List Value) → false ≡ true → xs ≡ []
 not_outside xs h = absurd (cc)
 
-pub builder_lift : (b : Bool) (f e : Environment) (l : ℕ) (rs ss : Ranges) (p q t u : ResolvedPart) → AreRangeLifts b f e rs ss → IsPartLift false f e p q → IsPartLift false f e t u → IsLift b f e (builder l rs p t) (builder l ss q u)
+pub builder_lift : (b : Bool) (f e : Environment) (l : ℕ) (rs ss : Ranges) (p q t u : ResolvedPart) → AreRangeLifts b f e rs ss → IsPartLift false f e p q
+    → IsPartLift false f e t u → IsLift b f e (builder l rs p t) (builder l ss q u)
 unfolding IsLift AreRangeLifts IsPartLift
 builder_lift b f e l rs ss p q t u h k m = record {
   needs = omega (arith, h.needs, k.needs, m.needs);
-  same = λ g x row locals o. forms.same_builder (at g row locals) (at e row locals) l rs ss p q t u (h.same g x row locals o) (λ vs. k.same g x row (locals ++ vs) (not_outside (locals ++ vs))) (λ vs. m.same g x row (locals ++ vs) (not_outside (locals ++ vs)));
+  same = λ g x row locals o. forms.same_builder (at g row locals) (at e row locals) l rs ss p q t u (h.same g x row locals o)
+      (λ vs. k.same g x row (locals ++ vs) (not_outside (locals ++ vs))) (λ vs. m.same g x row (locals ++ vs) (not_outside (locals ++ vs)));
 }
 
 pub builder_closed : (e : Environment) (l : ℕ) (rs : Ranges) (p t : ResolvedPart) → AreRangesClosed e rs → IsPartClosed e p → IsPartClosed e t → IsClosed e (builder l rs p t)
@@ -149,14 +164,17 @@ unfolding IsClosed AreRangesClosed IsPartClosed
 builder_closed e l rs p t h k m row locals =
     forms.same_builder (at e [] locals) (at e row locals) l rs rs p p t t (h row locals) (λ vs. k row (locals ++ vs)) (λ vs. m row (locals ++ vs))
 
-pub quantified_lift : (b : Bool) (f e : Environment) (l : ℕ) (n : Quantifier) (rs ss : Ranges) (p q : ResolvedPart) (t u : ResolvedTree) → AreRangeLifts b f e rs ss → IsPartLift false f e p q → IsLift false f e t u → IsLift b f e (quantified l n rs p t) (quantified l n ss q u)
+pub quantified_lift : (b : Bool) (f e : Environment) (l : ℕ) (n : Quantifier) (rs ss : Ranges) (p q : ResolvedPart) (t u : ResolvedTree)
+    → AreRangeLifts b f e rs ss → IsPartLift false f e p q → IsLift false f e t u → IsLift b f e (quantified l n rs p t) (quantified l n ss q u)
 unfolding IsLift AreRangeLifts IsPartLift
 quantified_lift b f e l n rs ss p q t u h k m = record {
   needs = omega (arith, h.needs, k.needs, m.needs);
-  same = λ g x row locals o. forms.same_quantified (at g row locals) (at e row locals) l n rs ss p q t u (h.same g x row locals o) (λ vs. k.same g x row (locals ++ vs) (not_outside (locals ++ vs))) (λ vs. m.same g x row (locals ++ vs) (not_outside (locals ++ vs)));
+  same = λ g x row locals o. forms.same_quantified (at g row locals) (at e row locals) l n rs ss p q t u (h.same g x row locals o)
+      (λ vs. k.same g x row (locals ++ vs) (not_outside (locals ++ vs))) (λ vs. m.same g x row (locals ++ vs) (not_outside (locals ++ vs)));
 }
 
-pub quantified_closed : (e : Environment) (l : ℕ) (n : Quantifier) (rs : Ranges) (p : ResolvedPart) (t : ResolvedTree) → AreRangesClosed e rs → IsPartClosed e p → IsClosed e t → IsClosed e (quantified l n rs p t)
+pub quantified_closed : (e : Environment) (l : ℕ) (n : Quantifier) (rs : Ranges) (p : ResolvedPart) (t : ResolvedTree) → AreRangesClosed e rs
+    → IsPartClosed e p → IsClosed e t → IsClosed e (quantified l n rs p t)
 unfolding IsClosed AreRangesClosed IsPartClosed
 quantified_closed e l n rs p t h k m row locals =
     forms.same_quantified (at e [] locals) (at e row locals) l n rs rs p p t t (h row locals) (λ vs. k row (locals ++ vs)) (λ vs. m row (locals ++ vs))
@@ -290,7 +308,9 @@ no_infinite e (quantified l q rs p t) h = refl
 found_none : (n : Option ℕ) (o : Option Defined) → o ≡ None → unended (extent_set (extent_found o)) n ≡ None
 found_none n o h = ap (λ p. unended (extent_set (extent_found p)) n) h
 
-pub named_lift : (e f g : Environment) (l : ℕ) (t u : ResolvedTree) (x : Outcome) → IsLonger e f → length f.globals ≤ length f.outcomes → g ≡ longer f (x ∷ []) → is_liftable e.numbers u ≡ true → IsClosed e u → IsLift true f e t u → HasOutcome (at f [] []) t x → IsLift true g e (reference l (Global (length f.outcomes))) u
+pub named_lift : (e f g : Environment) (l : ℕ) (t u : ResolvedTree) (x : Outcome) → IsLonger e f → length f.globals ≤ length f.outcomes → g ≡ longer f (x ∷ [])
+    → is_liftable e.numbers u ≡ true → IsClosed e u → IsLift true f e t u → HasOutcome (at f [] []) t x
+    → IsLift true g e (reference l (Global (length f.outcomes))) u
 unfolding IsLift IsClosed
 named_lift e f g l t u x e-f behind is liftable closed lift has = record {
   needs = omega arith;

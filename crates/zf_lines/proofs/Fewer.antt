@@ -81,7 +81,8 @@ module _ {V : Type 0} (cmp : V → V → Ordering) (o : IsTotalOrder cmp) where
   ahead_reached here (x ∷ path) [] (inl e) = cc
   ahead_reached here (x ∷ path) [] (inr a) = let e : ◌≡◌ {A = List V} [] (x ∷ path) = a.1 in cc
   ahead_reached here (x ∷ path) (v ∷ row) (inl e) = go (cmp x v) e (λ k. ahead_reached here path row (inl k)) where
-    go : (q : Ordering) → ordering_then q (slice_cmp cmp path (take (length path) row)) ≡ Less → (slice_cmp cmp path (take (length path) row) ≡ Less → reaches cmp here path row ≡ true) → first_of q (reaches cmp here path row) ≡ true
+    go : (q : Ordering) → ordering_then q (slice_cmp cmp path (take (length path) row)) ≡ Less
+        → (slice_cmp cmp path (take (length path) row) ≡ Less → reaches cmp here path row ≡ true) → first_of q (reaches cmp here path row) ≡ true
     go Less k ih = refl
     go Equal k ih = ih k
     go Greater k ih = cc

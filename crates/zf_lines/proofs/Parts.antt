@@ -65,7 +65,11 @@ module _ (f : Format) (ss : List Spelling) (ranges : List (List Value)) where
   one_more_column cs columns c column n long head none h = record {
     all = length-append columns (column ∷ []) ∙ ap (λ m. m + 1) h.all ∙ sym (length-append cs (c ∷ []));
     heads = heads;
-    kept = λ i d here. elim (at_push columns column d i here) [ inl before ↦ h.kept i d before | inr last ↦ subst (λ (x : Column). Keeps (part_at x.head f ss (slice_index_or ranges i [])) x) last.1 (none (part_at column.head f ss (slice_index_or ranges i []))) ];
+    kept = λ i d here. elim (at_push columns column d i here) [
+      | inl before ↦ h.kept i d before
+      | inr last ↦ subst
+          (λ (x : Column). Keeps (part_at x.head f ss (slice_index_or ranges i [])) x) last.1 (none (part_at column.head f ss (slice_index_or ranges i [])))
+    ];
   } where
     heads : (i : ℕ) (b : Comp) (d : Column) → slice_get (cs ++ c ∷ []) i ≡ Some b → slice_get (columns ++ column ∷ []) i ≡ Some d → d.head ≡ head_of f i b
     heads i b d at here = elim (at_push cs c b i at) [
@@ -96,7 +100,8 @@ module _ (f : Format) (ss : List Spelling) (ranges : List (List Value)) where
     ];
   }
 
-  pub column_there : (comps : List Component) (columns : List Column) (column : Column) (i : ℕ) → AreColumns f ss (map comp_of comps) ranges columns → i < length comps → column ≡ get_or columns i column
+  pub column_there : (comps : List Component) (columns : List Column) (column : Column) (i : ℕ) → AreColumns f ss (map comp_of comps) ranges columns
+      → i < length comps → column ≡ get_or columns i column
       → slice_get columns i ≡ Some column
   column_there comps columns column i h deep is = slice_get_read columns (length columns) i column refl (omega (arith, deep, h.all, length-map comps comp_of)) is
 
@@ -121,5 +126,6 @@ module _ (f : Format) (ss : List Spelling) (ranges : List (List Value)) where
       subst (λ cs. AreColumns f ss cs ranges new) (sym grown)
       (subst (AreColumns f ss (map comp_of (take i comps) ++ comp_of c ∷ []) ranges) (sym is) (one_more_column (map comp_of (take i comps)) columns (comp_of c) column i long head none h))
 
-  pub all_columns : (comps : List Component) (i : ℕ) (columns : List Column) → length comps ≤ i → AreColumns f ss (map comp_of (take i comps)) ranges columns → AreColumns f ss (map comp_of comps) ranges columns
+  pub all_columns : (comps : List Component) (i : ℕ) (columns : List Column) → length comps ≤ i → AreColumns f ss (map comp_of (take i comps)) ranges columns
+      → AreColumns f ss (map comp_of comps) ranges columns
   all_columns comps i columns l h = subst (λ cs. AreColumns f ss (map comp_of cs) ranges columns) (take_all i comps l) h

@@ -26,11 +26,13 @@ module _ (a : Schema) (g : Goal) (b : Stage Value) (start : IsAtStart a g b) whe
     at_start : (F : List (List Value) → Option (List Value) → Type 0) → F c.ranges c.after → F b.ranges b.after
     at_start F h = subst (λ n. F b.ranges n) same.after (subst (λ rs. F rs c.after) same.ranges h)
 
-    pub holds : Advances value_order (conjuncts_of g) Holds c d → (row : List Value) × (d.last ≡ Some row) × Takes value_order stated b.ranges b.after c.ahead (record { row = row; truth = True }) d.ahead
+    pub holds : Advances value_order (conjuncts_of g) Holds c d → (row : List Value) × (d.last ≡ Some row)
+        × Takes value_order stated b.ranges b.after c.ahead (record { row = row; truth = True }) d.ahead
     holds h = let t = advances value_order (conjuncts_of g) stated start.same Holds c d h in
         (t.0, t.1, at_start (λ rs n. Takes value_order stated rs n c.ahead (record { row = t.0; truth = True }) d.ahead) t.2)
 
-    pub breaks : Advances value_order (conjuncts_of g) Breaks c d → (row : List Value) × (d.last ≡ Some row) × Takes value_order stated b.ranges b.after c.ahead (record { row = row; truth = Out }) d.ahead
+    pub breaks : Advances value_order (conjuncts_of g) Breaks c d → (row : List Value) × (d.last ≡ Some row)
+        × Takes value_order stated b.ranges b.after c.ahead (record { row = row; truth = Out }) d.ahead
     breaks h = let t = advances value_order (conjuncts_of g) stated start.same Breaks c d h in
         (t.0, t.1, at_start (λ rs n. Takes value_order stated rs n c.ahead (record { row = t.0; truth = Out }) d.ahead) t.2)
 
@@ -67,7 +69,8 @@ module _ (words : Wording Value) (limit : Option ℕ) (e : Environment) (a : Sch
       IsWritten.ends m.0 m.1 m.2 (ap (λ (es : List (Event Value)). lines words es ++ words.end) m.3) refl
 
   -- with what is written of the number of tests
-  pub all_text : (tests : Bool) (by : ending.Ending) (c : Stage Value) (values : List Value) (counted : List ℕ) (old new : Option (List ℕ)) (h : EndsBy words limit e a b by c old new) (ending : List ℕ)
+  pub all_text : (tests : Bool) (by : ending.Ending) (c : Stage Value) (values : List Value) (counted : List ℕ) (old new : Option (List ℕ))
+      (h : EndsBy words limit e a b by c old new) (ending : List ℕ)
       → values ≡ unwrap_or c.last [] → TellsTests words tests e a b c.last counted → ending ≡ last_text words by values ++ counted
       → WritesAll words limit tests e a b (lines words h.held ++ ending) (ending_status by)
   all_text tests by c values counted old new h ending given number is = record {

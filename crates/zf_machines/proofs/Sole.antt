@@ -29,7 +29,8 @@ same_system m n e s f a t i o =
 
 pub one_machine : (e : Environment) (elements : List Spelling) (form : Form) (p : Schemas) (m n : System) → IsMachineOf e elements form p m → IsMachineOf e elements form p n → m ≡ n
 one_machine e elements form p m n x y =
-    same_system m n (x.environment ∙ sym y.environment) (x.spelled ∙ sym y.spelled) (x.formed ∙ sym y.formed) (x.state ∙ sym y.state) (x.test ∙ sym y.test) (one_init _ _ _ _ _ x.init y.init) (x.operations ∙ sym y.operations)
+    same_system m n (x.environment ∙ sym y.environment) (x.spelled ∙ sym y.spelled) (x.formed ∙ sym y.formed) (x.state ∙ sym y.state) (x.test ∙ sym y.test)
+    (one_init _ _ _ _ _ x.init y.init) (x.operations ∙ sym y.operations)
 
 -- ---- searching it
 
@@ -62,7 +63,8 @@ of_test P p h = one_of_them P p.sought p.state (all_behind P p.operations (optio
 pub of_operations : (P : Named → Type 0) (p : Schemas) → AllByRecursion P (all_of p) → AllByRecursion P p.operations
 of_operations P p h = all_front P p.operations (option_to_list p.sought) h.1.1
 
-pub can_search_all : (e : Environment) (elements : List Spelling) (form : Form) (p : Schemas) (m : System) → IsMachineOf e elements form p m → AllByRecursion (λ n. CanSearch e n.schema) (all_of p) → CanSearchAll m
+pub can_search_all : (e : Environment) (elements : List Spelling) (form : Form) (p : Schemas) (m : System) → IsMachineOf e elements form p m
+    → AllByRecursion (λ n. CanSearch e n.schema) (all_of p) → CanSearchAll m
 can_search_all e elements form p m is h =
     let there = sym is.environment in record {
       test = subst (λ x. CanSearch x m.test.schema) there (subst (λ (o : Operation). CanSearch e o.schema) (sym is.test) (of_test (λ n. CanSearch e n.schema) p h));

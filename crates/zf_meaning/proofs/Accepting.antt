@@ -42,7 +42,8 @@ pub AreAccepted-none : (sets : List (List ℕ)) → AreAccepted sets []
 AreAccepted-none sets [] size later e = absurd (cc)
 AreAccepted-none sets (first ∷ earlier) size later e = absurd (cc)
 
-pub AreAccepted-more : (sets : List (List ℕ)) (sizes : List Size) (i : ℕ) (size : Size) → i < length sizes → size ≡ get_or sizes i size → AreAccepted sets (take i sizes) → IsAccepted sets (take i sizes) size
+pub AreAccepted-more : (sets : List (List ℕ)) (sizes : List Size) (i : ℕ) (size : Size) → i < length sizes → size ≡ get_or sizes i size
+    → AreAccepted sets (take i sizes) → IsAccepted sets (take i sizes) size
     → AreAccepted sets (take (i + 1) sizes)
 AreAccepted-more sets sizes i size h e before here earlier other later split =
     let one : take (i + 1) sizes ≡ take i sizes ++ size ∷ [] = take_more sizes i size h ∙ ap (λ z. take i sizes ++ z ∷ []) (sym e) in

@@ -10,7 +10,8 @@ use Rattle.zf_meaning.proofs.Walking.{MayPass}
 
 -- ---- rows that do not count
 
-pub neutral-told : (d : Resolved) (q : Quantifier) (l : ℕ) (rs : List Range) (p : Option Resolved) (e : Resolved) (c : Context) → d ≡ v.Quantified q l rs p e → IsNeutral (resolved_of d) c → IsTold q (λ a. IsConstraint c (part_of p) a) (λ b. IsTruth c (resolved_of e) b) (neutral q)
+pub neutral-told : (d : Resolved) (q : Quantifier) (l : ℕ) (rs : List Range) (p : Option Resolved) (e : Resolved) (c : Context) → d ≡ v.Quantified q l rs p e
+    → IsNeutral (resolved_of d) c → IsTold q (λ a. IsConstraint c (part_of p) a) (λ b. IsTruth c (resolved_of e) b) (neutral q)
 unfolding IsNeutral
 neutral-told d q l rs p e c i h = subst (λ t. IsNeutral t c) (ap resolved_of i ∙ of-Quantified l q rs p e) h
 
@@ -25,10 +26,12 @@ constraint_false ForAll P Q h = inl h
 constraint_false Exists P Q h = inl h
 constraint_false ExistsOne P Q h = inl h
 
-pub constraint-refutes : (d : Resolved) (q : Quantifier) (l : ℕ) (rs : List Range) (p : Option Resolved) (e x : Resolved) → d ≡ v.Quantified q l rs p e → p ≡ Some x → Refutes (resolved_of x) (resolved_of d)
+pub constraint-refutes : (d : Resolved) (q : Quantifier) (l : ℕ) (rs : List Range) (p : Option Resolved) (e x : Resolved) → d ≡ v.Quantified q l rs p e
+    → p ≡ Some x → Refutes (resolved_of x) (resolved_of d)
 unfolding Refutes IsNeutral
 constraint-refutes d q l rs p e x i h =
-    λ c f. subst (λ t. IsNeutral t c) (sym (ap resolved_of (i ∙ ap (λ z. v.Quantified q l rs z e) h) ∙ of-Quantified l q rs (Some x) e)) (constraint_false q (λ a. IsTruth c (resolved_of x) a) (λ b. IsTruth c (resolved_of e) b) f)
+    λ c f. subst (λ t. IsNeutral t c) (sym (ap resolved_of (i ∙ ap (λ z. v.Quantified q l rs z e) h) ∙ of-Quantified l q rs (Some x) e))
+    (constraint_false q (λ a. IsTruth c (resolved_of x) a) (λ b. IsTruth c (resolved_of e) b) f)
 
 pub filter-refutes : (d : Resolved) (l : ℕ) (rs : List Range) (p e : Option Resolved) (x : Resolved) → d ≡ v.Builder l rs p e → p ≡ Some x → Refutes (resolved_of x) (resolved_of d)
 unfolding Refutes IsNeutral
@@ -59,11 +62,13 @@ pub conjunct-part : (whole d x : Resolved) → Falsifies (resolved_of x) (resolv
 unfolding Refutes Falsifies
 conjunct-part whole d x f s h = record { refutes = λ c k. h.refutes c (f c k); smaller = omega (arith, s, h.smaller) }
 
-pub found-part : (whole : Resolved) (part : Option (Bor Resolved)) → IfSome part (λ x. Refutes (resolved_of x.now) (resolved_of whole)) → IfSome part (λ x. size-Resolved x.now < size-Resolved whole) → IfSome part (λ x. IsPart whole x.now)
+pub found-part : (whole : Resolved) (part : Option (Bor Resolved)) → IfSome part (λ x. Refutes (resolved_of x.now) (resolved_of whole))
+    → IfSome part (λ x. size-Resolved x.now < size-Resolved whole) → IfSome part (λ x. IsPart whole x.now)
 found-part whole None r s = tt
 found-part whole (Some x) r s = record { refutes = r; smaller = s }
 
-pub one-piece-more : (whole : Resolved) (span : Span) (piece : Piece) (old new : List Piece) → new ≡ old ++ piece ∷ [] → IsPiece whole span piece → All (IsPiece whole span) old → All (IsPiece whole span) new
+pub one-piece-more : (whole : Resolved) (span : Span) (piece : Piece) (old new : List Piece) → new ≡ old ++ piece ∷ [] → IsPiece whole span piece
+    → All (IsPiece whole span) old → All (IsPiece whole span) new
 one-piece-more whole span piece old new e p h = subst (All (IsPiece whole span)) (sym e) (All-push (IsPiece whole span) old piece h p)
 
 -- ---- what a variable has to equal
@@ -102,9 +107,15 @@ variable-of t l r None i h = tt
 variable-of t l r (Some place) i h = (l, ap resolved_of i ∙ of-Name l r ∙ ap (reference l) h)
 
 -- a chain of one link that is an equation
-pub one-equation : (t : Resolved) (l : ℕ) (a b : Resolved) (ks : List ResolvedLink) (k : ResolvedLink) → t ≡ v.Chain l a ks → ks ≡ k ∷ [] → k.relation ≡ Equal → k.right ≡ b → IsEquation (resolved_of a) (resolved_of b) (resolved_of t)
-one-equation t l a b ks k i one equal right =
-    (l, ap resolved_of i ∙ of-Chain l a ks ∙ ap (λ xs. chain l (resolved_of a) (links (map resolved_link_of xs))) one ∙ ap (λ x. chain l (resolved_of a) (link x.0 x.1 no_links)) (link-seen k) ∙ ap (λ r. chain l (resolved_of a) (link r (resolved_of k.right) no_links)) equal ∙ ap (λ x. chain l (resolved_of a) (link Equal (resolved_of x) no_links)) right)
+pub one-equation : (t : Resolved) (l : ℕ) (a b : Resolved) (ks : List ResolvedLink) (k : ResolvedLink) → t ≡ v.Chain l a ks → ks ≡ k ∷ [] → k.relation ≡ Equal
+    → k.right ≡ b → IsEquation (resolved_of a) (resolved_of b) (resolved_of t)
+one-equation t l a b ks k i one equal right = (
+  l,
+  ap resolved_of i ∙ of-Chain l a ks ∙ ap (λ xs. chain l (resolved_of a) (links (map resolved_link_of xs))) one
+      ∙ ap (λ x. chain l (resolved_of a) (link x.0 x.1 no_links)) (link-seen k)
+      ∙ ap (λ r. chain l (resolved_of a) (link r (resolved_of k.right) no_links)) equal
+      ∙ ap (λ x. chain l (resolved_of a) (link Equal (resolved_of x) no_links)) right,
+)
 
 pub wanted-right : (term left right : Resolved) (span : Span) (wanted : Option Wanted) → IsEquation (resolved_of left) (resolved_of right) (resolved_of term) → size-Resolved right < size-Resolved term
     → IfSome wanted (λ w. IsVariable w.local (resolved_of left)) → IfSome wanted (λ w. w.term.now ≡ right) → IfSome wanted (IsEarlier span) → IfSome wanted (IsWanted term span)
@@ -130,7 +141,8 @@ only-one (y ∷ []) x l e = ap (λ z. z ∷ []) (sym e)
 only-one (y ∷ z ∷ xs) x l e = absurd (omega (arith, l))
 
 -- what is bound at the place
-pub bound-at : (bound : List (Bor Value)) (place : ℕ) (x : Bor Value) (w : Value) (told : Bool) → place < length bound → x ≡ get_or bound place x → (told ≡ true) ↔ (x.now ≡ w) → (told ≡ true) ↔ (slice_get (seen bound) place ≡ Some w)
+pub bound-at : (bound : List (Bor Value)) (place : ℕ) (x : Bor Value) (w : Value) (told : Bool) → place < length bound → x ≡ get_or bound place x
+    → (told ≡ true) ↔ (x.now ≡ w) → (told ≡ true) ↔ (slice_get (seen bound) place ≡ Some w)
 bound-at [] place x w told l e h = absurd (omega (arith, l))
 bound-at (y ∷ bound) zero x w told l e h = (λ t. ap Some (ap (λ z. z.now) (sym e) ∙ h.0 t), λ s. h.1 (ap (λ z. z.now) e ∙ same_Some y.now w s))
 bound-at (y ∷ bound) (suc place) x w told l e h = bound-at bound place x w told (omega (arith, l)) e h
@@ -143,7 +155,8 @@ not-bound (y ∷ bound) (suc place) w l = not-bound bound place w (omega (arith,
 -- ---- rows that begin with the same values
 
 -- a part that is false here
-pub neutral-by : (whole : Resolved) (span : Span) (piece : Piece) (here c : Context) (row : List Value) → IsPiece whole span piece → IsBound span here c row → IsTruth here (resolved_of piece.term.now) False → AreNeutral (resolved_of whole) c row (Front piece.front)
+pub neutral-by : (whole : Resolved) (span : Span) (piece : Piece) (here c : Context) (row : List Value) → IsPiece whole span piece → IsBound span here c row
+    → IsTruth here (resolved_of piece.term.now) False → AreNeutral (resolved_of whole) c row (Front piece.front)
 unfolding ArePassed Refutes
 neutral-by whole span piece here c row p b h =
     let false = subst (λ k. IsTruth k (resolved_of piece.term.now) False) b.is h in
@@ -151,7 +164,8 @@ neutral-by whole span piece here c row p b h =
       here = p.part.refutes (within c row) false;
       passed = λ vs l e. inr (p.part.refutes (within c vs)
           (same-row c piece.front row vs (resolved_of piece.term.now) False (sym l) (sym e)
-          (subst (λ n. need n (resolved_of piece.term.now) ≤ length c.locals + piece.front) (sym b.whole ∙ ap (λ n. length c.locals + n) (sym l)) (subst (λ n. need span.whole (resolved_of piece.term.now) ≤ n + piece.front) (sym b.outside) p.needs))
+          (subst (λ n. need n (resolved_of piece.term.now) ≤ length c.locals + piece.front) (sym b.whole ∙ ap (λ n. length c.locals + n) (sym l))
+          (subst (λ n. need span.whole (resolved_of piece.term.now) ≤ n + piece.front) (sym b.outside) p.needs))
           false));
     }
 
@@ -170,7 +184,9 @@ other_there Undefined row vs place p b n h = tt
 other_there Out row vs place p b n h = absurd b
 
 -- a variable that has another value than it has to
-pub neutral-other : (whole : Resolved) (span : Span) (term : Resolved) (wanted : Wanted) (here c : Context) (row : List Value) (o : Outcome) (place : ℕ) (p : Passing) → IsPart whole term → IsWanted term span wanted → IsBound span here c row → HasOutcome here (resolved_of wanted.term.now) o → IsOther o (slice_get here.locals wanted.local) → span.outside + place ≡ wanted.local → PassesBy o place p
+pub neutral-other : (whole : Resolved) (span : Span) (term : Resolved) (wanted : Wanted) (here c : Context) (row : List Value) (o : Outcome) (place : ℕ)
+    (p : Passing) → IsPart whole term → IsWanted term span wanted → IsBound span here c row → HasOutcome here (resolved_of wanted.term.now) o
+    → IsOther o (slice_get here.locals wanted.local) → span.outside + place ≡ wanted.local → PassesBy o place p
     → AreNeutral (resolved_of whole) c row p
 unfolding ArePassed Refutes Wants
 neutral-other whole span term wanted here c row o place p part w b h n at by =
@@ -188,22 +204,29 @@ neutral-other whole span term wanted here c row o place p part w b h n at by =
           (subst (λ j. IsOther o (slice_get (c.locals ++ vs) j)) local (subst (IsOther o) (sym (value_behind c.locals vs place)) (other_there o row vs place p by here-other i)))));
     }
 
-pub neutral-other-if : (whole : Resolved) (span : Span) (term : Resolved) (wanted : Wanted) (here c : Context) (row : List Value) (o : Outcome) (p : Option Passing) → IsPart whole term → IsWanted term span wanted → IsBound span here c row → HasOutcome here (resolved_of wanted.term.now) o → IfSome p (λ x. IsOther o (slice_get here.locals wanted.local))
+pub neutral-other-if : (whole : Resolved) (span : Span) (term : Resolved) (wanted : Wanted) (here c : Context) (row : List Value) (o : Outcome)
+    (p : Option Passing) → IsPart whole term → IsWanted term span wanted → IsBound span here c row → HasOutcome here (resolved_of wanted.term.now) o
+    → IfSome p (λ x. IsOther o (slice_get here.locals wanted.local))
     → IfSome p (λ x. (place : ℕ) × (span.outside + place ≡ wanted.local) × PassesBy o place x) → AreNeutralIf (resolved_of whole) c row p
 neutral-other-if whole span term wanted here c row o None part w b h n by = tt
 neutral-other-if whole span term wanted here c row o (Some p) part w b h n by = neutral-other whole span term wanted here c row o by.0 p part w b h n by.1 by.2
 
 -- where the row does not count, none does that begins with the values which the quantifier needs
-pub neutral-front : (d : Resolved) (q : Quantifier) (l : ℕ) (rs : List Range) (p : Option Resolved) (e : Resolved) (span : Span) (front : ℕ) (here c : Context) (row : List Value) → d ≡ v.Quantified q l rs p e → IsBound span here c row
-    → NeedsFront span front (part_of p) (resolved_of e) → IsTold q (λ a. IsConstraint here (part_of p) a) (λ b. IsTruth here (resolved_of e) b) (neutral q) → ArePassed (resolved_of d) c row (Front front)
+pub neutral-front : (d : Resolved) (q : Quantifier) (l : ℕ) (rs : List Range) (p : Option Resolved) (e : Resolved) (span : Span) (front : ℕ) (here c : Context)
+    (row : List Value) → d ≡ v.Quantified q l rs p e → IsBound span here c row
+    → NeedsFront span front (part_of p) (resolved_of e) → IsTold q (λ a. IsConstraint here (part_of p) a) (λ b. IsTruth here (resolved_of e) b) (neutral q)
+    → ArePassed (resolved_of d) c row (Front front)
 unfolding ArePassed IsNeutral
 neutral-front d q l rs p e span front here c row is b needs told =
     λ vs m i.
     let whole : length c.locals + length vs ≡ span.whole = omega (arith, b.whole, m) in
-    let part : part_need (length c.locals + length vs) (part_of p) ≤ length c.locals + front = subst (λ n. part_need n (part_of p) ≤ length c.locals + front) (sym whole) (omega (arith, needs, b.outside)) in
-    let body : need (length c.locals + length vs) (resolved_of e) ≤ length c.locals + front = subst (λ n. need n (resolved_of e) ≤ length c.locals + front) (sym whole) (omega (arith, needs, b.outside)) in
+    let part : part_need (length c.locals + length vs) (part_of p) ≤ length c.locals + front = subst (λ n. part_need n (part_of p) ≤ length c.locals + front)
+    (sym whole) (omega (arith, needs, b.outside)) in
+    let body : need (length c.locals + length vs) (resolved_of e) ≤ length c.locals + front = subst (λ n. need n (resolved_of e) ≤ length c.locals + front)
+    (sym whole) (omega (arith, needs, b.outside)) in
     let here = subst (λ k. IsTold q (λ a. IsConstraint k (part_of p) a) (λ x. IsTruth k (resolved_of e) x) (neutral q)) b.is told in
-    inr (subst (λ t. IsNeutral t (within c vs)) (sym (ap resolved_of is ∙ of-Quantified l q rs p e)) (same-row-told c front row vs q (part_of p) (resolved_of e) (neutral q) (sym m) (sym i) part body here))
+    inr (subst (λ t. IsNeutral t (within c vs)) (sym (ap resolved_of is ∙ of-Quantified l q rs p e))
+    (same-row-told c front row vs q (part_of p) (resolved_of e) (neutral q) (sym m) (sym i) part body here))
 
 -- only this row begins with all its values
 pub itself-passed : (whole : ResolvedTree) (span : Span) (here c : Context) (row : List Value) → IsBound span here c row → ArePassed whole c row (Front span.whole)
@@ -212,8 +235,10 @@ itself-passed whole span here c row b =
     λ vs l e. inl (sym (take_all span.whole vs (omega (arith, l, b.whole))) ∙ e ∙ take_all span.whole row (omega (arith, b.whole)))
 
 -- the rows that are passed after one that is bound
-pub passed-after : (d : Resolved) (q : Quantifier) (l : ℕ) (rs : List Range) (p : Option Resolved) (e : Resolved) (span : Span) (front : ℕ) (here c : Context) (row : List Value) (w : Truth) (passing : Passing) → d ≡ v.Quantified q l rs p e → IsBound span here c row
-    → NeedsFront span front (part_of p) (resolved_of e) → IsTold q (λ a. IsConstraint here (part_of p) a) (λ b. IsTruth here (resolved_of e) b) w → (passing ≡ Front span.whole) ⊎ ((w ≡ neutral q) × (passing ≡ Front front)) → ArePassed (resolved_of d) c row passing
+pub passed-after : (d : Resolved) (q : Quantifier) (l : ℕ) (rs : List Range) (p : Option Resolved) (e : Resolved) (span : Span) (front : ℕ) (here c : Context)
+    (row : List Value) (w : Truth) (passing : Passing) → d ≡ v.Quantified q l rs p e → IsBound span here c row
+    → NeedsFront span front (part_of p) (resolved_of e) → IsTold q (λ a. IsConstraint here (part_of p) a) (λ b. IsTruth here (resolved_of e) b) w
+    → (passing ≡ Front span.whole) ⊎ ((w ≡ neutral q) × (passing ≡ Front front)) → ArePassed (resolved_of d) c row passing
 passed-after d q l rs p e span front here c row w passing is b needs told (inl whole) = subst (ArePassed (resolved_of d) c row) (sym whole) (itself-passed (resolved_of d) span here c row b)
 passed-after d q l rs p e span front here c row w passing is b needs told (inr (none, same)) =
     subst (ArePassed (resolved_of d) c row) (sym same)
@@ -225,6 +250,7 @@ from_length [] (v ∷ vs) h = absurd h
 from_length (s ∷ ss) [] h = absurd h
 from_length (s ∷ ss) (v ∷ vs) h = ap suc (from_length ss vs h.1)
 
-pub may-pass : (whole : ResolvedTree) (c : Context) (ss row : List Value) (passing : Passing) → AreFrom row ss → ArePassed whole c row passing → MayPass (λ vs. IsNeutral whole (within c vs)) ss row passing
+pub may-pass : (whole : ResolvedTree) (c : Context) (ss row : List Value) (passing : Passing) → AreFrom row ss → ArePassed whole c row passing
+    → MayPass (λ vs. IsNeutral whole (within c vs)) ss row passing
 unfolding ArePassed
 may-pass whole c ss row passing r h = λ vs k e. h vs (from_length ss vs k ∙ sym (from_length ss row r)) e

@@ -71,7 +71,8 @@ take_all (x ∷ xs) (suc n) h = ap (λ ys. x ∷ ys) (take_all xs n (omega arith
 same_before : (e f : Environment) (n : ℕ) → e.globals ≡ f.globals → e.sizes ≡ f.sizes → e.numbers ≡ f.numbers → take n e.outcomes ≡ take n f.outcomes → before e n ≡ before f n
 same_before e f n g s m t = λ i. record { globals = g i; sizes = s i; outcomes = t i; numbers = m i }
 
-fronts : (e f : Environment) → e.globals ≡ f.globals → e.sizes ≡ f.sizes → e.numbers ≡ f.numbers → AreWorkedOut e → AreWorkedOut f → (n : ℕ) → n ≤ length e.globals → take n e.outcomes ≡ take n f.outcomes
+fronts : (e f : Environment) → e.globals ≡ f.globals → e.sizes ≡ f.sizes → e.numbers ≡ f.numbers → AreWorkedOut e → AreWorkedOut f → (n : ℕ)
+    → n ≤ length e.globals → take n e.outcomes ≡ take n f.outcomes
 fronts e f g s m h k zero l = refl
 fronts e f g s m h k (suc n) l =
     let rest = fronts e f g s m h k n (omega (arith, l)) in

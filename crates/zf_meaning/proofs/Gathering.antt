@@ -79,7 +79,8 @@ pub gather-begun : (c : Context) (all rest : List Resolved) (l : Lack) (vs : Lis
 gather-begun c all rest l vs e f g s h =
     rw (f, g) (subst (HaveOutcomes c (terms (map resolved_of all))) (sym (joined-begun s)) (subst (λ ts. HaveOutcomes c (terms (map resolved_of ts)) s) e h))
 
-pub gather-more : (c : Context) (all : List Resolved) (i : ℕ) (t : Resolved) (l k : Lack) (vs ws : List Value) (x : Outcome) → i < length all → t ≡ get_or all i t → GathersTo c all (drop i all) l vs → HasOutcome c (resolved_of t) x → k ≡ lack_with l x → ws ≡ values_with vs x
+pub gather-more : (c : Context) (all : List Resolved) (i : ℕ) (t : Resolved) (l k : Lack) (vs ws : List Value) (x : Outcome) → i < length all
+    → t ≡ get_or all i t → GathersTo c all (drop i all) l vs → HasOutcome c (resolved_of t) x → k ≡ lack_with l x → ws ≡ values_with vs x
     → GathersTo c all (drop (i + 1) all) k ws
 gather-more c all i t l k vs ws x h e g o f w s r =
     let split : drop i all ≡ t ∷ drop (i + 1) all = drop_more all i t h ∙ ap (λ y. y ∷ drop (i + 1) all) (sym e) in
@@ -99,7 +100,8 @@ pub ranges-begun : (c : Context) (all rest : List Range) (l : Lack) (vs : List V
 ranges-begun c all rest l vs e f g s h =
     rw (f, g) (subst (HaveRanges c (ranges (map range_of all))) (sym (joined-begun s)) (subst (λ ts. HaveRanges c (ranges (map range_of ts)) s) e h))
 
-pub ranges-more : (c : Context) (all : List Range) (i : ℕ) (t : Range) (l k : Lack) (vs ws : List Value) (x : Outcome) → i < length all → t ≡ get_or all i t → RangesTo c all (drop i all) l vs → HasOutcome c (resolved_of t.set) x → k ≡ lack_with l x → ws ≡ sets_with vs t.variables x
+pub ranges-more : (c : Context) (all : List Range) (i : ℕ) (t : Range) (l k : Lack) (vs ws : List Value) (x : Outcome) → i < length all → t ≡ get_or all i t
+    → RangesTo c all (drop i all) l vs → HasOutcome c (resolved_of t.set) x → k ≡ lack_with l x → ws ≡ sets_with vs t.variables x
     → RangesTo c all (drop (i + 1) all) k ws
 ranges-more c all i t l k vs ws x h e g o f w s r =
     let split : drop i all ≡ t ∷ drop (i + 1) all = drop_more all i t h ∙ ap (λ y. y ∷ drop (i + 1) all) (sym e) in
@@ -131,9 +133,11 @@ pub spread-push : (xs : List Spread) (s : Spread) → spread (xs ++ s ∷ []) �
 spread-push [] s = append-nil (replicate s.variables s.set)
 spread-push (x ∷ xs) s = ap (λ ys. replicate x.variables x.set ++ ys) (spread-push xs s) ∙ sym (append_assoc (replicate x.variables x.set) (spread xs) (replicate s.variables s.set))
 
-pub repeat-more : (before now new : List (Bor (List Value))) (list : Bor (List Value)) (n : ℕ) → seen now ≡ seen before ++ replicate n list.now → new ≡ now ++ list ∷ [] → seen new ≡ seen before ++ replicate (n + 1) list.now
+pub repeat-more : (before now new : List (Bor (List Value))) (list : Bor (List Value)) (n : ℕ) → seen now ≡ seen before ++ replicate n list.now
+    → new ≡ now ++ list ∷ [] → seen new ≡ seen before ++ replicate (n + 1) list.now
 repeat-more before now new list n h e =
-    ap seen e ∙ seen-append now list ∙ ap (λ xs. xs ++ list.now ∷ []) h ∙ append_assoc (seen before) (replicate n list.now) (list.now ∷ []) ∙ ap (λ xs. seen before ++ xs) (sym (replicate-more n list.now))
+    ap seen e ∙ seen-append now list ∙ ap (λ xs. xs ++ list.now ∷ []) h ∙ append_assoc (seen before) (replicate n list.now) (list.now ∷ [])
+    ∙ ap (λ xs. seen before ++ xs) (sym (replicate-more n list.now))
 
 spread-suc : (sets : List Spread) (i : ℕ) (s : Spread) → i < length sets → s ≡ get_or sets i s → spread (take (suc i) sets) ≡ spread (take i sets) ++ replicate s.variables s.set
 spread-suc [] i s h e = absurd (omega arith)
@@ -146,7 +150,8 @@ map-replicate f zero x = refl
 map-replicate f (suc n) x = ap (λ ys. f x ∷ ys) (map-replicate f n x)
 
 -- the lists of the sets so far, and that of one more
-pub lists-more : (sets : List Spread) (i : ℕ) (s : Spread) (list : List Value) (now new : List (Bor (List Value))) → i < length sets → s ≡ get_or sets i s → list ≡ members s.set → seen now ≡ map members (spread (take i sets)) → seen new ≡ seen now ++ replicate s.variables list
+pub lists-more : (sets : List Spread) (i : ℕ) (s : Spread) (list : List Value) (now new : List (Bor (List Value))) → i < length sets → s ≡ get_or sets i s
+    → list ≡ members s.set → seen now ≡ map members (spread (take i sets)) → seen new ≡ seen now ++ replicate s.variables list
     → seen new ≡ map members (spread (take (i + 1) sets))
 lists-more sets i s list now new h e l b n =
     let m : i + 1 ≡ suc i = omega arith in
@@ -165,7 +170,8 @@ every-replicate P zero x h = tt
 every-replicate P (suc n) x h = (h, every-replicate P n x h)
 
 -- of the sets so far, and of one more
-pub ascend-more : (sets : List Spread) (i : ℕ) (s : Spread) → i < length sets → s ≡ get_or sets i s → IsAscending (members s.set) → Every (λ v. IsAscending (members v)) (spread (take i sets)) → Every (λ v. IsAscending (members v)) (spread (take (i + 1) sets))
+pub ascend-more : (sets : List Spread) (i : ℕ) (s : Spread) → i < length sets → s ≡ get_or sets i s → IsAscending (members s.set)
+    → Every (λ v. IsAscending (members v)) (spread (take i sets)) → Every (λ v. IsAscending (members v)) (spread (take (i + 1) sets))
 ascend-more sets i s h e up k =
     let m : i + 1 ≡ suc i = omega arith in
     subst (Every (λ v. IsAscending (members v))) (sym (spread-suc sets i s h e) ∙ ap (λ n. spread (take n sets)) (sym m))

@@ -29,7 +29,8 @@ step N all done rest v h = record {
 }
 
 -- some of those ahead are passed
-pub skip : (N : List Value → Type 0) (all done rest now : List (List Value)) → ((vs : List Value) → IsAmong vs rest → N vs ⊎ IsAmong vs now) → ((vs : List Value) → IsAmong vs now → IsAmong vs rest) → AreApart now → IsMidway N all done rest → IsMidway N all done now
+pub skip : (N : List Value → Type 0) (all done rest now : List (List Value)) → ((vs : List Value) → IsAmong vs rest → N vs ⊎ IsAmong vs now)
+    → ((vs : List Value) → IsAmong vs now → IsAmong vs rest) → AreApart now → IsMidway N all done rest → IsMidway N all done now
 skip N all done rest now f g a h = record {
   each = λ vs m. ⊎_elim (λ b. inl b) (λ b. ⊎_elim (λ n. inr (inl n)) (λ d. inr (f vs d)) b) (h.each vs m);
   were = h.were;

@@ -51,7 +51,8 @@ rows_after-turned (xs ∷ lists) (x ∷ row) (suc i) next d r h e lt z =
     ∙ from_cons xs x (picked lists (set row i next)) (rows_after lists (set row i next)) (all_rows lists) r.0
 
 -- where it cannot, nothing is ahead that begins with the places before it
-pub rows_after-past : (lists : List (List Value)) (row : List ℕ) (i : ℕ) (d : List Value) → ArePlaces lists row → i < length row → length (get_or lists i d) ≤ get_or row i 0 + 1 → rows_after lists (take (suc i) row) ≡ rows_after lists (take i row)
+pub rows_after-past : (lists : List (List Value)) (row : List ℕ) (i : ℕ) (d : List Value) → ArePlaces lists row → i < length row
+    → length (get_or lists i d) ≤ get_or row i 0 + 1 → rows_after lists (take (suc i) row) ≡ rows_after lists (take i row)
 unfolding rows_after ArePlaces
 rows_after-past lists [] i d r h le = absurd (omega arith)
 rows_after-past [] (x ∷ row) i d r h le = absurd r
@@ -110,7 +111,8 @@ turns-begun lists row front i e = record {
   below = λ h. ap (rows_after lists) (take_all i row (omega (arith, e)) ∙ sym (take_all front row (omega (arith, e))));
 }
 
-pub turned-here : (lists : List (List Value)) (old row : List ℕ) (front i j next : ℕ) (d : List Value) → ArePlaces lists row → i ≡ suc j → j < length row → Turns lists old row front i → All (λ place. place ≡ 0) (drop i row)
+pub turned-here : (lists : List (List Value)) (old row : List ℕ) (front i j next : ℕ) (d : List Value) → ArePlaces lists row → i ≡ suc j → j < length row
+    → Turns lists old row front i → All (λ place. place ≡ 0) (drop i row)
     → j < front → get_or row j 0 + 1 ≡ next → next < length (get_or lists j d) → rows_after lists (take front old) ≡ picked lists (set row j next) ∷ rows_after lists (set row j next)
 turned-here lists old row front i j next d r e h t z f n lt =
     sym (t.below (omega (arith, e, f))) ∙ (rw e (rows_after-turned lists row j next d r h n lt (rw e at z)))
@@ -120,7 +122,8 @@ before_or j zero = inr (omega arith)
 before_or zero (suc front) = inl (omega arith)
 before_or (suc j) (suc front) = ⊎_elim (λ h. inl (omega (arith, h))) (λ h. inr (omega (arith, h))) (before_or j front)
 
-pub turns-past : (lists : List (List Value)) (old row : List ℕ) (front i j : ℕ) (d : List Value) → ArePlaces lists row → i ≡ suc j → j < length row → Turns lists old row front i → (front ≤ j) ⊎ (length (get_or lists j d) ≤ get_or row j 0 + 1)
+pub turns-past : (lists : List (List Value)) (old row : List ℕ) (front i j : ℕ) (d : List Value) → ArePlaces lists row → i ≡ suc j → j < length row
+    → Turns lists old row front i → (front ≤ j) ⊎ (length (get_or lists j d) ≤ get_or row j 0 + 1)
     → Turns lists old (set row j 0) front j
 turns-past lists old row front i j d r e h t p = record {
   above = λ k. take-set-le front row j 0 k ∙ t.above (omega (arith, e, k));
@@ -195,15 +198,18 @@ unfolding picked
 picked-none lists bound = sym (append-nil bound)
 
 -- a list without values is among these
-pub empty-at : (lists : List (Bor (List Value))) (i : ℕ) (x : Bor (List Value)) → i < length lists → x ≡ get_or lists i x → eqb (length x.now) 0 ≡ true → true ≡ list_any (λ xs. eqb (length xs) 0) (seen lists)
+pub empty-at : (lists : List (Bor (List Value))) (i : ℕ) (x : Bor (List Value)) → i < length lists → x ≡ get_or lists i x → eqb (length x.now) 0 ≡ true
+    → true ≡ list_any (λ xs. eqb (length xs) 0) (seen lists)
 empty-at [] i x h e t = absurd (omega arith)
 empty-at (y ∷ lists) zero x h e t = sym (or_left (eqb (length y.now) 0) (list_any (λ xs. eqb (length xs) 0) (seen lists)) (ap (λ z. eqb (length z.now) 0) (sym e) ∙ t))
 empty-at (y ∷ lists) (suc i) x h e t = sym (or_right (eqb (length y.now) 0) (list_any (λ xs. eqb (length xs) 0) (seen lists)) (sym (empty-at lists i x (omega arith) e t)))
 
-pub first-places : (items lists : List (Bor (List Value))) (places : List ℕ) (n : ℕ) → lists ≡ items → places ≡ replicate n 0 → n ≡ length items → list_any (λ xs. eqb (length xs) 0) (seen items) ≡ false → ArePlaces (seen lists) places
+pub first-places : (items lists : List (Bor (List Value))) (places : List ℕ) (n : ℕ) → lists ≡ items → places ≡ replicate n 0 → n ≡ length items
+    → list_any (λ xs. eqb (length xs) 0) (seen items) ≡ false → ArePlaces (seen lists) places
 first-places items lists places n e p l h = rw (e, p, l, ← (seen-length items)) (zeros-ArePlaces (seen items) h)
 
-pub first-here : (items : List (Bor (List Value))) (places : List ℕ) (n : ℕ) → places ≡ replicate n 0 → n ≡ length items → list_any (λ xs. eqb (length xs) 0) (seen items) ≡ false → all_rows (seen items) ≡ picked (seen items) places ∷ rows_after (seen items) places
+pub first-here : (items : List (Bor (List Value))) (places : List ℕ) (n : ℕ) → places ≡ replicate n 0 → n ≡ length items
+    → list_any (λ xs. eqb (length xs) 0) (seen items) ≡ false → all_rows (seen items) ≡ picked (seen items) places ∷ rows_after (seen items) places
 first-here items places n p l h = rw (p, l, ← (seen-length items)) (zeros-first (seen items) h)
 
 value-length : (xs : List Value) (p : ℕ) (row : List Value) → p < length xs → length (with_value_at xs p row) ≡ suc (length row)
@@ -230,17 +236,20 @@ take-front [] (y ∷ ys) = refl
 take-front (x ∷ xs) ys = ap (λ zs. x ∷ zs) (take-front xs ys)
 
 -- what is bound outside stays, and the row is the next
-pub bound-anew : (lists : List (List Value)) (old new : List ℕ) (bound cut after : List (Bor Value)) (outside : List Value) (n : ℕ) → ArePlaces lists old → seen bound ≡ outside ++ picked lists old → n + length old ≡ length bound
+pub bound-anew : (lists : List (List Value)) (old new : List ℕ) (bound cut after : List (Bor Value)) (outside : List Value) (n : ℕ) → ArePlaces lists old
+    → seen bound ≡ outside ++ picked lists old → n + length old ≡ length bound
     → cut ≡ take n bound → seen after ≡ seen cut ++ picked lists new → seen after ≡ outside ++ picked lists new
 bound-anew lists old new bound cut after outside n r b l c a =
     let m : n ≡ length outside = omega (arith, l, ap length b, length-append outside (picked lists old), picked-length lists old r, seen-length bound) in
     a ∙ ap (λ xs. xs ++ picked lists new) (ap seen c ∙ seen-take n bound ∙ ap (take n) b ∙ ap (λ k. take k (outside ++ picked lists old)) m ∙ take-front outside (picked lists old))
 
 -- fewer values are picked than are bound
-pub places-bound : (lists : List (List Value)) (places : List ℕ) (bound : List (Bor Value)) (outside : List Value) → ArePlaces lists places → seen bound ≡ outside ++ picked lists places → length places ≤ length bound
+pub places-bound : (lists : List (List Value)) (places : List ℕ) (bound : List (Bor Value)) (outside : List Value) → ArePlaces lists places
+    → seen bound ≡ outside ++ picked lists places → length places ≤ length bound
 places-bound lists places bound outside r b = omega (arith, ap length b, length-append outside (picked lists places), picked-length lists places r, seen-length bound)
 
-pub bind-more : (lists : List (Bor (List Value))) (places : List ℕ) (i : ℕ) (list : Bor (List Value)) (x : Bor Value) (before now new : List (Bor Value)) → ArePlaces (seen lists) places → i < length places → list ≡ get_or lists i list → x.now ≡ get_or list.now (get_or places i 0) x.now
+pub bind-more : (lists : List (Bor (List Value))) (places : List ℕ) (i : ℕ) (list : Bor (List Value)) (x : Bor Value) (before now new : List (Bor Value))
+    → ArePlaces (seen lists) places → i < length places → list ≡ get_or lists i list → x.now ≡ get_or list.now (get_or places i 0) x.now
     → seen now ≡ seen before ++ picked (seen lists) (take i places) → new ≡ now ++ x ∷ [] → seen new ≡ seen before ++ picked (seen lists) (take (i + 1) places)
 bind-more lists places i list x before now new r h e v b n =
     let l : i < length lists = omega (arith, ArePlaces-length (seen lists) places r, seen-length lists) in
@@ -248,7 +257,8 @@ bind-more lists places i list x before now new r h e v b n =
     let one = picked-more (seen lists) places i x.now [] r h (v ∙ sym (ap (λ xs. get_or xs (get_or places i 0) x.now) at)) in
     ap seen n ∙ seen-append now x ∙ ap (λ xs. xs ++ x.now ∷ []) b ∙ append_assoc (seen before) (picked (seen lists) (take i places)) (x.now ∷ []) ∙ ap (λ xs. seen before ++ xs) (sym one)
 
-pub bound-first : (items lists : List (Bor (List Value))) (places read : List ℕ) (outside bound after : List (Bor Value)) → lists ≡ items → read ≡ places → bound ≡ outside → seen after ≡ seen bound ++ picked (seen lists) read
+pub bound-first : (items lists : List (Bor (List Value))) (places read : List ℕ) (outside bound after : List (Bor Value)) → lists ≡ items → read ≡ places
+    → bound ≡ outside → seen after ≡ seen bound ++ picked (seen lists) read
     → seen after ≡ seen outside ++ picked (seen items) places
 bound-first items lists places read outside bound after l p b a =
     a ∙ ap (λ xs. seen xs ++ picked (seen lists) read) b ∙ ap (λ ls. seen outside ++ picked (seen ls) read) l ∙ ap (λ ps. seen outside ++ picked (seen items) ps) p

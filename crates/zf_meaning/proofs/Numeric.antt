@@ -18,16 +18,19 @@ number-in v o (Some n) e h = e ∙ ap Is (is_Int v n h)
 
 -- ---- symbols
 
-pub on-numbers : (P : ℤ → ℤ → Outcome → Type 0) (m n : ℤ) (o : Outcome) (r : Option ℤ) → P m n o → IfSome r (λ k. o ≡ Is (Int k)) → IfSome r (λ k. OnNumbers (number_of (Int m)) (number_of (Int n)) P (Is (Int k)))
+pub on-numbers : (P : ℤ → ℤ → Outcome → Type 0) (m n : ℤ) (o : Outcome) (r : Option ℤ) → P m n o → IfSome r (λ k. o ≡ Is (Int k))
+    → IfSome r (λ k. OnNumbers (number_of (Int m)) (number_of (Int n)) P (Is (Int k)))
 on-numbers P m n o None h e = tt
 on-numbers P m n o (Some k) h e = rw (number_of-Int m, number_of-Int n) (subst (P m n) e h)
 
-pub both-numbers : (c : Context) (l : ℕ) (op : Infix) (a b : ResolvedTree) (m n : ℤ) (r : Option ℤ) → HasOutcome c a (Is (Int m)) → HasOutcome c b (Is (Int n)) → IfSome r (λ k. InfixOutcome op (Int m) (Int n) (Is (Int k)))
+pub both-numbers : (c : Context) (l : ℕ) (op : Infix) (a b : ResolvedTree) (m n : ℤ) (r : Option ℤ) → HasOutcome c a (Is (Int m)) → HasOutcome c b (Is (Int n))
+    → IfSome r (λ k. InfixOutcome op (Int m) (Int n) (Is (Int k)))
     → IfSome r (λ k. HasOutcome c (binary l (Function op) a b) (Is (Int k)))
 both-numbers c l op a b m n None h g q = tt
 both-numbers c l op a b m n (Some k) h g q = (Is (Int m), Is (Int n), h, g, q)
 
-pub number-applied : (c : Context) (l : ℕ) (a b : ResolvedTree) (f x y : Value) (r : Option ℤ) → HasOutcome c a (Is f) → HasOutcome c b (Is x) → IsApplied (members f) x (Is y) → r ≡ number_of y → IfSome r (λ n. HasOutcome c (binary l Application a b) (Is (Int n)))
+pub number-applied : (c : Context) (l : ℕ) (a b : ResolvedTree) (f x y : Value) (r : Option ℤ) → HasOutcome c a (Is f) → HasOutcome c b (Is x)
+    → IsApplied (members f) x (Is y) → r ≡ number_of y → IfSome r (λ n. HasOutcome c (binary l Application a b) (Is (Int n)))
 number-applied c l a b f x y None h g k q = tt
 number-applied c l a b f x y (Some n) h g k q = (Is f, Is x, h, g, subst (λ (z : Value). IsApplied (members f) x (Is z)) (is_Int y n q) k)
 
@@ -46,16 +49,27 @@ one-link (i ∷ j ∷ ks) k l m e = absurd (omega arith)
 comparison : (c : Context) (r : Relation) (t : ResolvedTree) (x y : Outcome) (u : Truth) → is_membership r ≡ false → IsAtom x y (Holds r) u → IsLink (infinite_right c r t) r x y u
 comparison c r t x y u e h = rw e h
 
-pub compared-told : (c : Context) (l : ℕ) (a : ResolvedTree) (k : ResolvedLink) (m n : ℤ) (u : Truth) → is_membership k.relation ≡ false → HasOutcome c a (Is (Int m)) → HasOutcome c (resolved_of k.right) (Is (Int n)) → IsAtom (Is (Int m)) (Is (Int n)) (Holds k.relation) u
+pub compared-told : (c : Context) (l : ℕ) (a : ResolvedTree) (k : ResolvedLink) (m n : ℤ) (u : Truth) → is_membership k.relation ≡ false
+    → HasOutcome c a (Is (Int m)) → HasOutcome c (resolved_of k.right) (Is (Int n)) → IsAtom (Is (Int m)) (Is (Int n)) (Holds k.relation) u
     → IsTruth c (chain l a (links (map resolved_link_of (k ∷ [])))) u
 compared-told c l a k m n u e h g q =
-    subst (λ z. IsTruth c (chain l a (links (z ∷ []))) u) (sym (link-seen k))
-    (Is (Int m), h, (Is (Int n), g, alone (IsLink (infinite_right c k.relation (resolved_of k.right)) k.relation (Is (Int m)) (Is (Int n))) u (comparison c k.relation (resolved_of k.right) (Is (Int m)) (Is (Int n)) u e q)))
+    subst (λ z. IsTruth c (chain l a (links (z ∷ []))) u) (sym (link-seen k)) (
+      Is (Int m),
+      h,
+      (
+        Is (Int n),
+        g,
+        alone (IsLink (infinite_right c k.relation (resolved_of k.right)) k.relation (Is (Int m)) (Is (Int n))) u
+            (comparison c k.relation (resolved_of k.right) (Is (Int m)) (Is (Int n)) u e q),
+      ),
+    )
 
-pub chain-compared : (c : Context) (d : ResolvedTree) (l : ℕ) (t a : Resolved) (ks sl : List ResolvedLink) (r : Option Truth) → d ≡ chain l (resolved_of t) (links (map resolved_link_of ks)) → a ≡ t → sl ≡ ks
+pub chain-compared : (c : Context) (d : ResolvedTree) (l : ℕ) (t a : Resolved) (ks sl : List ResolvedLink) (r : Option Truth)
+    → d ≡ chain l (resolved_of t) (links (map resolved_link_of ks)) → a ≡ t → sl ≡ ks
     → IfSome r (IsTruth c (chain l (resolved_of a) (links (map resolved_link_of sl)))) → IfSome r (IsTruth c d)
 chain-compared c d l t a ks sl r e f g h =
-    subst (λ z. IfSome r (IsTruth c z)) (sym e) (subst (λ zs. IfSome r (IsTruth c (chain l (resolved_of t) (links (map resolved_link_of zs))))) g (subst (λ z. IfSome r (IsTruth c (chain l (resolved_of z) (links (map resolved_link_of sl))))) f h))
+    subst (λ z. IfSome r (IsTruth c z)) (sym e) (subst (λ zs. IfSome r (IsTruth c (chain l (resolved_of t) (links (map resolved_link_of zs))))) g
+    (subst (λ z. IfSome r (IsTruth c (chain l (resolved_of z) (links (map resolved_link_of sl))))) f h))
 
 pub at-some : {A : Type 0} (P : A → Type 0) (r : Option A) (x : A) → r ≡ Some x → IfSome r P → P x
 at-some P r x e h = subst (λ o. IfSome o P) e h

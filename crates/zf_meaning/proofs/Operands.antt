@@ -10,15 +10,18 @@ IsPowerSign op = (op ≡ Sign (Symbol prefix.Power)) ⊎ (op ≡ Sign (Symbol pr
 power-made : (op : Unary) (x o : Outcome) → IsPowerSign op → OnOne x (λ v. IsPower (members v)) o → OnOne x (UnaryOutcome op) o
 power-made op x o e h = ⊎_elim (λ p. subst (λ s. OnOne x (UnaryOutcome s) o) (sym p) h) (λ p. subst (λ s. OnOne x (UnaryOutcome s) o) (sym p) h) e
 
-power-one : (c : Context) (l : ℕ) (op : Unary) (t : ResolvedTree) (x : Outcome) (d : Described) → IsPowerSign op → HasOutcome c t x → Describes (OnOne x (λ v. IsPower (members v))) d → Describes (HasOutcome c (unary l op t)) d
+power-one : (c : Context) (l : ℕ) (op : Unary) (t : ResolvedTree) (x : Outcome) (d : Described) → IsPowerSign op → HasOutcome c t x
+    → Describes (OnOne x (λ v. IsPower (members v))) d → Describes (HasOutcome c (unary l op t)) d
 unfolding Describes
 power-one c l op t x d e h f o q = (x, h, power-made op x o e (f o q))
 
-pub power-told : (c : Context) (l : ℕ) (op : Unary) (t : ResolvedTree) (x : Outcome) (r : Result Described AllocError) → IsPowerSign op → HasOutcome c t x → IfOk r (Describes (OnOne x (λ v. IsPower (members v)))) → IfOk r (Describes (HasOutcome c (unary l op t)))
+pub power-told : (c : Context) (l : ℕ) (op : Unary) (t : ResolvedTree) (x : Outcome) (r : Result Described AllocError) → IsPowerSign op → HasOutcome c t x
+    → IfOk r (Describes (OnOne x (λ v. IsPower (members v)))) → IfOk r (Describes (HasOutcome c (unary l op t)))
 power-told c l op t x r e h k = IfOk-weaker r (Describes (OnOne x (λ v. IsPower (members v)))) (Describes (HasOutcome c (unary l op t))) (λ d f. power-one c l op t x d e h f) k
 
 -- of two values
-pub both-told : (c : Context) (l : ℕ) (op : Operator) (a b : ResolvedTree) (x y : Outcome) (v w : Value) (d : Described) → HasOutcome c a x → HasOutcome c b y → x ≡ Is v → y ≡ Is w → Describes (BinaryOutcome op v w) d → Describes (HasOutcome c (binary l op a b)) d
+pub both-told : (c : Context) (l : ℕ) (op : Operator) (a b : ResolvedTree) (x y : Outcome) (v w : Value) (d : Described) → HasOutcome c a x → HasOutcome c b y
+    → x ≡ Is v → y ≡ Is w → Describes (BinaryOutcome op v w) d → Describes (HasOutcome c (binary l op a b)) d
 unfolding Describes
 both-told c l op a b x y v w d h k e f g o q =
     (x, y, h, k, subst (λ z. OnBoth z y (BinaryOutcome op) o) (sym e) (subst (λ z. OnBoth (Is v) z (BinaryOutcome op) o) (sym f) (g o q)))
@@ -33,9 +36,11 @@ unfolding Describes
 interval-told op v w d e f o q = subst (λ p. BinaryOutcome p v w o) (sym e) (f o q)
 
 -- of several
-product-one : (c : Context) (l : ℕ) (f : Listed) (ts : ResolvedTrees) (s : Several) (d : Described) → f ≡ form.Product → HaveOutcomes c ts s → Describes (OnSeveral s IsCross) d → Describes (HasOutcome c (listed l f ts)) d
+product-one : (c : Context) (l : ℕ) (f : Listed) (ts : ResolvedTrees) (s : Several) (d : Described) → f ≡ form.Product → HaveOutcomes c ts s
+    → Describes (OnSeveral s IsCross) d → Describes (HasOutcome c (listed l f ts)) d
 unfolding Describes
 product-one c l f ts s d e h k o q = (s, h, subst (λ z. OnSeveral s (ListedOutcome z) o) (sym e) (k o q))
 
-pub product-told : (c : Context) (l : ℕ) (f : Listed) (ts : ResolvedTrees) (s : Several) (r : Result Described AllocError) → f ≡ form.Product → HaveOutcomes c ts s → IfOk r (Describes (OnSeveral s IsCross)) → IfOk r (Describes (HasOutcome c (listed l f ts)))
+pub product-told : (c : Context) (l : ℕ) (f : Listed) (ts : ResolvedTrees) (s : Several) (r : Result Described AllocError) → f ≡ form.Product
+    → HaveOutcomes c ts s → IfOk r (Describes (OnSeveral s IsCross)) → IfOk r (Describes (HasOutcome c (listed l f ts)))
 product-told c l f ts s r e h k = IfOk-weaker r (Describes (OnSeveral s IsCross)) (Describes (HasOutcome c (listed l f ts))) (λ d p. product-one c l f ts s d e h p) k

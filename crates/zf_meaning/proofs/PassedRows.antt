@@ -77,7 +77,8 @@ passed_first (xs ∷ lists) (p ∷ places) (suc front) r =
     }
 
 -- what begins with the same values, so many, is passed
-pub front-skips : (lists : List (List Value)) (places : List ℕ) (front : ℕ) → ArePlaces lists places → Skips (Front front) (picked lists places) (rows_after lists places) (rows_after lists (take front places))
+pub front-skips : (lists : List (List Value)) (places : List ℕ) (front : ℕ) → ArePlaces lists places
+    → Skips (Front front) (picked lists places) (rows_after lists places) (rows_after lists (take front places))
 front-skips lists places front r = let h = passed_first lists places front r in record { passed = h.passed; first = h.first; each = h.alike }
 
 -- ---- another value than is wanted
@@ -111,7 +112,8 @@ from_others (x ∷ y ∷ xs) zero (suc to) rows others h l =
     record {
       passed = map (λ row. x ∷ row) rows ++ k.passed;
       first = ap (λ us. map (λ row. x ∷ row) rows ++ us) k.first ∙ sym (append_assoc (map (λ row. x ∷ row) rows) k.passed (headed_from (y ∷ xs) to [] others));
-      each = λ vs m. ⊎_elim (λ a. (0, omega arith, omega arith, begins_with x rows vs a)) (λ b. let i = k.each vs b in (suc i.0, omega arith, omega (arith, i.2), i.3)) (among-append vs (map (λ row. x ∷ row) rows) k.passed m);
+      each = λ vs m. ⊎_elim (λ a. (0, omega arith, omega arith, begins_with x rows vs a))
+          (λ b. let i = k.each vs b in (suc i.0, omega arith, omega (arith, i.2), i.3)) (among-append vs (map (λ row. x ∷ row) rows) k.passed m);
     }
 from_others (x ∷ xs) (suc from) zero rows others h l = absurd (omega (arith, h))
 from_others (x ∷ xs) (suc from) (suc to) rows others h l =
@@ -128,20 +130,25 @@ get_later [] p i row h = absurd (omega (arith, h))
 get_later (x ∷ xs) zero i row h = refl
 get_later (x ∷ xs) (suc p) i row h = get_later xs p i row (omega (arith, h))
 
-begins_passed : (xs : List Value) (from to : ℕ) (wanted : Value) (row vs : List Value) → from < length xs → AreOthers xs from to wanted → BeginsFrom xs from to vs → IsPassed (Others 0 wanted) (with_value_at xs from row) vs
+begins_passed : (xs : List Value) (from to : ℕ) (wanted : Value) (row vs : List Value) → from < length xs → AreOthers xs from to wanted
+    → BeginsFrom xs from to vs → IsPassed (Others 0 wanted) (with_value_at xs from row) vs
 begins_passed xs from to wanted row vs l o b = (
   take_none vs (with_value_at xs from row),
-  ⊎_elim (λ before. inr (λ e. o b.0 before b.2 (sym b.3 ∙ e))) (λ le. let same : b.0 ≡ from = omega (arith, le, b.1) in inl (b.3 ∙ ap (slice_get xs) same ∙ sym (get_first xs from row l))) (before_or from b.0),
+  ⊎_elim (λ before. inr (λ e. o b.0 before b.2 (sym b.3 ∙ e))) (λ le. let same : b.0
+      ≡ from = omega (arith, le, b.1) in inl (b.3 ∙ ap (slice_get xs) same ∙ sym (get_first xs from row l))) (before_or from b.0),
 )
 
-later_passed : (xs : List Value) (p place : ℕ) (wanted : Value) (row us : List Value) → p < length xs → IsPassed (Others place wanted) row us → IsPassed (Others (suc place) wanted) (with_value_at xs p row) (with_value_at xs p us)
+later_passed : (xs : List Value) (p place : ℕ) (wanted : Value) (row us : List Value) → p < length xs → IsPassed (Others place wanted) row us
+    → IsPassed (Others (suc place) wanted) (with_value_at xs p row) (with_value_at xs p us)
 later_passed xs p place wanted row us l h = (
   take_with xs p place us row l h.0,
   ⊎_elim (λ e. inl (get_later xs p place us l ∙ e ∙ sym (get_later xs p place row l))) (λ n. inr (λ e. n (sym (get_later xs p place us l) ∙ e))) h.1,
 )
 
 -- where the values from the place that it is at up to another are others than is wanted, only rows with others are left out
-pub others-skips : (lists : List (List Value)) (places : List ℕ) (place to : ℕ) (wanted : Value) (d : List Value) → ArePlaces lists places → place < length places → get_or places place 0 ≤ to → to < length (get_or lists place d) → AreOthers (get_or lists place d) (get_or places place 0) to wanted
+pub others-skips : (lists : List (List Value)) (places : List ℕ) (place to : ℕ) (wanted : Value) (d : List Value) → ArePlaces lists places
+    → place < length places → get_or places place 0 ≤ to → to < length (get_or lists place d)
+    → AreOthers (get_or lists place d) (get_or places place 0) to wanted
     → Skips (Others place wanted) (picked lists places) (rows_after lists places) (rows_after lists (take (suc place) (set places place to)))
 unfolding rows_after picked ArePlaces
 others-skips lists [] place to wanted d r l le h o = absurd (omega (arith, l))
@@ -158,14 +165,16 @@ others-skips (xs ∷ lists) (p ∷ places) (suc place) to wanted d r l le h o =
     record {
       passed = all_with xs p k.passed;
       first = ap (λ rows. headed_from xs p rows (all_rows lists)) k.first ∙ from_append xs p k.passed (rows_after lists (take (suc place) (set places place to))) (all_rows lists) r.0;
-      each = λ vs m. let w = of-with xs p k.passed vs m in subst (IsPassed (Others (suc place) wanted) (with_value_at xs p (picked lists places))) w.1 (later_passed xs p place wanted (picked lists places) w.0 r.0 (k.each w.0 w.2));
+      each = λ vs m. let w = of-with xs p k.passed vs m in subst (IsPassed (Others (suc place) wanted) (with_value_at xs p (picked lists places))) w.1
+          (later_passed xs p place wanted (picked lists places) w.0 r.0 (k.each w.0 w.2));
     }
 
 pub none-other : (xs : List Value) (from : ℕ) (wanted : Value) → AreOthers xs from from wanted
 none-other xs from wanted i a b e = absurd (omega (arith, a, b))
 
 -- another value more
-pub other-more : (xs : List Value) (from before place : ℕ) (x wanted : Value) → before + 1 ≡ place → place < length xs → x ≡ get_or xs place x → (x ≡ wanted → ⊥) → AreOthers xs from before wanted → AreOthers xs from place wanted
+pub other-more : (xs : List Value) (from before place : ℕ) (x wanted : Value) → before + 1 ≡ place → place < length xs → x ≡ get_or xs place x
+    → (x ≡ wanted → ⊥) → AreOthers xs from before wanted → AreOthers xs from place wanted
 other-more xs from before place x wanted n l e other h i a b k =
     ⊎_elim (λ earlier. h i a (omega (arith, earlier, n)) k)
     (λ le. let same : i ≡ place = omega (arith, le, b) in other (same_Some x wanted (sym (slice_get_read xs (length xs) place x refl l e) ∙ ap (slice_get xs) (sym same) ∙ k))) (before_or i place)
@@ -173,7 +182,9 @@ other-more xs from before place x wanted n l e other h i a b k =
 -- ---- what is left
 
 -- behind what is passed is the next row, or none
-pub skips-turned : (passing : Passing) (row next : List Value) (rows rest ahead : List (List Value)) (turned : Option ℕ) → Skips passing row rows rest → MatchOption turned (rest ≡ []) (λ anew. rest ≡ next ∷ ahead) → MatchOption turned (Skips passing row rows []) (λ anew. Skips passing row rows (next ∷ ahead))
+pub skips-turned : (passing : Passing) (row next : List Value) (rows rest ahead : List (List Value)) (turned : Option ℕ) → Skips passing row rows rest
+    → MatchOption turned (rest ≡ []) (λ anew. rest ≡ next ∷ ahead) → MatchOption turned (Skips passing row rows [])
+    (λ anew. Skips passing row rows (next ∷ ahead))
 skips-turned passing row next rows rest ahead None s e = subst (Skips passing row rows) e s
 skips-turned passing row next rows rest ahead (Some anew) s e = subst (Skips passing row rows) e s
 
@@ -185,7 +196,8 @@ apart-right [] ys h = h
 apart-right (x ∷ xs) ys h = apart-right xs ys h.1
 
 -- a row ahead is passed, or left
-pub passed-or-left : (passing : Passing) (row : List Value) (rows rest : List (List Value)) (vs : List Value) → Skips passing row rows rest → IsAmong vs rows → IsPassed passing row vs ⊎ IsAmong vs rest
+pub passed-or-left : (passing : Passing) (row : List Value) (rows rest : List (List Value)) (vs : List Value) → Skips passing row rows rest → IsAmong vs rows
+    → IsPassed passing row vs ⊎ IsAmong vs rest
 passed-or-left passing row rows rest vs s m = ⊎_elim (λ a. inl (s.each vs a)) (λ a. inr a) (among-append vs s.passed rest (subst (IsAmong vs) s.first m))
 
 pub left-ahead : (passing : Passing) (row : List Value) (rows rest : List (List Value)) (vs : List Value) → Skips passing row rows rest → IsAmong vs rest → IsAmong vs rows

@@ -8,7 +8,8 @@ seen-suc [] i x l e = absurd (omega arith)
 seen-suc (y ∷ xs) zero x l e = ap (λ z. z.now ∷ []) (sym e)
 seen-suc (y ∷ xs) (suc i) x l e = ap (λ ys. y.now ∷ ys) (seen-suc xs i x (omega arith) e)
 
-pub copied-more : (xs : List (Bor Value)) (i : ℕ) (x : Bor Value) (v : Value) (old new : List Value) → i < length xs → x ≡ get_or xs i x → v ≡ x.now → old ≡ take i (seen xs) → new ≡ old ++ v ∷ [] → new ≡ take (i + 1) (seen xs)
+pub copied-more : (xs : List (Bor Value)) (i : ℕ) (x : Bor Value) (v : Value) (old new : List Value) → i < length xs → x ≡ get_or xs i x → v ≡ x.now
+    → old ≡ take i (seen xs) → new ≡ old ++ v ∷ [] → new ≡ take (i + 1) (seen xs)
 copied-more xs i x v old new l e f o n = n ∙ ap (λ ys. ys ++ v ∷ []) o ∙ ap (λ y. take i (seen xs) ++ y ∷ []) f ∙ sym (seen-suc xs i x l e) ∙ ap (λ k. take k (seen xs)) (sym (add-one i))
 
 take-past : (n : ℕ) (xs : List (Bor Value)) → length xs ≤ n → take n (seen xs) ≡ seen xs

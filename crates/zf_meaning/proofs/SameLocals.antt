@@ -52,14 +52,16 @@ mutual
   same_outcome c ls n m (listed l form ts) a h o = λ i. (s : Several) × same_outcomes c ls n m ts a h s i × OnSeveral s (ListedOutcome form) o
   same_outcome c ls n m (builder l ds f t) a h o =
       λ i. (s : Several) × same_ranges c ls n m ds a (omega (arith, h)) s i
-      × IsBuilt s (λ ws u. same_constraint (within c ws) (ls ++ ws) n m f (inside n m c.locals ls ws a) (omega (arith, h)) u i) (λ ws x. same_build (within c ws) (ls ++ ws) ws n m t (inside n m c.locals ls ws a) (omega (arith, h)) x i) o
+      × IsBuilt s (λ ws u. same_constraint (within c ws) (ls ++ ws) n m f (inside n m c.locals ls ws a) (omega (arith, h)) u i)
+      (λ ws x. same_build (within c ws) (ls ++ ws) ws n m t (inside n m c.locals ls ws a) (omega (arith, h)) x i) o
   same_outcome c ls n m (unary l op t) a h o = λ i. (x : Outcome) × same_outcome c ls n m t a h x i × OnOne x (UnaryOutcome op) o
   same_outcome c ls n m (binary l op x y) a h o =
       λ i. (v w : Outcome) × same_outcome c ls n m x a (omega (arith, h)) v i × same_outcome c ls n m y a (omega (arith, h)) w i × OnBoth v w (BinaryOutcome op) o
   same_outcome c ls n m (chain l t ks) a h o = refl
   same_outcome c ls n m (quantified l q ds f t) a h o = refl
 
-  same_outcomes : (c : Context) (ls : List Value) (n m : ℕ) (ts : ResolvedTrees) → AreAlike n m c.locals ls → all_need m ts ≤ n → (s : Several) → HaveOutcomes c ts s ≡ HaveOutcomes (with_locals c ls) ts s
+  same_outcomes : (c : Context) (ls : List Value) (n m : ℕ) (ts : ResolvedTrees) → AreAlike n m c.locals ls → all_need m ts ≤ n → (s : Several)
+      → HaveOutcomes c ts s ≡ HaveOutcomes (with_locals c ls) ts s
   same_outcomes c ls n m no_terms a h s = refl
   same_outcomes c ls n m (term t ts) a h s =
       λ i. (x : Outcome) × (r : Several) × same_outcome c ls n m t a (omega (arith, h)) x i × same_outcomes c ls n m ts a (omega (arith, h)) r i × (s ≡ one_more x r)
@@ -93,14 +95,16 @@ mutual
       λ i. (x : Outcome) × same_outcome c ls n m t a (omega (arith, h)) x i × same_links c ls n m x ks a (omega (arith, h)) u i
   same_truth c ls n m (quantified l q ds f t) a h u =
       λ i. (s : Several) × same_ranges c ls n m ds a (omega (arith, h)) s i
-      × IsQuantified q s (λ ws w. IsTold q (λ p. same_constraint (within c ws) (ls ++ ws) n m f (inside n m c.locals ls ws a) (omega (arith, h)) p i) (λ b. same_truth (within c ws) (ls ++ ws) n m t (inside n m c.locals ls ws a) (omega (arith, h)) b i) w) u
+      × IsQuantified q s (λ ws w. IsTold q (λ p. same_constraint (within c ws) (ls ++ ws) n m f (inside n m c.locals ls ws a) (omega (arith, h)) p i)
+      (λ b. same_truth (within c ws) (ls ++ ws) n m t (inside n m c.locals ls ws a) (omega (arith, h)) b i) w) u
   same_truth c ls n m (reference l r) a h u = refl
   same_truth c ls n m (number l x) a h u = refl
   same_truth c ls n m (empty_set l t) a h u = refl
   same_truth c ls n m (listed l form ts) a h u = refl
   same_truth c ls n m (builder l ds f t) a h u = refl
 
-  same_links : (c : Context) (ls : List Value) (n m : ℕ) (x : Outcome) (ks : ResolvedLinks) → AreAlike n m c.locals ls → links_need m ks ≤ n → (u : Truth) → AreLinked c x ks u ≡ AreLinked (with_locals c ls) x ks u
+  same_links : (c : Context) (ls : List Value) (n m : ℕ) (x : Outcome) (ks : ResolvedLinks) → AreAlike n m c.locals ls → links_need m ks ≤ n → (u : Truth)
+      → AreLinked c x ks u ≡ AreLinked (with_locals c ls) x ks u
   same_links c ls n m x no_links a h u = refl
   same_links c ls n m x (link r t ks) a h u =
       λ i. (y : Outcome) × same_outcome c ls n m t a (omega (arith, h)) y i × IsConjunction (λ p. IsLink (infinite_right c r t) r x y p) (λ q. same_links c ls n m y ks a (omega (arith, h)) q i) u
@@ -116,7 +120,8 @@ same_front zero (u ∷ us) (v ∷ vs) (suc i) l e k = same_front zero us vs i (o
 same_front (suc front) (u ∷ us) (v ∷ vs) zero l e k = (cc)
 same_front (suc front) (u ∷ us) (v ∷ vs) (suc i) l e k = same_front front us vs i (omega (arith, l)) (cc) (⊎_elim (λ h. inl (omega (arith, h))) (λ h. inr (omega (arith, h))) k)
 
-behind : (ls : List Value) (front : ℕ) (us vs : List Value) (i : ℕ) → length us ≡ length vs → take front us ≡ take front vs → (i < length ls + front) ⊎ (length ls + length vs ≤ i) → slice_get (ls ++ us) i ≡ slice_get (ls ++ vs) i
+behind : (ls : List Value) (front : ℕ) (us vs : List Value) (i : ℕ) → length us ≡ length vs → take front us ≡ take front vs
+    → (i < length ls + front) ⊎ (length ls + length vs ≤ i) → slice_get (ls ++ us) i ≡ slice_get (ls ++ vs) i
 behind [] front us vs i l e k = same_front front us vs i l e (⊎_elim (λ h. inl (omega (arith, h))) (λ h. inr (omega (arith, h))) k)
 behind (x ∷ ls) front us vs zero l e k = refl
 behind (x ∷ ls) front us vs (suc i) l e k = behind ls front us vs i l e (⊎_elim (λ h. inl (omega (arith, h))) (λ h. inr (omega (arith, h))) k)
@@ -129,7 +134,8 @@ rows_alike : (ls : List Value) (front : ℕ) (us vs : List Value) → length us 
 rows_alike ls front us vs l e = record { lengths = lengths_behind ls us vs l; each = λ i k. behind ls front us vs i l e k }
 
 -- what needs the first variables alone is so in each row that begins with the same values
-pub same-row-outcome : (c : Context) (front : ℕ) (us vs : List Value) (t : ResolvedTree) (o : Outcome) → length us ≡ length vs → take front us ≡ take front vs → need (length c.locals + length vs) t ≤ length c.locals + front → HasOutcome (within c us) t o → HasOutcome (within c vs) t o
+pub same-row-outcome : (c : Context) (front : ℕ) (us vs : List Value) (t : ResolvedTree) (o : Outcome) → length us ≡ length vs → take front us ≡ take front vs
+    → need (length c.locals + length vs) t ≤ length c.locals + front → HasOutcome (within c us) t o → HasOutcome (within c vs) t o
 same-row-outcome c front us vs t o l e h p =
     subst (λ X. X) (same_outcome (within c us) (c.locals ++ vs) (length c.locals + front) (length c.locals + length vs) t (rows_alike c.locals front us vs l e) h o) p
 
@@ -142,6 +148,7 @@ same-row-told c front us vs q p t u l e h k told =
     let alike = rows_alike c.locals front us vs l e in
     subst (λ X. X) (λ i. IsTold q (λ a. same_constraint (within c us) (c.locals ++ vs) n m p alike h a i) (λ b. same_truth (within c us) (c.locals ++ vs) n m t alike k b i) u) told
 
-pub same-row : (c : Context) (front : ℕ) (us vs : List Value) (t : ResolvedTree) (u : Truth) → length us ≡ length vs → take front us ≡ take front vs → need (length c.locals + length vs) t ≤ length c.locals + front → IsTruth (within c us) t u → IsTruth (within c vs) t u
+pub same-row : (c : Context) (front : ℕ) (us vs : List Value) (t : ResolvedTree) (u : Truth) → length us ≡ length vs → take front us ≡ take front vs
+    → need (length c.locals + length vs) t ≤ length c.locals + front → IsTruth (within c us) t u → IsTruth (within c vs) t u
 same-row c front us vs t u l e h p =
     subst (λ X. X) (same_truth (within c us) (c.locals ++ vs) (length c.locals + front) (length c.locals + length vs) t (rows_alike c.locals front us vs l e) h u) p

@@ -128,7 +128,9 @@ mutual
   same_truth c vs rs (listed l form ts) h u = refl
   same_truth c vs rs (builder l ds f t) h u = refl
 
-  same_links : (c : Context) (vs : List Value) (rs : List Reference) (x : Outcome) (ks : ResolvedLinks) → Agree c.row vs (links_onto rs ks) → (u : Truth) → AreLinked c x ks u ≡ AreLinked (with_row c vs) x ks u
+  same_links : (c : Context) (vs : List Value) (rs : List Reference) (x : Outcome) (ks : ResolvedLinks) → Agree c.row vs (links_onto rs ks) → (u : Truth)
+      → AreLinked c x ks u ≡ AreLinked (with_row c vs) x ks u
   same_links c vs rs x no_links h u = refl
   same_links c vs rs x (link r t ks) h u =
-      λ i. (y : Outcome) × same_outcome c vs rs t (before_links c.row vs (onto rs t) ks h) y i × IsConjunction (λ p. IsLink (infinite_right c r t) r x y p) (λ q. same_links c vs (onto rs t) y ks h q i) u
+      λ i. (y : Outcome) × same_outcome c vs rs t (before_links c.row vs (onto rs t) ks h) y i
+      × IsConjunction (λ p. IsLink (infinite_right c r t) r x y p) (λ q. same_links c vs (onto rs t) y ks h q i) u

@@ -18,8 +18,10 @@ agree_below : (xs vs : List Value) (rs : List Reference) → AreBelow (length xs
 agree_below xs vs [] h = tt
 agree_below xs vs (r ∷ rs) h = (agree_at xs vs r h.0, agree_below xs vs rs h.1)
 
-pub outcomes_stay : (c : Context) (vs : List Value) (t : ResolvedTree) (o : Outcome) → AreBelow (length c.row) (onto [] t) → (HasOutcome c t o → HasOutcome (with_further c vs) t o) × (HasOutcome (with_further c vs) t o → HasOutcome c t o)
+pub outcomes_stay : (c : Context) (vs : List Value) (t : ResolvedTree) (o : Outcome) → AreBelow (length c.row) (onto [] t)
+    → (HasOutcome c t o → HasOutcome (with_further c vs) t o) × (HasOutcome (with_further c vs) t o → HasOutcome c t o)
 outcomes_stay c vs t o h = let e = same_outcome c (c.row ++ vs) [] t (agree_below c.row vs (onto [] t) h) o in (λ x. subst (λ X. X) e x, λ x. subst (λ X. X) (sym e) x)
 
-pub truths_stay : (c : Context) (vs : List Value) (t : ResolvedTree) (p : Truth) → AreBelow (length c.row) (onto [] t) → (IsTruth c t p → IsTruth (with_further c vs) t p) × (IsTruth (with_further c vs) t p → IsTruth c t p)
+pub truths_stay : (c : Context) (vs : List Value) (t : ResolvedTree) (p : Truth) → AreBelow (length c.row) (onto [] t)
+    → (IsTruth c t p → IsTruth (with_further c vs) t p) × (IsTruth (with_further c vs) t p → IsTruth c t p)
 truths_stay c vs t p h = let e = same_truth c (c.row ++ vs) [] t (agree_below c.row vs (onto [] t) h) p in (λ x. subst (λ X. X) e x, λ x. subst (λ X. X) (sym e) x)

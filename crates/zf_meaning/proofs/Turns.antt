@@ -12,12 +12,14 @@ use Rattle.zf_meaning.proofs.Walking.{WalksOver, walk-next, walk-ended, walk-row
 pub fewer : (outside : List Value) (passing : Passing) (old new : Rows) → IsNext outside passing old new → length (ahead new) < length (ahead old)
 fewer outside passing old new n = omega (arith, left-fewer passing (row_of old) (ahead old) (row_of new ∷ ahead new) n.2)
 
-pub adds-here : (d c : Context) (vs ws : List Value) (p e : ResolvedPart) (old new : List Value) (a b : Bool) → d ≡ within c vs → ws ≡ vs → a ≡ b → AddsRow (λ u. IsConstraint d p u) (λ x. Builds d ws e x) old new a → AddsRow (FilterIn c p vs) (TermIn c e vs) old new b
+pub adds-here : (d c : Context) (vs ws : List Value) (p e : ResolvedPart) (old new : List Value) (a b : Bool) → d ≡ within c vs → ws ≡ vs → a ≡ b
+    → AddsRow (λ u. IsConstraint d p u) (λ x. Builds d ws e x) old new a → AddsRow (FilterIn c p vs) (TermIn c e vs) old new b
 adds-here d c vs ws p e old new a b s w t h =
     subst (AddsRow (FilterIn c p vs) (TermIn c e vs) old new) t
     (subst (λ us. AddsRow (FilterIn c p vs) (λ x. Builds (within c vs) us e x) old new a) w (subst (λ k. AddsRow (λ u. IsConstraint k p u) (λ x. Builds k ws e x) old new a) s h))
 
-pub told-here : (d c : Context) (vs : List Value) (q : Quantifier) (p : ResolvedPart) (e : ResolvedTree) (u : Truth) → d ≡ within c vs → IsTold q (λ a. IsConstraint d p a) (λ b. IsTruth d e b) u → ToldIn c q p e vs u
+pub told-here : (d c : Context) (vs : List Value) (q : Quantifier) (p : ResolvedPart) (e : ResolvedTree) (u : Truth) → d ≡ within c vs
+    → IsTold q (λ a. IsConstraint d p a) (λ b. IsTruth d e b) u → ToldIn c q p e vs u
 told-here d c vs q p e u s h = subst (λ k. IsTold q (λ a. IsConstraint k p a) (λ b. IsTruth k e b) u) s h
 
 pub one-filter : (c : Context) (p : ResolvedPart) → IsSingle (FilterIn c p)
@@ -27,15 +29,28 @@ pub one-term : (c : Context) (e : ResolvedPart) → IsSingle (TermIn c e)
 one-term c e vs x y h k = one_build (within c vs) vs e x y h k
 
 pub one-told : (c : Context) (q : Quantifier) (p : ResolvedPart) (e : ResolvedTree) → EachOne (ToldIn c q p e)
-one-told c q p e vs x y h k = one_told_of q (λ a. IsConstraint (within c vs) p a) (λ b. IsTruth (within c vs) e b) (λ a b. one_constraint (within c vs) p a b) (λ a b. one_truth (within c vs) e a b) x y h k
+one-told c q p e vs x y h k = one_told_of q (λ a. IsConstraint (within c vs) p a) (λ b. IsTruth (within c vs) e b) (λ a b. one_constraint (within c vs) p a b)
+    (λ a b. one_truth (within c vs) e a b) x y h k
 
 -- ---- how many variables are bound
 
 pub span-bound : (r : Rows) (outside ss : List Value) (lists : List (List Value)) (n : ℕ) → lists ≡ map members ss → IsFirst outside lists r → n ≡ length r.bound.items → length outside + length ss ≡ n
 span-bound r outside ss lists n e f b =
-    omega (arith, b, ap length f.0.1, length-append outside (row_of r), seen-length r.bound.items, picked-length (lists_of r) r.places.items f.0.0, ArePlaces-length (lists_of r) r.places.items f.0.0, ap length (f.1 ∙ e), length-map ss members)
+    omega (
+      arith,
+      b,
+      ap length f.0.1,
+      length-append outside (row_of r),
+      seen-length r.bound.items,
+      picked-length (lists_of r) r.places.items f.0.0,
+      ArePlaces-length (lists_of r) r.places.items f.0.0,
+      ap length (f.1 ∙ e),
+      length-map ss members,
+    )
 
-pub row-bound : (N : List Value → Type 0) (env : Env) (row : List Value) (locals bound : List (Bor Value)) (r : Rows) (ss : List Value) (done : List (List Value)) (span : Span) → bound ≡ r.bound.items → span.outside ≡ length locals → length (seen locals) + length ss ≡ span.whole → WalksOver N r (seen locals) ss done
+pub row-bound : (N : List Value → Type 0) (env : Env) (row : List Value) (locals bound : List (Bor Value)) (r : Rows) (ss : List Value)
+    (done : List (List Value)) (span : Span) → bound ≡ r.bound.items → span.outside ≡ length locals → length (seen locals) + length ss ≡ span.whole
+    → WalksOver N r (seen locals) ss done
     → IsBound span (scope_of env row bound) (scope_of env row locals) (row_of r)
 row-bound N env row locals bound r ss done span e o w h = record {
   is = scope-row env row locals bound (row_of r) (ap seen e ∙ h.at.1);
@@ -45,21 +60,35 @@ row-bound N env row locals bound r ss done span e o w h = record {
 
 -- ---- rows that do not count are passed
 
-pub next-turn : (d : Resolved) (c : Context) (old new : Rows) (outside ss : List Value) (done : List (List Value)) (passing : Passing) → WalksOver (NeutralIn d c) old outside ss done → ArePassed (resolved_of d) c (row_of old) passing → IsNext outside passing old new → WalksOver (NeutralIn d c) new outside ss (row_of old ∷ done)
-next-turn d c old new outside ss done passing h a n = walk-next (NeutralIn d c) old new outside ss done passing h (may-pass (resolved_of d) c ss (row_of old) passing (walk-row (NeutralIn d c) old outside ss done h) a) n
+pub next-turn : (d : Resolved) (c : Context) (old new : Rows) (outside ss : List Value) (done : List (List Value)) (passing : Passing)
+    → WalksOver (NeutralIn d c) old outside ss done → ArePassed (resolved_of d) c (row_of old) passing → IsNext outside passing old new
+    → WalksOver (NeutralIn d c) new outside ss (row_of old ∷ done)
+next-turn d c old new outside ss done passing h a n = walk-next (NeutralIn d c) old new outside ss done passing h
+    (may-pass (resolved_of d) c ss (row_of old) passing (walk-row (NeutralIn d c) old outside ss done h) a) n
 
 -- what a quantifier tells where no row is left
-pub told-ended : (d : Resolved) (q : Quantifier) (l : ℕ) (rs : List Range) (p : Option Resolved) (e : Resolved) (c : Context) (r : Rows) (outside ss : List Value) (done : List (List Value)) (passing : Passing) (t : Tally) → d ≡ v.Quantified q l rs p e → WalksOver (NeutralIn d c) r outside ss done
-    → ArePassed (resolved_of d) c (row_of r) passing → Skips passing (row_of r) (ahead r) [] → IsTallied (ToldIn c q (part_of p) (resolved_of e)) (row_of r ∷ done) t → IsOver q (λ vs. AreFrom vs ss) (ToldIn c q (part_of p) (resolved_of e)) (truth_by q t)
+pub told-ended : (d : Resolved) (q : Quantifier) (l : ℕ) (rs : List Range) (p : Option Resolved) (e : Resolved) (c : Context) (r : Rows)
+    (outside ss : List Value) (done : List (List Value)) (passing : Passing) (t : Tally) → d ≡ v.Quantified q l rs p e
+    → WalksOver (NeutralIn d c) r outside ss done
+    → ArePassed (resolved_of d) c (row_of r) passing → Skips passing (row_of r) (ahead r) []
+    → IsTallied (ToldIn c q (part_of p) (resolved_of e)) (row_of r ∷ done) t
+    → IsOver q (λ vs. AreFrom vs ss) (ToldIn c q (part_of p) (resolved_of e)) (truth_by q t)
 told-ended d q l rs p e c r outside ss done passing t i h a n k =
     told-of-all q (λ vs. AreFrom vs ss) (ToldIn c q (part_of p) (resolved_of e)) (row_of r ∷ done) t (one-told c q (part_of p) (resolved_of e))
-    (λ vs f. ⊎_elim (λ m. inl m) (λ x. inr (neutral-told d q l rs p e (within c vs) i x)) (walk-ended (NeutralIn d c) r outside ss done passing h (may-pass (resolved_of d) c ss (row_of r) passing (walk-row (NeutralIn d c) r outside ss done h) a) n vs f))
+    (λ vs f. ⊎_elim (λ m. inl m) (λ x. inr (neutral-told d q l rs p e (within c vs) i x))
+    (walk-ended (NeutralIn d c) r outside ss done passing h (may-pass (resolved_of d) c ss (row_of r) passing
+    (walk-row (NeutralIn d c) r outside ss done h) a) n vs f))
     (walk-done (NeutralIn d c) r outside ss done h) k
 
 -- what a builder builds where no row is left
-pub built-ended : (d : Resolved) (l : ℕ) (rs : List Range) (p e : Option Resolved) (c : Context) (r : Rows) (outside ss : List Value) (done : List (List Value)) (passing : Passing) (built : List Value) (o : Outcome) → d ≡ v.Builder l rs p e → WalksOver (NeutralIn d c) r outside ss done
-    → ArePassed (resolved_of d) c (row_of r) passing → Skips passing (row_of r) (ahead r) [] → HasBuilt (FilterIn c (part_of p)) (TermIn c (part_of e)) (row_of r ∷ done) built → IsDisplay built o → IsBuiltOver (λ vs. AreFrom vs ss) (FilterIn c (part_of p)) (TermIn c (part_of e)) o
+pub built-ended : (d : Resolved) (l : ℕ) (rs : List Range) (p e : Option Resolved) (c : Context) (r : Rows) (outside ss : List Value)
+    (done : List (List Value)) (passing : Passing) (built : List Value) (o : Outcome) → d ≡ v.Builder l rs p e → WalksOver (NeutralIn d c) r outside ss done
+    → ArePassed (resolved_of d) c (row_of r) passing → Skips passing (row_of r) (ahead r) []
+    → HasBuilt (FilterIn c (part_of p)) (TermIn c (part_of e)) (row_of r ∷ done) built → IsDisplay built o
+    → IsBuiltOver (λ vs. AreFrom vs ss) (FilterIn c (part_of p)) (TermIn c (part_of e)) o
 built-ended d l rs p e c r outside ss done passing built o i h a n k s =
     built-all (λ vs. AreFrom vs ss) (FilterIn c (part_of p)) (TermIn c (part_of e)) (row_of r ∷ done) built o (one-filter c (part_of p))
-    (λ vs f. ⊎_elim (λ m. inl m) (λ x. inr (neutral-built d l rs p e (within c vs) i x)) (walk-ended (NeutralIn d c) r outside ss done passing h (may-pass (resolved_of d) c ss (row_of r) passing (walk-row (NeutralIn d c) r outside ss done h) a) n vs f))
+    (λ vs f. ⊎_elim (λ m. inl m) (λ x. inr (neutral-built d l rs p e (within c vs) i x))
+    (walk-ended (NeutralIn d c) r outside ss done passing h (may-pass (resolved_of d) c ss (row_of r) passing
+    (walk-row (NeutralIn d c) r outside ss done h) a) n vs f))
     (walk-done (NeutralIn d c) r outside ss done h) k s

@@ -289,7 +289,8 @@ one_quantified q (values ss) P f t u h k = one_over q (λ vs. AreFrom vs ss) P f
 
 -- ---- builders
 
-not_both : (F : List Value → Truth → Type 0) (T : List Value → Outcome → Type 0) → EachOne F → ((vs : List Value) → HasOne (T vs)) → (vs : List Value) → IsWithinBounds F T vs → IsOutOfBounds F T vs → ⊥
+not_both : (F : List Value → Truth → Type 0) (T : List Value → Outcome → Type 0) → EachOne F → ((vs : List Value) → HasOne (T vs)) → (vs : List Value)
+    → IsWithinBounds F T vs → IsOutOfBounds F T vs → ⊥
 not_both F T f g vs h k =
     ⊎_elim (λ a. ⊎_elim (λ x. let e = f vs _ _ a x in (cc)) (λ x. let e = f vs _ _ a x.0 in (cc)) k)
     (λ a. ⊎_elim (λ x. let e = f vs _ _ a.0 x in (cc)) (λ x. ⊎_elim (λ y. let e = g vs _ _ y x.1 in (cc)) (λ y. let e = g vs _ _ y.1 x.1 in (cc)) a.1) k) h
@@ -373,7 +374,8 @@ mutual
   one_truth c (quantified l q rs f t) u w h k =
       let s = one_ranges c rs h.0 k.0 h.1 k.1 in
       one_quantified q k.0 (λ vs z. IsTold q (λ a. IsConstraint (within c vs) f a) (λ b. IsTruth (within c vs) t b) z)
-      (λ vs y z m n. one_told_of q (λ a. IsConstraint (within c vs) f a) (λ b. IsTruth (within c vs) t b) (λ a b. one_constraint (within c vs) f a b) (λ a b. one_truth (within c vs) t a b) y z m n) u w
+      (λ vs y z m n. one_told_of q (λ a. IsConstraint (within c vs) f a) (λ b. IsTruth (within c vs) t b) (λ a b. one_constraint (within c vs) f a b)
+      (λ a b. one_truth (within c vs) t a b) y z m n) u w
       (subst (λ x. IsQuantified q x (λ vs z. IsTold q (λ a. IsConstraint (within c vs) f a) (λ b. IsTruth (within c vs) t b) z) u) s h.2) k.2
   one_truth c (reference l r) u w h k = h ∙ sym k
   one_truth c (number l n) u w h k = h ∙ sym k

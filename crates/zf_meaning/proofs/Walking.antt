@@ -21,7 +21,8 @@ have_distinct : (ss : List Value) → Every (λ s. IsAscending (members s)) ss �
 have_distinct [] h = tt
 have_distinct (s ∷ ss) h = (distinct (members s) h.0, have_distinct ss h.1)
 
-pub walk-begun : (N : List Value → Type 0) (r : Rows) (outside ss : List Value) (lists : List (List Value)) → lists ≡ map members ss → Every (λ s. IsAscending (members s)) ss → IsFirst outside lists r → WalksOver N r outside ss []
+pub walk-begun : (N : List Value → Type 0) (r : Rows) (outside ss : List Value) (lists : List (List Value)) → lists ≡ map members ss
+    → Every (λ s. IsAscending (members s)) ss → IsFirst outside lists r → WalksOver N r outside ss []
 walk-begun N r outside ss lists e h f = record {
   at = f.0;
   lists = f.1 ∙ e;
@@ -33,14 +34,18 @@ abbrev pub MayPass : (List Value → Type 0) → List Value → List Value → P
 MayPass N ss row passing = (vs : List Value) → AreFrom vs ss → IsPassed passing row vs → (vs ≡ row) ⊎ N vs
 
 -- of those that are left out each may be
-walk-passed : (N : List Value → Type 0) (r : Rows) (outside ss : List Value) (done rest : List (List Value)) (passing : Passing) → WalksOver N r outside ss done → MayPass N ss (row_of r) passing → Skips passing (row_of r) (ahead r) rest → IsMidway N (all_rows (map members ss)) (row_of r ∷ done) rest
+walk-passed : (N : List Value → Type 0) (r : Rows) (outside ss : List Value) (done rest : List (List Value)) (passing : Passing)
+    → WalksOver N r outside ss done → MayPass N ss (row_of r) passing → Skips passing (row_of r) (ahead r) rest
+    → IsMidway N (all_rows (map members ss)) (row_of r ∷ done) rest
 walk-passed N r outside ss done rest passing h f s =
     let m = midway.step N (all_rows (map members ss)) done (ahead r) (row_of r) h.midway in
     midway.skip N (all_rows (map members ss)) (row_of r ∷ done) (ahead r) rest
-    (λ vs a. ⊎_elim (λ e. ⊎_elim (λ same. absurd (h.midway.apart.0 (subst (λ us. IsAmong us (ahead r)) same a))) (λ n. inl n) (f vs (among-row ss vs (m.come vs a)) e)) (λ b. inr b) (passed-or-left passing (row_of r) (ahead r) rest vs s a))
+    (λ vs a. ⊎_elim (λ e. ⊎_elim (λ same. absurd (h.midway.apart.0 (subst (λ us. IsAmong us (ahead r)) same a))) (λ n. inl n)
+    (f vs (among-row ss vs (m.come vs a)) e)) (λ b. inr b) (passed-or-left passing (row_of r) (ahead r) rest vs s a))
     (λ vs a. left-ahead passing (row_of r) (ahead r) rest vs s a) (left-apart passing (row_of r) (ahead r) rest s h.midway.apart.1) m
 
-pub walk-next : (N : List Value → Type 0) (old new : Rows) (outside ss : List Value) (done : List (List Value)) (passing : Passing) → WalksOver N old outside ss done → MayPass N ss (row_of old) passing → IsNext outside passing old new → WalksOver N new outside ss (row_of old ∷ done)
+pub walk-next : (N : List Value → Type 0) (old new : Rows) (outside ss : List Value) (done : List (List Value)) (passing : Passing)
+    → WalksOver N old outside ss done → MayPass N ss (row_of old) passing → IsNext outside passing old new → WalksOver N new outside ss (row_of old ∷ done)
 walk-next N old new outside ss done passing h f n = record {
   at = n.0;
   lists = n.1 ∙ h.lists;
@@ -48,14 +53,16 @@ walk-next N old new outside ss done passing h f n = record {
 }
 
 -- where none is left, each row is done, the one that it is at, or may be passed
-pub walk-ended : (N : List Value → Type 0) (r : Rows) (outside ss : List Value) (done : List (List Value)) (passing : Passing) → WalksOver N r outside ss done → MayPass N ss (row_of r) passing → Skips passing (row_of r) (ahead r) [] → (vs : List Value) → AreFrom vs ss → IsAmong vs (row_of r ∷ done) ⊎ N vs
+pub walk-ended : (N : List Value → Type 0) (r : Rows) (outside ss : List Value) (done : List (List Value)) (passing : Passing) → WalksOver N r outside ss done
+    → MayPass N ss (row_of r) passing → Skips passing (row_of r) (ahead r) [] → (vs : List Value) → AreFrom vs ss → IsAmong vs (row_of r ∷ done) ⊎ N vs
 walk-ended N r outside ss done passing h f s vs k =
     midway.ended N (all_rows (map members ss)) (row_of r ∷ done) (walk-passed N r outside ss done [] passing h f s) vs (row-among ss vs k)
 
 pub walk-row : (N : List Value → Type 0) (r : Rows) (outside ss : List Value) (done : List (List Value)) → WalksOver N r outside ss done → AreFrom (row_of r) ss
 walk-row N r outside ss done h = among-row ss (row_of r) (midway.is_next N _ _ _ _ h.midway)
 
-pub walk-done : (N : List Value → Type 0) (r : Rows) (outside ss : List Value) (done : List (List Value)) → WalksOver N r outside ss done → (vs : List Value) → IsAmong vs (row_of r ∷ done) → AreFrom vs ss
+pub walk-done : (N : List Value → Type 0) (r : Rows) (outside ss : List Value) (done : List (List Value)) → WalksOver N r outside ss done → (vs : List Value)
+    → IsAmong vs (row_of r ∷ done) → AreFrom vs ss
 walk-done N r outside ss done h vs m = ⊎_elim (λ e. subst (λ us. AreFrom us ss) e (walk-row N r outside ss done h)) (λ a. among-row ss vs (h.midway.were vs a)) m
 
 pub walk-new : (N : List Value → Type 0) (r : Rows) (outside ss : List Value) (done : List (List Value)) → WalksOver N r outside ss done → IsAmong (row_of r) done → ⊥

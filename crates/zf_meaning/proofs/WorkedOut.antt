@@ -31,14 +31,16 @@ further e o = record { globals = e.globals; sizes = e.sizes; outcomes = e.outcom
 same_before : (e : Environment) (o : Outcome) (i : ℕ) → i < length e.outcomes → before (further e o) i ≡ before e i
 same_before e o i l = ap (λ os. record { globals = e.globals; sizes = e.sizes; outcomes = os; numbers = e.numbers }) (take-append-le i e.outcomes (o ∷ []) (omega arith))
 
-pub one-worked_out : (n : ℕ) (e : Environment) (o : Outcome) → AreWorkedOutTo n e → ((d : Defined) → slice_get e.globals n ≡ Some d → IsOutcomeOf e d.definition o) → AreWorkedOutTo (n + 1) (further e o)
+pub one-worked_out : (n : ℕ) (e : Environment) (o : Outcome) → AreWorkedOutTo n e
+    → ((d : Defined) → slice_get e.globals n ≡ Some d → IsOutcomeOf e d.definition o) → AreWorkedOutTo (n + 1) (further e o)
 one-worked_out n e o h f = record {
   count = length-append e.outcomes (o ∷ []) ∙ ap (λ k. k + 1) h.count;
   each = λ i d l g. ⊎_elim
       (λ b. let w = h.each i d b g in let k : i < length e.outcomes = omega (arith, h.count) in
       (w.0, get_before e.outcomes (o ∷ []) i k ∙ w.1, subst (λ x. IsOutcomeOf x d.definition w.0) (sym (same_before e o i k)) w.2))
       (λ a. let m : i ≡ length e.outcomes = a ∙ sym h.count in
-      let all : before (further e o) i ≡ e = ap (λ os. record { globals = e.globals; sizes = e.sizes; outcomes = os; numbers = e.numbers }) (ap (λ k. take k (e.outcomes ++ o ∷ [])) m ∙ take-append_seam e.outcomes (o ∷ [])) in
+      let all : before (further e o) i ≡ e = ap (λ os. record { globals = e.globals; sizes = e.sizes; outcomes = os; numbers = e.numbers })
+      (ap (λ k. take k (e.outcomes ++ o ∷ [])) m ∙ take-append_seam e.outcomes (o ∷ [])) in
       (o, ap (slice_get (e.outcomes ++ o ∷ [])) m ∙ get_last e.outcomes o, subst (λ x. IsOutcomeOf x d.definition o) (sym all) (f d (ap (slice_get e.globals) (sym a) ∙ g))))
       (below_or_at i n l);
 }

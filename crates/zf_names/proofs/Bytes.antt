@@ -54,7 +54,8 @@ run_named run n [] h = refl
 run_named run n (b ∷ []) h = both_true (is_in_name b) true (n.one b h) refl
 run_named run n (b ∷ c ∷ bs) h = by (is_one run b) refl (run_named run n (c ∷ bs)) (run_named run n bs)
   where
-    by : (t : Bool) → is_one run b ≡ t → (is_run run (c ∷ bs) ≡ true → list_all is_in_name (c ∷ bs) ≡ true) → (is_run run bs ≡ true → list_all is_in_name bs ≡ true) → list_all is_in_name (b ∷ c ∷ bs) ≡ true
+    by : (t : Bool) → is_one run b ≡ t → (is_run run (c ∷ bs) ≡ true → list_all is_in_name (c ∷ bs) ≡ true)
+        → (is_run run bs ≡ true → list_all is_in_name bs ≡ true) → list_all is_in_name (b ∷ c ∷ bs) ≡ true
     by true e one two =
         let more : is_run run (c ∷ bs) ≡ true = rw e at h in
         both_true (is_in_name b) (list_all is_in_name (c ∷ bs)) (n.one b e) (one more)

@@ -33,7 +33,8 @@ name_left {most = most} {made = made} n h l =
     let m = subst (Left most made) h l in
     (m.spelled.0 n.base n.strokes refl, record { spelled = m.spelled.1; room = omega (arith, m.room) })
 
-names_left : {most : ℕ} (kind : Kind) (ns : List Name) (made : ℕ) {ts us : List Symbol} → PartedBy kind SpellsName ns ts us → Left most made ts → AreNames (map spelling ns) × Left most (made + length ns) us
+names_left : {most : ℕ} (kind : Kind) (ns : List Name) (made : ℕ) {ts us : List Symbol} → PartedBy kind SpellsName ns ts us → Left most made ts
+    → AreNames (map spelling ns) × Left most (made + length ns) us
 names_left kind [] made h l = absurd h
 names_left kind (n ∷ []) made h l =
     let one = name_left n h l in

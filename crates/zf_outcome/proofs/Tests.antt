@@ -25,7 +25,8 @@ number-rises : (a : ℤ) (i j : ℕ) → i < j → value_order (Int (a +ℤ pos 
 number-rises a i j l =
     let m = a +ℤ pos i in
     let n = a +ℤ pos j in
-    cmp_is (Int m) (Int n) ∙ ap (λ x. level_order value_order x (out-Value (Int n))) (outs-Int m) ∙ ap (level_order value_order (Value-F.Int m)) (outs-Int n) ∙ sym (int_cmp_is m n Less (omega (arith, ints, l)))
+    cmp_is (Int m) (Int n) ∙ ap (λ x. level_order value_order x (out-Value (Int n))) (outs-Int m) ∙ ap (level_order value_order (Value-F.Int m)) (outs-Int n)
+    ∙ sym (int_cmp_is m n Less (omega (arith, ints, l)))
 
 -- so many numbers from a on are those to b
 numbers-there : (a b : ℤ) (k : ℕ) → (a +ℤ pos k) ≡ (b +ℤ pos 1) → k ≤ SET_MAX → IsInterval a b (Is (SetOf (number_list a k)))
@@ -81,7 +82,8 @@ plain-within d f b e h = subst (λ k. IsTrue b ⊎ IsWithin k) (sym e) (within-b
 pub power-within : (d : Described) (s : Value) (b : Bool) → d ≡ Power s → IsTrue b ↔ IsPower (members s) Out → IsTrue b ⊎ IsThere (IsPower (members s)) → IsTrue b ⊎ IsWithin d
 power-within d s b e h t = subst (λ k. IsTrue b ⊎ IsWithin k) (sym e) (within-there (Power s) b h t)
 
-pub arrows-within : (d : Described) (kind : Arrow) (x y : Value) (b : Bool) → d ≡ Arrows kind x y → IsTrue b ↔ ArrowOutcome kind x y Out → IsTrue b ⊎ IsThere (ArrowOutcome kind x y) → IsTrue b ⊎ IsWithin d
+pub arrows-within : (d : Described) (kind : Arrow) (x y : Value) (b : Bool) → d ≡ Arrows kind x y → IsTrue b ↔ ArrowOutcome kind x y Out
+    → IsTrue b ⊎ IsThere (ArrowOutcome kind x y) → IsTrue b ⊎ IsWithin d
 arrows-within d kind x y b e h t = subst (λ k. IsTrue b ⊎ IsWithin k) (sym e) (within-there (Arrows kind x y) b h t)
 
 pub interval-within : (d : Described) (m n : ℤ) (b : Bool) → d ≡ Interval m n → IsTrue b ↔ IsInterval m n Out → IsTrue b ⊎ IsWithin d
@@ -91,7 +93,8 @@ interval-within d m n b e h = subst (λ k. IsTrue b ⊎ IsWithin k) (sym e) (at 
     at true g = inl refl
     at false g = let t = interval-there m n (λ q. false≢true (g.1 q)) in inr (Is t.0, t.1, λ q. false≢true (g.1 q))
 
-pub product-within : (d : Described) (sets : Vec Value Global) (xs : List Value) (b : Bool) → d ≡ Product sets → xs ≡ sets.items → IsTrue b ↔ IsCross xs Out → IsTrue b ⊎ IsThere (IsCross xs) → IsTrue b ⊎ IsWithin d
+pub product-within : (d : Described) (sets : Vec Value Global) (xs : List Value) (b : Bool) → d ≡ Product sets → xs ≡ sets.items → IsTrue b ↔ IsCross xs Out
+    → IsTrue b ⊎ IsThere (IsCross xs) → IsTrue b ⊎ IsWithin d
 product-within d sets xs b e s h t =
     subst (λ k. IsTrue b ⊎ IsWithin k) (sym e) (within-there (Product sets) b (subst (λ ys. IsTrue b ↔ IsCross ys Out) s h) (subst (λ ys. IsTrue b ⊎ IsThere (IsCross ys)) s t))
 
@@ -257,6 +260,7 @@ undefined-unbuilt d r u h = undefined-in (IsDescribed d) r (there d u h)
 pub lost-unbuilt : (d : Described) (r : Relation) → IsUnbuilt d → IsWithin d → IsTruthIn (IsDescribed d) r Out truth.Out
 lost-unbuilt d r u h = lost-in (IsDescribed d) r (there d u h)
 
-pub value-unbuilt : (d : Described) (r : Relation) (v : Value) (b : Bool) → IsTrue (is_membership r) → IsUnbuilt d → IsWithin d → IsTrue b ↔ IsInDescribed d v → IsTruthIn (IsDescribed d) r (Is v) (told_in r b)
+pub value-unbuilt : (d : Described) (r : Relation) (v : Value) (b : Bool) → IsTrue (is_membership r) → IsUnbuilt d → IsWithin d → IsTrue b ↔ IsInDescribed d v
+    → IsTruthIn (IsDescribed d) r (Is v) (told_in r b)
 unfolding IsInDescribed
 value-unbuilt d r v b m u h k = value-in (IsDescribed d) r v b m (there d u h) k

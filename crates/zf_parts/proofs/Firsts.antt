@@ -28,13 +28,18 @@ module _ (places : List ℕ) where
   some_first (e ∷ events) values o y m has =
       go (one_or_other (values_at places e.row) values) (λ later. some_first events values (AllPairs-tail (λ (f g : Event Value). ComesAfter value_order f.row g.row) e events o) y later has)
     where
-      go : (values_at places e.row ≡ values) ⊎ (values_at places e.row ≡ values → ⊥) → (Contains events y → (x : Event Value) × IsFirstWith places events values x) → (x : Event Value) × IsFirstWith places (e ∷ events) values x
+      go : (values_at places e.row ≡ values) ⊎ (values_at places e.row ≡ values → ⊥)
+          → (Contains events y → (x : Event Value) × IsFirstWith places events values x) → (x : Event Value) × IsFirstWith places (e ∷ events) values x
       go (inl same) ih = (
         e,
         record {
           event = Contains-head e events;
           has = same;
-          first = λ z n q. elim (Contains-cases e events z n) [ inl is ↦ inl (sym is) | inr later ↦ inr (AllPairs-head (λ (f g : Event Value). ComesAfter value_order f.row g.row) e events o z later) ];
+          first = λ z n q. elim (Contains-cases e events z n) [
+            | inl is ↦ inl (sym is)
+            | inr later ↦ inr
+                (AllPairs-head (λ (f g : Event Value). ComesAfter value_order f.row g.row) e events o z later)
+          ];
         },
       )
       go (inr other) ih = elim (Contains-cases e events y m) [

@@ -15,7 +15,8 @@ module _ (places : List ℕ) (after : Option (List Value)) where
     members = λ p. ((λ m. absurd (Contains-nil p m)), (λ h. let first = h.0 in absurd (Contains-nil p.first first.event)));
   }
 
-  module _ (events : List (Event Value)) (e : Event Value) (last : (x : Event Value) → Contains events x → ComesAfter value_order x.row e.row) (parts : List Part) (h : AreParts places after events parts) where
+  module _ (events : List (Event Value)) (e : Event Value) (last : (x : Event Value) → Contains events x
+      → ComesAfter value_order x.row e.row) (parts : List Part) (h : AreParts places after events parts) where
     abbrev pub values : List Value
     values = values_at places e.row
 

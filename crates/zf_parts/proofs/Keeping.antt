@@ -47,7 +47,8 @@ module _ (values : List Value) where
       | inr n ↦ ih n
     ]
 
-    go : (o : Ordering) → slice_cmp value_order values entry.0 ≡ o → is_some (cond (is_eq o) (Some entry.1) (found values entries)) ≡ false → (is_some (found values entries) ≡ false → Contains parts p → ⊥) → ⊥
+    go : (o : Ordering) → slice_cmp value_order values entry.0 ≡ o → is_some (cond (is_eq o) (Some entry.1) (found values entries)) ≡ false
+        → (is_some (found values entries) ≡ false → Contains parts p → ⊥) → ⊥
     go Less is k ih = apart Less is (λ f. cc) (ih k)
     go Equal is k ih = absurd (false≢true (sym k))
     go Greater is k ih = apart Greater is (λ f. cc) (ih k)
@@ -99,7 +100,8 @@ module _ (places : List ℕ) (after : Option (List Value)) (row : List Value) (i
         let none : HasNone (values_at places row) parts = subst (λ vs. HasNone vs parts) is (no_key values parts entries k absent) in (
           put part parts,
           is_new places after events (event_of row is_out) last parts h o (subst (IsLater value_order after) is later) none,
-          subst (AreKeptAs (put part parts)) (sym (inserted ∙ ap (λ vs. insert_entry (slice_cmp value_order) entries vs out) is ∙ ap (insert_entry (slice_cmp value_order) entries (values_at places row)) of))
+          subst (AreKeptAs (put part parts)) (sym (inserted ∙ ap (λ vs. insert_entry (slice_cmp value_order) entries vs out) is
+              ∙ ap (insert_entry (slice_cmp value_order) entries (values_at places row)) of))
               (put_kept part (cond is_out (Some row) None) (as_kept is_out) parts entries none k),
         ) where
           part : Part

@@ -31,7 +31,8 @@ module _ (p : Part) where
   pub in_put : (parts : List Part) → HasNone p.values parts → (r : Part) → Contains (put p parts) r → (p ≡ r) ⊎ Contains parts r
   in_put [] none r m = Contains-cases p [] r m
   in_put (q ∷ parts) none r m = go (slice_cmp value_order p.values q.values) refl m (in_put parts (λ s l. none s (Contains-later q parts s l)) r) where
-    go : (o : Ordering) → slice_cmp value_order p.values q.values ≡ o → Contains (match_ordering o (p ∷ q ∷ parts) (p ∷ parts) (q ∷ put p parts)) r → (Contains (put p parts) r → (p ≡ r) ⊎ Contains parts r) → (p ≡ r) ⊎ Contains (q ∷ parts) r
+    go : (o : Ordering) → slice_cmp value_order p.values q.values ≡ o → Contains (match_ordering o (p ∷ q ∷ parts) (p ∷ parts) (q ∷ put p parts)) r
+        → (Contains (put p parts) r → (p ≡ r) ⊎ Contains parts r) → (p ≡ r) ⊎ Contains (q ∷ parts) r
     go Less e n ih = Contains-cases p (q ∷ parts) r n
     go Equal e n ih = absurd (none q (Contains-head q parts) (sym (same_row p.values q.values e)))
     go Greater e n ih = elim (Contains-cases q (put p parts) r n) [
@@ -43,7 +44,8 @@ module _ (p : Part) where
   put_in [] none r (inl same) = subst (Contains (p ∷ [])) same (Contains-head p [])
   put_in [] none r (inr m) = absurd (Contains-nil r m)
   put_in (q ∷ parts) none r m = go (slice_cmp value_order p.values q.values) refl (put_in parts (λ s l. none s (Contains-later q parts s l)) r) where
-    go : (o : Ordering) → slice_cmp value_order p.values q.values ≡ o → ((p ≡ r) ⊎ Contains parts r → Contains (put p parts) r) → Contains (match_ordering o (p ∷ q ∷ parts) (p ∷ parts) (q ∷ put p parts)) r
+    go : (o : Ordering) → slice_cmp value_order p.values q.values ≡ o → ((p ≡ r) ⊎ Contains parts r → Contains (put p parts) r)
+        → Contains (match_ordering o (p ∷ q ∷ parts) (p ∷ parts) (q ∷ put p parts)) r
     go Less e ih = elim m [ inl same ↦ subst (Contains (p ∷ q ∷ parts)) same (Contains-head p (q ∷ parts)) | inr n ↦ Contains-later p (q ∷ parts) r n ]
     go Equal e ih = absurd (none q (Contains-head q parts) (sym (same_row p.values q.values e)))
     go Greater e ih = elim m [

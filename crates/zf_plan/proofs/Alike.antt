@@ -26,7 +26,8 @@ module _ {V : Type 0} (cmp : V → V → Ordering) (s r : Conjuncts V) (same : S
   pub event_of : (ranges : List (List V)) (after : Option (List V)) (e : Event V) → IsEvent cmp s ranges after e → IsEvent cmp r ranges after e
   event_of ranges after e h = record { within = h.within; later = h.later; truth_of = truth_of e.row e.truth h.truth_of; not_false = h.not_false }
 
-pub same_events : {V : Type 0} (cmp : V → V → Ordering) (s r : Conjuncts V) → SayTheSame s r → (ranges : List (List V)) (after : Option (List V)) (e : Event V) → IsEvent cmp s ranges after e ↔ IsEvent cmp r ranges after e
+pub same_events : {V : Type 0} (cmp : V → V → Ordering) (s r : Conjuncts V) → SayTheSame s r → (ranges : List (List V)) (after : Option (List V)) (e : Event V)
+    → IsEvent cmp s ranges after e ↔ IsEvent cmp r ranges after e
 same_events cmp s r same ranges after e = (event_of cmp s r same ranges after e, event_of cmp r s (turned s r same) ranges after e)
 
 module _ {V : Type 0} (cmp : V → V → Ordering) (s r : Conjuncts V) (same : SayTheSame s r) (ranges : List (List V)) (after : Option (List V)) where

@@ -71,7 +71,8 @@ module _ {V : Type 0} (l : Conjuncts V) (uses : ℕ → ℕ → Bool) (trees : L
 
 -- ---- rows that agree
 
-module _ {V : Type 0} (ranges : List (List V)) (places others : List ℕ) (w : AreWithin ranges places) (v : AreWithin ranges others) (long : length others ≡ length places) (word : ℕ) (alike : AreAlike word places others) where
+module _ {V : Type 0} (ranges : List (List V)) (places others : List ℕ) (w : AreWithin ranges places) (v : AreWithin ranges others)
+    (long : length others ≡ length places) (word : ℕ) (alike : AreAlike word places others) where
   same-alike : (more : List V) (i : ℕ) → (length places ≤ i) ⊎ HasBit word i → slice_get (picked ranges places ++ more) i ≡ slice_get (picked ranges others ++ more) i
   same-alike more i h = elim (cases_lt i (length places)) [
     | inr far ↦ get-right (picked ranges places) (picked ranges others) more i
@@ -101,10 +102,12 @@ module _ {V : Type 0} (l : Conjuncts V) (uses : ℕ → ℕ → Bool) (follow : 
 module _ {V : Type 0} (ranges : List (List V)) (row : List V) (m : IsRowOf ranges row) where
   one-more : (n : ℕ) (others : List ℕ) (tail : List V) → AreWithin ranges others → length others ≡ n → n < length ranges → picked ranges others ++ tail ≡ row
       → (i : ℕ) × (v : V) × (rest : List V) × IsNth (get_or ranges n []) i v × (tail ≡ v ∷ rest)
-  one-more n others tail w long near is = go tail (subst (λ rs. IsRowOf rs tail) (ap (λ k. drop k ranges) (length-picked ranges others w ∙ long) ∙ drop_more ranges n [] near) (tail-row (picked ranges others) tail ranges (subst (IsRowOf ranges) (sym is) m))) where
-    go : (tail : List V) → IsRowOf (get_or ranges n [] ∷ drop (n + 1) ranges) tail → (i : ℕ) × (v : V) × (rest : List V) × IsNth (get_or ranges n []) i v × (tail ≡ v ∷ rest)
-    go [] t = absurd t
-    go (v ∷ rest) t = let h = nth (get_or ranges n []) v t.0 in (h.0, v, rest, h.1, refl)
+  one-more n others tail w long near is = go tail (subst (λ rs. IsRowOf rs tail)
+      (ap (λ k. drop k ranges) (length-picked ranges others w ∙ long) ∙ drop_more ranges n [] near)
+      (tail-row (picked ranges others) tail ranges (subst (IsRowOf ranges) (sym is) m))) where
+        go : (tail : List V) → IsRowOf (get_or ranges n [] ∷ drop (n + 1) ranges) tail → (i : ℕ) × (v : V) × (rest : List V) × IsNth (get_or ranges n []) i v × (tail ≡ v ∷ rest)
+        go [] t = absurd t
+        go (v ∷ rest) t = let h = nth (get_or ranges n []) v t.0 in (h.0, v, rest, h.1, refl)
 
   record Reached (first : List ℕ) (d n : ℕ) : Type 0 where
     pub others : List ℕ
@@ -143,8 +146,10 @@ AreBarren {V} l trees ranges word places d = (first : List ℕ) → AreWithin ra
     → IsFailed l trees (picked ranges first ++ more)
 
 -- a row that a conjunct refutes is to be blamed on what that uses
-module _ {V : Type 0} (l : Conjuncts V) (uses : ℕ → ℕ → Bool) (trees : List Tree) (ranges : List (List V)) (follow : FollowUsed l uses) (due : AreDueWithin l (length ranges)) (leaves : HaveLeavesWithin l.number trees) where
-  pub refuted-barren : (word : ℕ) (places : List ℕ) (d : ℕ) → AreWithin ranges (take d places) → length (take d places) ≡ d → Covers l uses trees d (length trees) word → IsRefuted l trees (picked ranges (take d places)) → AreBarren l trees ranges word places d
+module _ {V : Type 0} (l : Conjuncts V) (uses : ℕ → ℕ → Bool) (trees : List Tree) (ranges : List (List V)) (follow : FollowUsed l uses)
+    (due : AreDueWithin l (length ranges)) (leaves : HaveLeavesWithin l.number trees) where
+  pub refuted-barren : (word : ℕ) (places : List ℕ) (d : ℕ) → AreWithin ranges (take d places) → length (take d places) ≡ d
+      → Covers l uses trees d (length trees) word → IsRefuted l trees (picked ranges (take d places)) → AreBarren l trees ranges word places d
   refuted-barren word places d w long covers r first v e alike more m =
       let here = take d places in
       let near : length first ≡ length here = e ∙ sym long in
@@ -196,10 +201,12 @@ module _ {V : Type 0} (l : Conjuncts V) (trees : List Tree) (ranges : List (List
       elim (cases_eq i (get_or places k 0)) [
         | inl here ↦
             let inside : i < length (get_or ranges k []) = slice_get_within (get_or ranges k []) i v at in
-            let n : IsNth (get_or ranges (length others) []) i v = subst (λ j. IsNth (get_or ranges j []) i v) (sym long) (record { within = inside; is = get_or_from_slice_get (get_or ranges k []) i v v at }) in
+            let n : IsNth (get_or ranges (length others) []) i v = subst (λ j. IsNth (get_or ranges j []) i v) (sym long)
+            (record { within = inside; is = get_or_from_slice_get (get_or ranges k []) i v v at }) in
             let short : length others < length ranges = omega (arith, long, near) in
             let first = others ++ i ∷ [] in
-            let joined : picked ranges first ++ more ≡ picked ranges others ++ v ∷ more = ap (λ r. r ++ more) (picked-push ranges others i v w short n) ∙ append_assoc (picked ranges others) (v ∷ []) more in
+            let joined : picked ranges first ++ more ≡ picked ranges others ++ v ∷ more = ap (λ r. r ++ more) (picked-push ranges others i v w short n)
+            ∙ append_assoc (picked ranges others) (v ∷ []) more in
             subst (IsFailed l trees) joined
             (barren first (AreWithin-push ranges others i v w short n) (omega (arith, long, length-append others (i ∷ [])))
             (subst (λ p. AreAlike word places (others ++ p ∷ [])) (sym here) (alike-more word others long also)) more (subst (IsRowOf ranges) (sym joined) m))
@@ -221,7 +228,8 @@ module _ {V : Type 0} (l : Conjuncts V) (trees : List Tree) (ranges : List (List
   blamed-open places k n choice mark is_open closed = absurd (let z : true ≡ false = sym is_open ∙ closed in cc)
 
   -- up to the next chosen value
-  pub blamed-skips : (places : List ℕ) (k n next : ℕ) (choice : Option (List ℕ)) (mark : Mark) → IsNextChoice choice n next → IsBlamed l trees ranges places k n choice mark → IsBlamed l trees ranges places k next choice mark
+  pub blamed-skips : (places : List ℕ) (k n next : ℕ) (choice : Option (List ℕ)) (mark : Mark) → IsNextChoice choice n next
+      → IsBlamed l trees ranges places k n choice mark → IsBlamed l trees ranges places k next choice mark
   blamed-skips places k n next choice mark skips h closed others w long alike i v more at out row = h closed others w long alike i v more at
       (elim out [
         | inl low ↦ elim (cases_lt i n) [ inl here ↦ inl here | inr far ↦ inr (skips.skipped i far low) ]
@@ -239,7 +247,8 @@ module _ {V : Type 0} (l : Conjuncts V) (trees : List Tree) (ranges : List (List
       let rest : take n xs ≡ take n ys = take-same n xs ys (omega arith) (omega arith) (λ i low. h (suc i) (omega arith)) in cc
 
   -- those that are left out are to be blamed on what the choice was made of
-  pub blamed-choice : (places : List ℕ) (k due : ℕ) (choice : Option (List ℕ)) (mark : Mark) → length (take k places) ≡ k → due ≤ k → ((i : ℕ) → i < due → HasBit mark.blame i) → StaysChoice l trees ranges k due (take k places) choice
+  pub blamed-choice : (places : List ℕ) (k due : ℕ) (choice : Option (List ℕ)) (mark : Mark) → length (take k places) ≡ k → due ≤ k
+      → ((i : ℕ) → i < due → HasBit mark.blame i) → StaysChoice l trees ranges k due (take k places) choice
       → IsBlamed l trees ranges places k 0 choice mark
   blamed-choice places k due choice mark all few bits stays closed others w long alike i v more at out m = elim out [
     | inl low ↦ absurd (omega arith)

@@ -31,7 +31,8 @@ pub record Basis {V : Type 0} (cmp : V → V → Ordering) (l : Conjuncts V) (ra
   pub named : HasLength after (length ranges)
 
 -- the value behind a road is of the range there
-in-range : {V : Type 0} (road : List V) (v : V) (tail : List V) (ranges : List (List V)) → IsRowOf (take (length (road ++ v ∷ tail)) ranges) (road ++ v ∷ tail) → Contains (get_or ranges (length road) []) v
+in-range : {V : Type 0} (road : List V) (v : V) (tail : List V) (ranges : List (List V)) → IsRowOf (take (length (road ++ v ∷ tail)) ranges) (road ++ v ∷ tail)
+    → Contains (get_or ranges (length road) []) v
 in-range [] v tail [] m = absurd m
 in-range [] v tail (r ∷ ranges) m = m.0
 in-range (x ∷ road) v tail [] m = absurd m
@@ -58,7 +59,8 @@ module _ {V : Type 0} {cmp : V → V → Ordering} {l : Conjuncts V} {ranges : L
   abbrev pub Passed : List V → (List V → Bool) → List V × ℕ → Type 0
   Passed road F x = Walked x × (under cmp road F x.0 ≡ false)
 
-  pub count-same : (road : List V) (F G : List V → Bool) (number : ℕ) → ((tail : List V) (c : ℕ) → Walked (road ++ tail, c) → F tail ≡ G tail) → IsCount (Passed road F) number → IsCount (Passed road G) number
+  pub count-same : (road : List V) (F G : List V → Bool) (number : ℕ) → ((tail : List V) (c : ℕ) → Walked (road ++ tail, c) → F tail ≡ G tail)
+      → IsCount (Passed road F) number → IsCount (Passed road G) number
   count-same road F G number h k = number-same (Passed road F) (Passed road G) number (λ x w. (w.0, sym (equal x w.0) ∙ w.1)) (λ x w. (w.0, equal x w.0 ∙ w.1)) k where
     equal : (x : List V × ℕ) → Walked x → under cmp road F x.0 ≡ under cmp road G x.0
     equal x w = same-under cmp given.total given.ties road F G x.0 (λ tail is. h tail x.1 (subst (λ r. Walked (r, x.1)) (sym is) w))
@@ -246,7 +248,8 @@ module _ {V : Type 0} {cmp : V → V → Ordering} {l : Conjuncts V} {ranges : L
         subst (λ i. Contains (get_or ranges i []) v) front-long (in-range front v tail ranges candidate.front)
 
     -- two tests that hold of the values from one place on
-    meet : (f : ℕ) (F G : List V → Bool) → IsFrontier (get_or ranges k []) f F → IsFrontier (get_or ranges k []) f G → (v : V) (tail : List V) → Contains (get_or ranges k []) v → F (v ∷ tail) ≡ G (v ∷ tail)
+    meet : (f : ℕ) (F G : List V → Bool) → IsFrontier (get_or ranges k []) f F → IsFrontier (get_or ranges k []) f G → (v : V) (tail : List V)
+        → Contains (get_or ranges k []) v → F (v ∷ tail) ≡ G (v ∷ tail)
     meet f F G a b v tail m = let n = nth (get_or ranges k []) v m in elim (cases_lt n.0 f) [
       | inl low ↦ a.behind n.0 v tail n.1 low ∙ sym (b.behind n.0 v tail n.1 low)
       | inr high ↦ a.ahead n.0 v tail n.1 high ∙ sym (b.ahead n.0 v tail n.1 high)
@@ -286,7 +289,8 @@ module _ {V : Type 0} {cmp : V → V → Ordering} {l : Conjuncts V} {ranges : L
       counts-landed tests (number, count, is) (found, seen, inr (high, ps, d, fr, marks)) =
           let there : bound q ≡ take k p.places.items = ap (λ j. take j q.places.items) d ∙ ap (take k) ps in (
             number,
-            subst (λ b. IsCount (Passed (picked ranges (bound q)) (λ tail. b)) number) (sym fr) (subst (λ ps. IsCount (Passed (picked ranges ps) none_of) number) (sym there) (past-row high number count)),
+            subst (λ b. IsCount (Passed (picked ranges (bound q)) (λ tail. b)) number) (sym fr)
+                (subst (λ ps. IsCount (Passed (picked ranges ps) none_of) number) (sym there) (past-row high number count)),
             is,
           )
 
@@ -298,7 +302,8 @@ module _ {V : Type 0} {cmp : V → V → Ordering} {l : Conjuncts V} {ranges : L
   below-first range = record { ahead = λ m v tail n h. refl; behind = λ m v tail n h. absurd (omega arith) }
 
   pub counts-descends : (p q : Place) (tests : ℕ) → IsAt ranges p → p.depth < length ranges → AllPairs (λ v w. cmp v w ≡ Less) (get_or ranges p.depth [])
-      → Counts cmp l ranges after (path ranges p) below_it tests → LandsNext (length (get_or ranges p.depth [])) None p.depth 0 p q → Counts cmp l ranges after (picked ranges (bound q)) (λ tail. q.fresh) tests
+      → Counts cmp l ranges after (path ranges p) below_it tests → LandsNext (length (get_or ranges p.depth [])) None p.depth 0 p q
+      → Counts cmp l ranges after (picked ranges (bound q)) (λ tail. q.fresh) tests
   counts-descends p q tests at near rising count (next, n, lands) =
       counts-landed p q at p.depth (omega arith) near rising 0 below_it (below-first (get_or ranges p.depth [])) refl tests count
       (subst (λ f. Lands (length (get_or ranges p.depth [])) p.depth f p q) (next-is 0 next n) lands)
@@ -345,7 +350,8 @@ module _ {V : Type 0} {cmp : V → V → Ordering} {l : Conjuncts V} {ranges : L
 
   module _ (places : List ℕ) (within : AreWithin ranges places) (tests : ℕ) where
     -- all tests behind a whole row are those up to it
-    pub tests-up_to : length places ≡ length ranges → Counts cmp l ranges after (picked ranges places) none_of tests → (number : ℕ) × IsNumberOfTests cmp l ranges after (Some (picked ranges places)) number × (tests ≡ cut number)
+    pub tests-up_to : length places ≡ length ranges → Counts cmp l ranges after (picked ranges places) none_of tests → (number : ℕ)
+        × IsNumberOfTests cmp l ranges after (Some (picked ranges places)) number × (tests ≡ cut number)
     tests-up_to whole (number, count, is) =
         let row = picked ranges places in
         let long : length row ≡ length ranges = length-picked ranges places within ∙ whole in (
@@ -359,7 +365,8 @@ module _ {V : Type 0} {cmp : V → V → Ordering} {l : Conjuncts V} {ranges : L
 
     module _ (fresh : Bool) (counted : Counts cmp l ranges after (picked ranges places) (λ tail. fresh) tests) where
       -- there are no more tests than up to a row that is ahead, up to the end, and in all
-      pub tests-before_row : (row : List V) (number : ℕ) → IsRowOf ranges row → IsAhead cmp (record { path = picked ranges places; here = fresh }) row → IsNumberOfTests cmp l ranges after (Some row) number → tests ≤ number
+      pub tests-before_row : (row : List V) (number : ℕ) → IsRowOf ranges row → IsAhead cmp (record { path = picked ranges places; here = fresh }) row
+          → IsNumberOfTests cmp l ranges after (Some row) number → tests ≤ number
       tests-before_row row number m a it =
           let long : length row ≡ length ranges = IsRowOf-length ranges row m in
           let here : reaches cmp fresh (picked ranges places) row ≡ true =
@@ -398,7 +405,9 @@ module _ {V : Type 0} {cmp : V → V → Ordering} {l : Conjuncts V} {ranges : L
   pub counts-first : Counts cmp l ranges after [] all_of 0
   counts-first = (0, number-none (Passed [] all_of) (λ x w. false≢true (sym w.1)), refl)
 
-pub basis-of : {V : Type 0} {cmp : V → V → Ordering} {l : Conjuncts V} {used : ℕ → ℕ → Bool} {trees : List Tree} {ranges : List (List V)} {after : Option (List V)} {planned : Plan} → IsTotalOrder cmp → HaveOneTruth l → KeepTruths l → IsSound cmp l used trees ranges after planned
+pub basis-of : {V : Type 0} {cmp : V → V → Ordering} {l : Conjuncts V} {used : ℕ → ℕ
+    → Bool} {trees : List Tree} {ranges : List (List V)} {after : Option (List V)} {planned : Plan} → IsTotalOrder cmp → HaveOneTruth l → KeepTruths l
+    → IsSound cmp l used trees ranges after planned
     → Basis cmp l ranges after
 basis-of o one keep sound = record { total = o; ties = sound.ties; one_truth = one; kept = keep; named = sound.named }
 
@@ -513,7 +522,8 @@ module _ {V : Type 0} {cmp : V → V → Ordering} {l : Conjuncts V} {ranges : L
         tests-all given tests (subst (λ r. Counts cmp l ranges after r none_of tests) none (subst (λ b. Counts cmp l ranges after (path ranges q) (λ tail. b) tests) over.0 h.counts))
 
   -- nothing is counted where no value is bound
-  pub counted-first : (p : Place) (tests : ℕ) (choices : List (Option (List ℕ))) → p.depth ≡ 0 → p.fresh ≡ true → tests ≡ 0 → ((k : ℕ) → get_or choices k None ≡ None) → ((k : ℕ) → seen_at p k ≡ unseen) → IsCounted cmp l ranges after p tests choices
+  pub counted-first : (p : Place) (tests : ℕ) (choices : List (Option (List ℕ))) → p.depth ≡ 0 → p.fresh ≡ true → tests ≡ 0
+      → ((k : ℕ) → get_or choices k None ≡ None) → ((k : ℕ) → seen_at p k ≡ unseen) → IsCounted cmp l ranges after p tests choices
   counted-first p tests choices d f e none nothing = record {
     counts =
         let none : path ranges p ≡ [] = ap (λ k. picked ranges (take k p.places.items)) d ∙ picked-nil ranges in

@@ -61,7 +61,8 @@ made-at g i node w e =
     subst (λ k. tree_at (trees_onto [] g.nodes) k ≡ tree_of (trees_onto [] g.nodes) node) z (onto-at [] g.nodes i node e (subst (λ k. IsOver k node) (sym z) (w.over i node e)))
 
 -- trees at places among the first of a list
-map-same : (made whole : List Tree) (roots : List ℕ) → All (λ r. r < length made) roots → ((i : ℕ) → i < length made → tree_at made i ≡ tree_at whole i) → map (tree_at made) roots ≡ map (tree_at whole) roots
+map-same : (made whole : List Tree) (roots : List ℕ) → All (λ r. r < length made) roots → ((i : ℕ) → i < length made → tree_at made i ≡ tree_at whole i)
+    → map (tree_at made) roots ≡ map (tree_at whole) roots
 map-same made whole [] a h = refl
 map-same made whole (r ∷ roots) a h =
     ap (λ t. t ∷ map (tree_at made) roots) (h r (a 0 0 (omega arith))) ∙ ap (λ ts. tree_at whole r ∷ ts) (map-same made whole roots (λ k d l. a (suc k) d (omega arith)) h)

@@ -56,7 +56,8 @@ module _ {V : Type 0} (l : Conjuncts V) (uses : ℕ → ℕ → Bool) (trees : L
         h.still is (omega (arith, low, few)) others w long (first ∙ take-take mark.due n places low);
   }
 
-pub kept-as : {V : Type 0} (l : Conjuncts V) (trees : List Tree) (ranges : List (List V)) (stamps places : List ℕ) (k : ℕ) (choice : Option (List ℕ)) (old new : Mark) → new.due ≡ old.due → new.stamp ≡ old.stamp
+pub kept-as : {V : Type 0} (l : Conjuncts V) (trees : List Tree) (ranges : List (List V)) (stamps places : List ℕ) (k : ℕ) (choice : Option (List ℕ))
+    (old new : Mark) → new.due ≡ old.due → new.stamp ≡ old.stamp
     → IsKept l trees ranges stamps places k choice old → IsKept l trees ranges stamps places k choice new
 kept-as l trees ranges stamps places k choice old new due stamp h =
     let is : new ≡ record { due = old.due; stamp = old.stamp; is_open = new.is_open; blame = new.blame } =
@@ -85,12 +86,19 @@ pub record AreNotes (old new : Marks) : Type 0 where
   pub stamp : (k : ℕ) → (mark_at new k).stamp ≡ (mark_at old k).stamp
 
 pub notes-same : (old new : Marks) → new ≡ old → AreNotes old new
-notes-same old new e = record { stamps = ap (λ (m : Marks). m.stamps.items) e; all = ap (λ (m : Marks). length m.choices.items) e; due = λ k. ap (λ (m : Marks). (mark_at m k).due) e; stamp = λ k. ap (λ (m : Marks). (mark_at m k).stamp) e }
+notes-same old new e = record {
+  stamps = ap (λ (m : Marks). m.stamps.items) e;
+  all = ap (λ (m : Marks). length m.choices.items) e;
+  due = λ k. ap
+      (λ (m : Marks). (mark_at m k).due) e;
+  stamp = λ k. ap (λ (m : Marks). (mark_at m k).stamp) e;
+}
 
 pub notes-of : (range : ℕ) (is_open : Bool) (blame : ℕ) (old new : Marks) → Accuses range is_open blame old new → AreNotes old new
 notes-of range is_open blame old new h = record { stamps = h.stamps; all = h.all; due = accuses-due range is_open blame old new h; stamp = accuses-stamp range is_open blame old new h }
 
-module _ {V : Type 0} (l : Conjuncts V) (uses : ℕ → ℕ → Bool) (trees : List Tree) (ranges : List (List V)) (q : Place) (memo : Memory) (choices : List (Option (List ℕ))) (st : Rests l uses trees ranges q memo choices)
+module _ {V : Type 0} (l : Conjuncts V) (uses : ℕ → ℕ → Bool) (trees : List Tree) (ranges : List (List V)) (q : Place) (memo : Memory)
+    (choices : List (Option (List ℕ))) (st : Rests l uses trees ranges q memo choices)
     (d : ℕ) (low : d ≤ q.depth) (b : Bool) (m : Marks) where
   abbrev gone : Place
   gone = record q { depth = d; fresh = b; marks = m }
@@ -99,7 +107,8 @@ module _ {V : Type 0} (l : Conjuncts V) (uses : ℕ → ℕ → Bool) (trees : L
   front = sym (take-take d q.depth q.places.items low)
 
   pub lowered : AreNotes q.marks m → ((k : ℕ) → k < d → IsBlamed l trees ranges q.places.items k (get_or q.places.items k 0) (get_or choices k None) (mark_at m k))
-      → (b ≡ false → (k : ℕ) → d ≡ k + 1 → IsBlamed l trees ranges q.places.items k (get_or q.places.items k 0 + 1) (get_or choices k None) (mark_at m k)) → Stands l uses trees ranges gone memo choices
+      → (b ≡ false → (k : ℕ) → d ≡ k + 1 → IsBlamed l trees ranges q.places.items k (get_or q.places.items k 0 + 1) (get_or choices k None) (mark_at m k))
+      → Stands l uses trees ranges gone memo choices
   lowered notes blamed past =
       let at = st.at in
       let few : d ≤ length (bound q) = omega (arith, low, length-bound ranges q at) in
@@ -138,17 +147,20 @@ module _ {V : Type 0} (l : Conjuncts V) (uses : ℕ → ℕ → Bool) (trees : L
       blamed-open l trees ranges q.places.items k (get_or q.places.items k 0 + 1) (get_or choices k None) (mark_at m k) (ap (λ i. (mark_at m i).is_open) same ∙ notes.is_open))
 
   -- the last value is to be blamed on more
-  pub lowered-blamed : (last word : ℕ) → d ≡ last + 1 → AreBarren l trees ranges word q.places.items (last + 1) → Accuses last (mark_at q.marks last).is_open (bit_or (mark_at q.marks last).blame word) q.marks m → Stands l uses trees ranges gone memo choices
+  pub lowered-blamed : (last word : ℕ) → d ≡ last + 1 → AreBarren l trees ranges word q.places.items (last + 1)
+      → Accuses last (mark_at q.marks last).is_open (bit_or (mark_at q.marks last).blame word) q.marks m → Stands l uses trees ranges gone memo choices
   lowered-blamed last word deep barren notes =
       let at = st.at in
       let near : last < length ranges = let a = at.shallow in omega (arith, a, low, deep) in
       let whole : IsBlamed l trees ranges q.places.items last (get_or q.places.items last 0 + 1) (get_or choices last None) (mark_at m last) =
-      blamed-more l trees ranges q.places.items last near (get_or choices last None) (mark_at q.marks last) (mark_at m last) word (st.blamed last (omega (arith, low, deep))) barren notes.is_open notes.blame in
+      blamed-more l trees ranges q.places.items last near (get_or choices last None) (mark_at q.marks last) (mark_at m last) word
+      (st.blamed last (omega (arith, low, deep))) barren notes.is_open notes.blame in
       let here : (k : ℕ) → k ≡ last → IsBlamed l trees ranges q.places.items k (get_or q.places.items k 0 + 1) (get_or choices k None) (mark_at m k) =
       λ k e. subst (λ i. IsBlamed l trees ranges q.places.items i (get_or q.places.items i 0 + 1) (get_or choices i None) (mark_at m i)) (sym e) whole in
       lowered (notes-of last (mark_at q.marks last).is_open (bit_or (mark_at q.marks last).blame word) q.marks m notes)
       (λ k n. elim (cases_eq k last) [
-        | inl e ↦ blamed-as l trees ranges q.places.items q.places.items k (get_or q.places.items k 0 + 1) (get_or q.places.items k 0) (get_or choices k None) (get_or choices k None) (mark_at m k) (mark_at m k)
+        | inl e ↦ blamed-as l trees ranges q.places.items q.places.items k (get_or q.places.items k 0 + 1) (get_or q.places.items k 0) (get_or choices k None)
+            (get_or choices k None) (mark_at m k) (mark_at m k)
             (λ i z. refl) (omega arith) refl refl (here k e)
         | inr ne ↦ subst (IsBlamed l trees ranges q.places.items k (get_or q.places.items k 0) (get_or choices k None)) (sym (notes.others k ne)) (st.blamed k (omega (arith, n, low)))
       ])
@@ -157,14 +169,19 @@ module _ {V : Type 0} (l : Conjuncts V) (uses : ℕ → ℕ → Bool) (trees : L
 -- ---- the jump
 
 -- what a jump leaves
-pub record Jumped {V : Type 0} (cmp : V → V → Ordering) (l : Conjuncts V) (uses : ℕ → ℕ → Bool) (trees : List Tree) (ranges : List (List V)) (after : Option (List V)) (q r : Place) (memo : Memory) (choices : List (Option (List ℕ))) : Type 0 where
+pub record Jumped {V : Type 0} (cmp : V → V → Ordering) (l : Conjuncts V) (uses : ℕ → ℕ
+    → Bool) (trees : List Tree) (ranges : List (List V)) (after : Option (List V)) (q r : Place) (memo : Memory)
+    (choices : List (Option (List ℕ))) : Type 0 where
   pub stands : Stands l uses trees ranges r memo choices
   pub keeps : KeepsEvents cmp (planted l trees) ranges after q r
   pub fewer : steps_left ranges r ≤ steps_left ranges q
 
-module _ {V : Type 0} {cmp : V → V → Ordering} {l : Conjuncts V} {used : ℕ → ℕ → Bool} {trees : List Tree} {ranges : List (List V)} {after : Option (List V)} {planned : Plan} (given : Setting cmp l used trees ranges after planned) where
+module _ {V : Type 0} {cmp : V → V → Ordering} {l : Conjuncts V} {used : ℕ → ℕ
+    → Bool} {trees : List Tree} {ranges : List (List V)} {after : Option (List V)} {planned : Plan}
+    (given : Setting cmp l used trees ranges after planned) where
   module _ (uses : ℕ → ℕ → Bool) (q : Place) (memo : Memory) (choices : List (Option (List ℕ))) (k : ℕ) (moved : Moves l uses trees ranges k q memo choices) (near : k < length ranges) where
-    module _ (f : q.fresh ≡ false) (closed : (mark_at q.marks q.depth).is_open ≡ false) (d : ℕ) (low : d ≤ q.depth) (none : (i : ℕ) → d ≤ i → i < q.depth → HasBit (mark_at q.marks q.depth).blame i → ⊥) (m : Marks) where
+    module _ (f : q.fresh ≡ false) (closed : (mark_at q.marks q.depth).is_open ≡ false) (d : ℕ) (low : d ≤ q.depth) (none : (i : ℕ) → d ≤ i → i < q.depth
+        → HasBit (mark_at q.marks q.depth).blame i → ⊥) (m : Marks) where
       abbrev back : Place
       back = record q { depth = d; marks = m }
 
@@ -181,7 +198,8 @@ module _ {V : Type 0} {cmp : V → V → Ordering} {l : Conjuncts V} {used : ℕ
       barren =
           let s = moved.spent f in
           subst (λ i. AreBarren l trees ranges (mark_at q.marks i).blame q.places.items d) (sym deep)
-          (spent-barren l trees ranges q.places.items k near (get_or choices k None) (mark_at q.marks k) s.blamed (subst (λ i. (mark_at q.marks i).is_open ≡ false) deep closed) d (omega (arith, low, deep))
+          (spent-barren l trees ranges q.places.items k near (get_or choices k None) (mark_at q.marks k) s.blamed
+          (subst (λ i. (mark_at q.marks i).is_open ≡ false) deep closed) d (omega (arith, low, deep))
           (λ i a b h. none i a (omega (arith, b, deep)) (subst (λ j. HasBit (mark_at q.marks j).blame i) (sym deep) h)))
 
       front-back : bound back ≡ take d (bound q)
@@ -194,7 +212,8 @@ module _ {V : Type 0} {cmp : V → V → Ordering} {l : Conjuncts V} {used : ℕ
       none-there : (e : Event V) (tail : List V) → IsEvent cmp (planted l trees) ranges after e → path ranges back ++ tail ≡ e.row → ⊥
       none-there e tail ev is =
           failed-none given (path ranges back ++ tail) e ev is
-          (barren (bound back) (within-front ranges q at d low) long-back (λ i short bit. get_or-take d q.places.items i 0 (omega (arith, short, long-back))) tail (subst (IsRowOf ranges) (sym is) ev.within))
+          (barren (bound back) (within-front ranges q at d low) long-back
+          (λ i short bit. get_or-take d q.places.items i 0 (omega (arith, short, long-back))) tail (subst (IsRowOf ranges) (sym is) ev.within))
 
       back-keeps : KeepsEvents cmp (planted l trees) ranges after q back
       back-keeps e ev =
@@ -213,15 +232,18 @@ module _ {V : Type 0} {cmp : V → V → Ordering} {l : Conjuncts V} {used : ℕ
           let b : steps_left ranges back ≡ 1 + above ranges (take d (bound q)) = ap (λ b. cond b (below (drop d ranges)) 1 + above ranges (bound back)) f ∙ ap (λ is. 1 + above ranges is) front-back in
           omega (arith, a, b, above-front ranges (bound q) d)
 
-      pub back-jumped : ((d ≡ 0) × (m ≡ q.marks)) ⊎ (last : ℕ) × (d ≡ last + 1) × Accuses last (mark_at q.marks last).is_open (bit_or (mark_at q.marks last).blame (mark_at q.marks q.depth).blame) q.marks m
+      pub back-jumped : ((d ≡ 0) × (m ≡ q.marks)) ⊎ (last : ℕ) × (d ≡ last + 1)
+          × Accuses last (mark_at q.marks last).is_open (bit_or (mark_at q.marks last).blame (mark_at q.marks q.depth).blame) q.marks m
           → Jumped cmp l uses trees ranges after q back memo choices
       back-jumped (inl (none', same)) = record {
-        stands = lowered l uses trees ranges q memo choices moved.rest d low q.fresh m (notes-same q.marks m same) (λ j n. absurd (omega (arith, n, none'))) (λ z j e. absurd (omega (arith, e, none')));
+        stands = lowered l uses trees ranges q memo choices moved.rest d low q.fresh m (notes-same q.marks m same) (λ j n. absurd (omega (arith, n, none')))
+            (λ z j e. absurd (omega (arith, e, none')));
         keeps = back-keeps;
         fewer = back-fewer;
       }
       back-jumped (inr (last, e, notes)) = record {
-        stands = lowered-blamed l uses trees ranges q memo choices moved.rest d low q.fresh m last (mark_at q.marks q.depth).blame e (subst (AreBarren l trees ranges (mark_at q.marks q.depth).blame q.places.items) e barren) notes;
+        stands = lowered-blamed l uses trees ranges q memo choices moved.rest d low q.fresh m last (mark_at q.marks q.depth).blame e
+            (subst (AreBarren l trees ranges (mark_at q.marks q.depth).blame q.places.items) e barren) notes;
         keeps = back-keeps;
         fewer = back-fewer;
       }
@@ -242,13 +264,15 @@ module _ {V : Type 0} {cmp : V → V → Ordering} {l : Conjuncts V} {used : ℕ
 
   -- ---- a row that is passed
 
-  pub passes-open-stand : (uses : ℕ → ℕ → Bool) (p q : Place) (memo : Memory) (choices : List (Option (List ℕ))) → Rests l uses trees ranges p memo choices → PassesOpen p q → Stands l uses trees ranges q memo choices
+  pub passes-open-stand : (uses : ℕ → ℕ → Bool) (p q : Place) (memo : Memory) (choices : List (Option (List ℕ))) → Rests l uses trees ranges p memo choices
+      → PassesOpen p q → Stands l uses trees ranges q memo choices
   passes-open-stand uses p q memo choices st (inl (none, is)) = subst (λ w. Stands l uses trees ranges w memo choices) (sym is)
       (lowered l uses trees ranges p memo choices st p.depth (omega arith) false p.marks (notes-same p.marks p.marks refl) st.blamed (λ f j e. absurd (omega (arith, none, e))))
   passes-open-stand uses p q memo choices st (inr (last, deep, is, notes)) = subst (λ w. Stands l uses trees ranges w memo choices) (sym is)
       (lowered-open l uses trees ranges p memo choices st p.depth (omega arith) false q.marks last deep notes)
 
-  pub passes-stand : FollowUsed l used → (p q : Place) (memo : Memory) (choices : List (Option (List ℕ))) → Rests l used trees ranges p memo choices → IsHopeless cmp l trees (length ranges) after (path ranges p)
+  pub passes-stand : FollowUsed l used → (p q : Place) (memo : Memory) (choices : List (Option (List ℕ))) → Rests l used trees ranges p memo choices
+      → IsHopeless cmp l trees (length ranges) after (path ranges p)
       → Passes cmp ranges after planned.blames.items p q → Stands l used trees ranges q memo choices
   passes-stand follow p q memo choices st hopeless (inl h) = passes-open-stand used p q memo choices st h
   passes-stand follow p q memo choices st hopeless (inr (last, deep, is, few, reached, notes)) =
@@ -257,21 +281,25 @@ module _ {V : Type 0} {cmp : V → V → Ordering} {l : Conjuncts V} {used : ℕ
       let plan = (given.sound).plan in
       let blames = plan.blames in
       let covers = blames.each p.depth (let a = at.shallow in omega (arith, a)) (omega (arith, few, deep)) in
-      let barren = refuted-barren l used trees ranges follow (given.sound).due (given.sound).leaves (get_or planned.blames.items p.depth 0) p.places.items p.depth at.within (length-bound ranges p at) covers refuted in
+      let barren = refuted-barren l used trees ranges follow (given.sound).due (given.sound).leaves
+      (get_or planned.blames.items p.depth 0) p.places.items p.depth at.within (length-bound ranges p at) covers refuted in
       subst (λ w. Stands l used trees ranges w memo choices) (sym is)
-      (lowered-blamed l used trees ranges p memo choices st p.depth (omega arith) false q.marks last (get_or planned.blames.items p.depth 0) deep (subst (AreBarren l trees ranges (get_or planned.blames.items p.depth 0) p.places.items) deep barren) notes)
+      (lowered-blamed l used trees ranges p memo choices st p.depth (omega arith) false q.marks last (get_or planned.blames.items p.depth 0) deep
+      (subst (AreBarren l trees ranges (get_or planned.blames.items p.depth 0) p.places.items) deep barren) notes)
 
 -- nothing but a mark of the last value is other where a row is passed
 pub opened-is : (p q : Place) → PassesOpen p q → q ≡ record p { fresh = false; marks = q.marks }
 opened-is p q (inl (none, is)) = is ∙ ap (λ (m : Marks). record p { fresh = false; marks = m }) (sym (ap (λ (w : Place). w.marks) is))
 opened-is p q (inr (last, deeper, is, notes)) = is
 
-pub passed-is : {V : Type 0} (cmp : V → V → Ordering) (ranges : List (List V)) (after : Option (List V)) (blames : List ℕ) (p q : Place) → Passes cmp ranges after blames p q → q ≡ record p { fresh = false; marks = q.marks }
+pub passed-is : {V : Type 0} (cmp : V → V → Ordering) (ranges : List (List V)) (after : Option (List V)) (blames : List ℕ) (p q : Place)
+    → Passes cmp ranges after blames p q → q ≡ record p { fresh = false; marks = q.marks }
 passed-is cmp ranges after blames p q (inl h) = opened-is p q h
 passed-is cmp ranges after blames p q (inr (last, deeper, is, few, reached, notes)) = is
 
 -- where tests are counted there is no jump
-pub jumps-counted : {V : Type 0} (cmp : V → V → Ordering) (l : Conjuncts V) (ranges : List (List V)) (after : Option (List V)) (plain : Bool) (q r : Place) (tests : ℕ) (choices : List (Option (List ℕ))) → plain ≡ true → Jumps plain q r
+pub jumps-counted : {V : Type 0} (cmp : V → V → Ordering) (l : Conjuncts V) (ranges : List (List V)) (after : Option (List V)) (plain : Bool) (q r : Place)
+    (tests : ℕ) (choices : List (Option (List ℕ))) → plain ≡ true → Jumps plain q r
     → IsCounted cmp l ranges after q tests choices → IsCounted cmp l ranges after r tests choices
 jumps-counted cmp l ranges after plain q r tests choices e (inl (same, why)) h = subst (λ w. IsCounted cmp l ranges after w tests choices) (sym same) h
 jumps-counted cmp l ranges after plain q r tests choices e (inr (inl o)) h =
@@ -279,7 +307,8 @@ jumps-counted cmp l ranges after plain q r tests choices e (inr (inl o)) h =
 jumps-counted cmp l ranges after plain q r tests choices e (inr (inr (no', b))) h = absurd (false≢true (sym no' ∙ e))
 
 -- where nothing but marks is other
-pub marked-also : (p q r : Place) (range : ℕ) (is_open : Bool) (blame : ℕ) → range ≡ p.depth → IsMarked p q → r ≡ record q { marks = r.marks } → Accuses range is_open blame q.marks r.marks → IsMarked p r
+pub marked-also : (p q r : Place) (range : ℕ) (is_open : Bool) (blame : ℕ) → range ≡ p.depth → IsMarked p q → r ≡ record q { marks = r.marks }
+    → Accuses range is_open blame q.marks r.marks → IsMarked p r
 marked-also p q r range is_open blame at h is notes = record {
   is = is ∙ ap (λ (w : Place). record w { marks = r.marks }) h.is;
   stamps = notes.stamps ∙ h.stamps;

@@ -26,7 +26,8 @@ module _ {V : Type 0} (l : Conjuncts V) (keep : KeepTruths l) (ranges : List (Li
       sym (append_assoc part rest more) ∙ ap (λ xs. xs ++ more) (ap (λ xs. xs ++ rest) (picked-take ranges places (l.due c) w) ∙ take-append-drop (l.due c) (picked ranges places)) in
       subst (λ r. l.says c r t) whole (keep c part (rest ++ more) t h (omega arith) s)
 
-  pub known-told : (told : List (Option Truth)) (c : ℕ) (t : Truth) → Tells l ranges places told → c < l.number → l.due c ≤ length places → get_or told c None ≡ Some t → IsKnown l (leaf c) (picked ranges places) (Some t)
+  pub known-told : (told : List (Option Truth)) (c : ℕ) (t : Truth) → Tells l ranges places told → c < l.number → l.due c ≤ length places
+      → get_or told c None ≡ Some t → IsKnown l (leaf c) (picked ranges places) (Some t)
   known-told told c t tells h d e = settled-leaf c t h d (tells.right c t h d e)
 
   pub known-later : (c : ℕ) → length places < l.due c → IsKnown l (leaf c) (picked ranges places) None

@@ -55,7 +55,8 @@ module _ {V : Type 0} (l : Conjuncts V) (keep : KeepTruths l) (uses : ℕ → �
       tells-on = record {
         all = let k = r.tells in length-set (map (known_by stamps) leaves) of (Some t) ∙ k.all;
         right = λ c u n d e. elim (cases_eq c of) [
-          | inl same ↦ let u-is : Some t ≡ Some u = sym (get_or-set_same (map (known_by stamps) leaves) of (Some t) None (let k = r.tells in omega (arith, m, k.all))) ∙ sym (ap (λ i. get_or (set (map (known_by stamps) leaves) of (Some t)) i None) same) ∙ e in
+          | inl same ↦ let u-is : Some t ≡ Some u = sym (get_or-set_same (map (known_by stamps) leaves) of (Some t) None
+              (let k = r.tells in omega (arith, m, k.all))) ∙ sym (ap (λ i. get_or (set (map (known_by stamps) leaves) of (Some t)) i None) same) ∙ e in
               let here : t ≡ u = cc in
               subst (λ i. l.says i (picked ranges (take (l.due i) places)) u) (sym same) (subst (l.says of (picked ranges (take (l.due of) places))) here so)
           | inr other ↦ let k = r.tells in k.right c u n d (sym (get_or-set_other (map (known_by stamps) leaves) of c (Some t) None other) ∙ e)

@@ -93,7 +93,8 @@ module _ {V : Type 0} (l : Conjuncts V) (trees : List Tree) (ranges : List (List
   stays-all others w e first i v more at out is = absurd (out tt)
 
   -- what is False where these first values are the same
-  pub stays-false : (uses : ℕ → ℕ → Bool) → FollowUsed l uses → AreDueWithin l (length ranges) → AreWithin ranges places → length places ≡ k → (tree : Tree) → HasLeavesWithin l.number tree → UsesFirst uses n k tree
+  pub stays-false : (uses : ℕ → ℕ → Bool) → FollowUsed l uses → AreDueWithin l (length ranges) → AreWithin ranges places → length places ≡ k → (tree : Tree)
+      → HasLeavesWithin l.number tree → UsesFirst uses n k tree
       → (others : List ℕ) → AreWithin ranges others → length others ≡ k → take n others ≡ take n places → (x : V) (more : List V) → IsRowOf ranges (picked ranges others ++ x ∷ more)
       → (IsRowOf ranges (picked ranges places ++ x ∷ more) → IsTreeTruth l tree (picked ranges places ++ x ∷ more) False) → IsTreeTruth l tree (picked ranges others ++ x ∷ more) False
   stays-false uses follow due w long tree leaves u others v e first x more is h =
@@ -107,7 +108,8 @@ module _ {V : Type 0} (l : Conjuncts V) (trees : List Tree) (ranges : List (List
         length-row row m = IsRowOf-length ranges row m
 
   -- what a conjunct leaves that uses these first values alone
-  pub stays-narrowed : (uses : ℕ → ℕ → Bool) → FollowUsed l uses → AreDueWithin l (length ranges) → AreWithin ranges places → length places ≡ k → (j : ℕ) → j < length trees → HasLeavesWithin l.number (tree_at trees j)
+  pub stays-narrowed : (uses : ℕ → ℕ → Bool) → FollowUsed l uses → AreDueWithin l (length ranges) → AreWithin ranges places → length places ≡ k → (j : ℕ)
+      → j < length trees → HasLeavesWithin l.number (tree_at trees j)
       → UsesFirst uses n k (tree_at trees j) → (left : List ℕ) → Narrows l (tree_at trees j) ranges (picked ranges places) (get_or ranges k []) left → StaysChoice l trees ranges k n places (Some left)
   stays-narrowed uses follow due w long j near leaves u left h others v e first i x more at out is =
       (j, near, stays-false uses follow due w long (tree_at trees j) leaves u others v e first x more is (λ m. h i x more at out m))
@@ -116,12 +118,14 @@ module _ {V : Type 0} (l : Conjuncts V) (trees : List Tree) (ranges : List (List
 
 module _ {V : Type 0} (l : Conjuncts V) (trees : List Tree) (ranges : List (List V)) where
   -- a choice that is still one
-  pub still-choice : (stamps places : List ℕ) (k : ℕ) (choice : Option (List ℕ)) (mark : Mark) → IsKept l trees ranges stamps places k choice mark → is_still stamps mark ≡ true → AreWithin ranges places → length places ≡ k
+  pub still-choice : (stamps places : List ℕ) (k : ℕ) (choice : Option (List ℕ)) (mark : Mark) → IsKept l trees ranges stamps places k choice mark
+      → is_still stamps mark ≡ true → AreWithin ranges places → length places ≡ k
       → IsChoice l trees ranges (picked ranges places) (get_or ranges k []) choice
   still-choice stamps places k choice mark h is w long = h.still is (let f = h.few in omega arith) places w long refl
 
   -- another one, where that is not
-  pub not-kept : (stamps places : List ℕ) (k : ℕ) (choice other : Option (List ℕ)) (mark : Mark) → IsKept l trees ranges stamps places k choice mark → is_still stamps mark ≡ false → IsKept l trees ranges stamps places k other mark
+  pub not-kept : (stamps places : List ℕ) (k : ℕ) (choice other : Option (List ℕ)) (mark : Mark) → IsKept l trees ranges stamps places k choice mark
+      → is_still stamps mark ≡ false → IsKept l trees ranges stamps places k other mark
   not-kept stamps places k choice other mark h no' = record {
     few = h.few;
     past = h.past;
@@ -130,7 +134,8 @@ module _ {V : Type 0} (l : Conjuncts V) (trees : List Tree) (ranges : List (List
   }
 
   -- all values, which are always a choice
-  pub kept-all : (stamps places : List ℕ) (k : ℕ) (choice other : Option (List ℕ)) (mark : Mark) → other ≡ None → IsKept l trees ranges stamps places k choice mark → IsKept l trees ranges stamps places k other mark
+  pub kept-all : (stamps places : List ℕ) (k : ℕ) (choice other : Option (List ℕ)) (mark : Mark) → other ≡ None
+      → IsKept l trees ranges stamps places k choice mark → IsKept l trees ranges stamps places k other mark
   kept-all stamps places k choice other mark all h = subst (λ c. IsKept l trees ranges stamps places k c mark) (sym all) (record {
     few = h.few;
     past = h.past;
@@ -203,8 +208,12 @@ module _ {V : Type 0} (l : Conjuncts V) (trees : List Tree) (ranges : List (List
   ]
 
 -- a landing from a place of which only a mark, what was found and what was seen are others
-pub landed-marked : {V : Type 0} (ranges : List (List V)) (choices : List (Option (List ℕ))) (choice : Option (List ℕ)) (p now q : Place) (truth : Truth) (seen : Seen) → now ≡ record p { marks = now.marks }
-    → LandsNext (length (get_or ranges now.depth [])) (get_or (set choices p.depth choice) now.depth None) now.depth 0 (record now { found = with_item now.found p.depth truth; seen = with_item now.seen p.depth seen }) q
-    → LandsNext (length (get_or ranges p.depth [])) (get_or (set choices p.depth choice) p.depth None) p.depth 0 (record p { marks = now.marks; found = with_item p.found p.depth truth; seen = with_item p.seen p.depth seen }) q
+pub landed-marked : {V : Type 0} (ranges : List (List V)) (choices : List (Option (List ℕ))) (choice : Option (List ℕ)) (p now q : Place) (truth : Truth)
+    (seen : Seen) → now ≡ record p { marks = now.marks }
+    → LandsNext (length (get_or ranges now.depth [])) (get_or (set choices p.depth choice) now.depth None) now.depth 0
+    (record now { found = with_item now.found p.depth truth; seen = with_item now.seen p.depth seen }) q
+    → LandsNext (length (get_or ranges p.depth [])) (get_or (set choices p.depth choice) p.depth None) p.depth 0
+    (record p { marks = now.marks; found = with_item p.found p.depth truth; seen = with_item p.seen p.depth seen }) q
 landed-marked ranges choices choice p now q truth seen is h =
-    subst (λ (w : Place). LandsNext (length (get_or ranges w.depth [])) (get_or (set choices p.depth choice) w.depth None) w.depth 0 (record w { found = with_item w.found p.depth truth; seen = with_item w.seen p.depth seen }) q) is h
+    subst (λ (w : Place). LandsNext (length (get_or ranges w.depth [])) (get_or (set choices p.depth choice) w.depth None) w.depth 0
+    (record w { found = with_item w.found p.depth truth; seen = with_item w.seen p.depth seen }) q) is h

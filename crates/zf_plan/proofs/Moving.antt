@@ -145,7 +145,8 @@ pub record Landed {V : Type 0} (cmp : V → V → Ordering) (s : Conjuncts V) (r
   pub deep : q.depth ≤ k + 1
   pub fronts : (i : ℕ) → i ≤ k → take i (bound q) ≡ take i (bound p)
 
-module _ {V : Type 0} (cmp : V → V → Ordering) (o : IsTotalOrder cmp) (ties : TiesAreEqual cmp) (ranges : List (List V)) (asc : AreAscending cmp ranges) (p : Place) (at : IsAt ranges p) (k : ℕ) (near : k < length ranges) where
+module _ {V : Type 0} (cmp : V → V → Ordering) (o : IsTotalOrder cmp) (ties : TiesAreEqual cmp) (ranges : List (List V)) (asc : AreAscending cmp ranges)
+    (p : Place) (at : IsAt ranges p) (k : ℕ) (near : k < length ranges) where
   -- before the first value
   pub from-fresh : p.fresh ≡ true → p.depth ≡ k → IsFrom cmp ranges p k (picked ranges (take k p.places.items)) 0
   from-fresh f d = record {
@@ -177,7 +178,8 @@ module _ {V : Type 0} (cmp : V → V → Ordering) (o : IsTotalOrder cmp) (ties 
             ap (λ b. cond b (below (drop p.depth ranges)) 1 + above ranges (bound p)) f ∙ ap (λ is. 1 + above ranges is) was.3 in
             let long = length-places ranges p at k (omega arith) in
             let e = above-push ranges (take k p.places.items) i (get_or ranges k []) (drop (k + 1) ranges) (ap (λ n. drop n ranges) long ∙ drop_more ranges k [] near) in
-            let z : (length (get_or ranges k []) - suc i) * below (drop (k + 1) ranges) ≡ (length (get_or ranges k []) - (i + 1)) * below (drop (k + 1) ranges) = ap (λ n. n * below (drop (k + 1) ranges)) (omega arith) in
+            let z : (length (get_or ranges k []) - suc i) * below (drop (k + 1) ranges)
+            ≡ (length (get_or ranges k []) - (i + 1)) * below (drop (k + 1) ranges) = ap (λ n. n * below (drop (k + 1) ranges)) (omega arith) in
             omega (arith, a, e, z);
       }
 
@@ -185,11 +187,13 @@ module _ {V : Type 0} (cmp : V → V → Ordering) (o : IsTotalOrder cmp) (ties 
   peel x y b e = rw e (omega arith)
 
   module _ (s : Conjuncts V) (after : Option (List V)) (deep : k ≤ p.depth) (f g : ℕ) (up : f ≤ g) (from : IsFrom cmp ranges p k (picked ranges (take k p.places.items)) f) (q : Place)
-      (skip : (e : Event V) → IsEvent cmp s ranges after e → (m : ℕ) (v : V) (tail : List V) → f ≤ m → m < g → IsNth (get_or ranges k []) m v → picked ranges (take k p.places.items) ++ v ∷ tail ≡ e.row → ⊥) where
+      (skip : (e : Event V) → IsEvent cmp s ranges after e → (m : ℕ) (v : V) (tail : List V) → f ≤ m → m < g → IsNth (get_or ranges k []) m v
+      → picked ranges (take k p.places.items) ++ v ∷ tail ≡ e.row → ⊥) where
     split : drop (length (picked ranges (take k p.places.items))) ranges ≡ get_or ranges k [] ∷ drop (k + 1) ranges
     split = ap (λ n. drop n ranges) (length-front ranges p at k deep) ∙ drop_more ranges k [] near
 
-    keeps : (G : List V → Bool) → IsFrontier (get_or ranges k []) g G → ((row : List V) → reaches cmp q.fresh (path ranges q) row ≡ under cmp (picked ranges (take k p.places.items)) G row) → KeepsEvents cmp s ranges after p q
+    keeps : (G : List V → Bool) → IsFrontier (get_or ranges k []) g G → ((row : List V)
+        → reaches cmp q.fresh (path ranges q) row ≡ under cmp (picked ranges (take k p.places.items)) G row) → KeepsEvents cmp s ranges after p q
     keeps G w h e ev =
         from.reaches_so e.row
         ∙ crossed cmp o ties ranges (picked ranges (take k p.places.items)) (get_or ranges k []) (drop (k + 1) ranges) split e.row ev.within f g from.test G from.frontier w up (skip e ev)
@@ -198,7 +202,8 @@ module _ {V : Type 0} (cmp : V → V → Ordering) (o : IsTotalOrder cmp) (ties 
     falls : (length (get_or ranges k []) - g) * below (drop (k + 1) ranges) ≤ (length (get_or ranges k []) - f) * below (drop (k + 1) ranges)
     falls = let h : length (get_or ranges k []) - g ≤ length (get_or ranges k []) - f = omega arith in mul-le-mul_right (below (drop (k + 1) ranges)) h
 
-    on-value : q.found.items ≡ p.found.items → q.seen.items ≡ p.seen.items → g < length (get_or ranges k []) → q.places.items ≡ set p.places.items k g → q.depth ≡ k + 1 → q.fresh ≡ true → Renews (k + 1) p.marks q.marks → Landed cmp s ranges after p k q
+    on-value : q.found.items ≡ p.found.items → q.seen.items ≡ p.seen.items → g < length (get_or ranges k []) → q.places.items ≡ set p.places.items k g
+        → q.depth ≡ k + 1 → q.fresh ≡ true → Renews (k + 1) p.marks q.marks → Landed cmp s ranges after p k q
     on-value found seen l ps d fr renews =
         let n = nth-at (get_or ranges k []) g l in
         let y = n.0 in
@@ -222,7 +227,8 @@ module _ {V : Type 0} (cmp : V → V → Ordering) (o : IsTotalOrder cmp) (ties 
               (λ row. ap (λ b. reaches cmp b (path ranges q) row) fr ∙ ap (λ r. reaches cmp true r row) there ∙ reaches-push cmp o true (picked ranges (take k p.places.items)) y row);
           smaller =
               let a : steps_left ranges q ≡ below (drop (k + 1) ranges) + above ranges (take k p.places.items ++ g ∷ []) =
-              ap (λ b. cond b (below (drop q.depth ranges)) 1 + above ranges (bound q)) fr ∙ ap (λ j. below (drop j ranges) + above ranges (bound q)) d ∙ ap (λ is. below (drop (k + 1) ranges) + above ranges is) stairs in
+              ap (λ b. cond b (below (drop q.depth ranges)) 1 + above ranges (bound q)) fr ∙ ap (λ j. below (drop j ranges) + above ranges (bound q)) d
+              ∙ ap (λ is. below (drop (k + 1) ranges) + above ranges is) stairs in
               let e = above-push ranges (take k p.places.items) g (get_or ranges k []) (drop (k + 1) ranges) (ap (λ j. drop j ranges) long ∙ drop_more ranges k [] near) in
               let z = peel (length (get_or ranges k []) - g) (length (get_or ranges k []) - suc g) (below (drop (k + 1) ranges)) (omega arith) in
               omega (arith, a, e, z, falls, from.left);
@@ -230,7 +236,8 @@ module _ {V : Type 0} (cmp : V → V → Ordering) (o : IsTotalOrder cmp) (ties 
           fronts = λ i h. take-take i q.depth q.places.items (omega arith) ∙ ap (take i) ps ∙ take-set-le i p.places.items k g h ∙ sym (take-take i p.depth p.places.items (omega arith));
         }
 
-    past-row : q.found.items ≡ p.found.items → q.seen.items ≡ p.seen.items → length (get_or ranges k []) ≤ g → q.places.items ≡ p.places.items → q.depth ≡ k → q.fresh ≡ false → q.marks ≡ p.marks → Landed cmp s ranges after p k q
+    past-row : q.found.items ≡ p.found.items → q.seen.items ≡ p.seen.items → length (get_or ranges k []) ≤ g → q.places.items ≡ p.places.items → q.depth ≡ k
+        → q.fresh ≡ false → q.marks ≡ p.marks → Landed cmp s ranges after p k q
     past-row found seen l ps d fr marks =
         let stairs : bound q ≡ take k p.places.items = ap (λ j. take j q.places.items) d ∙ ap (take k) ps in
         record {
@@ -244,9 +251,11 @@ module _ {V : Type 0} (cmp : V → V → Ordering) (o : IsTotalOrder cmp) (ties 
             within = subst (AreWithin ranges) (sym stairs) (within-front ranges p at k deep);
           };
           same = keeps (λ _. false) (frontier-last cmp o ties (get_or ranges k []) g l)
-              (λ row. ap (λ b. reaches cmp b (path ranges q) row) fr ∙ ap (λ is. reaches cmp false (picked ranges is) row) stairs ∙ reaches-under cmp o false (picked ranges (take k p.places.items)) row);
+              (λ row. ap (λ b. reaches cmp b (path ranges q) row) fr ∙ ap (λ is. reaches cmp false (picked ranges is) row) stairs
+              ∙ reaches-under cmp o false (picked ranges (take k p.places.items)) row);
           smaller =
-              let a : steps_left ranges q ≡ 1 + above ranges (take k p.places.items) = ap (λ b. cond b (below (drop q.depth ranges)) 1 + above ranges (bound q)) fr ∙ ap (λ is. 1 + above ranges is) stairs in
+              let a : steps_left ranges q ≡ 1 + above ranges (take k p.places.items) = ap
+              (λ b. cond b (below (drop q.depth ranges)) 1 + above ranges (bound q)) fr ∙ ap (λ is. 1 + above ranges is) stairs in
               omega (arith, a, from.left);
           deep = omega arith;
           fronts = λ i h. take-take i q.depth q.places.items (omega arith) ∙ ap (take i) ps ∙ sym (take-take i p.depth p.places.items (omega arith));

@@ -22,7 +22,8 @@ push-all P xs x d h p i l = elim (cases_lt i (length xs)) [
 ]
 
 -- one item more, by the places of the items
-pub each_push : {X : Type 0} (P : ℕ → X → Type 0) (xs : List X) (x d : X) → ((i : ℕ) → i < length xs → P i (get_or xs i d)) → P (length xs) x → (i : ℕ) → i < length (xs ++ x ∷ []) → P i (get_or (xs ++ x ∷ []) i d)
+pub each_push : {X : Type 0} (P : ℕ → X → Type 0) (xs : List X) (x d : X) → ((i : ℕ) → i < length xs → P i (get_or xs i d)) → P (length xs) x → (i : ℕ)
+    → i < length (xs ++ x ∷ []) → P i (get_or (xs ++ x ∷ []) i d)
 each_push P xs x d h p i l = elim (cases_lt i (length xs)) [
   | inl old ↦ subst (P i) (sym (get_or_append_left xs (x ∷ []) d i old)) (h i old)
   | inr new ↦
@@ -156,7 +157,8 @@ module _ (n : ℕ) (narrowing : List (List ℕ)) (none : (k : ℕ) → get_or na
     each = λ k near. subst (AreBelow m) (sym (none k)) (λ i h. absurd (omega arith));
   }
 
-  pub lasts-none : (uses : ℕ → ℕ → Bool) (trees : List Tree) (lasts : List (List ℕ)) → length lasts ≡ n + 1 → ((k : ℕ) → get_or lasts k [] ≡ []) → AreAll (λ k. AreLasts uses trees k (get_or narrowing k [])) n lasts
+  pub lasts-none : (uses : ℕ → ℕ → Bool) (trees : List Tree) (lasts : List (List ℕ)) → length lasts ≡ n + 1 → ((k : ℕ) → get_or lasts k [] ≡ [])
+      → AreAll (λ k. AreLasts uses trees k (get_or narrowing k [])) n lasts
   lasts-none uses trees lasts all empty = record {
     all = all;
     each = λ k near.

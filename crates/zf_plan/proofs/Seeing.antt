@@ -34,17 +34,20 @@ nothing-seen l trees ranges places seen is i t w h = absurd (unseen-nothing i t 
 
 -- ---- one range more
 
-module _ {V : Type 0} (l : Conjuncts V) (trees : List Tree) (ranges : List (List V)) (p : Place) (seen : Seen) (all : length p.seen.items ≡ length ranges) (near : p.depth < length ranges) (here : AreSeen l trees ranges (bound p) seen)
+module _ {V : Type 0} (l : Conjuncts V) (trees : List Tree) (ranges : List (List V)) (p : Place) (seen : Seen) (all : length p.seen.items ≡ length ranges)
+    (near : p.depth < length ranges) (here : AreSeen l trees ranges (bound p) seen)
     (before : (j : ℕ) → j < p.depth → AreSeen l trees ranges (take j p.places.items) (seen_at p j)) where
   pub seen-all : (j : ℕ) → j ≤ p.depth → AreSeen l trees ranges (take j p.places.items) (get_or (set p.seen.items p.depth seen) j unseen)
   seen-all j low = elim (cases_eq j p.depth) [
     | inl e ↦
-        let is : get_or (set p.seen.items p.depth seen) j unseen ≡ seen = ap (λ i. get_or (set p.seen.items p.depth seen) i unseen) e ∙ get_or-set_same p.seen.items p.depth seen unseen (omega (arith, all, near)) in
+        let is : get_or (set p.seen.items p.depth seen) j unseen ≡ seen = ap (λ i. get_or (set p.seen.items p.depth seen) i unseen) e
+        ∙ get_or-set_same p.seen.items p.depth seen unseen (omega (arith, all, near)) in
         subst (AreSeen l trees ranges (take j p.places.items)) (sym is) (subst (λ i. AreSeen l trees ranges (take i p.places.items) seen) (sym e) here)
     | inr ne ↦ subst (AreSeen l trees ranges (take j p.places.items)) (sym (get_or-set_other p.seen.items p.depth j seen unseen ne)) (before j (omega (arith, low, ne)))
   ]
 
-pub unseen-all : (p : Place) (seen : Seen) (n : ℕ) → length p.seen.items ≡ n → p.depth < n → seen ≡ unseen → ((j : ℕ) → seen_at p j ≡ unseen) → (j : ℕ) → get_or (set p.seen.items p.depth seen) j unseen ≡ unseen
+pub unseen-all : (p : Place) (seen : Seen) (n : ℕ) → length p.seen.items ≡ n → p.depth < n → seen ≡ unseen → ((j : ℕ) → seen_at p j ≡ unseen) → (j : ℕ)
+    → get_or (set p.seen.items p.depth seen) j unseen ≡ unseen
 unseen-all p seen n all near none before j = elim (cases_eq j p.depth) [
   | inl e ↦ ap (λ i. get_or (set p.seen.items p.depth seen) i unseen) e ∙ get_or-set_same p.seen.items p.depth seen unseen (omega (arith, all, near)) ∙ none
   | inr ne ↦ get_or-set_other p.seen.items p.depth j seen unseen ne ∙ before j
@@ -65,7 +68,8 @@ leaves-due l trees within k leaves due i near =
     (subst (HasLeavesWithin l.number) at.2.0 (within at.0 (leaf 0) at.1), at.2.1)
 
 -- what is known of the last value of a place
-module _ {V : Type 0} (l : Conjuncts V) (trees : List Tree) (ranges : List (List V)) (p : Place) (at : IsAt ranges p) (seen : (k : ℕ) → k < p.depth → AreSeen l trees ranges (take k p.places.items) (seen_at p k)) where
+module _ {V : Type 0} (l : Conjuncts V) (trees : List Tree) (ranges : List (List V)) (p : Place) (at : IsAt ranges p) (seen : (k : ℕ) → k < p.depth
+    → AreSeen l trees ranges (take k p.places.items) (seen_at p k)) where
   pub told-path : (k : ℕ) → p.depth ≡ k + 1 → (t : Truth) → IsSeen (seen_at p k) (get_or p.places.items k 0) t → IsTold l trees (path ranges p) p.depth t
   told-path k d t s =
       let i = get_or p.places.items k 0 in

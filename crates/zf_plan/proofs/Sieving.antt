@@ -74,8 +74,10 @@ module _ {V : Type 0} (l : Conjuncts V) (trees : List Tree) (ranges : List (List
 
 -- ---- what is left is a choice
 
-module _ {V : Type 0} (l : Conjuncts V) (trees : List Tree) (ranges : List (List V)) (k d : ℕ) (places : List ℕ) (uses : ℕ → ℕ → Bool) (follow : FollowUsed l uses) (due : AreDueWithin l (length ranges))
-    (w : AreWithin ranges places) (long : length places ≡ k) (deep : k < length ranges) (conjuncts lasts : List ℕ) (below : AreBelow (length trees) conjuncts) (are : AreLasts uses trees k conjuncts lasts)
+module _ {V : Type 0} (l : Conjuncts V) (trees : List Tree) (ranges : List (List V)) (k d : ℕ) (places : List ℕ) (uses : ℕ → ℕ
+    → Bool) (follow : FollowUsed l uses) (due : AreDueWithin l (length ranges))
+    (w : AreWithin ranges places) (long : length places ≡ k) (deep : k < length ranges) (conjuncts lasts : List ℕ) (below : AreBelow (length trees) conjuncts)
+    (are : AreLasts uses trees k conjuncts lasts)
     (leaves : HaveLeavesWithin l.number trees) (most : IsGreatest lasts d) (passes : List Bool) (is : AreSifted l trees ranges conjuncts places (length (get_or ranges k [])) passes) where
   -- a value that does not pass
   false-at : (i : ℕ) (x : V) (more : List V) → slice_get (get_or ranges k []) i ≡ Some x → (c : ℕ) → IsTreeTruth l (tree_at trees c) (picked ranges (places ++ i ∷ []) ++ more) False
@@ -109,7 +111,8 @@ module _ {V : Type 0} (l : Conjuncts V) (trees : List Tree) (ranges : List (List
 
 -- ---- one value more, and one less
 
-pub within-push : {V : Type 0} (ranges : List (List V)) (places : List ℕ) (i : ℕ) → AreWithin ranges places → length places < length ranges → i < length (get_or ranges (length places) []) → AreWithin ranges (places ++ i ∷ [])
+pub within-push : {V : Type 0} (ranges : List (List V)) (places : List ℕ) (i : ℕ) → AreWithin ranges places → length places < length ranges
+    → i < length (get_or ranges (length places) []) → AreWithin ranges (places ++ i ∷ [])
 within-push ranges places i within near there = let n = nth-at (get_or ranges (length places) []) i there in AreWithin-push ranges places i n.0 within near n.1
 
 module _ {V : Type 0} (l : Conjuncts V) (uses : ℕ → ℕ → Bool) (ranges : List (List V)) (places : List ℕ) (i : ℕ) where

@@ -56,7 +56,8 @@ module _ {V : Type 0} (l : Conjuncts V) (trees : List Tree) where
     settled-as : (j : ℕ) (u : Truth) → j ≡ i → IsSettled l (tree_at trees i) row u → IsSettled l (tree_at trees j) row u
     settled-as j u e h = subst (λ k. IsSettled l (tree_at trees k) row u) (sym e) h
 
-    pub so-more : (t u : Truth) → t ≢ False → touches l (length row) (tree_at trees i) ≡ true → IsSoFar l trees row P t → IsSettled l (tree_at trees i) row u → IsSoFar l trees row OrThis (conjoined t u)
+    pub so-more : (t u : Truth) → t ≢ False → touches l (length row) (tree_at trees i) ≡ true → IsSoFar l trees row P t → IsSettled l (tree_at trees i) row u
+        → IsSoFar l trees row OrThis (conjoined t u)
     unfolding IsSoFar
     so-more False u ne at h k = absurd (ne refl)
     so-more True True ne at h k = λ j m p. elim p [ inl q ↦ h j m q | inr e ↦ settled-as j True e k ]
@@ -67,7 +68,8 @@ module _ {V : Type 0} (l : Conjuncts V) (trees : List Tree) where
     so-more Out Out ne at h k = ((λ j m p. elim p [ inl q ↦ h.0 j m q | inr e ↦ inr (settled-as j Out e k) ]), h.1)
 
   -- on a row that has all values
-  pub so-whole : (k : ℕ) (row : List V) (t : Truth) → ((j : ℕ) → j < length trees → due_of l (tree_at trees j) ≤ k) → t ≢ False → IsSoFar l trees row (NeedsWithin l trees k) t → IsTruthOf (planted l trees) row t
+  pub so-whole : (k : ℕ) (row : List V) (t : Truth) → ((j : ℕ) → j < length trees → due_of l (tree_at trees j) ≤ k) → t ≢ False
+      → IsSoFar l trees row (NeedsWithin l trees k) t → IsTruthOf (planted l trees) row t
   unfolding IsSoFar
   so-whole k row False due ne h = absurd (ne refl)
   so-whole k row True due ne h = λ j m. settled-here l (tree_at trees j) row True (h j m (due j m))
@@ -94,7 +96,8 @@ module _ {V : Type 0} (l : Conjuncts V) (trees : List Tree) where
     pub first-none : (t : Truth) → IsSoFar l trees row (IsLeafOrBelow l trees k) t → IsSoFar l trees row (IsFirst k conjuncts 0) t
     first-none t h = so-fewer (IsLeafOrBelow l trees k) (IsFirst k conjuncts 0) row t (λ j m p. elim p [ inl q ↦ q | inr w ↦ absurd (let n = w.0.1 in omega arith) ]) h
 
-    pub first-next : (i c : ℕ) (t : Truth) (known : Option Truth) → get_or conjuncts i 0 ≡ c → c < length trees → touches l k (tree_at trees c) ≡ true → t ≢ False → IsSoFar l trees row (IsFirst k conjuncts i) t → IsKnown l (tree_at trees c) row known
+    pub first-next : (i c : ℕ) (t : Truth) (known : Option Truth) → get_or conjuncts i 0 ≡ c → c < length trees → touches l k (tree_at trees c) ≡ true
+        → t ≢ False → IsSoFar l trees row (IsFirst k conjuncts i) t → IsKnown l (tree_at trees c) row known
         → IsSoFar l trees row (IsFirst k conjuncts (i + 1)) (joined t known)
     first-next i c t None is near at ne h later = so-fewer (IsFirst k conjuncts i) (IsFirst k conjuncts (i + 1)) row t
         (λ j m p. elim p [
@@ -160,7 +163,8 @@ module _ {V : Type 0} (l : Conjuncts V) (trees : List Tree) where
   touched-each k numbers touched i near = inside-touches k (tree_at trees (get_or numbers i 0)) (touched.only (get_or numbers i 0) (i, near, get_or_default numbers i (get_or numbers i 0) 0 near))
 
   -- all conjuncts that need at most k values are among those that were tested
-  pub so-within : (k : ℕ) (row : List V) (numbers : List ℕ) (t : Truth) → AreTouched l trees k (length trees) numbers → IsSoFar l trees row (IsAmong l trees k numbers) t → IsSoFar l trees row (NeedsWithin l trees k) t
+  pub so-within : (k : ℕ) (row : List V) (numbers : List ℕ) (t : Truth) → AreTouched l trees k (length trees) numbers
+      → IsSoFar l trees row (IsAmong l trees k numbers) t → IsSoFar l trees row (NeedsWithin l trees k) t
   so-within k row numbers t touched h = so-fewer (IsAmong l trees k numbers) (NeedsWithin l trees k) row t (λ j m low. elim (cases_lt (due_of l (tree_at trees j)) k) [
     | inl below ↦ inl (inl below)
     | inr high ↦
@@ -173,7 +177,8 @@ module _ {V : Type 0} (l : Conjuncts V) (trees : List Tree) where
 
   -- ---- leaves that are tested
 
-  module _ (keep : KeepTruths l) (within : HaveLeavesWithin l.number trees) (ranges : List (List V)) (places : List ℕ) (w : AreWithin ranges places) (leaves : List ℕ) (due : AreDue l trees (length places) (length trees) leaves) where
+  module _ (keep : KeepTruths l) (within : HaveLeavesWithin l.number trees) (ranges : List (List V)) (places : List ℕ) (w : AreWithin ranges places)
+      (leaves : List ℕ) (due : AreDue l trees (length places) (length trees) leaves) where
     abbrev road : List V
     road = picked ranges places
 
@@ -214,7 +219,8 @@ module _ {V : Type 0} (l : Conjuncts V) (trees : List Tree) where
       | inr b ↦ inr (settled-so j c Out m is (subst (λ d. l.says d road Out) f.2 b))
     ]
 
-    pub so-tested : (before t : Truth) (n : ℕ) → before ≢ False → Tests l road leaves before t n → IsSoFar l trees road (NeedsBelow l trees (length places)) before → IsSoFar l trees road (IsLeafOrBelow l trees (length places)) t
+    pub so-tested : (before t : Truth) (n : ℕ) → before ≢ False → Tests l road leaves before t n
+        → IsSoFar l trees road (NeedsBelow l trees (length places)) before → IsSoFar l trees road (IsLeafOrBelow l trees (length places)) t
     unfolding IsSoFar Tests
     so-tested False t n ne h k = absurd (ne refl)
     so-tested True False n ne h k = refuting-leaf (h.0, h.2, h.4)

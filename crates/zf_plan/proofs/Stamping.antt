@@ -10,7 +10,8 @@ use Rattle.zf_plan.specs.Memories.{Forgets}
 use Rattle.zf_plan.specs.Stamps.{AreStamped, cleared, known_by, memory_of}
 
 -- a leaf that is read
-pub stamped-at : (stamps : List ℕ) (leaves : List Stamped) → AreStamped stamps leaves → (c : ℕ) (s : Stamped) → c < length leaves → s ≡ get_or leaves c s → (s.due < length stamps) × (s.stamp ≤ get_or stamps s.due 0)
+pub stamped-at : (stamps : List ℕ) (leaves : List Stamped) → AreStamped stamps leaves → (c : ℕ) (s : Stamped) → c < length leaves → s ≡ get_or leaves c s
+    → (s.due < length stamps) × (s.stamp ≤ get_or stamps s.due 0)
 stamped-at stamps leaves a c s near is = a.each c s (slice_get_read leaves (length leaves) c s refl near is)
 
 pub known-at : (stamps : List ℕ) (leaves : List Stamped) (c : ℕ) (s : Stamped) → c < length leaves → s ≡ get_or leaves c s → get_or (map (known_by stamps) leaves) c None ≡ known_by stamps s
@@ -82,7 +83,8 @@ module _ (k : ℕ) (stamps new : List ℕ) (f : Stamped → Stamped) (leaves : L
     others = λ c ne. elim (cases_lt c (length leaves)) [
       | inl near ↦ let r = at c near in
           told-at c near ∙ r.other (λ e. ne (due-is c near ∙ e)) ∙ sym (get_or-map (known_by stamps) leaves c some None near)
-      | inr far ↦ get_or_past (map (known_by new) (map f leaves)) c None (omega (arith, far, long)) ∙ sym (get_or_past (map (known_by stamps) leaves) c None (omega (arith, far, length-map leaves (known_by stamps))))
+      | inr far ↦ get_or_past (map (known_by new) (map f leaves)) c None (omega (arith, far, long))
+          ∙ sym (get_or_past (map (known_by stamps) leaves) c None (omega (arith, far, length-map leaves (known_by stamps))))
     ];
     none = λ c e. elim (cases_lt c (length leaves)) [
       | inl near ↦ let r = at c near in told-at c near ∙ r.none (sym (due-is c near) ∙ e)
@@ -158,7 +160,8 @@ module _ (k : ℕ) (stamps : List ℕ) (within : k < length stamps) where
     cleared-forgets tables tests = forgotten k stamps (set stamps k 1) (cleared k) leaves a (λ s near low. cleared-renews s low) tables tests
 
 -- nothing is forgotten where no leaf needs so many values
-pub none-forgotten : (k : ℕ) (stamps : List ℕ) (leaves : List Stamped) → AreStamped stamps leaves → length stamps ≤ k → (tables : List (Option Table)) (tests : ℕ) → Forgets k (memory_of stamps leaves tables tests) (memory_of stamps leaves tables tests)
+pub none-forgotten : (k : ℕ) (stamps : List ℕ) (leaves : List Stamped) → AreStamped stamps leaves → length stamps ≤ k
+    → (tables : List (Option Table)) (tests : ℕ) → Forgets k (memory_of stamps leaves tables tests) (memory_of stamps leaves tables tests)
 none-forgotten k stamps leaves a far tables tests = record {
   dues = refl;
   all = refl;

@@ -31,7 +31,8 @@ pub record Rests {V : Type 0} (l : Conjuncts V) (uses : ℕ → ℕ → Bool) (t
   pub blamed : (k : ℕ) → k < p.depth → IsBlamed l trees ranges p.places.items k (get_or p.places.items k 0) (get_or choices k None) (mark_at p.marks k)
 
 -- the same with what is remembered now
-pub rests-still : {V : Type 0} (l : Conjuncts V) (uses : ℕ → ℕ → Bool) (trees : List Tree) (ranges : List (List V)) (p : Place) (old new : Memory) (choices : List (Option (List ℕ))) → Stands l uses trees ranges p old choices → Remembers l uses ranges (bound p) new
+pub rests-still : {V : Type 0} (l : Conjuncts V) (uses : ℕ → ℕ → Bool) (trees : List Tree) (ranges : List (List V)) (p : Place) (old new : Memory)
+    (choices : List (Option (List ℕ))) → Stands l uses trees ranges p old choices → Remembers l uses ranges (bound p) new
     → Rests l uses trees ranges p new choices
 rests-still l uses trees ranges p old new choices st remembers = record {
   at = st.at;
@@ -61,7 +62,9 @@ pub record Setting {V : Type 0} (cmp : V → V → Ordering) (l : Conjuncts V) (
   pub kept : KeepTruths l
   pub sound : IsSound cmp l used trees ranges after planned
 
-module _ {V : Type 0} {cmp : V → V → Ordering} {l : Conjuncts V} {used : ℕ → ℕ → Bool} {trees : List Tree} {ranges : List (List V)} {after : Option (List V)} {planned : Plan} (given : Setting cmp l used trees ranges after planned) where
+module _ {V : Type 0} {cmp : V → V → Ordering} {l : Conjuncts V} {used : ℕ → ℕ
+    → Bool} {trees : List Tree} {ranges : List (List V)} {after : Option (List V)} {planned : Plan}
+    (given : Setting cmp l used trees ranges after planned) where
   due : AreDueWithin (planted l trees) (length ranges)
   due = planted-due l (length ranges) (given.sound).due trees (given.sound).leaves
 
@@ -73,7 +76,8 @@ module _ {V : Type 0} {cmp : V → V → Ordering} {l : Conjuncts V} {used : ℕ
 
   -- ---- rows that hold no event
 
-  hopeless-none : (road : List V) → length road ≤ length ranges → IsHopeless cmp l trees (length ranges) after road → (e : Event V) (tail : List V) → IsEvent cmp (planted l trees) ranges after e → road ++ tail ≡ e.row → ⊥
+  hopeless-none : (road : List V) → length road ≤ length ranges → IsHopeless cmp l trees (length ranges) after road → (e : Event V) (tail : List V)
+      → IsEvent cmp (planted l trees) ranges after e → road ++ tail ≡ e.row → ⊥
   hopeless-none road short (inl r) e tail ev is =
       let m = IsRowOf-length ranges e.row ev.within in
       let long : length (road ++ tail) ≡ length ranges = ap length is ∙ m in
@@ -90,7 +94,8 @@ module _ {V : Type 0} {cmp : V → V → Ordering} {l : Conjuncts V} {used : ℕ
       ev.not_false (IsTruthOf-false (planted l trees) one e.row r.0 e.truth r.1 (let d = due r.0 r.1 in omega arith) (subst (λ w. (planted l trees).says r.0 w False) is r.2) ev.truth_of)
 
   -- a value that is not chosen begins no event
-  pub unchosen-none : (row range : List V) (choice : Option (List ℕ)) (i : ℕ) (v : V) → IsChoice l trees ranges row range choice → slice_get range i ≡ Some v → (IsChosen choice i → ⊥) → (e : Event V) (tail : List V) → IsEvent cmp (planted l trees) ranges after e → row ++ v ∷ tail ≡ e.row → ⊥
+  pub unchosen-none : (row range : List V) (choice : Option (List ℕ)) (i : ℕ) (v : V) → IsChoice l trees ranges row range choice → slice_get range i ≡ Some v
+      → (IsChosen choice i → ⊥) → (e : Event V) (tail : List V) → IsEvent cmp (planted l trees) ranges after e → row ++ v ∷ tail ≡ e.row → ⊥
   unchosen-none row range choice i v chosen at out e tail ev is =
       let m = IsRowOf-length ranges e.row ev.within in
       let r = chosen i v tail at out (subst (IsRowOf ranges) (sym is) ev.within) in
@@ -106,12 +111,14 @@ module _ {V : Type 0} {cmp : V → V → Ordering} {l : Conjuncts V} {used : ℕ
     lands =
         let n = next.1 in
         landed cmp given.total (given.sound).ties ranges (given.sound).ascending p at k near (planted l trees) after deep f next.0 n.up from q
-        (λ e ev m v tail a b w is. unchosen-none (picked ranges (take k p.places.items)) (get_or ranges k []) (get_or choices k None) m v (chosen k (omega arith)) (slice_get-nth (get_or ranges k []) m v w) (n.skipped m a b) e tail ev is) next.2
+        (λ e ev m v tail a b w is. unchosen-none (picked ranges (take k p.places.items)) (get_or ranges k []) (get_or choices k None) m v
+        (chosen k (omega arith)) (slice_get-nth (get_or ranges k []) m v w) (n.skipped m a b) e tail ev is) next.2
 
     moves-on : GoesOn cmp (planted l trees) ranges after p q
     moves-on = let h = lands in record { same = h.same; smaller = h.smaller }
 
-    blames : ((j : ℕ) → j < k → IsBlamed l trees ranges p.places.items j (get_or p.places.items j 0) (get_or choices j None) (mark_at p.marks j)) → IsBlamed l trees ranges p.places.items k f (get_or choices k None) (mark_at p.marks k)
+    blames : ((j : ℕ) → j < k → IsBlamed l trees ranges p.places.items j (get_or p.places.items j 0) (get_or choices j None) (mark_at p.marks j))
+        → IsBlamed l trees ranges p.places.items k f (get_or choices k None) (mark_at p.marks k)
         → (j : ℕ) → j < q.depth → IsBlamed l trees ranges q.places.items j (get_or q.places.items j 0) (get_or choices j None) (mark_at q.marks j)
     blames blamed here = go next.2 where
       go : Lands (length (get_or ranges k [])) k next.0 p q → (j : ℕ) → j < q.depth → IsBlamed l trees ranges q.places.items j (get_or q.places.items j 0) (get_or choices j None) (mark_at q.marks j)
@@ -120,18 +127,21 @@ module _ {V : Type 0} {cmp : V → V → Ordering} {l : Conjuncts V} {used : ℕ
           let same = λ (i : ℕ) (ne : i ≢ k). ap (λ is. get_or is i 0) ps ∙ get_or-set_other p.places.items k i next.0 0 ne in
           elim (cases_eq j k) [
             | inl e ↦
-                let now : get_or q.places.items j 0 ≡ next.0 = ap (λ is. get_or is j 0) ps ∙ ap (λ i. get_or (set p.places.items k next.0) i 0) e ∙ get_or-set_same p.places.items k next.0 0 (omega (arith, at.all_places)) in
+                let now : get_or q.places.items j 0 ≡ next.0 = ap (λ is. get_or is j 0) ps ∙ ap (λ i. get_or (set p.places.items k next.0) i 0) e
+                ∙ get_or-set_same p.places.items k next.0 0 (omega (arith, at.all_places)) in
                 let skipped = blamed-skips l trees ranges p.places.items k f next.0 (get_or choices k None) (mark_at p.marks k) next.1 here in
                 blamed-as l trees ranges p.places.items q.places.items j next.0 (get_or q.places.items j 0) (get_or choices j None) (get_or choices j None) (mark_at p.marks j) (mark_at q.marks j)
                 (λ i low'. same i (λ z. absurd (omega arith))) (omega (arith, now)) refl mark
                 (subst (λ i. IsBlamed l trees ranges p.places.items i next.0 (get_or choices i None) (mark_at p.marks i)) (sym e) skipped)
             | inr ne ↦
-                blamed-as l trees ranges p.places.items q.places.items j (get_or p.places.items j 0) (get_or q.places.items j 0) (get_or choices j None) (get_or choices j None) (mark_at p.marks j) (mark_at q.marks j)
+                blamed-as l trees ranges p.places.items q.places.items j (get_or p.places.items j 0) (get_or q.places.items j 0) (get_or choices j None)
+                (get_or choices j None) (mark_at p.marks j) (mark_at q.marks j)
                 (λ i low'. same i (λ z. absurd (omega (arith, m, d, ne)))) (omega (arith, same j ne)) refl mark (blamed j (omega (arith, m, d, ne)))
           ]
       go (found, seen, inr (high, ps, d, fr, marks)) j m =
           let mark : mark_at q.marks j ≡ mark_at p.marks j = ap (λ (ms : Marks). mark_at ms j) marks in
-          blamed-as l trees ranges p.places.items q.places.items j (get_or p.places.items j 0) (get_or q.places.items j 0) (get_or choices j None) (get_or choices j None) (mark_at p.marks j) (mark_at q.marks j)
+          blamed-as l trees ranges p.places.items q.places.items j (get_or p.places.items j 0) (get_or q.places.items j 0) (get_or choices j None)
+          (get_or choices j None) (mark_at p.marks j) (mark_at q.marks j)
           (λ i low'. ap (λ is. get_or is i 0) ps) (omega (arith, ap (λ is. get_or is j 0) ps)) refl mark (blamed j (omega (arith, m, d)))
 
     spends : IsBlamed l trees ranges p.places.items k f (get_or choices k None) (mark_at p.marks k) → q.fresh ≡ false → IsSpent l trees ranges k q choices
@@ -146,10 +156,12 @@ module _ {V : Type 0} {cmp : V → V → Ordering} {l : Conjuncts V} {used : ℕ
       }
 
     -- the leaves that need one value more are forgotten
-    moves-stand : (uses : ℕ → ℕ → Bool) (old new : Memory) → Remembers l uses ranges (bound p) old → length choices ≡ length ranges → AreKept l trees ranges p.marks (bound p) choices → Forgets (k + 1) old new
+    moves-stand : (uses : ℕ → ℕ → Bool) (old new : Memory) → Remembers l uses ranges (bound p) old → length choices ≡ length ranges
+        → AreKept l trees ranges p.marks (bound p) choices → Forgets (k + 1) old new
         → ((j : ℕ) → j ≤ k → IsFound l trees (picked ranges (take j p.places.items)) j (get_or p.found.items j True))
         → ((j : ℕ) → j ≤ k → AreSeen l trees ranges (take j p.places.items) (seen_at p j))
-        → ((j : ℕ) → j < k → IsBlamed l trees ranges p.places.items j (get_or p.places.items j 0) (get_or choices j None) (mark_at p.marks j)) → IsBlamed l trees ranges p.places.items k f (get_or choices k None) (mark_at p.marks k)
+        → ((j : ℕ) → j < k → IsBlamed l trees ranges p.places.items j (get_or p.places.items j 0) (get_or choices j None) (mark_at p.marks j))
+        → IsBlamed l trees ranges p.places.items k f (get_or choices k None) (mark_at p.marks k)
         → Moves l uses trees ranges k q new choices
     moves-stand uses old new remembers long kept g found seen blamed here =
         let h = lands in
@@ -205,15 +217,18 @@ module _ {V : Type 0} {cmp : V → V → Ordering} {l : Conjuncts V} {used : ℕ
     pub descends : GoesOn cmp (planted l trees) ranges after p q
     descends = moves-on p q (set choices p.depth choice) p.depth 0 at near (omega arith) all-chosen first-from next
 
-    pub descends-stand : (uses : ℕ → ℕ → Bool) (old new : Memory) → Remembers l uses ranges (bound p) old → AreKept l trees ranges p.marks (bound p) (set choices p.depth choice) → Forgets (p.depth + 1) old new
+    pub descends-stand : (uses : ℕ → ℕ → Bool) (old new : Memory) → Remembers l uses ranges (bound p) old
+        → AreKept l trees ranges p.marks (bound p) (set choices p.depth choice) → Forgets (p.depth + 1) old new
         → ((j : ℕ) → j ≤ p.depth → IsFound l trees (picked ranges (take j p.places.items)) j (get_or p.found.items j True))
         → ((j : ℕ) → j ≤ p.depth → AreSeen l trees ranges (take j p.places.items) (seen_at p j))
-        → ((j : ℕ) → j < p.depth → IsBlamed l trees ranges p.places.items j (get_or p.places.items j 0) (get_or choices j None) (mark_at p.marks j)) → IsBlamed l trees ranges p.places.items p.depth 0 choice (mark_at p.marks p.depth)
+        → ((j : ℕ) → j < p.depth → IsBlamed l trees ranges p.places.items j (get_or p.places.items j 0) (get_or choices j None) (mark_at p.marks j))
+        → IsBlamed l trees ranges p.places.items p.depth 0 choice (mark_at p.marks p.depth)
         → Moves l uses trees ranges p.depth q new (set choices p.depth choice)
     descends-stand uses old new remembers kept g found seen blamed first =
         moves-stand p q (set choices p.depth choice) p.depth 0 at near (omega arith) all-chosen first-from next uses old new remembers
         (length-set choices p.depth choice ∙ all) kept g found seen
-        (λ j low. subst (λ c. IsBlamed l trees ranges p.places.items j (get_or p.places.items j 0) c (mark_at p.marks j)) (sym (get_or-set_other choices p.depth j choice None (λ e. absurd (omega arith)))) (blamed j low))
+        (λ j low. subst (λ c. IsBlamed l trees ranges p.places.items j (get_or p.places.items j 0) c (mark_at p.marks j))
+        (sym (get_or-set_other choices p.depth j choice None (λ e. absurd (omega arith)))) (blamed j low))
         (subst (λ c. IsBlamed l trees ranges p.places.items p.depth 0 c (mark_at p.marks p.depth)) (sym (get_or-set_same choices p.depth choice None (omega (arith, all)))) first)
 
   module _ (uses : ℕ → ℕ → Bool) (p q : Place) (old : Memory) (choices : List (Option (List ℕ))) (k : ℕ) (st : Stands l uses trees ranges p old choices) (f : p.fresh ≡ false) (d : p.depth ≡ k + 1)
@@ -240,7 +255,8 @@ module _ {V : Type 0} {cmp : V → V → Ordering} {l : Conjuncts V} {used : ℕ
       record {
         same = λ e ev. ap (λ b. reaches cmp b (path ranges p) e.row) f
             ∙ reaches-under cmp given.total true (path ranges p) e.row
-            ∙ same-under cmp given.total (given.sound).ties (path ranges p) (λ _. true) (λ _. false) e.row (λ tail is. absurd (hopeless-none (path ranges p) (omega (arith, length-path ranges p at, at.shallow)) h e tail ev is))
+            ∙ same-under cmp given.total (given.sound).ties (path ranges p) (λ _. true) (λ _. false) e.row
+            (λ tail is. absurd (hopeless-none (path ranges p) (omega (arith, length-path ranges p at, at.shallow)) h e tail ev is))
             ∙ sym (reaches-under cmp given.total false (path ranges p) e.row)
             ∙ sym (ap (λ b. reaches cmp b (path ranges q) e.row) g ∙ ap (λ r. reaches cmp false r e.row) same);
         smaller =
@@ -272,7 +288,8 @@ module _ {V : Type 0} {cmp : V → V → Ordering} {l : Conjuncts V} {used : ℕ
   unfolding Finds
   finds-unreached row e = inl e
 
-  pub finds-from : (row : List V) (t : Truth) → is_reached cmp after (length ranges) row ≡ true → IsSoFar l trees row (NeedsWithin l trees (length row)) t → Finds cmp l trees (length ranges) after row t
+  pub finds-from : (row : List V) (t : Truth) → is_reached cmp after (length ranges) row ≡ true → IsSoFar l trees row (NeedsWithin l trees (length row)) t
+      → Finds cmp l trees (length ranges) after row t
   unfolding Finds
   finds-from row False r h = inr (so-refuted l trees (NeedsWithin l trees (length row)) row h)
   finds-from row True r h = (r, h)
@@ -322,7 +339,8 @@ module _ {V : Type 0} {cmp : V → V → Ordering} {l : Conjuncts V} {used : ℕ
       )
 
   -- a whole row with its truth
-  pub takes-whole : (p q : Place) (t : Truth) → IsAt ranges p → p.fresh ≡ true → length ranges ≤ p.depth → is_reached cmp after (length ranges) (path ranges p) ≡ true → IsTruthOf (planted l trees) (path ranges p) t → t ≢ False
+  pub takes-whole : (p q : Place) (t : Truth) → IsAt ranges p → p.fresh ≡ true → length ranges ≤ p.depth
+      → is_reached cmp after (length ranges) (path ranges p) ≡ true → IsTruthOf (planted l trees) (path ranges p) t → t ≢ False
       → q.fresh ≡ false → q.places.items ≡ p.places.items → q.depth ≡ p.depth
       → Takes cmp (planted l trees) ranges after (ahead_of ranges p) (record { row = path ranges q; truth = t }) (ahead_of ranges q) × (q.depth ≡ length ranges)
   takes-whole p q t at f whole reached truth ne g ps d =
@@ -342,14 +360,16 @@ module _ {V : Type 0} {cmp : V → V → Ordering} {l : Conjuncts V} {used : ℕ
         }),
         d ∙ full,
       ) where
-        first : length (path ranges p) ≡ length ranges → (e : Event V) → IsEvent cmp (planted l trees) ranges after e → IsAhead cmp (ahead_of ranges p) e.row → (e ≡ record { row = path ranges p; truth = t }) ⊎ ComesAfter cmp (path ranges p) e.row
+        first : length (path ranges p) ≡ length ranges → (e : Event V) → IsEvent cmp (planted l trees) ranges after e → IsAhead cmp (ahead_of ranges p) e.row
+            → (e ≡ record { row = path ranges p; truth = t }) ⊎ ComesAfter cmp (path ranges p) e.row
         first len e ev a =
             let m : length e.row ≡ length ranges = IsRowOf-length ranges e.row ev.within in
             let cut : take (length (path ranges p)) e.row ≡ e.row = take_all (length (path ranges p)) e.row (omega (arith, len)) in
             elim a [
               | inl c ↦ inr (subst (λ r. ComesAfter cmp (path ranges p) r) cut c)
               | inr h ↦ let row : e.row ≡ path ranges p = sym cut ∙ h.1 in
-                  let is : e.truth ≡ t = IsTruthOf-only (planted l trees) one (path ranges p) (λ c n. let z = due c n in omega (arith, len)) e.truth t (subst (λ r. IsTruthOf (planted l trees) r e.truth) row ev.truth_of) truth in
+                  let is : e.truth ≡ t = IsTruthOf-only (planted l trees) one (path ranges p) (λ c n. let z = due c n in omega (arith, len)) e.truth t
+                  (subst (λ r. IsTruthOf (planted l trees) r e.truth) row ev.truth_of) truth in
                   inl (ap (λ r. record { row = r; truth = e.truth }) row ∙ ap (λ u. record { row = path ranges p; truth = u }) is)
             ]
 
@@ -364,7 +384,8 @@ module _ {V : Type 0} {cmp : V → V → Ordering} {l : Conjuncts V} {used : ℕ
       (let m = IsRowOf-length ranges e.row ev.within in omega (arith, length-path ranges p at, at.shallow)) h
 
   -- the same events are ahead, in the words of the definitions
-  pub SameAhead-from : (p q : Place) → IsAt ranges p → IsAt ranges q → KeepsEvents cmp (planted l trees) ranges after p q → SameAhead cmp (planted l trees) ranges after (ahead_of ranges p) (ahead_of ranges q)
+  pub SameAhead-from : (p q : Place) → IsAt ranges p → IsAt ranges q → KeepsEvents cmp (planted l trees) ranges after p q
+      → SameAhead cmp (planted l trees) ranges after (ahead_of ranges p) (ahead_of ranges q)
   SameAhead-from p q at bt same e ev = (
     (λ a. ahead-from q bt e ev (sym (same e ev) ∙ ahead-to p at e ev a)),
     (λ a. ahead-from p at e ev (same e ev ∙ ahead-to q bt e ev a)),
@@ -378,13 +399,15 @@ module _ {V : Type 0} {cmp : V → V → Ordering} {l : Conjuncts V} {used : ℕ
     passed = t.passed;
   }
 
-  pub gives-on : (p q r : Place) (step : Step) → SameAhead cmp (planted l trees) ranges after (ahead_of ranges p) (ahead_of ranges q) → Gives cmp (planted l trees) ranges after q step r → Gives cmp (planted l trees) ranges after p step r
+  pub gives-on : (p q r : Place) (step : Step) → SameAhead cmp (planted l trees) ranges after (ahead_of ranges p) (ahead_of ranges q)
+      → Gives cmp (planted l trees) ranges after q step r → Gives cmp (planted l trees) ranges after p step r
   gives-on p q r Holds same g = (takes-on (ahead_of ranges p) (ahead_of ranges q) (ahead_of ranges r) (record { row = path ranges r; truth = True }) same g.0, g.1)
   gives-on p q r Breaks same g = (takes-on (ahead_of ranges p) (ahead_of ranges q) (ahead_of ranges r) (record { row = path ranges r; truth = Out }) same g.0, g.1)
   gives-on p q r End same g = ((λ e ev a. g.0 e ev ((same e ev).0 a)), g.1, g.2)
 
 -- a row on which a conjunct is False holds no event
-pub finds-refuted : {V : Type 0} (cmp : V → V → Ordering) (l : Conjuncts V) (trees : List Tree) (n : ℕ) (after : Option (List V)) (row : List V) → IsRefuted l trees row → Finds cmp l trees n after row False
+pub finds-refuted : {V : Type 0} (cmp : V → V → Ordering) (l : Conjuncts V) (trees : List Tree) (n : ℕ) (after : Option (List V)) (row : List V)
+    → IsRefuted l trees row → Finds cmp l trees n after row False
 unfolding Finds
 finds-refuted cmp l trees n after row h = inr h
 
@@ -399,7 +422,8 @@ empty-none (r ∷ ranges) (suc k) near e (v ∷ row) m = empty-none ranges k (om
 pub ahead-begins : {V : Type 0} (cmp : V → V → Ordering) (s : Conjuncts V) (ranges : List (List V)) (after : Option (List V)) (a : Ahead V) → a ≡ begun → AreAllAhead cmp s ranges after a
 ahead-begins cmp s ranges after a is e ev = subst (λ b. IsAhead cmp b e.row) (sym is) (inr (refl, refl))
 
-pub ahead-first : {V : Type 0} (cmp : V → V → Ordering) (s : Conjuncts V) (ranges : List (List V)) (after : Option (List V)) (road : List V) (fresh : Bool) → road ≡ [] → (fresh ≡ false → (row : List V) → IsRowOf ranges row → ⊥)
+pub ahead-first : {V : Type 0} (cmp : V → V → Ordering) (s : Conjuncts V) (ranges : List (List V)) (after : Option (List V)) (road : List V) (fresh : Bool)
+    → road ≡ [] → (fresh ≡ false → (row : List V) → IsRowOf ranges row → ⊥)
     → AreAllAhead cmp s ranges after (record { path = road; here = fresh })
 ahead-first cmp s ranges after road true e none ev is = ahead-begins cmp s ranges after (record { path = road; here = true }) (ap (λ r. record { path = r; here = true }) e) ev is
 ahead-first cmp s ranges after road false e none ev is = absurd (none refl ev.row is.within)
@@ -440,7 +464,8 @@ stands-first l uses trees ranges p memo choices d long found seen marks new all 
 }
 
 -- a choice that was refused leaves all as it was
-pub stands-refused : {V : Type 0} (l : Conjuncts V) (uses : ℕ → ℕ → Bool) (trees : List Tree) (ranges : List (List V)) (p : Place) (old new : Memory) (choices : List (Option (List ℕ))) (choice : Option (List ℕ))
+pub stands-refused : {V : Type 0} (l : Conjuncts V) (uses : ℕ → ℕ → Bool) (trees : List Tree) (ranges : List (List V)) (p : Place) (old new : Memory)
+    (choices : List (Option (List ℕ))) (choice : Option (List ℕ))
     → Stands l uses trees ranges p old choices → p.depth < length ranges → Remembers l uses ranges (bound p) new
     → IsKept l trees ranges p.marks.stamps.items (bound p) p.depth choice (mark_at p.marks p.depth) → Stands l uses trees ranges p new (set choices p.depth choice)
 stands-refused l uses trees ranges p old new choices choice st near remembers kept = record {
@@ -449,8 +474,11 @@ stands-refused l uses trees ranges p old new choices choice st near remembers ke
   found = st.found;
   all_choices = length-set choices p.depth choice ∙ st.all_choices;
   kept = kept-chosen l trees ranges p.marks p.marks (bound p) choices p.depth choice (omega (arith, st.all_choices)) refl (λ d ne. refl) st.kept kept;
-  chosen = λ k m. subst (IsChoice l trees ranges (picked ranges (take k p.places.items)) (get_or ranges k [])) (sym (get_or-set_other choices p.depth k choice None (λ e. absurd (omega arith)))) (st.chosen k m);
+  chosen = λ k m. subst (IsChoice l trees ranges (picked ranges (take k p.places.items)) (get_or ranges k []))
+      (sym (get_or-set_other choices p.depth k choice None (λ e. absurd (omega arith)))) (st.chosen k m);
   seen = st.seen;
-  blamed = λ k m. subst (λ c. IsBlamed l trees ranges p.places.items k (get_or p.places.items k 0) c (mark_at p.marks k)) (sym (get_or-set_other choices p.depth k choice None (λ e. absurd (omega arith)))) (st.blamed k m);
-  past = λ f k e. subst (λ c. IsBlamed l trees ranges p.places.items k (get_or p.places.items k 0 + 1) c (mark_at p.marks k)) (sym (get_or-set_other choices p.depth k choice None (λ z. absurd (omega arith)))) (st.past f k e);
+  blamed = λ k m. subst (λ c. IsBlamed l trees ranges p.places.items k (get_or p.places.items k 0) c (mark_at p.marks k))
+      (sym (get_or-set_other choices p.depth k choice None (λ e. absurd (omega arith)))) (st.blamed k m);
+  past = λ f k e. subst (λ c. IsBlamed l trees ranges p.places.items k (get_or p.places.items k 0 + 1) c (mark_at p.marks k))
+      (sym (get_or-set_other choices p.depth k choice None (λ z. absurd (omega arith)))) (st.past f k e);
 }

@@ -21,7 +21,8 @@ module _ {V : Type 0} (l : Conjuncts V) (row : List V) (leaves : List ℕ) (befo
   later i (inl e) = inl e
   later i (inr w) = inr (w.0, omega (arith, w.1), w.2)
 
-  pub passed-next : (i : ℕ) (all t : Truth) → ArePassed l row leaves before i all → l.says (slice_index leaves i) row t → conjoined all t ≢ False → ArePassed l row leaves before (i + 1) (conjoined all t)
+  pub passed-next : (i : ℕ) (all t : Truth) → ArePassed l row leaves before i all → l.says (slice_index leaves i) row t → conjoined all t ≢ False
+      → ArePassed l row leaves before (i + 1) (conjoined all t)
   passed-next i True True h s ne = (h.0, one-more (λ k. l.says (slice_index leaves k) row True) i h.1 s)
   passed-next i True Out h s ne = (
     one-more (λ k. l.says (slice_index leaves k) row True ⊎ l.says (slice_index leaves k) row Out) i (λ k m. inl (h.1 k m)) (inr s),
@@ -34,7 +35,8 @@ module _ {V : Type 0} (l : Conjuncts V) (row : List V) (leaves : List ℕ) (befo
   passed-next i False t h s ne = absurd h
 
   -- the next leaf is False
-  pub tests-false : (i : ℕ) (all t u : Truth) → ArePassed l row leaves before i all → l.says (slice_index leaves i) row t → u ≡ conjoined all t → u ≡ False → i < length leaves → Tests l row leaves before False (i + 1)
+  pub tests-false : (i : ℕ) (all t u : Truth) → ArePassed l row leaves before i all → l.says (slice_index leaves i) row t → u ≡ conjoined all t → u ≡ False
+      → i < length leaves → Tests l row leaves before False (i + 1)
   unfolding Tests
   tests-false i True True u h s is e near = absurd (let z : True ≡ False = sym is ∙ e in cc)
   tests-false i True Out u h s is e near = absurd (let z : Out ≡ False = sym is ∙ e in cc)

@@ -20,7 +20,9 @@ held_none (x ∷ held) (suc place) l = held_none held place (omega (arith, l))
 
 -- ---- ranges
 
-ranges_next : (e : Environment) (cs : List Comp) (held : List (Option Value)) (i : ℕ) (c : Comp) (ranges : List (List Value)) (xs : List Value) → slice_get cs i ≡ Some c → AreRanges e (take i cs) held ranges → IsComponentRange e c (held_at i held) xs → AreRanges e (take (suc i) cs) held (ranges ++ xs ∷ [])
+ranges_next : (e : Environment) (cs : List Comp) (held : List (Option Value)) (i : ℕ) (c : Comp) (ranges : List (List Value)) (xs : List Value)
+    → slice_get cs i ≡ Some c → AreRanges e (take i cs) held ranges → IsComponentRange e c (held_at i held) xs
+    → AreRanges e (take (suc i) cs) held (ranges ++ xs ∷ [])
 ranges_next e [] held i c ranges xs g h k = (cc)
 ranges_next e (d ∷ ds) held zero c [] xs g h k = let s : c ≡ d = (cc) in (subst (λ z. IsComponentRange e z (held_at zero held) xs) s k, tt)
 ranges_next e (d ∷ ds) held zero c (r ∷ rs) xs g h k = absurd h
@@ -34,7 +36,9 @@ none_next e (d ∷ ds) zero c g h k (suc place) o = (cc (o.1))
 none_next e (d ∷ ds) (suc i) c g h k zero o = h zero o
 none_next e (d ∷ ds) (suc i) c g h k (suc place) o = none_next e ds i c g (λ p q. h (suc p) q) k place o
 
-pub all_next : (e : Environment) (cs : List Comp) (held : List (Option Value)) (i : ℕ) (c : Comp) (ranges : List (List Value)) (xs : List Value) → slice_get cs i ≡ Some c → AreAllRanges e (take i cs) held ranges → IsOneRange e c (held_at i held) xs → AreAllRanges e (take (i + 1) cs) held (ranges ++ xs ∷ [])
+pub all_next : (e : Environment) (cs : List Comp) (held : List (Option Value)) (i : ℕ) (c : Comp) (ranges : List (List Value)) (xs : List Value)
+    → slice_get cs i ≡ Some c → AreAllRanges e (take i cs) held ranges → IsOneRange e c (held_at i held) xs
+    → AreAllRanges e (take (i + 1) cs) held (ranges ++ xs ∷ [])
 all_next e cs held i c ranges xs g h k = rw add-one (ranges_next e cs held i c ranges xs g h.0 k.0, none_next e cs i c g h.1 k.1)
 
 taken : (cs : List Comp) (i k : ℕ) → k < i → slice_get (take i cs) k ≡ slice_get cs k
@@ -71,13 +75,15 @@ whole [] (suc i) l = refl
 whole (c ∷ cs) zero l = absurd (omega arith)
 whole (c ∷ cs) (suc i) l = ap (λ ds. c ∷ ds) (whole cs i (omega arith))
 
-pub all_done : (e : Environment) (xs : List Component) (held : List (Option Value)) (i : ℕ) (rs : List (List Value)) → length xs ≤ i → AreAllRanges e (take i (map comp_of xs)) held rs → AreAllRanges e (map comp_of xs) held rs
+pub all_done : (e : Environment) (xs : List Component) (held : List (Option Value)) (i : ℕ) (rs : List (List Value)) → length xs ≤ i
+    → AreAllRanges e (take i (map comp_of xs)) held rs → AreAllRanges e (map comp_of xs) held rs
 all_done e xs held i rs l h = subst (λ (ds : List Comp). AreAllRanges e ds held rs) (whole (map comp_of xs) i (rw (length-map xs comp_of) l)) h
 
 refuses : (e : Environment) (cs : List Comp) (i : ℕ) (c : Comp) (f : StartFault) → slice_get cs i ≡ Some c → IsNoneOut e (take i cs) → IsOutBy e c i f → Refuses e cs f
 refuses e cs i c (DeclaredOut place) g n h = subst (λ k. IsFirstOut e cs k) (sym h.0) (first_out e cs i c g n h.1)
 refuses e cs i c OutOfMemory g n h = tt
 
-pub refused : {X : Type 0} (e : Environment) (cs : List Comp) (i : ℕ) (c : Comp) (f : StartFault) (r : Result X StartFault) → IsErrAnd r (λ y. y ≡ f) → slice_get cs i ≡ Some c → IsNoneOut e (take i cs) → IsOutBy e c i f → IfErr r (Refuses e cs)
+pub refused : {X : Type 0} (e : Environment) (cs : List Comp) (i : ℕ) (c : Comp) (f : StartFault) (r : Result X StartFault) → IsErrAnd r (λ y. y ≡ f)
+    → slice_get cs i ≡ Some c → IsNoneOut e (take i cs) → IsOutBy e c i f → IfErr r (Refuses e cs)
 refused e cs i c f (Ok x) is g n h = tt
 refused e cs i c f (Err y) is g n h = subst (Refuses e cs) (sym is) (refuses e cs i c f g n h)

@@ -19,6 +19,7 @@ module _ (e : Environment) (ds : DeclaredSets) where
         here.1,
       )
 
-  pub one_ok : {X E : Type 0} (items : X → List Value) (r : Result X E) (w : Value) (ys : List Value) → ys ≡ w ∷ [] → IfOk r (λ x. NarrowsAll e ds ys (items x)) → IfOk r (λ x. IsAllWith e ds (Some w) (items x))
+  pub one_ok : {X E : Type 0} (items : X → List Value) (r : Result X E) (w : Value) (ys : List Value) → ys ≡ w ∷ []
+      → IfOk r (λ x. NarrowsAll e ds ys (items x)) → IfOk r (λ x. IsAllWith e ds (Some w) (items x))
   one_ok items (Ok x) w ys is h = of_one w ys (items x) is h
   one_ok items (Err f) w ys is h = tt

@@ -19,7 +19,8 @@ held_next e cs held i c ranges x g h k = rw add-one (next e cs held i c ranges x
 pub held_none_yet : (e : Environment) (cs : List Comp) (held : List (Option Value)) (rs : List (Option (List Value))) → rs ≡ [] → AreHeldRanges e (take 0 cs) held rs
 held_none_yet e cs held rs s = subst (λ (ys : List (Option (List Value))). AreHeldRanges e [] held ys) (sym s) tt
 
-pub held_done : (e : Environment) (xs : List Component) (held : List (Option Value)) (i : ℕ) (rs : List (Option (List Value))) → length xs ≤ i → AreHeldRanges e (take i (map comp_of xs)) held rs → AreHeldRanges e (map comp_of xs) held rs
+pub held_done : (e : Environment) (xs : List Component) (held : List (Option Value)) (i : ℕ) (rs : List (Option (List Value))) → length xs ≤ i
+    → AreHeldRanges e (take i (map comp_of xs)) held rs → AreHeldRanges e (map comp_of xs) held rs
 held_done e xs held i rs l h = subst (λ (ds : List Comp). AreHeldRanges e ds held rs) (whole (map comp_of xs) i (rw (length-map xs comp_of) l)) h
 
 -- none is out, nor the one at this place

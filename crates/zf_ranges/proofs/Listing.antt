@@ -27,7 +27,8 @@ before_here (y ∷ ys) (suc i) x z h at l m =
 pub lists_begin : (P : Value → Type 0) (out : List Value) → out ≡ [] → Lists (λ v. IsMember v [] × P v) out
 lists_begin P out e = lists_none (λ v. IsMember v [] × P v) out e (λ v p. absurd p.0)
 
-pushed : (P : Value → Type 0) (xs : List Value) (i : ℕ) (x : Value) (out : List Value) → IsAscending xs → x ≡ get_or xs i x → i < length xs → Lists (λ v. IsMember v (take i xs) × P v) out → P x → Lists (λ v. IsMember v (take (suc i) xs) × P v) (out ++ x ∷ [])
+pushed : (P : Value → Type 0) (xs : List Value) (i : ℕ) (x : Value) (out : List Value) → IsAscending xs → x ≡ get_or xs i x → i < length xs
+    → Lists (λ v. IsMember v (take i xs) × P v) out → P x → Lists (λ v. IsMember v (take (suc i) xs) × P v) (out ++ x ∷ [])
 pushed P xs i x out r at l h p = record {
   ascending = ascending-push out x h.ascending (every_from (λ z. value_order z x ≡ Less) out (λ z m. before_here xs i x z r at l ((h.members z).0 m).0));
   members = λ z. (
@@ -36,7 +37,8 @@ pushed P xs i x out r at l h p = record {
   );
 }
 
-passed : (P : Value → Type 0) (xs : List Value) (i : ℕ) (x : Value) (out : List Value) → x ≡ get_or xs i x → i < length xs → Lists (λ v. IsMember v (take i xs) × P v) out → (P x → ⊥) → Lists (λ v. IsMember v (take (suc i) xs) × P v) out
+passed : (P : Value → Type 0) (xs : List Value) (i : ℕ) (x : Value) (out : List Value) → x ≡ get_or xs i x → i < length xs
+    → Lists (λ v. IsMember v (take i xs) × P v) out → (P x → ⊥) → Lists (λ v. IsMember v (take (suc i) xs) × P v) out
 passed P xs i x out at l h p = record {
   ascending = h.ascending;
   members = λ z. (
@@ -45,7 +47,8 @@ passed P xs i x out at l h p = record {
   );
 }
 
-pub lists_step : (P : Value → Type 0) (xs : List Value) (i : ℕ) (x : Value) (out new : List Value) → IsAscending xs → x ≡ get_or xs i x → i < length xs → Lists (λ v. IsMember v (take i xs) × P v) out → Grows P x out new → Lists (λ v. IsMember v (take (i + 1) xs) × P v) new
+pub lists_step : (P : Value → Type 0) (xs : List Value) (i : ℕ) (x : Value) (out new : List Value) → IsAscending xs → x ≡ get_or xs i x → i < length xs
+    → Lists (λ v. IsMember v (take i xs) × P v) out → Grows P x out new → Lists (λ v. IsMember v (take (i + 1) xs) × P v) new
 unfolding Grows
 lists_step P xs i x out new r at l h g = rw add-one (⊎_elim
     (λ k. subst (λ ys. Lists (λ v. IsMember v (take (suc i) xs) × P v) ys) (sym k.1) (pushed P xs i x out r at l h k.0))

@@ -14,7 +14,8 @@ whole xs = sets_of (map set_of xs)
 
 -- ---- one more
 
-in_next : (e : Environment) (xs : List Domain) (i : ℕ) (x : Domain) → x ≡ get_or xs i x → i < length xs → (v : Value) → IsInSets e (front (suc i) xs) v ↔ (IsInSets e (front i xs) v × IsInSet e (set_of x) v)
+in_next : (e : Environment) (xs : List Domain) (i : ℕ) (x : Domain) → x ≡ get_or xs i x → i < length xs → (v : Value)
+    → IsInSets e (front (suc i) xs) v ↔ (IsInSets e (front i xs) v × IsInSet e (set_of x) v)
 in_next e [] i x at l v = absurd (omega arith)
 in_next e (y ∷ ys) zero x at l v = (λ h. (tt, subst (λ z. IsInSet e (set_of z) v) (sym at) h.0), λ h. (subst (λ z. IsInSet e (set_of z) v) at h.1, tt))
 in_next e (y ∷ ys) (suc i) x at l v =
@@ -35,7 +36,8 @@ pub narrows_none : (e : Environment) (xs : List Domain) (vs found : List Value) 
 narrows_none e xs vs found s h =
     (subst (λ ys. Lists (λ v. IsMember v vs × Unit {0}) ys) (sym s) (record { ascending = h; members = λ v. (λ m. (m, tt), λ k. k.0) }), λ k. k)
 
-next : (e : Environment) (xs : List Domain) (i : ℕ) (x : Domain) (vs found new : List Value) → x ≡ get_or xs i x → i < length xs → NarrowsAll e (front i xs) vs found → Narrows e (set_of x) found new → NarrowsAll e (front (suc i) xs) vs new
+next : (e : Environment) (xs : List Domain) (i : ℕ) (x : Domain) (vs found new : List Value) → x ≡ get_or xs i x → i < length xs
+    → NarrowsAll e (front i xs) vs found → Narrows e (set_of x) found new → NarrowsAll e (front (suc i) xs) vs new
 next e xs i x vs found new at l h k = (
   lists_same (λ v. IsMember v found × IsInSet e (set_of x) v) (λ v. IsMember v vs × IsInSets e (front (suc i) xs) v) new
       (λ v. (
@@ -45,7 +47,8 @@ next e xs i x vs found new at l h k = (
   λ o. ⊎_elim h.1 k.1 (out_next e xs i x at l o),
 )
 
-pub narrows_next : (e : Environment) (xs : List Domain) (i : ℕ) (x : Domain) (vs found new : List Value) → x ≡ get_or xs i x → i < length xs → NarrowsAll e (front i xs) vs found → Narrows e (set_of x) found new → NarrowsAll e (front (i + 1) xs) vs new
+pub narrows_next : (e : Environment) (xs : List Domain) (i : ℕ) (x : Domain) (vs found new : List Value) → x ≡ get_or xs i x → i < length xs
+    → NarrowsAll e (front i xs) vs found → Narrows e (set_of x) found new → NarrowsAll e (front (i + 1) xs) vs new
 narrows_next e xs i x vs found new at l h k = rw add-one (next e xs i x vs found new at l h k)
 
 all_taken : (xs : List Domain) (i : ℕ) → length xs ≤ i → take i xs ≡ xs
@@ -63,14 +66,16 @@ narrows_end e xs i vs found l h = subst (λ ys. NarrowsAll e (whole ys) vs found
 pub rest : (xs : List Domain) (i : ℕ) → take (length xs - (i + 1)) (drop (i + 1) xs) ≡ drop (suc i) xs
 rest xs i = rw add-one (all_taken (drop (suc i) xs) (length xs - suc i) (omega (arith, length-drop (suc i) xs)))
 
-in_parts : (e : Environment) (xs : List Domain) (i : ℕ) (x : Domain) → x ≡ get_or xs i x → i < length xs → (v : Value) → IsInSets e (whole xs) v ↔ ((IsInSet e (set_of x) v × IsInSets e (front i xs) v) × IsInSets e (back (suc i) xs) v)
+in_parts : (e : Environment) (xs : List Domain) (i : ℕ) (x : Domain) → x ≡ get_or xs i x → i < length xs → (v : Value)
+    → IsInSets e (whole xs) v ↔ ((IsInSet e (set_of x) v × IsInSets e (front i xs) v) × IsInSets e (back (suc i) xs) v)
 in_parts e [] i x at l v = absurd (omega arith)
 in_parts e (y ∷ ys) zero x at l v = (λ h. ((subst (λ z. IsInSet e (set_of z) v) (sym at) h.0, tt), h.1), λ h. (subst (λ z. IsInSet e (set_of z) v) at h.0.0, h.1))
 in_parts e (y ∷ ys) (suc i) x at l v =
     let rest = in_parts e ys i x at (omega arith) v in
     (λ h. let k = rest.0 h.1 in ((k.0.0, (h.0, k.0.1)), k.1), λ h. (h.0.1.0, rest.1 ((h.0.0, h.0.1.1), h.1)))
 
-out_parts : (e : Environment) (xs : List Domain) (i : ℕ) (x : Domain) → x ≡ get_or xs i x → i < length xs → IsOneOut e (whole xs) → IsSetOut e (set_of x) ⊎ (IsOneOut e (front i xs) ⊎ IsOneOut e (back (suc i) xs))
+out_parts : (e : Environment) (xs : List Domain) (i : ℕ) (x : Domain) → x ≡ get_or xs i x → i < length xs → IsOneOut e (whole xs)
+    → IsSetOut e (set_of x) ⊎ (IsOneOut e (front i xs) ⊎ IsOneOut e (back (suc i) xs))
 out_parts e [] i x at l h = absurd (omega arith)
 out_parts e (y ∷ ys) zero x at l h = ⊎_elim (λ k. inl (subst (λ z. IsSetOut e (set_of z)) (sym at) k)) (λ k. inr (inr k)) h
 out_parts e (y ∷ ys) (suc i) x at l h = ⊎_elim (λ k. inr (inl (inl k))) (λ k. ⊎_elim (λ m. inl m) (λ m. ⊎_elim (λ n. inr (inl (inr n))) (λ n. inr (inr n)) m) (out_parts e ys i x at (omega arith) k)) h
@@ -87,7 +92,8 @@ out_behind e [] (suc i) h = absurd h
 out_behind e (y ∷ ys) zero h = h
 out_behind e (y ∷ ys) (suc i) h = inr (out_behind e ys i h)
 
-pub all_of_each : (e : Environment) (xs : List Domain) (i : ℕ) (x : Domain) (ls ms ns : List Value) → x ≡ get_or xs i x → i < length xs → IsAllOf e (set_of x) ls → NarrowsAll e (front i xs) ls ms → NarrowsAll e (back (suc i) xs) ms ns → IsAllOfEach e (whole xs) ns
+pub all_of_each : (e : Environment) (xs : List Domain) (i : ℕ) (x : Domain) (ls ms ns : List Value) → x ≡ get_or xs i x → i < length xs
+    → IsAllOf e (set_of x) ls → NarrowsAll e (front i xs) ls ms → NarrowsAll e (back (suc i) xs) ms ns → IsAllOfEach e (whole xs) ns
 all_of_each e xs i x ls ms ns at l h k m = (
   lists_same (λ v. IsMember v ms × IsInSets e (back (suc i) xs) v) (IsInSets e (whole xs)) ns
       (λ v. (
@@ -102,14 +108,16 @@ all_of_each e xs i x ls ms ns at l h k m = (
 either : (e : Environment) (left right : DeclaredSets) → (IsOneOut e left → ⊥) → (IsOneOut e right → ⊥) → IsSetOut e (sides left right) → ⊥
 either e left right h k o = ⊎_elim h k o
 
-pub all_of_sides : (e : Environment) (left right : DeclaredSets) (ls ms ns : List Value) → IsAllOfEach e left ls → IsAllOfEach e right ms → Lists (λ v. IsMember v ls ⊎ IsMember v ms) ns → IsAllOf e (sides left right) ns
+pub all_of_sides : (e : Environment) (left right : DeclaredSets) (ls ms ns : List Value) → IsAllOfEach e left ls → IsAllOfEach e right ms
+    → Lists (λ v. IsMember v ls ⊎ IsMember v ms) ns → IsAllOf e (sides left right) ns
 all_of_sides e left right ls ms ns h k m = (
   lists_same (λ v. IsMember v ls ⊎ IsMember v ms) (IsInSet e (sides left right)) ns
       (λ v. (λ n. ⊎_elim (λ p. inl ((h.0.members v).0 p)) (λ p. inr ((k.0.members v).0 p)) n, λ n. ⊎_elim (λ p. inl ((h.0.members v).1 p)) (λ p. inr ((k.0.members v).1 p)) n)) m,
   either e left right h.1 k.1,
 )
 
-pub some_of_sides : (e : Environment) (left right : DeclaredSets) (vs ls ms ns : List Value) → NarrowsAll e left vs ls → NarrowsAll e right vs ms → Lists (λ v. IsMember v ls ⊎ IsMember v ms) ns → Narrows e (sides left right) vs ns
+pub some_of_sides : (e : Environment) (left right : DeclaredSets) (vs ls ms ns : List Value) → NarrowsAll e left vs ls → NarrowsAll e right vs ms
+    → Lists (λ v. IsMember v ls ⊎ IsMember v ms) ns → Narrows e (sides left right) vs ns
 some_of_sides e left right vs ls ms ns h k m = (
   lists_same (λ v. IsMember v ls ⊎ IsMember v ms) (λ v. IsMember v vs × IsInSet e (sides left right) v) ns
       (λ v. (
@@ -120,10 +128,12 @@ some_of_sides e left right vs ls ms ns h k m = (
 )
 
 -- where a disjunction bounds, both of its sides do
-pub sides_bound : (n : Option ℕ) (g : List Defined) (d : Domain) (left right : List Domain) → d ≡ domain.Either left right → bounds n g (set_of d) ≡ true → (one_bounds n g (sets_of (map set_of left)) ≡ true) × (one_bounds n g (sets_of (map set_of right)) ≡ true)
+pub sides_bound : (n : Option ℕ) (g : List Defined) (d : Domain) (left right : List Domain) → d ≡ domain.Either left right → bounds n g (set_of d) ≡ true
+    → (one_bounds n g (sets_of (map set_of left)) ≡ true) × (one_bounds n g (sets_of (map set_of right)) ≡ true)
 sides_bound n g d left right is b =
     and_parts (one_bounds n g (sets_of (map set_of left))) (one_bounds n g (sets_of (map set_of right))) (subst (λ (s : DeclaredSet). bounds n g s ≡ true) (ap set_of is ∙ of-Either left right) b)
 
 -- the place of a set that bounds, by the same globals
-pub bounds_at : (n : Option ℕ) (g h : List Defined) (xs : List Domain) (place : ℕ) → g ≡ h → (one_bounds n g (whole xs) ≡ true → BoundsAt n g xs place) → one_bounds n h (whole xs) ≡ true → BoundsAt n h xs place
+pub bounds_at : (n : Option ℕ) (g h : List Defined) (xs : List Domain) (place : ℕ) → g ≡ h → (one_bounds n g (whole xs) ≡ true → BoundsAt n g xs place)
+    → one_bounds n h (whole xs) ≡ true → BoundsAt n h xs place
 bounds_at n g h xs place e f b = subst (λ (k : List Defined). BoundsAt n k xs place) e (f (subst (λ (k : List Defined). one_bounds n k (whole xs) ≡ true) (sym e) b))

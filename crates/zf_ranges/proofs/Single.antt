@@ -20,12 +20,20 @@ among : (P Q : Value → Type 0) (xs : List Value) → ((v : Value) → P v ↔ 
 among P Q xs f v = (λ k. (k.0, (f v).0 k.1), λ k. (k.0, (f v).1 k.1))
 
 -- what is described by the only outcome of which S says so, and filters values
-listed : (S : Outcome → Type 0) (d : Described) (xs ys : List Value) → ((p q : Outcome) → S p → S q → p ≡ q) → Describes S d → Filters d xs ys → (o : Outcome) × S o × IsListed o (λ v. IsMember v xs × IsIn o v) ys
+listed : (S : Outcome → Type 0) (d : Described) (xs ys : List Value) → ((p q : Outcome) → S p → S q → p ≡ q) → Describes S d → Filters d xs ys → (o : Outcome)
+    × S o × IsListed o (λ v. IsMember v xs × IsIn o v) ys
 unfolding Describes IsInDescribed
 listed S d xs ys one f h =
     let o = h.1 in
-    let same = in_one (IsDescribed d) o.0 o.1 (λ p q. one o.0 p (f o.0 o.1) (f p q)) in
-    (o.0, f o.0 o.1, record { within = λ e. o.2 (subst (IsDescribed d) e o.1); lists = lists_same _ (λ v. IsMember v xs × IsIn o.0 v) ys (among (IsInDescribed d) (IsIn o.0) xs (λ v. ((same v).1, (same v).0))) h.0 })
+    let same = in_one (IsDescribed d) o.0 o.1 (λ p q. one o.0 p (f o.0 o.1) (f p q)) in (
+      o.0,
+      f o.0 o.1,
+      record {
+        within = λ e. o.2 (subst (IsDescribed d) e o.1);
+        lists = lists_same _ (λ v. IsMember v xs
+            × IsIn o.0 v) ys (among (IsInDescribed d) (IsIn o.0) xs (λ v. ((same v).1, (same v).0))) h.0;
+      },
+    )
 
 -- ---- the set of a declaration
 
@@ -38,30 +46,45 @@ bounding e t b = by (direct e.globals t) e.numbers b
     by (Some s) None b = b
     by (Some s) (Some n) b = refl
 
-all_of : (e : Environment) (t : ResolvedTree) (d : Option Infinite) (o : Outcome) (xs : List Value) → is_none d ≡ true → HasOutcome (globally e) t o → IsListed o (IsIn o) xs → Lists (IsInPlain e d t) xs × (IsPlainOut e d t → ⊥)
-all_of e t None o xs n h k = (lists_same (IsIn o) (IsInPlain e None t) xs (in_one (HasOutcome (globally e) t) o h (λ p q. one_outcome (globally e) t o p h q)) k.lists, λ q. k.within (one_outcome (globally e) t o Out h q))
+all_of : (e : Environment) (t : ResolvedTree) (d : Option Infinite) (o : Outcome) (xs : List Value) → is_none d ≡ true → HasOutcome (globally e) t o
+    → IsListed o (IsIn o) xs → Lists (IsInPlain e d t) xs × (IsPlainOut e d t → ⊥)
+all_of e t None o xs n h k = (
+  lists_same (IsIn o) (IsInPlain e None t) xs
+      (in_one (HasOutcome (globally e) t) o h (λ p q. one_outcome (globally e) t o p h q)) k.lists,
+  λ q. k.within (one_outcome (globally e) t o Out h q),
+)
 all_of e t (Some s) o xs n h k = (cc)
 
-pub all_of_plain : (e : Environment) (t : ResolvedTree) (o : Outcome) (xs : List Value) → bounds e.numbers e.globals (plain t) ≡ true → HasOutcome (globally e) t o → IsListed o (IsIn o) xs → IsAllOf e (plain t) xs
+pub all_of_plain : (e : Environment) (t : ResolvedTree) (o : Outcome) (xs : List Value) → bounds e.numbers e.globals (plain t) ≡ true
+    → HasOutcome (globally e) t o → IsListed o (IsIn o) xs → IsAllOf e (plain t) xs
 all_of_plain e t o xs n h k = all_of e t (infinite_in e t) o xs (bounding e t n) h k
 
-some_of : (e : Environment) (t : ResolvedTree) (d : Option Infinite) (o : Outcome) (xs ys : List Value) → d ≡ None → HasOutcome (globally e) t o → IsListed o (λ v. IsMember v xs × IsIn o v) ys → Lists (λ v. IsMember v xs × IsInPlain e d t v) ys × (IsPlainOut e d t → ⊥)
-some_of e t None o xs ys n h k = (lists_same _ (λ v. IsMember v xs × IsInPlain e None t v) ys (among (IsIn o) (IsInPlain e None t) xs (in_one (HasOutcome (globally e) t) o h (λ p q. one_outcome (globally e) t o p h q))) k.lists, λ q. k.within (one_outcome (globally e) t o Out h q))
+some_of : (e : Environment) (t : ResolvedTree) (d : Option Infinite) (o : Outcome) (xs ys : List Value) → d ≡ None → HasOutcome (globally e) t o
+    → IsListed o (λ v. IsMember v xs × IsIn o v) ys → Lists (λ v. IsMember v xs × IsInPlain e d t v) ys × (IsPlainOut e d t → ⊥)
+some_of e t None o xs ys n h k = (
+  lists_same _ (λ v. IsMember v xs × IsInPlain e None t v) ys
+      (among (IsIn o) (IsInPlain e None t) xs (in_one (HasOutcome (globally e) t) o h (λ p q. one_outcome (globally e) t o p h q))) k.lists,
+  λ q. k.within (one_outcome (globally e) t o Out h q),
+)
 some_of e t (Some s) o xs ys n h k = (cc)
 
-some_of_plain : (e : Environment) (t : ResolvedTree) (o : Outcome) (xs ys : List Value) → infinite_in e t ≡ None → HasOutcome (globally e) t o → IsListed o (λ v. IsMember v xs × IsIn o v) ys → Narrows e (plain t) xs ys
+some_of_plain : (e : Environment) (t : ResolvedTree) (o : Outcome) (xs ys : List Value) → infinite_in e t ≡ None → HasOutcome (globally e) t o
+    → IsListed o (λ v. IsMember v xs × IsIn o v) ys → Narrows e (plain t) xs ys
 some_of_plain e t o xs ys n h k = some_of e t (infinite_in e t) o xs ys n h k
 
-pub filtered_by_plain : (e : Environment) (t : ResolvedTree) (d : Described) (xs ys : List Value) → infinite_in e t ≡ None → Describes (HasOutcome (globally e) t) d → Filters d xs ys → Narrows e (plain t) xs ys
+pub filtered_by_plain : (e : Environment) (t : ResolvedTree) (d : Described) (xs ys : List Value) → infinite_in e t ≡ None
+    → Describes (HasOutcome (globally e) t) d → Filters d xs ys → Narrows e (plain t) xs ys
 filtered_by_plain e t d xs ys n f h =
     let l = listed (HasOutcome (globally e) t) d xs ys (λ p q. one_outcome (globally e) t p q) f h in
     some_of_plain e t l.0 xs ys n l.1 l.2
 
-numbers_of : (e : Environment) (t : ResolvedTree) (d : Option Infinite) (s : Infinite) (xs ys : List Value) → d ≡ Some s → Lists (λ v. IsMember v xs × symbols.IsIn s v) ys → Lists (λ v. IsMember v xs × IsInPlain e d t v) ys × (IsPlainOut e d t → ⊥)
+numbers_of : (e : Environment) (t : ResolvedTree) (d : Option Infinite) (s : Infinite) (xs ys : List Value) → d ≡ Some s
+    → Lists (λ v. IsMember v xs × symbols.IsIn s v) ys → Lists (λ v. IsMember v xs × IsInPlain e d t v) ys × (IsPlainOut e d t → ⊥)
 numbers_of e t None s xs ys n k = (cc)
 numbers_of e t (Some r) s xs ys n k = let same : s ≡ r = (cc) in (subst (λ z. Lists (λ v. IsMember v xs × symbols.IsIn z v) ys) same k, λ q. q)
 
-pub numbers_of_plain : (e : Environment) (t : ResolvedTree) (s : Infinite) (xs ys : List Value) → infinite_in e t ≡ Some s → Lists (λ v. IsMember v xs × symbols.IsIn s v) ys → Narrows e (plain t) xs ys
+pub numbers_of_plain : (e : Environment) (t : ResolvedTree) (s : Infinite) (xs ys : List Value) → infinite_in e t ≡ Some s
+    → Lists (λ v. IsMember v xs × symbols.IsIn s v) ys → Narrows e (plain t) xs ys
 numbers_of_plain e t s xs ys n k = numbers_of e t (infinite_in e t) s xs ys n k
 
 plain_out : (e : Environment) (t : ResolvedTree) (d : Option Infinite) (o : Outcome) → is_none d ≡ true → HasOutcome (globally e) t o → o ≡ Out → IsPlainOut e d t
@@ -84,11 +107,17 @@ all_in e t false o xs n h k = (lists_same (IsIn o) (IsInCarrier e false t) xs (i
 pub all_of_carrier : (e : Environment) (t : Ty) (o : Outcome) (xs : List Value) → has_endless e.numbers t ≡ false → IsCarrier e t o → IsListed o (IsIn o) xs → IsAllOf e (carrier t) xs
 all_of_carrier e t o xs n h k = all_in e t (has_endless e.numbers t) o xs n h k
 
-some_in : (e : Environment) (t : Ty) (b : Bool) (o : Outcome) (xs ys : List Value) → b ≡ false → IsCarrier e t o → IsListed o (λ v. IsMember v xs × IsIn o v) ys → Lists (λ v. IsMember v xs × IsInCarrier e b t v) ys × (IsCarrierOut e b t → ⊥)
+some_in : (e : Environment) (t : Ty) (b : Bool) (o : Outcome) (xs ys : List Value) → b ≡ false → IsCarrier e t o
+    → IsListed o (λ v. IsMember v xs × IsIn o v) ys → Lists (λ v. IsMember v xs × IsInCarrier e b t v) ys × (IsCarrierOut e b t → ⊥)
 some_in e t true o xs ys n h k = (cc)
-some_in e t false o xs ys n h k = (lists_same _ (λ v. IsMember v xs × IsInCarrier e false t v) ys (among (IsIn o) (IsInCarrier e false t) xs (in_one (IsCarrier e t) o h (λ p q. one_carrier e t o p h q))) k.lists, λ q. k.within (one_carrier e t o Out h q))
+some_in e t false o xs ys n h k = (
+  lists_same _ (λ v. IsMember v xs × IsInCarrier e false t v) ys
+      (among (IsIn o) (IsInCarrier e false t) xs (in_one (IsCarrier e t) o h (λ p q. one_carrier e t o p h q))) k.lists,
+  λ q. k.within (one_carrier e t o Out h q),
+)
 
-some_of_carrier : (e : Environment) (t : Ty) (o : Outcome) (xs ys : List Value) → has_endless e.numbers t ≡ false → IsCarrier e t o → IsListed o (λ v. IsMember v xs × IsIn o v) ys → Narrows e (carrier t) xs ys
+some_of_carrier : (e : Environment) (t : Ty) (o : Outcome) (xs ys : List Value) → has_endless e.numbers t ≡ false → IsCarrier e t o
+    → IsListed o (λ v. IsMember v xs × IsIn o v) ys → Narrows e (carrier t) xs ys
 some_of_carrier e t o xs ys n h k = some_in e t (has_endless e.numbers t) o xs ys n h k
 
 -- what is described as the one outcome
@@ -96,12 +125,14 @@ pub one_described : (S : Outcome → Type 0) (o : Outcome) (d : Described) → S
 unfolding Describes
 one_described S o d s f p h = subst S (sym (f p h)) s
 
-pub filtered_by_carrier : (e : Environment) (t : Ty) (d : Described) (xs ys : List Value) → has_endless e.numbers t ≡ false → Describes (IsCarrier e t) d → Filters d xs ys → Narrows e (carrier t) xs ys
+pub filtered_by_carrier : (e : Environment) (t : Ty) (d : Described) (xs ys : List Value) → has_endless e.numbers t ≡ false → Describes (IsCarrier e t) d
+    → Filters d xs ys → Narrows e (carrier t) xs ys
 filtered_by_carrier e t d xs ys n f h =
     let l = listed (IsCarrier e t) d xs ys (λ p q. one_carrier e t p q) f h in
     some_of_carrier e t l.0 xs ys n l.1 l.2
 
-typed_in : (e : Environment) (t : Ty) (b : Bool) (xs ys : List Value) → b ≡ true → Lists (λ v. IsMember v xs × IsOfType e t v) ys → Lists (λ v. IsMember v xs × IsInCarrier e b t v) ys × (IsCarrierOut e b t → ⊥)
+typed_in : (e : Environment) (t : Ty) (b : Bool) (xs ys : List Value) → b ≡ true → Lists (λ v. IsMember v xs × IsOfType e t v) ys
+    → Lists (λ v. IsMember v xs × IsInCarrier e b t v) ys × (IsCarrierOut e b t → ⊥)
 typed_in e t true xs ys n k = (k, λ q. q)
 typed_in e t false xs ys n k = (cc)
 

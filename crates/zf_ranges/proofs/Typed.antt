@@ -86,11 +86,16 @@ module _ (e : Environment) where
   abbrev Fit : List ZType → List Value → Type 0
   Fit ts xs = AreOfTypes e (types (map type_of ts)) xs
 
-  step : (ts : List ZType) (xs : List Value) (i : ℕ) (t : ZType) (x : Value) → t ≡ get_or ts i t → x ≡ get_or xs i x → i < length ts → i < length xs → Fit (drop i ts) (drop i xs) ↔ (IsOfType e (type_of t) x × Fit (drop (suc i) ts) (drop (suc i) xs))
+  step : (ts : List ZType) (xs : List Value) (i : ℕ) (t : ZType) (x : Value) → t ≡ get_or ts i t → x ≡ get_or xs i x → i < length ts → i < length xs
+      → Fit (drop i ts) (drop i xs) ↔ (IsOfType e (type_of t) x × Fit (drop (suc i) ts) (drop (suc i) xs))
   step [] xs i t x a b l m = absurd (omega arith)
   step (u ∷ ts) [] i t x a b l m = absurd (omega arith)
   step (u ∷ ts) (y ∷ ys) zero t x a b l m = (
-    λ h. let same = heads y ys h.0 h.1 h.2 in (subst (λ z. IsOfType e (type_of t) z) (sym b) (subst (λ s. IsOfType e (type_of s) y) (sym a) (subst (IsOfType e (type_of u)) (sym same.0) h.3)), subst (Fit ts) (sym same.1) h.4),
+    λ h. let same = heads y ys h.0 h.1 h.2 in (
+      subst (λ z. IsOfType e (type_of t) z) (sym b)
+          (subst (λ s. IsOfType e (type_of s) y) (sym a) (subst (IsOfType e (type_of u)) (sym same.0) h.3)),
+      subst (Fit ts) (sym same.1) h.4,
+    ),
     λ h. (y, ys, refl, subst (λ s. IsOfType e (type_of s) y) a (subst (IsOfType e (type_of t)) b h.0), h.1),
   )
     where
@@ -98,10 +103,12 @@ module _ (e : Environment) where
       heads v vs w ws h = (cc, cc)
   step (u ∷ ts) (y ∷ ys) (suc i) t x a b l m = step ts ys i t x a b (omega arith) (omega arith)
 
-  pub fit_next : (ts : List ZType) (xs : List Value) (i : ℕ) (t : ZType) (x : Value) → t ≡ get_or ts i t → x ≡ get_or xs i x → i < length ts → i < length xs → IsOfType e (type_of t) x → Fit ts xs ↔ Fit (drop i ts) (drop i xs) → Fit ts xs ↔ Fit (drop (i + 1) ts) (drop (i + 1) xs)
+  pub fit_next : (ts : List ZType) (xs : List Value) (i : ℕ) (t : ZType) (x : Value) → t ≡ get_or ts i t → x ≡ get_or xs i x → i < length ts → i < length xs
+      → IsOfType e (type_of t) x → Fit ts xs ↔ Fit (drop i ts) (drop i xs) → Fit ts xs ↔ Fit (drop (i + 1) ts) (drop (i + 1) xs)
   fit_next ts xs i t x a b l m p h = rw add-one (let n = step ts xs i t x a b l m in (λ k. (n.0 (h.0 k)).1, λ k. h.1 (n.1 (p, k))))
 
-  pub fit_not : (ts : List ZType) (xs : List Value) (i : ℕ) (t : ZType) (x : Value) → t ≡ get_or ts i t → x ≡ get_or xs i x → i < length ts → i < length xs → (IsOfType e (type_of t) x → ⊥) → Fit ts xs ↔ Fit (drop i ts) (drop i xs) → Fit ts xs → ⊥
+  pub fit_not : (ts : List ZType) (xs : List Value) (i : ℕ) (t : ZType) (x : Value) → t ≡ get_or ts i t → x ≡ get_or xs i x → i < length ts → i < length xs
+      → (IsOfType e (type_of t) x → ⊥) → Fit ts xs ↔ Fit (drop i ts) (drop i xs) → Fit ts xs → ⊥
   fit_not ts xs i t x a b l m p h k = p ((step ts xs i t x a b l m).0 (h.0 k)).0
 
   gone : (ts : List ZType) (xs : List Value) (i : ℕ) → length ts ≤ i → length xs ≤ i → Fit (drop i ts) (drop i xs)

@@ -18,7 +18,8 @@ keeps_more eq first nodes later to keeps is place node at = subst (λ ns. slice_
 
 module _ {N L : Type 0} (p : Explored N L) (w : Words N L) (limit : ℕ) (origin : Option (List ℕ)) where
   -- a turn begins
-  pub parts_begun : (HasPassed : N → ℕ → Turn N L → Type 0) (old new : Option (List ℕ)) (nodes : List N) (place edges : ℕ) (of : N) (now : Turn N L) (stray : Bool) → AtTurn p w limit origin old nodes place edges
+  pub parts_begun : (HasPassed : N → ℕ → Turn N L → Type 0) (old new : Option (List ℕ)) (nodes : List N) (place edges : ℕ) (of : N) (now : Turn N L)
+      (stray : Bool) → AtTurn p w limit origin old nodes place edges
       → slice_get nodes place ≡ Some of → now ≡ record { stray = stray; edges = [] } → p.BeginsTurn of now → HasPassed of 0 now → Appends old new (cond stray (w.stray place) [])
       → InParts p w limit (λ of' now'. HasPassed of' 0 now') origin new nodes place edges true
   parts_begun HasPassed old new nodes place edges of now stray t at is begins passed more = record {
@@ -31,7 +32,8 @@ module _ {N L : Type 0} (p : Explored N L) (w : Words N L) (limit : ℕ) (origin
   }
 
   -- the same of what is seen afterwards
-  pub opened : (HasPassed : N → ℕ → Turn N L → Type 0) (old new : Option (List ℕ)) (nodes : List N) (place edges : ℕ) (of : N) (now : Turn N L) (stray : Bool) → AtTurn p w limit origin old nodes place edges
+  pub opened : (HasPassed : N → ℕ → Turn N L → Type 0) (old new : Option (List ℕ)) (nodes : List N) (place edges : ℕ) (of : N) (now : Turn N L) (stray : Bool)
+      → AtTurn p w limit origin old nodes place edges
       → slice_get nodes place ≡ Some of → now ≡ record { stray = stray; edges = [] } → p.BeginsTurn of now → HasPassed of 0 now → Appends old new (cond stray (w.stray place) [])
       → (keys : List N) (at' count : ℕ) (stuck : Bool) → keys ≡ nodes → at' ≡ place → count ≡ edges → stuck ≡ true
       → InParts p w limit (λ of' now'. HasPassed of' 0 now') origin new keys at' count stuck
@@ -43,7 +45,8 @@ module _ {N L : Type 0} (p : Explored N L) (w : Words N L) (limit : ℕ) (origin
       (parts_begun HasPassed old new nodes place edges of now stray t at is begins passed more))))
 
   -- a turn that breaks off before it begins
-  pub closes_unopened : (old : Option (List ℕ)) (nodes : List N) (place edges : ℕ) (of : N) (stop : List ℕ) → AtTurn p w limit origin old nodes place edges → slice_get nodes place ≡ Some of → p.BreaksTurn of no_turn stop
+  pub closes_unopened : (old : Option (List ℕ)) (nodes : List N) (place edges : ℕ) (of : N) (stop : List ℕ) → AtTurn p w limit origin old nodes place edges
+      → slice_get nodes place ≡ Some of → p.BreaksTurn of no_turn stop
       → (keys : List N) (count : ℕ) → keys ≡ nodes → count ≡ edges → Closes p w limit (broken stop) origin old keys count
   closes_unopened old nodes place edges of stop t at break keys count k c =
       subst (λ x. Closes p w limit (broken stop) origin old x count) (sym k)
@@ -63,10 +66,12 @@ module _ {N L : Type 0} (p : Explored N L) (w : Words N L) (limit : ℕ) (origin
       → slice_get nodes place ≡ Some of → now ≡ record { stray = true; edges = [] } → p.BeginsTurn of now → HasPassed of 0 now → (place' : ℕ) → place' ≡ place → Appends old new (w.stray place')
       → (keys : List N) (at' count : ℕ) (stuck : Bool) → keys ≡ nodes → at' ≡ place → count ≡ edges → stuck ≡ true
       → InParts p w limit (λ of' now'. HasPassed of' 0 now') origin new keys at' count stuck
-  opened_mark HasPassed old new nodes place edges of now t at is begins passed place' same more = opened HasPassed old new nodes place edges of now true t at is begins passed (subst (λ k. Appends old new (w.stray k)) same more)
+  opened_mark HasPassed old new nodes place edges of now t at is begins passed place' same more = opened HasPassed old new nodes place edges of now true t at
+      is begins passed (subst (λ k. Appends old new (w.stray k)) same more)
 
   -- the whole ends where no turn is due
-  pub closes_all : (old : Option (List ℕ)) (nodes : List N) (place edges : ℕ) → AtTurn p w limit origin old nodes place edges → (place < length nodes → ⊥) → Closes p w limit ended origin old nodes edges
+  pub closes_all : (old : Option (List ℕ)) (nodes : List N) (place edges : ℕ) → AtTurn p w limit origin old nodes place edges → (place < length nodes → ⊥)
+      → Closes p w limit ended origin old nodes edges
   closes_all old nodes place edges t none = closes_ended p w limit origin old nodes place edges t (elim (cases_lt place (length nodes)) [ inl lt ↦ absurd (none lt) | inr ge ↦ ge ])
 
   -- a turn that is due is one of the limit's
@@ -120,7 +125,8 @@ module _ {N L : Type 0} (p : Explored N L) (w : Words N L) (limit : ℕ) (origin
       closes_full full more = closes_paused p w limit origin old t.node t.now nodes place edges t.in_turn e new begins full more
 
       -- the same of what is seen afterwards
-      pub parts_go_on : (Next : N → Turn N L → Type 0) → Next t.node (with_edge t.now e) → IsFull false p.eq nodes e.to limit → (shown : List ℕ) → shown ≡ edge_text w p.eq place nodes e → Appends old new shown
+      pub parts_go_on : (Next : N → Turn N L → Type 0) → Next t.node (with_edge t.now e) → IsFull false p.eq nodes e.to limit → (shown : List ℕ)
+          → shown ≡ edge_text w p.eq place nodes e → Appends old new shown
           → (keys : List N) (at' count : ℕ) (now_stuck : Bool) → keys ≡ with_node p.eq nodes e.to → at' ≡ place → count ≡ counted place edges → now_stuck ≡ false
           → InParts p w limit Next origin new keys at' count now_stuck
       parts_go_on Next next room shown is more keys at' count now_stuck k a c n =
@@ -130,10 +136,12 @@ module _ {N L : Type 0} (p : Explored N L) (w : Words N L) (limit : ℕ) (origin
           (subst (λ x. InParts p w limit Next origin new (with_node p.eq nodes e.to) place (counted place edges) x) (sym n)
           (parts_passed Next next room (subst (Appends old new) is more)))))
 
-      pub closes_full_at : IsFull true p.eq nodes e.to limit → (shown : List ℕ) → shown ≡ edge_text w p.eq place nodes e → Appends old new shown → (keys : List N) (count : ℕ) → keys ≡ with_node p.eq nodes e.to → count ≡ counted place edges
+      pub closes_full_at : IsFull true p.eq nodes e.to limit → (shown : List ℕ) → shown ≡ edge_text w p.eq place nodes e → Appends old new shown
+          → (keys : List N) (count : ℕ) → keys ≡ with_node p.eq nodes e.to → count ≡ counted place edges
           → Closes p w limit paused origin new keys count
       closes_full_at full shown is more keys count k c =
-          subst (λ x. Closes p w limit paused origin new x count) (sym k) (subst (λ x. Closes p w limit paused origin new (with_node p.eq nodes e.to) x) (sym c) (closes_full full (subst (Appends old new) is more)))
+          subst (λ x. Closes p w limit paused origin new x count) (sym k)
+          (subst (λ x. Closes p w limit paused origin new (with_node p.eq nodes e.to) x) (sym c) (closes_full full (subst (Appends old new) is more)))
 
     pub closes_out : (stop : List ℕ) → p.BreaksTurn t.node t.now stop → Closes p w limit (broken stop) origin old nodes edges
     closes_out stop break = closes_broken p w limit origin old t.node t.now nodes place edges t.in_turn stop break
@@ -141,7 +149,8 @@ module _ {N L : Type 0} (p : Explored N L) (w : Words N L) (limit : ℕ) (origin
   module _ (old : Option (List ℕ)) (nodes : List N) (place edges : ℕ) where
     -- a whole turn, which has edges, or has none
     pub turns_over : (stuck : Bool) → InParts p w limit p.HasTurn origin old nodes place edges stuck → stuck ≡ false → AtTurn p w limit origin old nodes (place + 1) edges
-    turns_over stuck s is = let t = subst (InParts p w limit p.HasTurn origin old nodes place edges) is s in at_over_edges p w limit origin old t.node t.now nodes place edges t.in_turn t.stands t.is_stuck
+    turns_over stuck s is = let t = subst (InParts p w limit p.HasTurn origin old nodes place edges) is s in at_over_edges p w limit origin old t.node t.now
+        nodes place edges t.in_turn t.stands t.is_stuck
 
     pub turns_stuck : (stuck : Bool) → InParts p w limit p.HasTurn origin old nodes place edges stuck → stuck ≡ true → (new : Option (List ℕ)) → Appends old new (w.stuck place)
         → (keys : List N) (at' count : ℕ) → keys ≡ nodes → at' ≡ place → count ≡ edges → AtTurn p w limit origin new keys (at' + 1) count
@@ -152,7 +161,8 @@ module _ {N L : Type 0} (p : Explored N L) (w : Words N L) (limit : ℕ) (origin
         (subst (λ x. AtTurn p w limit origin new nodes (place + 1) x) (sym c)
         (at_over_stuck p w limit origin old t.node t.now nodes place edges t.in_turn new t.stands t.is_stuck more)))
 
-    pub stops_at_stuck : (stuck : Bool) → InParts p w limit p.HasTurn origin old nodes place edges stuck → stuck ≡ true → (new : Option (List ℕ)) → AppendsFront old new (w.stuck place) → StopsEarly p w limit origin new
+    pub stops_at_stuck : (stuck : Bool) → InParts p w limit p.HasTurn origin old nodes place edges stuck → stuck ≡ true → (new : Option (List ℕ))
+        → AppendsFront old new (w.stuck place) → StopsEarly p w limit origin new
     stops_at_stuck stuck s is new front =
         let t = subst (InParts p w limit p.HasTurn origin old nodes place edges) is s in
         stops_in_stuck_line p w limit origin old t.node t.now nodes place edges t.in_turn new t.stands t.is_stuck front
@@ -160,10 +170,12 @@ module _ {N L : Type 0} (p : Explored N L) (w : Words N L) (limit : ℕ) (origin
 -- the node at a place has as many parts as were counted, where what is met has stayed
 pub still_counted : {N : Type 0} (parts : N → ℕ) (first : List N) (before count : ℕ) → ((of : N) → slice_get first before ≡ Some of → count ≡ parts of) → (b : N) → slice_get first before ≡ Some b
     → (nodes : List N) (place : ℕ) → KeepsNodes first nodes → place ≡ before → (of : N) → slice_get nodes place ≡ Some of → count ≡ parts of
-still_counted parts first before count says b here nodes place keeps stays of at = says b here ∙ ap parts (one_at nodes place b of (subst (λ k. slice_get nodes k ≡ Some b) (sym stays) (keeps before b here)) at)
+still_counted parts first before count says b here nodes place keeps stays of at = says b here
+    ∙ ap parts (one_at nodes place b of (subst (λ k. slice_get nodes k ≡ Some b) (sym stays) (keeps before b here)) at)
 
 -- the node of the turn has as many parts as were counted when it began
-module _ {N L : Type 0} (p : Explored N L) (w : Words N L) (limit : ℕ) (origin : Option (List ℕ)) (parts : N → ℕ) (first : List N) (before count : ℕ) (counted' : (of : N) → slice_get first before ≡ Some of → count ≡ parts of) where
+module _ {N L : Type 0} (p : Explored N L) (w : Words N L) (limit : ℕ) (origin : Option (List ℕ)) (parts : N
+    → ℕ) (first : List N) (before count : ℕ) (counted' : (of : N) → slice_get first before ≡ Some of → count ≡ parts of) where
   module _ (Begins Stands : N → Turn N L → Type 0) (old new : Option (List ℕ)) (edges later : ℕ) (stuck still : Bool) (s : InParts p w limit Begins origin old first before edges stuck)
       (nodes : List N) (place : ℕ) (t : InParts p w limit Stands origin new nodes place later still) (keeps : KeepsNodes first nodes) (stays : place ≡ before) where
     same_node : (of : N) → slice_get nodes place ≡ Some of → count ≡ parts of

@@ -47,15 +47,19 @@ module _ {N L : Type 0} (w : Words N L) (p_eq node_eq : N → N → Bool) (same 
           let some = some_at keys number (subst (λ k. k < length keys) (sym placed) (place-some (node_eq to) keys h)) in
           let there : slice_get after number ≡ Some some.0 = subst (λ ks. slice_get ks number ≡ Some some.0) (sym (kept ∙ cond-true (list_any (node_eq to) keys) keys (keys ++ to ∷ []) h)) some.1 in
           says some.0 there
-          ∙ ap (λ t. t ++ w.edge place label number) (cond-false is_new (w.node place number some.0) [] (new ∙ ap not h) ∙ sym (cond-true (list_any (node_eq to) keys) [] (w.node place (length keys) to) h))
+          ∙ ap (λ t. t ++ w.edge place label number) (cond-false is_new (w.node place number some.0) [] (new ∙ ap not h)
+          ∙ sym (cond-true (list_any (node_eq to) keys) [] (w.node place (length keys) to) h))
           ∙ ap (λ k. cond (list_any (node_eq to) keys) [] (w.node place (length keys) to) ++ w.edge place label k) placed
 
       fresh : list_any (node_eq to) keys ≡ false → line ≡ edge_text w node_eq place keys (edge label to)
       fresh h =
           let last : number ≡ length keys = placed ∙ place-none (node_eq to) keys h in
-          let there : slice_get after number ≡ Some to = subst (λ ks. slice_get ks number ≡ Some to) (sym (kept ∙ cond-false (list_any (node_eq to) keys) keys (keys ++ to ∷ []) h)) (subst (λ k. slice_get (keys ++ to ∷ []) k ≡ Some to) (sym last) (at_last keys to)) in
+          let there : slice_get after number ≡ Some to = subst (λ ks. slice_get ks number ≡ Some to)
+          (sym (kept ∙ cond-false (list_any (node_eq to) keys) keys (keys ++ to ∷ []) h))
+          (subst (λ k. slice_get (keys ++ to ∷ []) k ≡ Some to) (sym last) (at_last keys to)) in
           says to there
-          ∙ ap (λ t. t ++ w.edge place label number) (cond-true is_new (w.node place number to) [] (new ∙ ap not h) ∙ ap (λ k. w.node place k to) last ∙ sym (cond-false (list_any (node_eq to) keys) [] (w.node place (length keys) to) h))
+          ∙ ap (λ t. t ++ w.edge place label number) (cond-true is_new (w.node place number to) [] (new ∙ ap not h) ∙ ap (λ k. w.node place k to) last
+          ∙ sym (cond-false (list_any (node_eq to) keys) [] (w.node place (length keys) to) h))
           ∙ ap (λ k. cond (list_any (node_eq to) keys) [] (w.node place (length keys) to) ++ w.edge place label k) placed
 
       go : (list_any (node_eq to) keys ≡ true) ⊎ (list_any (node_eq to) keys ≡ false) → line ≡ edge_text w node_eq place keys (edge label to)

@@ -48,10 +48,12 @@ module _ {N L : Type 0} (p : Explored N L) (w : Words N L) (limit : ℕ) (origin
       written = Appends-trans origin old new t.text (cond stray (w.stray place) []) t.written more;
     }
 
-    pub stops_in_stray : (b : N) (new : Option (List ℕ)) → slice_get nodes place ≡ Some b → p.BeginsTurn b (record { stray = true; edges = [] }) → AppendsFront old new (w.stray place) → StopsEarly p w limit origin new
+    pub stops_in_stray : (b : N) (new : Option (List ℕ)) → slice_get nodes place ≡ Some b → p.BeginsTurn b (record { stray = true; edges = [] })
+        → AppendsFront old new (w.stray place) → StopsEarly p w limit origin new
     stops_in_stray b new at begun front = (
       t.text ++ w.stray place,
-      inr (inl (begins_in p w limit b (record { stray = true; edges = [] }) nodes place t.inner (t.text ++ w.stray place) (stands_begun p w limit nodes place t.inner t.text b true t.stands at) (inl begun))),
+      inr (inl (begins_in p w limit b (record { stray = true; edges = [] }) nodes place t.inner (t.text ++ w.stray place)
+          (stands_begun p w limit nodes place t.inner t.text b true t.stands at) (inl begun))),
       front_behind origin old new t.text (w.stray place) t.written front,
     )
 
@@ -90,13 +92,15 @@ module _ {N L : Type 0} (p : Explored N L) (w : Words N L) (limit : ℕ) (origin
       inner = next_count place t.inner;
       text = t.text ++ edge_text w p.eq place nodes e;
       ends = subst (λ k. IsWritten p w limit paused ((t.text ++ edge_text w p.eq place nodes e) ++ w.last paused k (next_count place t.inner))) states
-          (ends_paused p w limit node now nodes place t.inner t.text t.stands e (next_count place t.inner) begun full.1 (is_new p w limit node now nodes place t.inner t.text t.stands e.to full.0) (none_at_root place t.inner) (one_beyond place t.inner));
+          (ends_paused p w limit node now nodes place t.inner t.text t.stands e (next_count place t.inner) begun full.1
+          (is_new p w limit node now nodes place t.inner t.text t.stands e.to full.0) (none_at_root place t.inner) (one_beyond place t.inner));
       count = counted_cut place edges t.inner t.count;
       written = Appends-trans origin old new t.text (edge_text w p.eq place nodes e) t.written more;
     }
       where
         states : limit ≡ length (with_node p.eq nodes e.to) - 1
-        states = let l = ap (λ ns. length ns) (cond-false (list_any (p.eq e.to) nodes) nodes (nodes ++ e.to ∷ []) full.0) in let m = length-append nodes (e.to ∷ []) in let f = full.1 in omega (arith, l, m, f)
+        states = let l = ap (λ ns. length ns) (cond-false (list_any (p.eq e.to) nodes) nodes (nodes ++ e.to ∷ []) full.0) in let m = length-append nodes
+            (e.to ∷ []) in let f = full.1 in omega (arith, l, m, f)
 
     pub closes_broken : (stop : List ℕ) → p.BreaksTurn node now stop → Closes p w limit (broken stop) origin old nodes edges
     closes_broken stop break = record { inner = t.inner; text = t.text; ends = ends_broken p w limit node now nodes place t.inner t.text t.stands stop break; count = t.count; written = t.written }
@@ -129,10 +133,18 @@ module _ {N L : Type 0} (p : Explored N L) (w : Words N L) (limit : ℕ) (origin
         fronts = front_behind origin old new t.text (stuck_text w p.eq place now.edges) t.written front
 
         go : (place + 1 < length nodes) ⊎ (length nodes ≤ place + 1) → StopsEarly p w limit origin new
-        go (inl more) = let b = some_at nodes (place + 1) more in (t.text ++ stuck_text w p.eq place now.edges, inr (inl (begins_before p w limit nodes (place + 1) t.inner (t.text ++ stuck_text w p.eq place now.edges) b.0 after b.1)), fronts)
+        go (inl more) = let b = some_at nodes (place + 1) more in (
+          t.text ++ stuck_text w p.eq place now.edges,
+          inr (inl (begins_before p w limit nodes (place + 1) t.inner (t.text ++ stuck_text w p.eq place now.edges) b.0 after b.1)),
+          fronts,
+        )
         go (inr all) = (
           (t.text ++ stuck_text w p.eq place now.edges) ++ w.last ended (length nodes - 1) t.inner,
-          inr (inr (ended, ends_ended p w limit nodes (place + 1) t.inner (t.text ++ stuck_text w p.eq place now.edges) after all (let l = place_within p w limit node now nodes place t.inner t.text t.stands in omega (arith, l)))),
+          inr (inr (
+            ended,
+            ends_ended p w limit nodes (place + 1) t.inner (t.text ++ stuck_text w p.eq place now.edges) after all
+                (let l = place_within p w limit node now nodes place t.inner t.text t.stands in omega (arith, l)),
+          )),
           front_longer origin new (t.text ++ stuck_text w p.eq place now.edges) (w.last ended (length nodes - 1) t.inner) fronts,
         )
 
@@ -143,10 +155,18 @@ module _ {N L : Type 0} (p : Explored N L) (w : Words N L) (limit : ℕ) (origin
 
   module _ (ending : Ending) (old : Option (List ℕ)) (nodes : List N) (edges : ℕ) (c : Closes p w limit ending origin old nodes edges) where
     pub stops_closed : StopsEarly p w limit origin old
-    stops_closed = (c.text ++ w.last ending (length nodes - 1) c.inner, inr (inr (ending, c.ends)), front_longer origin old c.text (w.last ending (length nodes - 1) c.inner) (front_whole origin old c.text c.written))
+    stops_closed = (
+      c.text ++ w.last ending (length nodes - 1) c.inner,
+      inr (inr (ending, c.ends)),
+      front_longer origin old c.text (w.last ending (length nodes - 1) c.inner) (front_whole origin old c.text c.written),
+    )
 
     pub stops_in_last : (new : Option (List ℕ)) → AppendsFront old new (w.last ending (length nodes - 1) c.inner) → StopsEarly p w limit origin new
-    stops_in_last new front = (c.text ++ w.last ending (length nodes - 1) c.inner, inr (inr (ending, c.ends)), front_behind origin old new c.text (w.last ending (length nodes - 1) c.inner) c.written front)
+    stops_in_last new front = (
+      c.text ++ w.last ending (length nodes - 1) c.inner,
+      inr (inr (ending, c.ends)),
+      front_behind origin old new c.text (w.last ending (length nodes - 1) c.inner) c.written front,
+    )
 
     pub writes_last : (new : Option (List ℕ)) → Appends old new (w.last ending (length nodes - 1) c.inner) → (text : List ℕ) × IsWritten p w limit ending text × Appends origin new text
     writes_last new more = (c.text ++ w.last ending (length nodes - 1) c.inner, c.ends, Appends-trans origin old new c.text (w.last ending (length nodes - 1) c.inner) c.written more)
@@ -155,7 +175,8 @@ module _ {N L : Type 0} (p : Explored N L) (w : Words N L) (limit : ℕ) (origin
     pub stops_in_seen : (shown : List ℕ) (new : Option (List ℕ)) → shown ≡ w.last ending (length nodes - 1) c.inner → AppendsFront old new shown → StopsEarly p w limit origin new
     stops_in_seen shown new is front = stops_in_last new (subst (AppendsFront old new) is front)
 
-    pub writes_seen : (shown : List ℕ) (new : Option (List ℕ)) → shown ≡ w.last ending (length nodes - 1) c.inner → Appends old new shown → (text : List ℕ) × IsWritten p w limit ending text × Appends origin new text
+    pub writes_seen : (shown : List ℕ) (new : Option (List ℕ)) → shown ≡ w.last ending (length nodes - 1) c.inner → Appends old new shown → (text : List ℕ)
+        × IsWritten p w limit ending text × Appends origin new text
     writes_seen shown new is more = writes_last new (subst (Appends old new) is more)
 
 module _ {N L : Type 0} (p : Explored N L) (w : Words N L) (limit : ℕ) (origin : Option (List ℕ)) where
@@ -163,7 +184,8 @@ module _ {N L : Type 0} (p : Explored N L) (w : Words N L) (limit : ℕ) (origin
   pub stops_at_once : StopsEarly p w limit origin origin
   stops_at_once = ([], inl refl, front_whole origin origin [] (Appends-nil origin))
 
-  pub at_first_seen : 1 ≤ limit → (new : Option (List ℕ)) → Appends origin new w.head → (nodes : List N) (place edges : ℕ) → nodes ≡ p.root ∷ [] → place ≡ 0 → edges ≡ 0 → AtTurn p w limit origin new nodes place edges
+  pub at_first_seen : 1 ≤ limit → (new : Option (List ℕ)) → Appends origin new w.head → (nodes : List N) (place edges : ℕ) → nodes ≡ p.root ∷ [] → place ≡ 0
+      → edges ≡ 0 → AtTurn p w limit origin new nodes place edges
   at_first_seen some new written nodes place edges n k e =
       subst (λ x. AtTurn p w limit origin new x place edges) (sym n)
       (subst (λ x. AtTurn p w limit origin new (p.root ∷ []) x edges) (sym k)

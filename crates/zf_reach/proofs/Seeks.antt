@@ -27,11 +27,18 @@ use Rattle.zf_reach.specs.Searches.{AtSearch, Brings, Concludes, EndsWithout, In
 
 module _ {N L : Type 0} where
   pub trail_first : (root : N) → IsTrail {N = N} {L = L} (at_first root) []
-  trail_first root = record { each = refl; first = λ x h. ap (λ y. y.way) (sym (one_some (record { node = root; way = [] }) x h)); arrivals = λ place x h. absurd (let w = slice_get_within (at_first {N = N} {L = L} root) (place + 1) x h in omega (arith, w)) }
+  trail_first root = record {
+    each = refl;
+    first = λ x h. ap (λ y. y.way)
+        (sym (one_some (record { node = root; way = [] }) x h));
+    arrivals = λ place x h. absurd
+        (let w = slice_get_within (at_first {N = N} {L = L} root) (place + 1) x h in omega (arith, w));
+  }
 
   module _ (met : List (Met N L)) (trail : List (Arrival L)) (t : IsTrail met trail) where
     -- with a node that is met in the turn of one of them
-    pub trail_push : (a : Met N L) (place : ℕ) (label : L) (to : N) → slice_get met place ≡ Some a → IsTrail (met ++ beyond a (edge label to) ∷ []) (trail ++ record { from = place; label = label } ∷ [])
+    pub trail_push : (a : Met N L) (place : ℕ) (label : L) (to : N) → slice_get met place ≡ Some a
+        → IsTrail (met ++ beyond a (edge label to) ∷ []) (trail ++ record { from = place; label = label } ∷ [])
     trail_push a place label to at = record { each = each; first = first; arrivals = arrivals }
       where
         new : Met N L
@@ -41,7 +48,8 @@ module _ {N L : Type 0} where
         arrival = record { from = place; label = label }
 
         each : length (met ++ beyond a (edge label to) ∷ []) ≡ length (trail ++ record { from = place; label = label } ∷ []) + 1
-        each = let e = t.each in let l = length-append met (beyond a (edge label to) ∷ []) in let k = length-append {A = Arrival L} trail (record { from = place; label = label } ∷ []) in omega (arith, e, l, k)
+        each = let e = t.each in let l = length-append met (beyond a (edge label to) ∷ []) in let k = length-append {A = Arrival L} trail
+            (record { from = place; label = label } ∷ []) in omega (arith, e, l, k)
 
         first : (x : Met N L) → slice_get (met ++ beyond a (edge label to) ∷ []) 0 ≡ Some x → x.way ≡ []
         first x h = go (at_push met (beyond a (edge label to)) 0 x h)
@@ -50,10 +58,12 @@ module _ {N L : Type 0} where
             go (inl old) = t.first x old
             go (inr last) = let e = t.each in absurd (omega (arith, e, last.0))
 
-        arrivals : (i : ℕ) (x : Met N L) → slice_get (met ++ beyond a (edge label to) ∷ []) (i + 1) ≡ Some x → IsArrival (met ++ beyond a (edge label to) ∷ []) (trail ++ record { from = place; label = label } ∷ []) i x
+        arrivals : (i : ℕ) (x : Met N L) → slice_get (met ++ beyond a (edge label to) ∷ []) (i + 1) ≡ Some x
+            → IsArrival (met ++ beyond a (edge label to) ∷ []) (trail ++ record { from = place; label = label } ∷ []) i x
         arrivals i x h = go (at_push met (beyond a (edge label to)) (i + 1) x h)
           where
-            go : (slice_get met (i + 1) ≡ Some x) ⊎ ((i + 1 ≡ length met) × (x ≡ beyond a (edge label to))) → IsArrival (met ++ beyond a (edge label to) ∷ []) (trail ++ record { from = place; label = label } ∷ []) i x
+            go : (slice_get met (i + 1) ≡ Some x) ⊎ ((i + 1 ≡ length met) × (x ≡ beyond a (edge label to)))
+                → IsArrival (met ++ beyond a (edge label to) ∷ []) (trail ++ record { from = place; label = label } ∷ []) i x
             go (inl old) =
                 let r = t.arrivals i x old in
                 record {
@@ -71,7 +81,8 @@ module _ {N L : Type 0} where
                 record {
                   arrival = record { from = place; label = label };
                   from = a;
-                  kept = subst (λ k. slice_get (trail ++ record { from = place; label = label } ∷ []) k ≡ Some (record { from = place; label = label })) (sym same) (at_last {X = Arrival L} trail (record { from = place; label = label }));
+                  kept = subst (λ k. slice_get (trail ++ record { from = place; label = label } ∷ []) k ≡ Some (record { from = place; label = label }))
+                      (sym same) (at_last {X = Arrival L} trail (record { from = place; label = label }));
                   earlier = omega (arith, w, e, same);
                   at = at_left met (beyond a (edge label to) ∷ []) place a at;
                   way = subst (λ y. y.way ≡ a.way ++ edge label y.node ∷ []) (sym last.1) refl;
@@ -114,7 +125,8 @@ module _ {N L : Type 0} (p : Explored N L) (s : Sought N) (limit : ℕ) (node_eq
   pub new_there : slice_get after number ≡ Some to
   new_there = subst (λ ks. slice_get ks number ≡ Some to) (sym new_keys) (subst (λ k. slice_get (keys ++ to ∷ []) k ≡ Some to) (sym new_last) (at_last keys to))
 
-  pub brings_new : (stop : List ℕ) (left : Option Finding) (place from : ℕ) (shown : List N) (trail trail_new : List (Arrival L)) (label : L) → from ≡ place → shown ≡ after → trail_new ≡ trail ++ record { from = from; label = label } ∷ []
+  pub brings_new : (stop : List ℕ) (left : Option Finding) (place from : ℕ) (shown : List N) (trail trail_new : List (Arrival L)) (label : L) → from ≡ place
+      → shown ≡ after → trail_new ≡ trail ++ record { from = from; label = label } ∷ []
       → SeesNew p s limit left stop number to → Brings p s limit stop left place keys shown trail trail_new label to
   brings_new stop left place from shown trail trail_new label f k t sees = inr (
     subst (λ (eq : N → N → Bool). list_any (eq to) keys ≡ false) (sym same) absent,
@@ -141,10 +153,12 @@ module _ {N L : Type 0} (p : Explored N L) (s : Sought N) (limit : ℕ) (node_eq
   )
 
 -- what is met stays
-pub keeps_brought : {N L : Type 0} (p : Explored N L) (s : Sought N) (limit : ℕ) (stop : List ℕ) (left : Option Finding) (place : ℕ) (first old new : List N) (trail trail_new : List (Arrival L)) (label : L) (to : N)
+pub keeps_brought : {N L : Type 0} (p : Explored N L) (s : Sought N) (limit : ℕ) (stop : List ℕ) (left : Option Finding) (place : ℕ) (first old new : List N)
+    (trail trail_new : List (Arrival L)) (label : L) (to : N)
     → KeepsNodes first old → Brings p s limit stop left place old new trail trail_new label to → KeepsNodes first new
 keeps_brought p s limit stop left place first old new trail trail_new label to keeps (inl (known, n, k, e)) i node at = subst (λ ns. slice_get ns i ≡ Some node) (sym n) (keeps i node at)
-keeps_brought p s limit stop left place first old new trail trail_new label to keeps (inr (fresh, n, k, sees)) i node at = subst (λ ns. slice_get ns i ≡ Some node) (sym n) (at_left old (to ∷ []) i node (keeps i node at))
+keeps_brought p s limit stop left place first old new trail trail_new label to keeps (inr (fresh, n, k, sees)) i node at = subst
+    (λ ns. slice_get ns i ≡ Some node) (sym n) (at_left old (to ∷ []) i node (keeps i node at))
 
 -- ---- the search
 
@@ -163,7 +177,8 @@ module _ {N L : Type 0} (p : Explored N L) (s : Sought N) (limit : ℕ) where
     search_within lt = let f = t.seeks.few in let n = ap (λ ns. length ns) t.of_nodes in let k = length-map t.met (λ x. x.node) in omega (arith, lt, f, n, k)
 
     -- a turn begins
-    pub search_begun : (Next : N → Turn N L → Type 0) (of : N) (now : Turn N L) (stray : Bool) → slice_get nodes place ≡ Some of → now ≡ record { stray = stray; edges = [] } → p.BeginsTurn of now → Next of now
+    pub search_begun : (Next : N → Turn N L → Type 0) (of : N) (now : Turn N L) (stray : Bool) → slice_get nodes place ≡ Some of
+        → now ≡ record { stray = stray; edges = [] } → p.BeginsTurn of now → Next of now
         → (keys : List N) (at' count : ℕ) → keys ≡ nodes → at' ≡ place → count ≡ edges → InSearch p s limit Next keys trail at' count
     search_begun Next of now stray at is begins next keys at' count k a c =
         subst (λ x. InSearch p s limit Next x trail at' count) (sym k)
@@ -177,7 +192,9 @@ module _ {N L : Type 0} (p : Explored N L) (s : Sought N) (limit : ℕ) where
           met = t.met;
           stands = next;
           begins = begins;
-          seeks = subst (λ n. SeeksIn p s limit of n t.met place t.inner) (sym is) (subst (λ n. SeeksIn p s limit n (record { stray = stray; edges = [] }) t.met place t.inner) m.2 (seeks_begun p s limit t.met place t.inner t.seeks m.0 stray m.1));
+          seeks = subst (λ n. SeeksIn p s limit of n t.met place t.inner) (sym is)
+              (subst (λ n. SeeksIn p s limit n (record { stray = stray; edges = [] }) t.met place t.inner) m.2
+              (seeks_begun p s limit t.met place t.inner t.seeks m.0 stray m.1));
           of_nodes = t.of_nodes;
           kept = t.kept;
           count = t.count;
@@ -193,7 +210,19 @@ module _ {N L : Type 0} (p : Explored N L) (s : Sought N) (limit : ℕ) where
 
     -- the same with another relation
     pub search_on : (Next : N → Turn N L → Type 0) → (Stands t.node t.now → Next t.node t.now) → InSearch p s limit Next nodes trail place edges
-    search_on Next f = record { node = t.node; now = t.now; inner = t.inner; met = t.met; stands = f t.stands; begins = t.begins; seeks = t.seeks; of_nodes = t.of_nodes; kept = t.kept; count = t.count }
+    search_on Next f = record {
+      node = t.node;
+      now = t.now;
+      inner = t.inner;
+      met = t.met;
+      stands = f t.stands;
+      begins = t.begins;
+      seeks = t.seeks;
+      of_nodes
+          = t.of_nodes;
+      kept = t.kept;
+      count = t.count;
+    }
 
     -- the search for the next part begins
     pub search_started : (Next : N → Turn N L → Type 0) → ((of : N) → slice_get nodes place ≡ Some of → (now : Turn N L) → Stands of now → Next of now)
@@ -224,7 +253,8 @@ module _ {N L : Type 0} (p : Explored N L) (s : Sought N) (limit : ℕ) where
       is_met_by : (b : Bool) → list_any (p.eq to) nodes ≡ b → list_any (p.eq to) (nodes_of t.met) ≡ b
       is_met_by b h = ap (λ ns. list_any (p.eq to) ns) (sym t.of_nodes) ∙ h
 
-      on_known : (Next : N → Turn N L → Type 0) → p.BeginsTurn t.node (with_edge t.now (edge label to)) → Next t.node (with_edge t.now (edge label to)) → list_any (p.eq to) nodes ≡ true → InSearch p s limit Next nodes trail place (counted place edges)
+      on_known : (Next : N → Turn N L → Type 0) → p.BeginsTurn t.node (with_edge t.now (edge label to)) → Next t.node (with_edge t.now (edge label to))
+          → list_any (p.eq to) nodes ≡ true → InSearch p s limit Next nodes trail place (counted place edges)
       on_known Next begins next known = record {
         node = t.node;
         now = with_edge t.now (edge label to);
@@ -232,7 +262,8 @@ module _ {N L : Type 0} (p : Explored N L) (s : Sought N) (limit : ℕ) where
         met = t.met;
         stands = next;
         begins = begins;
-        seeks = seeks_known p s limit t.node t.now t.met place t.inner t.seeks (edge label to) (next_count place t.inner) (none_at_root place t.inner) (one_beyond place t.inner) (is_met_by true known);
+        seeks = seeks_known p s limit t.node t.now t.met place t.inner t.seeks (edge label to) (next_count place t.inner) (none_at_root place t.inner)
+            (one_beyond place t.inner) (is_met_by true known);
         of_nodes = t.of_nodes;
         kept = t.kept;
         count = counted_cut place edges t.inner t.count;
@@ -248,7 +279,8 @@ module _ {N L : Type 0} (p : Explored N L) (s : Sought N) (limit : ℕ) where
       kept_push : IsTrail (t.met ++ beyond t.seeks.item (edge label to) ∷ []) (trail ++ record { from = place; label = label } ∷ [])
       kept_push = trail_push t.met trail t.kept t.seeks.item place label to (item_at p s limit t.node t.now t.met place t.inner t.seeks)
 
-      on_new : (Next : N → Turn N L → Type 0) → p.BeginsTurn t.node (with_edge t.now (edge label to)) → Next t.node (with_edge t.now (edge label to)) → list_any (p.eq to) nodes ≡ false → s.IsOther to → (length nodes ≡ limit → ⊥)
+      on_new : (Next : N → Turn N L → Type 0) → p.BeginsTurn t.node (with_edge t.now (edge label to)) → Next t.node (with_edge t.now (edge label to))
+          → list_any (p.eq to) nodes ≡ false → s.IsOther to → (length nodes ≡ limit → ⊥)
           → InSearch p s limit Next (nodes ++ to ∷ []) (trail ++ record { from = place; label = label } ∷ []) place (counted place edges)
       on_new Next begins next fresh other room = record {
         node = t.node;
@@ -257,7 +289,8 @@ module _ {N L : Type 0} (p : Explored N L) (s : Sought N) (limit : ℕ) where
         met = t.met ++ beyond t.seeks.item (edge label to) ∷ [];
         stands = next;
         begins = begins;
-        seeks = seeks_new p s limit t.node t.now t.met place t.inner t.seeks (edge label to) (next_count place t.inner) (none_at_root place t.inner) (one_beyond place t.inner) (is_met_by false fresh) other less;
+        seeks = seeks_new p s limit t.node t.now t.met place t.inner t.seeks (edge label to) (next_count place t.inner) (none_at_root place t.inner)
+            (one_beyond place t.inner) (is_met_by false fresh) other less;
         of_nodes = nodes_push;
         kept = kept_push;
         count = counted_cut place edges t.inner t.count;
@@ -270,15 +303,18 @@ module _ {N L : Type 0} (p : Explored N L) (s : Sought N) (limit : ℕ) where
               go (inl lt) = lt
               go (inr ge) = absurd (room (let f = t.seeks.few in let l = lengths in omega (arith, f, l, ge)))
 
-      pub search_goes_on : (Next : N → Turn N L → Type 0) (stop : List ℕ) (new : List N) (trail_new : List (Arrival L)) → p.BeginsTurn t.node (with_edge t.now (edge label to)) → Next t.node (with_edge t.now (edge label to))
+      pub search_goes_on : (Next : N → Turn N L → Type 0) (stop : List ℕ) (new : List N) (trail_new : List (Arrival L))
+          → p.BeginsTurn t.node (with_edge t.now (edge label to)) → Next t.node (with_edge t.now (edge label to))
           → Brings p s limit stop None place nodes new trail trail_new label to → (at' count : ℕ) → at' ≡ place → count ≡ counted place edges → InSearch p s limit Next new trail_new at' count
       search_goes_on Next stop new trail_new begins next brings at' count a c =
           subst (λ x. InSearch p s limit Next new trail_new x count) (sym a) (subst (λ x. InSearch p s limit Next new trail_new place x) (sym c) (go brings))
         where
           go : Brings p s limit stop None place nodes new trail trail_new label to → InSearch p s limit Next new trail_new place (counted place edges)
-          go (inl (known, n, k, e)) = subst (λ x. InSearch p s limit Next x trail_new place (counted place edges)) (sym n) (subst (λ x. InSearch p s limit Next nodes x place (counted place edges)) (sym k) (on_known Next begins next known))
+          go (inl (known, n, k, e)) = subst (λ x. InSearch p s limit Next x trail_new place (counted place edges)) (sym n)
+              (subst (λ x. InSearch p s limit Next nodes x place (counted place edges)) (sym k) (on_known Next begins next known))
           go (inr (fresh, n, k, sees)) =
-              subst (λ x. InSearch p s limit Next x trail_new place (counted place edges)) (sym n) (subst (λ x. InSearch p s limit Next (nodes ++ to ∷ []) x place (counted place edges)) (sym k) (on_new Next begins next fresh sees.0 sees.1))
+              subst (λ x. InSearch p s limit Next x trail_new place (counted place edges)) (sym n)
+              (subst (λ x. InSearch p s limit Next (nodes ++ to ∷ []) x place (counted place edges)) (sym k) (on_new Next begins next fresh sees.0 sees.1))
 
   -- ---- the end
 
@@ -288,7 +324,8 @@ module _ {N L : Type 0} (p : Explored N L) (s : Sought N) (limit : ℕ) where
       pub search_missing : (place < length nodes → ⊥) → EndsWithout p s limit w last missing nodes edges
       search_missing none = record {
         inner = t.inner;
-        ends = subst (λ n. IsSearched p s w last limit missing (w.head ++ last missing (n - 1) t.inner)) (sym same) (seeks_missing p s w last limit t.met place t.inner t.seeks all (let r = t.reached in let l = same in omega (arith, r, l)));
+        ends = subst (λ n. IsSearched p s w last limit missing (w.head ++ last missing (n - 1) t.inner)) (sym same)
+            (seeks_missing p s w last limit t.met place t.inner t.seeks all (let r = t.reached in let l = same in omega (arith, r, l)));
         count = t.count;
       }
         where
@@ -307,7 +344,8 @@ module _ {N L : Type 0} (p : Explored N L) (s : Sought N) (limit : ℕ) where
       pub search_out : (stop : List ℕ) → p.BreaksTurn t.node t.now stop → EndsWithout p s limit w last (untold stop) nodes edges
       search_out stop break = record {
         inner = t.inner;
-        ends = subst (λ n. IsSearched p s w last limit (untold stop) (w.head ++ last (untold stop) (n - 1) t.inner)) (sym (lengths Stands nodes trail place edges t)) (seeks_broken p s w last limit t.node t.now t.met place t.inner t.seeks stop break);
+        ends = subst (λ n. IsSearched p s w last limit (untold stop) (w.head ++ last (untold stop) (n - 1) t.inner))
+            (sym (lengths Stands nodes trail place edges t)) (seeks_broken p s w last limit t.node t.now t.met place t.inner t.seeks stop break);
         count = t.count;
       }
 
@@ -335,14 +373,19 @@ module _ {N L : Type 0} (p : Explored N L) (s : Sought N) (limit : ℕ) where
           shown = record {
             of_nodes = nodes_push Stands nodes trail place edges t label to;
             kept = kept_push Stands nodes trail place edges t label to;
-            numbered = subst (IsNumbered p) (sym (met_with_new p s limit t.node t.now t.met place t.inner t.seeks (edge label to) (next_count place t.inner) (none_at_root place t.inner) (one_beyond place t.inner) is_new))
-                (numbered g p of t.seeks.turns t.seeks.before t.seeks.item (with_edge t.now (edge label to)) t.seeks.up_to (subst (λ n. p.BeginsTurn n (with_edge t.now (edge label to))) (sym t.seeks.of_node) begins));
+            numbered = subst (IsNumbered p) (sym (met_with_new p s limit t.node t.now t.met place t.inner t.seeks (edge label to) (next_count place t.inner)
+                (none_at_root place t.inner) (one_beyond place t.inner) is_new))
+                (numbered g p of t.seeks.turns t.seeks.before t.seeks.item (with_edge t.now (edge label to)) t.seeks.up_to
+                (subst (λ n. p.BeginsTurn n (with_edge t.now (edge label to))) (sym t.seeks.of_node) begins));
           };
-          last_met = subst (λ n. slice_get (t.met ++ beyond t.seeks.item (edge label to) ∷ []) n ≡ Some (beyond t.seeks.item (edge label to))) at_end (at_last t.met (beyond t.seeks.item (edge label to)));
-          ends = subst (λ n. IsSearched p s w last limit found ((w.head ++ way_text w p.eq (nodes ++ to ∷ []) p.root (t.seeks.item.way ++ edge label to ∷ [])) ++ last found n (next_count place t.inner))) before
+          last_met = subst (λ n. slice_get (t.met ++ beyond t.seeks.item (edge label to) ∷ []) n ≡ Some (beyond t.seeks.item (edge label to))) at_end
+              (at_last t.met (beyond t.seeks.item (edge label to)));
+          ends = subst (λ n. IsSearched p s w last limit found ((w.head ++ way_text w p.eq (nodes ++ to ∷ []) p.root (t.seeks.item.way ++ edge label to ∷ []))
+              ++ last found n (next_count place t.inner))) before
               (subst (λ ns. IsSearched p s w last limit found ((w.head ++ way_text w p.eq ns p.root (t.seeks.item.way ++ edge label to ∷ [])) ++ last found (length t.met) (next_count place t.inner)))
               (sym (nodes_push Stands nodes trail place edges t label to))
-              (seeks_found p s w last limit t.node t.now t.met place t.inner t.seeks (edge label to) (next_count place t.inner) (none_at_root place t.inner) (one_beyond place t.inner) is_new begins sought));
+              (seeks_found p s w last limit t.node t.now t.met place t.inner t.seeks (edge label to) (next_count place t.inner) (none_at_root place t.inner)
+              (one_beyond place t.inner) is_new begins sought));
           count = counted_cut place edges t.inner t.count;
         }
           where
@@ -353,7 +396,8 @@ module _ {N L : Type 0} (p : Explored N L) (s : Sought N) (limit : ℕ) where
         full_there other full = record {
           inner = next_count place t.inner;
           ends = subst (λ n. IsSearched p s w last limit open_ended (w.head ++ last open_ended n (next_count place t.inner))) before
-              (seeks_full p s w last limit t.node t.now t.met place t.inner t.seeks (edge label to) (next_count place t.inner) (none_at_root place t.inner) (one_beyond place t.inner) is_new begins other (sym (lengths Stands nodes trail place edges t) ∙ full));
+              (seeks_full p s w last limit t.node t.now t.met place t.inner t.seeks (edge label to) (next_count place t.inner) (none_at_root place t.inner)
+              (one_beyond place t.inner) is_new begins other (sym (lengths Stands nodes trail place edges t) ∙ full));
           count = counted_cut place edges t.inner t.count;
         }
 
@@ -361,11 +405,13 @@ module _ {N L : Type 0} (p : Explored N L) (s : Sought N) (limit : ℕ) where
         untold_there stop doubt = record {
           inner = next_count place t.inner;
           ends = subst (λ n. IsSearched p s w last limit (untold stop) (w.head ++ last (untold stop) n (next_count place t.inner))) before
-              (seeks_untold p s w last limit t.node t.now t.met place t.inner t.seeks (edge label to) (next_count place t.inner) (none_at_root place t.inner) (one_beyond place t.inner) is_new begins stop doubt);
+              (seeks_untold p s w last limit t.node t.now t.met place t.inner t.seeks (edge label to) (next_count place t.inner) (none_at_root place t.inner)
+              (one_beyond place t.inner) is_new begins stop doubt);
           count = counted_cut place edges t.inner t.count;
         }
 
-        ends_by : (finding : Finding) (stop : List ℕ) → SeesNew p s limit (Some finding) stop (length nodes) to → Concludes p s limit w last finding stop (nodes ++ to ∷ []) (trail ++ record { from = place; label = label } ∷ []) (counted place edges)
+        ends_by : (finding : Finding) (stop : List ℕ) → SeesNew p s limit (Some finding) stop (length nodes) to
+            → Concludes p s limit w last finding stop (nodes ++ to ∷ []) (trail ++ record { from = place; label = label } ∷ []) (counted place edges)
         ends_by findings.Found stop sees = finds_it sees
         ends_by findings.Missing stop sees = absurd sees
         ends_by findings.OpenEnded stop sees = full_there sees.0 sees.1
@@ -382,7 +428,8 @@ module _ {N L : Type 0} (p : Explored N L) (s : Sought N) (limit : ℕ) where
           (ends_by label to begins fresh finding stop sees)))
 
     -- a turn that breaks off before it begins
-    pub search_unopened : (nodes : List N) (trail : List (Arrival L)) (place edges : ℕ) → AtSearch p s limit nodes trail place edges → (b : N) (stop : List ℕ) → slice_get nodes place ≡ Some b → p.BreaksTurn b no_turn stop
+    pub search_unopened : (nodes : List N) (trail : List (Arrival L)) (place edges : ℕ) → AtSearch p s limit nodes trail place edges → (b : N) (stop : List ℕ)
+        → slice_get nodes place ≡ Some b → p.BreaksTurn b no_turn stop
         → (keys : List N) (count : ℕ) → keys ≡ nodes → count ≡ edges → EndsWithout p s limit w last (untold stop) keys count
     search_unopened nodes trail place edges t b stop at break keys count k c =
         subst (λ x. EndsWithout p s limit w last (untold stop) x count) (sym k)
@@ -390,7 +437,8 @@ module _ {N L : Type 0} (p : Explored N L) (s : Sought N) (limit : ℕ) where
         (record {
           inner = t.inner;
           ends = subst (λ n. IsSearched p s w last limit (untold stop) (w.head ++ last (untold stop) (n - 1) t.inner)) (sym (ap (λ ns. length ns) t.of_nodes ∙ length-map t.met (λ x. x.node)))
-              (seeks_broken p s w last limit m.0.node no_turn t.met place t.inner (seeks_begun p s limit t.met place t.inner t.seeks m.0 false m.1) stop (subst (λ n. p.BreaksTurn n no_turn stop) (sym m.2) break));
+              (seeks_broken p s w last limit m.0.node no_turn t.met place t.inner (seeks_begun p s limit t.met place t.inner t.seeks m.0 false m.1) stop
+              (subst (λ n. p.BreaksTurn n no_turn stop) (sym m.2) break));
           count = t.count;
         }))
       where
@@ -399,7 +447,8 @@ module _ {N L : Type 0} (p : Explored N L) (s : Sought N) (limit : ℕ) where
 
 -- ---- the text
 
-module _ {N L : Type 0} (p : Explored N L) (s : Sought N) (limit : ℕ) (w : Words N L) (last : Result → (nodes edges : ℕ) → List ℕ) (stop : List ℕ) (nodes : List N) (trail : List (Arrival L)) (edges : ℕ) where
+module _ {N L : Type 0} (p : Explored N L) (s : Sought N) (limit : ℕ) (w : Words N L) (last : Result → (nodes edges : ℕ)
+    → List ℕ) (stop : List ℕ) (nodes : List N) (trail : List (Arrival L)) (edges : ℕ) where
   -- what the lines of a way need
   pub shown_earlier : (finding : Finding) → finding ≡ findings.Found → Concludes p s limit w last finding stop nodes trail edges → IsEarlier trail
   shown_earlier finding is h = let f = subst (λ x. Concludes p s limit w last x stop nodes trail edges) is h in trail_earlier f.met trail f.shown.kept
@@ -413,7 +462,8 @@ module _ {N L : Type 0} (p : Explored N L) (s : Sought N) (limit : ℕ) (w : Wor
     head_alone : begun ≡ w.head
     head_alone = head ∙ ap (λ t. t ++ w.head) none
 
-    pub laid_found : (finding : Finding) → finding ≡ findings.Found → Concludes p s limit w last finding stop nodes trail edges → (with_way : List ℕ) → SaysWay p w nodes trail (length trail) begun with_way
+    pub laid_found : (finding : Finding) → finding ≡ findings.Found → Concludes p s limit w last finding stop nodes trail edges → (with_way : List ℕ)
+        → SaysWay p w nodes trail (length trail) begun with_way
         → ((n : ℕ) → edges ≡ cut n → whole ≡ with_way ++ last (result_of finding stop) count n) → IsSearched p s w last limit (result_of finding stop) whole
     laid_found finding is h with_way way verdict =
         let f = subst (λ x. Concludes p s limit w last x stop nodes trail edges) is h in
@@ -450,7 +500,8 @@ module _ {N L : Type 0} (p : Explored N L) (s : Sought N) (w : Words N L) (last 
 -- ---- how a turn begins
 
 -- unless it breaks off at once
-pub goes_on : {N L : Type 0} (p : Explored N L) (b : Beginning) → (b ≡ beginnings.Regular) ⊎ (b ≡ beginnings.Stray) → (node : N) (now : Turn N L) (stop : List ℕ) (P : Type 0) → BeginsAs p b node now stop → UnlessOut b P
+pub goes_on : {N L : Type 0} (p : Explored N L) (b : Beginning) → (b ≡ beginnings.Regular) ⊎ (b ≡ beginnings.Stray)
+    → (node : N) (now : Turn N L) (stop : List ℕ) (P : Type 0) → BeginsAs p b node now stop → UnlessOut b P
     → (stray : Bool) × (now ≡ record { stray = stray; edges = [] }) × p.BeginsTurn node now × P
 goes_on p b (inl is) node now stop P begins unless =
     let h = subst (λ x. BeginsAs p x node now stop) is begins in

@@ -12,7 +12,8 @@ use Rattle.zf_reach.specs.Searches.{by, IsArrival, IsChain, over, SaysStep, Says
 
 module _ {L : Type 0} (trail : List (Arrival L)) (target : ℕ) where
   -- one more number
-  pub chain_longer : (numbers after : List ℕ) (at : ℕ) (arrival : Arrival L) → after ≡ numbers ++ at ∷ [] → 0 < at → slice_get trail (at - 1) ≡ Some arrival → IsChain trail target numbers at → IsChain trail target after arrival.from
+  pub chain_longer : (numbers after : List ℕ) (at : ℕ) (arrival : Arrival L) → after ≡ numbers ++ at ∷ [] → 0 < at → slice_get trail (at - 1) ≡ Some arrival
+      → IsChain trail target numbers at → IsChain trail target after arrival.from
   chain_longer numbers after at arrival is some kept c = by after arrival.from numbers at arrival is some kept refl c
 
   -- the last number that is left
@@ -37,7 +38,8 @@ module _ {L : Type 0} (trail : List (Arrival L)) (target : ℕ) where
 
   pub chain_over : (numbers : List ℕ) (at : ℕ) → numbers ≡ [] → IsChain trail target numbers at → at ≡ target
   chain_over numbers at is (over ns at' none end) = end
-  chain_over numbers at is (by ns at' more last arrival split some kept from c) = absurd (let l = ap (λ xs. length xs) (sym is ∙ split) in let k = length-append more (last ∷ []) in omega (arith, l, k))
+  chain_over numbers at is (by ns at' more last arrival split some kept from c) = absurd
+      (let l = ap (λ xs. length xs) (sym is ∙ split) in let k = length-append more (last ∷ []) in omega (arith, l, k))
 
 module _ {N L : Type 0} (p : Explored N L) (w : Words N L) (nodes : List N) (trail : List (Arrival L)) where
   -- the way to the first is none
@@ -45,7 +47,8 @@ module _ {N L : Type 0} (p : Explored N L) (w : Words N L) (nodes : List N) (tra
   way_first old met item shown at = sym (append-nil old) ∙ ap (λ es. old ++ way_text w p.eq nodes p.root es) (sym (shown.kept.first item at))
 
   -- with the lines of the next node
-  pub way_further : (number from : ℕ) (arrival : Arrival L) → 0 < number → slice_get trail (number - 1) ≡ Some arrival → arrival.from ≡ from → (first old new : List ℕ) → SaysWay p w nodes trail from first old → SaysStep w nodes trail number old new
+  pub way_further : (number from : ℕ) (arrival : Arrival L) → 0 < number → slice_get trail (number - 1) ≡ Some arrival → arrival.from ≡ from
+      → (first old new : List ℕ) → SaysWay p w nodes trail from first old → SaysStep w nodes trail number old new
       → SaysWay p w nodes trail number first new
   way_further number from arrival some kept is first old new so_far step met x shown at =
       step x.node arrival (nodes_at number x at) kept
@@ -79,4 +82,5 @@ module _ {N L : Type 0} (p : Explored N L) (w : Words N L) (nodes : List N) (tra
       number_to = ap (λ ns. number_of p.eq ns x.node) shown.of_nodes ∙ (shown.numbered number x at).0
 
       number_from : number_of p.eq nodes (end_of p.root r.from.way) ≡ arrival.from
-      number_from = ap (λ b. number_of p.eq nodes b) (shown.numbered arrival.from r.from from_at).1 ∙ ap (λ ns. number_of p.eq ns r.from.node) shown.of_nodes ∙ (shown.numbered arrival.from r.from from_at).0
+      number_from = ap (λ b. number_of p.eq nodes b) (shown.numbered arrival.from r.from from_at).1 ∙ ap (λ ns. number_of p.eq ns r.from.node) shown.of_nodes
+          ∙ (shown.numbered arrival.from r.from from_at).0

@@ -32,7 +32,8 @@ kept t u places none is = is ∙ sym (ap (λ (ps : Option (List ℕ)). moved (nu
 
 -- ---- memberships
 
-pub member_seen : (l i : ℕ) (e t : Resolved) (ks : List ResolvedLink) → l ≡ term_line (resolved_of e) → t ≡ v.Name l (Component i) → ks ≡ new_link Member e ∷ [] → resolved_of (v.Chain l t ks) ≡ is_member i (resolved_of e)
+pub member_seen : (l i : ℕ) (e t : Resolved) (ks : List ResolvedLink) → l ≡ term_line (resolved_of e) → t ≡ v.Name l (Component i)
+    → ks ≡ new_link Member e ∷ [] → resolved_of (v.Chain l t ks) ≡ is_member i (resolved_of e)
 member_seen l i e t ks m g h =
     of-Chain l t ks
     ∙ ap (λ (u : ResolvedTree). chain l u (links (map resolved_link_of ks))) (ap resolved_of g ∙ of-Name l (Component i))
@@ -83,10 +84,12 @@ conjuncts_step b xs i x t u whole before after at l is one term step =
 
 -- ---- conjuncts
 
-pub of_term : (t : Resolved) (ps : Option (List ℕ)) (whole : Conjunct) (u : Resolved) → whole ≡ conjuncts.Term t ps → resolved_of u ≡ moved (numbering ps) (resolved_of t) → resolved_of u ≡ conjunct_of whole
+pub of_term : (t : Resolved) (ps : Option (List ℕ)) (whole : Conjunct) (u : Resolved) → whole ≡ conjuncts.Term t ps
+    → resolved_of u ≡ moved (numbering ps) (resolved_of t) → resolved_of u ≡ conjunct_of whole
 of_term t ps whole u is e = e ∙ sym (ap conjunct_of is ∙ of-Term t ps)
 
-pub of_member : (i : ℕ) (t : Resolved) (ps : Option (List ℕ)) (whole : Conjunct) (s m u : Resolved) → whole ≡ conjuncts.Member i t ps → s ≡ t → resolved_of m ≡ is_member i (resolved_of s) → resolved_of u ≡ moved (numbering ps) (resolved_of m) → resolved_of u ≡ conjunct_of whole
+pub of_member : (i : ℕ) (t : Resolved) (ps : Option (List ℕ)) (whole : Conjunct) (s m u : Resolved) → whole ≡ conjuncts.Member i t ps → s ≡ t
+    → resolved_of m ≡ is_member i (resolved_of s) → resolved_of u ≡ moved (numbering ps) (resolved_of m) → resolved_of u ≡ conjunct_of whole
 of_member i t ps whole s m u is same made e =
     e
     ∙ ap (moved (numbering ps)) made
@@ -110,8 +113,10 @@ of_either l left right ps whole a b m u is one other made e =
 all_done : (xs : List Batch) (i : ℕ) (whole : Option ResolvedTree) (ts : List ResolvedTree) → length xs ≤ i → onto whole (all_of (map batch_of (drop i xs))) ≡ onto None ts → whole ≡ onto None ts
 all_done xs i whole ts past is = ap (λ (ys : List Batch). onto whole (all_of (map batch_of ys))) (sym (drop_all i xs past)) ∙ is
 
-pub none_joined : (l : ℕ) (xs : List Batch) (i : ℕ) (whole : Option Resolved) (ts : List ResolvedTree) → whole ≡ None → length xs ≤ i → onto (tree_in whole) (all_of (map batch_of (drop i xs))) ≡ onto None ts → resolved_of (v.Constant l True) ≡ joined l ts
+pub none_joined : (l : ℕ) (xs : List Batch) (i : ℕ) (whole : Option Resolved) (ts : List ResolvedTree) → whole ≡ None → length xs ≤ i
+    → onto (tree_in whole) (all_of (map batch_of (drop i xs))) ≡ onto None ts → resolved_of (v.Constant l True) ≡ joined l ts
 none_joined l xs i whole ts none past is = of-Constant l True ∙ ap (or_true l) (sym (ap tree_in none) ∙ all_done xs i (tree_in whole) ts past is) ∙ whole_joined l ts
 
-pub some_joined : (l : ℕ) (xs : List Batch) (i : ℕ) (whole : Option Resolved) (t : Resolved) (ts : List ResolvedTree) → whole ≡ Some t → length xs ≤ i → onto (tree_in whole) (all_of (map batch_of (drop i xs))) ≡ onto None ts → resolved_of t ≡ joined l ts
+pub some_joined : (l : ℕ) (xs : List Batch) (i : ℕ) (whole : Option Resolved) (t : Resolved) (ts : List ResolvedTree) → whole ≡ Some t → length xs ≤ i
+    → onto (tree_in whole) (all_of (map batch_of (drop i xs))) ≡ onto None ts → resolved_of t ≡ joined l ts
 some_joined l xs i whole t ts some past is = ap (or_true l) (sym (ap tree_in some) ∙ all_done xs i (tree_in whole) ts past is) ∙ whole_joined l ts

@@ -25,7 +25,9 @@ all-ranges f (r ∷ rs) = let rest = all-ranges f rs in (cc)
 pub ruleset lists = (all-terms, all-links, all-ranges)
 
 -- a builder whose parts are moved
-pub moved_builder : (f : ℕ → ℕ) (l : ℕ) (rs ss : List Range) (p q t u : Option Resolved) (whole : Resolved) → whole ≡ v.Builder l rs p t → map range_of ss ≡ map (range_moved f) (map range_of rs) → part_of q ≡ part_moved f (part_of p) → part_of u ≡ part_moved f (part_of t) → resolved_of (v.Builder l ss q u) ≡ moved f (resolved_of whole)
+pub moved_builder : (f : ℕ → ℕ) (l : ℕ) (rs ss : List Range) (p q t u : Option Resolved) (whole : Resolved) → whole ≡ v.Builder l rs p t
+    → map range_of ss ≡ map (range_moved f) (map range_of rs) → part_of q ≡ part_moved f (part_of p) → part_of u ≡ part_moved f (part_of t)
+    → resolved_of (v.Builder l ss q u) ≡ moved f (resolved_of whole)
 moved_builder f l rs ss p q t u whole is variables filter term =
     let made = of-Builder l ss q u in
     let seen = ap (λ w. moved f (resolved_of w)) is ∙ ap (moved f) (of-Builder l rs p t) in

@@ -9,7 +9,10 @@ seen_if s true sight = refl
 seen_if s false sight = refl
 
 -- the text is `front` and s; the row is what is looked up once the first byte of s is known
-pub alone : (front s : List ℕ) (b : ℕ) (text : List ℕ) (sight : Sight) (result : Option Sight) → 1 ≤ length s → get_or s 0 0 ≡ b → result ≡ (if bytes_eq (take (length s - 1) (drop 1 s)) text then Some sight else None) → ((rest : List ℕ) → look_up (front ++ b ∷ rest) symbols ≡ (if bytes_eq rest text then Some (piece_of sight 0 (front ++ b ∷ rest)) else None)) → seen (front ++ s) result ≡ look_up (front ++ s) symbols
+pub alone : (front s : List ℕ) (b : ℕ) (text : List ℕ) (sight : Sight) (result : Option Sight) → 1 ≤ length s → get_or s 0 0 ≡ b
+    → result ≡ (if bytes_eq (take (length s - 1) (drop 1 s)) text then Some sight else None)
+    → ((rest : List ℕ) → look_up (front ++ b ∷ rest) symbols ≡ (if bytes_eq rest text then Some (piece_of sight 0 (front ++ b ∷ rest)) else None))
+    → seen (front ++ s) result ≡ look_up (front ++ s) symbols
 alone front [] b text sight result h f e row = absurd (omega arith)
 alone front (x ∷ rest) b text sight result h f e row =
     let same : result ≡ (if bytes_eq rest text then Some sight else None) = rw take_rest at e in

@@ -112,7 +112,8 @@ stays_inside place line _ e inside out = inside out
 more_open : (ts : List Token) (t : Token) → IsOpen ts → ends_box t.kind ≡ false → IsOpen (ts ++ t ∷ [])
 more_open ts t o e = record { begins = begins_still ts (t ∷ []) o.begins; no_end = no_more_ends ts t o.no_end e }
 
-grows : (place : Place) (line : ℕ) (ts : List Token) (t : Token) → (place ≡ Outside → begins_box t.kind ≡ true) → ends_box t.kind ≡ false → IsPart place ts → IsPart (entered place line (Symbol t.kind)) (ts ++ t ∷ [])
+grows : (place : Place) (line : ℕ) (ts : List Token) (t : Token) → (place ≡ Outside → begins_box t.kind ≡ true) → ends_box t.kind ≡ false → IsPart place ts
+    → IsPart (entered place line (Symbol t.kind)) (ts ++ t ∷ [])
 grows Outside line ts t opens e h =
     subst (λ ts. IsPart (entered Outside line (Symbol t.kind)) (ts ++ t ∷ [])) (sym h)
     (is_inside (entered Outside line (Symbol t.kind)) (t ∷ []) (record { begins = opens refl; no_end = (e, tt) }) (begun_inside line t.kind (opens refl)))
@@ -156,5 +157,6 @@ pub one_further : (source : List ℕ) (border : Border) (tokens : List Token) �
 one_further source border tokens h next box one step =
     (h.0 ++ box, begins_too h.0 box h.1 one, subst (IsCutUpTo source next) (append_assoc tokens h.0 box) (step (tokens ++ h.0) h.2))
 
-pub all_further : (source : List ℕ) (border : Border) (tokens : List Token) → (more : List Token) × Follows more × IsCutUpTo source border (tokens ++ more) → length source ≤ border.start → IsCutOn source tokens
+pub all_further : (source : List ℕ) (border : Border) (tokens : List Token) → (more : List Token) × Follows more × IsCutUpTo source border (tokens ++ more)
+    → length source ≤ border.start → IsCutOn source tokens
 all_further source border tokens h over = (h.0, h.1, cut_whole source border (tokens ++ h.0) h.2 over)

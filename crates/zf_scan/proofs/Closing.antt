@@ -86,7 +86,8 @@ fits_len u rest t e f =
     let m = run_len Letters u in
     let long : length (take m u) ≡ m = length-take-le m u (run_within Letters u) in
     let parts = take-append-drop m u in
-    fits_by (take m u) (drop m u) u rest t (e ∙ ap (λ u. u ++ rest) (sym parts) ∙ append_assoc (take m u) (drop m u) rest) (ap length (sym parts) ∙ length-append (take m u) (drop m u)) (run_all Letters u) (ap (λ m. ends_well m (drop (run_len Letters u) u)) long ∙ f)
+    fits_by (take m u) (drop m u) u rest t (e ∙ ap (λ u. u ++ rest) (sym parts) ∙ append_assoc (take m u) (drop m u) rest)
+    (ap length (sym parts) ∙ length-append (take m u) (drop m u)) (run_all Letters u) (ap (λ m. ends_well m (drop (run_len Letters u) u)) long ∙ f)
 
 pub tail_within : (s : List ℕ) → tail_len s ≤ length s
 tail_within s = pick (λ n. n ≤ length s) (begins s (codes "_1")) _ _ (λ h. front_le s (codes "_1") _ (begins_is s (codes "_1") h)) (λ _. step_within s)
@@ -102,7 +103,8 @@ long_within t = omega (arith, command_within t, tail_within (drop (command_len (
 unknown_bound : (r rest t : List ℕ) → IsCommand r → 92 ∷ t ≡ r ++ rest → length r ≤ command_len (92 ∷ t)
 unknown_bound r rest t h e =
     let behind : t ≡ h.0 ++ rest = tail_is 92 92 t (h.0 ++ rest) (e ∙ ap (λ r. r ++ rest) h.1) in
-    ⊎_elim (λ k. omega (arith, ap length h.1, run_le Letters h.0 rest k, ap (run_len Letters) behind, letters_le t)) (λ k. omega (arith, ap length h.1, two_le t (omega (arith, ap length behind, length-append h.0 rest)))) h.2
+    ⊎_elim (λ k. omega (arith, ap length h.1, run_le Letters h.0 rest k, ap (run_len Letters) behind, letters_le t))
+    (λ k. omega (arith, ap length h.1, two_le t (omega (arith, ap length behind, length-append h.0 rest)))) h.2
 
 -- every piece at a backslash
 abbrev AtBackslash : List ℕ → List ℕ → List ℕ → Piece → Type 0
@@ -139,7 +141,8 @@ short_at : (z t : List ℕ) → Bound (92 ∷ z) (92 ∷ t) (command_len (92 ∷
 unfolding short_command
 short_at z t bound = by (look_up (take (command_len (92 ∷ t)) (92 ∷ t)) symbols) refl
   where
-    by : (o : Option Piece) → look_up (take (command_len (92 ∷ t)) (92 ∷ t)) symbols ≡ o → Next (92 ∷ z) (92 ∷ t) (or_else o (command_len (92 ∷ t)) (found (Refused faults.UnknownCommand) (command_len (92 ∷ t))))
+    by : (o : Option Piece) → look_up (take (command_len (92 ∷ t)) (92 ∷ t)) symbols ≡ o
+        → Next (92 ∷ z) (92 ∷ t) (or_else o (command_len (92 ∷ t)) (found (Refused faults.UnknownCommand) (command_len (92 ∷ t))))
     by (Some piece) e = inl (at_from (92 ∷ z) (92 ∷ t) piece (command_len (92 ∷ t)) fixed (command_within t) e bound)
     by None e = inl (at_from (92 ∷ z) (92 ∷ t) (Refused faults.UnknownCommand) (command_len (92 ∷ t)) unknown (command_within t) (short_text t, e, refl) bound)
 
@@ -151,7 +154,9 @@ closing_bound : (z t : List ℕ) → Closes z → begins (92 ∷ t) (92 ∷ z) �
 closing_bound z t closes yet other piece r rest h e =
     let is = begins_is (92 ∷ t) (92 ∷ z) yet in
     let long = ap long_len is in
-    ⊎_elim (λ k. omega (arith, k, long, closes (drop (length (92 ∷ z)) (92 ∷ t)))) (λ k. ⊎_elim (λ k. omega (arith, k.0, long, closes (drop (length (92 ∷ z)) (92 ∷ t)))) (λ k. omega (arith, k.0)) k) (at_backslash z t other piece r rest h e)
+    ⊎_elim (λ k. omega (arith, k, long, closes (drop (length (92 ∷ z)) (92 ∷ t))))
+    (λ k. ⊎_elim (λ k. omega (arith, k.0, long, closes (drop (length (92 ∷ z)) (92 ∷ t)))) (λ k. omega (arith, k.0)) k)
+    (at_backslash z t other piece r rest h e)
 
 closing_at : (z t : List ℕ) → Closes z → begins (92 ∷ t) (92 ∷ z) ≡ true → At (92 ∷ z) (92 ∷ t) (Symbol EndBox) (length (92 ∷ z))
 closing_at z t closes e =
@@ -160,9 +165,11 @@ closing_at z t closes e =
 
 command_next : (z t : List ℕ) → Closes z → Next (92 ∷ z) (92 ∷ t) (command_found (92 ∷ z) (92 ∷ t))
 unfolding command_found
-command_next z t closes = pick (Next (92 ∷ z) (92 ∷ t)) (begins (92 ∷ t) (92 ∷ z)) _ _ (λ e. inl (closing_at z t closes e)) (λ unclosed. by unclosed (look_up (take (long_len (92 ∷ t)) (92 ∷ t)) symbols) refl)
+command_next z t closes = pick (Next (92 ∷ z) (92 ∷ t)) (begins (92 ∷ t) (92 ∷ z)) _ _ (λ e. inl (closing_at z t closes e))
+    (λ unclosed. by unclosed (look_up (take (long_len (92 ∷ t)) (92 ∷ t)) symbols) refl)
   where
-    by : begins (92 ∷ t) (92 ∷ z) ≡ false → (o : Option Piece) → look_up (take (long_len (92 ∷ t)) (92 ∷ t)) symbols ≡ o → Next (92 ∷ z) (92 ∷ t) (or_else o (long_len (92 ∷ t)) (short_command (92 ∷ t) (command_len (92 ∷ t))))
+    by : begins (92 ∷ t) (92 ∷ z) ≡ false → (o : Option Piece) → look_up (take (long_len (92 ∷ t)) (92 ∷ t)) symbols ≡ o
+        → Next (92 ∷ z) (92 ∷ t) (or_else o (long_len (92 ∷ t)) (short_command (92 ∷ t) (command_len (92 ∷ t))))
     by unclosed (Some piece) e = inl (at_from (92 ∷ z) (92 ∷ t) piece (long_len (92 ∷ t)) fixed (long_within t) e (long_bound z t unclosed))
     by unclosed None e = short_at z t (short_bound z t unclosed e)
 

@@ -12,7 +12,8 @@ Told source = ((tokens : List Token) × IsCutInto source tokens) ⊎ ((fault : T
 abbrev FromThere : ℕ → List ℕ → Type 0
 FromThere left source = (at line : ℕ) (place : Place) (tokens : List Token) → Before source at line place tokens → length source ≤ at + left → Told source
 
-fails_there : (source : List ℕ) (at line : ℕ) (place : Place) (tokens : List Token) → Before source at line place tokens → length source ≤ SOURCE_MAX → (kind : TextFaultKind) → Fails place (drop at source) kind → Told source
+fails_there : (source : List ℕ) (at line : ℕ) (place : Place) (tokens : List Token) → Before source at line place tokens → length source ≤ SOURCE_MAX
+    → (kind : TextFaultKind) → Fails place (drop at source) kind → Told source
 fails_there source at line place tokens b short kind fails =
     let fault : TextFault = record { kind = kind; line = reported_line place line kind } in
     inr (fault, inr (stuck source at line place tokens b short fault kind refl refl fails))
@@ -30,7 +31,8 @@ goes_on left source further at line place tokens b few f n read =
     further (at + f.len) (line + newlines (take f.len (drop at source))) (entered place line f.piece) (tokens ++ tokens_of b.spot f.piece (take f.len (drop at source)))
     (turned source at line place tokens b f a read) (omega (arith, few, a.some))
 
-turns : (left : ℕ) (source : List ℕ) → length source ≤ SOURCE_MAX → FromThere left source → (at line : ℕ) (place : Place) (tokens : List Token) → Before source at line place tokens → length source ≤ at + suc left
+turns : (left : ℕ) (source : List ℕ) → length source ≤ SOURCE_MAX → FromThere left source → (at line : ℕ) (place : Place) (tokens : List Token)
+    → Before source at line place tokens → length source ≤ at + suc left
     → 0 < length (drop at source) → (f : Found) → Next place (drop at source) f → (piece : Piece) → f.piece ≡ piece → Told source
 turns left source short further at line place tokens b few some f n Plain e = goes_on left source further at line place tokens b few f n (subst IsRead (sym e) tt)
 turns left source short further at line place tokens b few some f n (Symbol kind) e = goes_on left source further at line place tokens b few f n (subst IsRead (sym e) tt)

@@ -36,7 +36,8 @@ at_from s piece n kind some within spells bound = record {
 -- ---- openings
 
 abbrev is_opening : List ℕ → Bool
-is_opening p = bytes_eq p (codes "\\begin{zed}") || (bytes_eq p (codes "\\begin{schema}") || (bytes_eq p (codes "\\begin{axdef}") || (bytes_eq p (codes "\\begin{gendef}") || bytes_eq p (codes "\\begin{syntax}"))))
+is_opening p = bytes_eq p (codes "\\begin{zed}") || (bytes_eq p (codes "\\begin{schema}") ||
+    (bytes_eq p (codes "\\begin{axdef}") || (bytes_eq p (codes "\\begin{gendef}") || bytes_eq p (codes "\\begin{syntax}"))))
 
 all_open : list_all (λ row. is_opening row.0) openings ≡ true
 unfolding openings
@@ -56,10 +57,13 @@ at_front : (s r rest front : List ℕ) (more : List ℕ) → s ≡ r ++ rest →
 at_front s r rest front more e f = is_begun s front (more ++ rest) (e ∙ ap (λ r. r ++ rest) f ∙ append_assoc front more rest)
 
 opening_begins : (s r rest : List ℕ) (piece : Piece) → look_up r openings ≡ Some piece → s ≡ r ++ rest → begins s (codes "\\begin{") ≡ true
-opening_begins s r rest piece h e = by_opening r piece h (at_front s r rest (codes "\\begin{") (codes "zed}") e) (at_front s r rest (codes "\\begin{") (codes "schema}") e) (at_front s r rest (codes "\\begin{") (codes "axdef}") e) (at_front s r rest (codes "\\begin{") (codes "gendef}") e) (at_front s r rest (codes "\\begin{") (codes "syntax}") e)
+opening_begins s r rest piece h e = by_opening r piece h (at_front s r rest (codes "\\begin{") (codes "zed}") e)
+    (at_front s r rest (codes "\\begin{") (codes "schema}") e) (at_front s r rest (codes "\\begin{") (codes "axdef}") e)
+    (at_front s r rest (codes "\\begin{") (codes "gendef}") e) (at_front s r rest (codes "\\begin{") (codes "syntax}") e)
 
 pub opening_le : (r : List ℕ) (piece : Piece) → look_up r openings ≡ Some piece → length r ≤ 14
-opening_le r piece h = by_opening r piece h (λ e. omega (arith, ap length e)) (λ e. omega (arith, ap length e)) (λ e. omega (arith, ap length e)) (λ e. omega (arith, ap length e)) (λ e. omega (arith, ap length e))
+opening_le r piece h = by_opening r piece h (λ e. omega (arith, ap length e)) (λ e. omega (arith, ap length e)) (λ e. omega (arith, ap length e))
+    (λ e. omega (arith, ap length e)) (λ e. omega (arith, ap length e))
 
 -- a schema's opening with its name
 pub schema_is : (s r rest name : List ℕ) → r ≡ codes "\\begin{schema}{" ++ name ++ codes "}" → s ≡ r ++ rest → s ≡ codes "\\begin{schema}{" ++ ((name ++ codes "}") ++ rest)
@@ -159,13 +163,17 @@ apart s r rest q text e f h g = both (begins (text ++ rest) q) (sym (ap (λ s. b
 zed_next : (s : List ℕ) → begins s (codes "\\begin{schema}{") ≡ false → begins s (codes "\\begin{zed}") ≡ true → At s (Symbol BeginZed) 11
 unfolding openings
 zed_next s nameless e = opened s (codes "\\begin{zed}") (Symbol BeginZed) (omega arith) refl e
-    (λ found r rest h f. by_opening r found h (λ g. omega (arith, ap length g)) (λ g. apart s r rest (codes "\\begin{zed}") _ f g e refl) (λ g. apart s r rest (codes "\\begin{zed}") _ f g e refl) (λ g. apart s r rest (codes "\\begin{zed}") _ f g e refl) (λ g. apart s r rest (codes "\\begin{zed}") _ f g e refl))
+    (λ found r rest h f. by_opening r found h (λ g. omega (arith, ap length g)) (λ g. apart s r rest (codes "\\begin{zed}") _ f g e refl)
+    (λ g. apart s r rest (codes "\\begin{zed}") _ f g e refl) (λ g. apart s r rest (codes "\\begin{zed}") _ f g e refl)
+    (λ g. apart s r rest (codes "\\begin{zed}") _ f g e refl))
     (nameless_bound s 11 nameless)
 
 axdef_next : (s : List ℕ) → begins s (codes "\\begin{schema}{") ≡ false → begins s (codes "\\begin{axdef}") ≡ true → At s (Refused faults.NotInProfile) 13
 unfolding openings
 axdef_next s nameless e = opened s (codes "\\begin{axdef}") (Refused faults.NotInProfile) (omega arith) refl e
-    (λ found r rest h f. by_opening r found h (λ g. omega (arith, ap length g)) (λ g. apart s r rest (codes "\\begin{axdef}") _ f g e refl) (λ g. omega (arith, ap length g)) (λ g. apart s r rest (codes "\\begin{axdef}") _ f g e refl) (λ g. apart s r rest (codes "\\begin{axdef}") _ f g e refl))
+    (λ found r rest h f. by_opening r found h (λ g. omega (arith, ap length g)) (λ g. apart s r rest (codes "\\begin{axdef}") _ f g e refl)
+    (λ g. omega (arith, ap length g)) (λ g. apart s r rest (codes "\\begin{axdef}") _ f g e refl)
+    (λ g. apart s r rest (codes "\\begin{axdef}") _ f g e refl))
     (nameless_bound s 13 nameless)
 
 gendef_next : (s : List ℕ) → begins s (codes "\\begin{schema}{") ≡ false → begins s (codes "\\begin{gendef}") ≡ true → At s (Refused faults.NotInProfile) 14
@@ -176,7 +184,8 @@ syntax_next : (s : List ℕ) → begins s (codes "\\begin{schema}{") ≡ false �
 unfolding openings
 syntax_next s nameless e = opened s (codes "\\begin{syntax}") (Refused faults.NotInProfile) (omega arith) refl e (λ found r rest h f. opening_le r found h) (nameless_bound s 14 nameless)
 
-unnamed_next : (s : List ℕ) → begins s (codes "\\begin{schema}") ≡ true → ((found : Piece) (r rest : List ℕ) → SpellsOutside schema found r → s ≡ r ++ rest → length r ≤ 14) → At s (Refused faults.BadByte) 14
+unnamed_next : (s : List ℕ) → begins s (codes "\\begin{schema}") ≡ true → ((found : Piece) (r rest : List ℕ) → SpellsOutside schema found r → s ≡ r ++ rest
+    → length r ≤ 14) → At s (Refused faults.BadByte) 14
 unfolding openings
 unnamed_next s e named = opened s (codes "\\begin{schema}") (Refused faults.BadByte) (omega arith) refl e (λ found r rest h f. opening_le r found h) named
 
@@ -208,7 +217,8 @@ not_zero n h = grind (arith, nat_tests)
 pub named : (name rest : List ℕ) → is_base name ≡ true → look_up name symbols ≡ None → (base_len (name ++ 125 ∷ rest) ≡ length name) × (has_no_name (name ++ 125 ∷ rest) ≡ false)
 named [] rest h k = absurd (cc)
 named (c ∷ cs) rest h k =
-    let n : base_len (c ∷ cs ++ 125 ∷ rest) ≡ 1 + length cs = rw (and_left (is_letter c) (is_run Base cs) h) (ap (λ n. 1 + n) (run_exact Base cs (125 ∷ rest) (and_right (is_letter c) (is_run Base cs) h) (no_step 125 rest refl refl))) in
+    let n : base_len (c ∷ cs ++ 125 ∷ rest) ≡ 1 + length cs = rw (and_left (is_letter c) (is_run Base cs) h)
+    (ap (λ n. 1 + n) (run_exact Base cs (125 ∷ rest) (and_right (is_letter c) (is_run Base cs) h) (no_step 125 rest refl refl))) in
     let long : base_len (c ∷ cs ++ 125 ∷ rest) ≡ length (c ∷ cs) = n ∙ one-add (length cs) in
     let front : take (base_len (c ∷ cs ++ 125 ∷ rest)) (c ∷ cs ++ 125 ∷ rest) ≡ c ∷ cs = ap (λ n. take n (c ∷ cs ++ 125 ∷ rest)) long ∙ front_is (c ∷ cs) (125 ∷ rest) in
     let back : drop (base_len (c ∷ cs ++ 125 ∷ rest)) (c ∷ cs ++ 125 ∷ rest) ≡ 125 ∷ rest = ap (λ n. drop n (c ∷ cs ++ 125 ∷ rest)) long ∙ back_is (c ∷ cs) (125 ∷ rest) in
@@ -234,7 +244,8 @@ record Named (t : List ℕ) : Type 0 where
 named_from : (t : List ℕ) → has_no_name t ≡ false → Named t
 named_from t h = by (base_len t == 0) (begins (drop (base_len t) t) (codes "}")) (look_up (take (base_len t) t) symbols) refl refl refl h
   where
-    by : (a b : Bool) (o : Option Piece) → (base_len t == 0) ≡ a → begins (drop (base_len t) t) (codes "}") ≡ b → look_up (take (base_len t) t) symbols ≡ o → (a || (not b || is_some o)) ≡ false → Named t
+    by : (a b : Bool) (o : Option Piece) → (base_len t == 0) ≡ a → begins (drop (base_len t) t) (codes "}") ≡ b → look_up (take (base_len t) t) symbols ≡ o
+        → (a || (not b || is_some o)) ≡ false → Named t
     by true b o e f g h = both true refl h
     by false false o e f g h = both true refl h
     by false true (Some piece) e f g h = both true refl h
@@ -257,7 +268,12 @@ schema_text s e n =
     begins_is s (codes "\\begin{schema}{") e ∙ ap (λ t. codes "\\begin{schema}{" ++ t) (all ∙ sym (append_assoc (take (base_len t) t) (codes "}") (drop 1 (drop (base_len t) t))))
 
 named_next : (s : List ℕ) → begins s (codes "\\begin{schema}{") ≡ true → Named (drop 15 s) → At s (Symbol (BeginSchema (take (base_len (drop 15 s)) (drop 15 s)))) (16 + base_len (drop 15 s))
-named_next s e n = at_from s _ (16 + base_len t) schema (omega arith) (omega (arith, front_le s (codes "\\begin{schema}{" ++ take (base_len (drop 15 s)) (drop 15 s) ++ codes "}") (drop 1 (drop (base_len (drop 15 s)) (drop 15 s))) is, long)) (take (base_len t) t, taken s _ _ (16 + base_len t) is long, name_text t n.some, n.free, refl) bound
+named_next s e n = at_from s _ (16 + base_len t) schema (omega arith) (omega (
+  arith,
+  front_le s (codes "\\begin{schema}{" ++ take (base_len (drop 15 s)) (drop 15 s) ++ codes "}") (drop 1 (drop (base_len (drop 15 s)) (drop 15 s))) is,
+  long,
+))
+    (take (base_len t) t, taken s _ _ (16 + base_len t) is long, name_text t n.some, n.free, refl) bound
   where
     t : List ℕ
     t = drop 15 s
@@ -279,7 +295,8 @@ schema_next : (s : List ℕ) → begins s (codes "\\begin{schema}{") ≡ true �
 unfolding schema_found
 schema_next s e =
     pick (Next s) (has_no_name (drop 15 s)) _ _
-    (λ h. unnamed_next s (is_begun s (codes "\\begin{schema}") (codes "{" ++ drop 15 s) (begins_is s (codes "\\begin{schema}{") e)) (λ found r rest k f. absurd (both _ h (schema_long s r rest found k f).1)))
+    (λ h. unnamed_next s (is_begun s (codes "\\begin{schema}") (codes "{" ++ drop 15 s) (begins_is s (codes "\\begin{schema}{") e))
+    (λ found r rest k f. absurd (both _ h (schema_long s r rest found k f).1)))
     (λ h. named_next s e (named_from (drop 15 s) h))
 
 -- ---- all
@@ -288,7 +305,9 @@ opening_next : (t : List ℕ) → Next (92 ∷ t) (opening_found (92 ∷ t))
 unfolding opening_found
 opening_next t = by (begins (92 ∷ t) (codes "\\begin{")) refl
   where
-    by : (z : Bool) → begins (92 ∷ t) (codes "\\begin{") ≡ z → Next (92 ∷ t) (if not z then plain (min (length (92 ∷ t)) 2) else (if begins (92 ∷ t) (codes "\\begin{schema}{") then schema_found (92 ∷ t) else other_opening_found (92 ∷ t)))
+    by : (z : Bool) → begins (92 ∷ t) (codes "\\begin{") ≡ z → Next (92 ∷ t)
+        (if not z then plain (min (length (92 ∷ t)) 2) else (if begins (92 ∷ t) (codes "\\begin{schema}{") then schema_found (92 ∷ t) else other_opening_found
+        (92 ∷ t)))
     by false h = escape_next t (λ piece r rest k e. both _ (opening_begins (92 ∷ t) r rest piece k e) h) (nameless (begins (92 ∷ t) (codes "\\begin{schema}{")) refl)
       where
         nameless : (z : Bool) → begins (92 ∷ t) (codes "\\begin{schema}{") ≡ z → begins (92 ∷ t) (codes "\\begin{schema}{") ≡ false

@@ -31,11 +31,19 @@ at_end text more =
     ap (λ n. take n (drop (length text) (text ++ more))) len ∙ ap (take (length more)) (drop-append_seam text more) ∙ all_taken more
 
 pub added : (text : List ℕ) (ps : List Placed) (tokens : List Token) (t : Token) → IsLaid text ps tokens
-    → IsLaid (text ++ spelling t.kind) (ps ++ record { next = next_of t.kind; line = t.line; start = length text; stop = length (text ++ spelling t.kind); amount = amount t.kind } ∷ []) (tokens ++ t ∷ [])
+    → IsLaid (text ++ spelling t.kind) (ps ++ record {
+      next = next_of t.kind;
+      line = t.line;
+      start = length text;
+      stop = length
+          (text ++ spelling t.kind);
+      amount = amount t.kind;
+    } ∷ []) (tokens ++ t ∷ [])
 added text ps tokens t l =
     let more = spelling t.kind in
     let p : Placed = record { next = next_of t.kind; line = t.line; start = length text; stop = length (text ++ more); amount = amount t.kind } in
-    let kind : kind_of (next_of t.kind) (amount t.kind) (between (length text) (length (text ++ more)) (text ++ more)) ≡ t.kind = ap (kind_of (next_of t.kind) (amount t.kind)) (at_end text more) ∙ spelled t.kind in
+    let kind : kind_of (next_of t.kind) (amount t.kind) (between (length text) (length (text ++ more)) (text ++ more))
+    ≡ t.kind = ap (kind_of (next_of t.kind) (amount t.kind)) (at_end text more) ∙ spelled t.kind in
     record {
       same = map-append (symbol_at (text ++ more)) ps (p ∷ [])
           ∙ ap (λ ss. ss ++ symbol_at (text ++ more) p ∷ []) (kept text more ps l.within ∙ l.same)

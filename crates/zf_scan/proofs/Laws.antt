@@ -14,7 +14,8 @@ pub record GoesOn (ps qs : List (Piece × List ℕ)) (b : Spot) (rest : List ℕ
 pair : (p q : Piece × List ℕ) → p.0 ≡ q.0 → p.1 ≡ q.1 → p ≡ q
 pair p q e f = ap (λ x. (x, p.1)) e ∙ ap (λ t. (q.0, t)) f
 
-goes_more : (p q : Piece × List ℕ) (ps qs : List (Piece × List ℕ)) (b : Spot) (rest : List ℕ) (c : Spot) (behind : List ℕ) → p ≡ q → GoesOn ps qs b rest c behind → GoesOn (p ∷ ps) (q ∷ qs) b rest c behind
+goes_more : (p q : Piece × List ℕ) (ps qs : List (Piece × List ℕ)) (b : Spot) (rest : List ℕ) (c : Spot) (behind : List ℕ) → p ≡ q
+    → GoesOn ps qs b rest c behind → GoesOn (p ∷ ps) (q ∷ qs) b rest c behind
 goes_more p q ps qs b rest c behind e g = record { more = g.more; cuts = g.cuts; all = ap (λ p. p ∷ qs) (sym e) ∙ ap (λ qs. p ∷ qs) g.all }
 
 pub compared : (ps qs : List (Piece × List ℕ)) (a : Spot) (s : List ℕ) (b : Spot) (rest : List ℕ) (c : Spot) (behind : List ℕ) → Cuts ps a s b rest → Cuts qs a s c behind
@@ -66,7 +67,8 @@ uncut_then source fault (inr s) = inr (uncut source fault s)
 
 -- ---- the ends of the loop
 
-pub finished : (source : List ℕ) (at line : ℕ) (place : Place) (tokens : List Token) → Before source at line place tokens → length source ≤ at → place ≡ places.Outside → length source ≤ SOURCE_MAX → IsCutInto source tokens
+pub finished : (source : List ℕ) (at line : ℕ) (place : Place) (tokens : List Token) → Before source at line place tokens → length source ≤ at
+    → place ≡ places.Outside → length source ≤ SOURCE_MAX → IsCutInto source tokens
 finished source at line place tokens b over out short = record {
   short = short;
   pieces = b.pieces;
@@ -79,7 +81,8 @@ finished source at line place tokens b over out short = record {
 pub cut_whole : (source : List ℕ) (border : Border) (tokens : List Token) → IsCutUpTo source border tokens → length source ≤ border.start → IsCutInto source tokens
 cut_whole source border tokens up over = finished source border.start border.line places.Outside tokens up.before over refl up.short
 
-pub stuck : (source : List ℕ) (at line : ℕ) (place : Place) (tokens : List Token) → Before source at line place tokens → length source ≤ SOURCE_MAX → (fault : TextFault) (kind : TextFaultKind) → fault.kind ≡ kind → fault.line ≡ reported_line place line kind
+pub stuck : (source : List ℕ) (at line : ℕ) (place : Place) (tokens : List Token) → Before source at line place tokens → length source ≤ SOURCE_MAX
+    → (fault : TextFault) (kind : TextFaultKind) → fault.kind ≡ kind → fault.line ≡ reported_line place line kind
     → Fails place (drop at source) kind → IsStuck source fault
 stuck source at line place tokens b short fault kind e f fails = record {
   short = short;
@@ -109,7 +112,8 @@ one_end ps qs b c g = by g.more g.cuts g.all
 
 pub is_cut_once : IsCutOnce
 is_cut_once source one two c d =
-    let same : c.pieces ≡ d.pieces = ⊎_elim (λ g. sym (one_end c.pieces d.pieces c.end d.end g)) (λ g. one_end d.pieces c.pieces d.end c.end g) (compared c.pieces d.pieces start source c.end [] d.end [] c.cuts d.cuts) in
+    let same : c.pieces ≡ d.pieces = ⊎_elim (λ g. sym (one_end c.pieces d.pieces c.end d.end g)) (λ g. one_end d.pieces c.pieces d.end c.end g)
+    (compared c.pieces d.pieces start source c.end [] d.end [] c.cuts d.cuts) in
     (same, c.told ∙ ap (tokens_from start) same ∙ sym d.told)
 
 pub is_not_both : IsNotBoth

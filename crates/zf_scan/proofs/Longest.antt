@@ -172,7 +172,8 @@ base_ends : (cs strokes rest : List ℕ) → is_run Base cs ≡ true → is_run 
 base_ends cs [] rest h k some = absurd (omega arith)
 base_ends cs (d ∷ ds) rest h k some = let b = stroke_byte d ds k in run_exact Base cs (d ∷ ds ++ rest) h (no_step d (ds ++ rest) b.0 b.1)
 
-name_bound : (b : ℕ) (bs cs strokes rest : List ℕ) → is_letter b ≡ true → is_run Base cs ≡ true → is_run Strokes strokes ≡ true → bs ≡ cs ++ (strokes ++ rest) → 1 + length cs + length strokes ≤ word_len (b ∷ bs)
+name_bound : (b : ℕ) (bs cs strokes rest : List ℕ) → is_letter b ≡ true → is_run Base cs ≡ true → is_run Strokes strokes ≡ true → bs ≡ cs ++ (strokes ++ rest)
+    → 1 + length cs + length strokes ≤ word_len (b ∷ bs)
 name_bound b bs cs [] rest l h k e =
     let n : base_len (b ∷ bs) ≡ 1 + run_len Base bs = rw l in
     omega (arith, n, run_le Base cs rest h, ap (run_len Base) e)
@@ -217,10 +218,18 @@ unfolding word_found
 word_next z b bs l = by (look_up (take (word_len (b ∷ bs)) (b ∷ bs)) symbols) refl
   where
     by : (o : Option Piece) → look_up (take (word_len (b ∷ bs)) (b ∷ bs)) symbols ≡ o
-        → Next (92 ∷ z) (b ∷ bs) (or_else o (word_len (b ∷ bs)) (found (Symbol (name_of (take (base_len (b ∷ bs)) (b ∷ bs)) (take (strokes_len (b ∷ bs)) (drop (base_len (b ∷ bs)) (b ∷ bs))))) (word_len (b ∷ bs))))
+        → Next (92 ∷ z) (b ∷ bs) (or_else o (word_len (b ∷ bs)) (found (Symbol
+        (name_of (take (base_len (b ∷ bs)) (b ∷ bs)) (take (strokes_len (b ∷ bs)) (drop (base_len (b ∷ bs)) (b ∷ bs))))) (word_len (b ∷ bs))))
     by (Some piece) e = inl (at_from (92 ∷ z) (b ∷ bs) piece (word_len (b ∷ bs)) fixed (word_within (b ∷ bs)) e (word_bound z b bs l))
-    by None e = inl (at_from (92 ∷ z) (b ∷ bs) _ (word_len (b ∷ bs)) name (word_within (b ∷ bs))
-        (take (base_len (b ∷ bs)) (b ∷ bs), take (strokes_len (b ∷ bs)) (drop (base_len (b ∷ bs)) (b ∷ bs)), take-add (base_len (b ∷ bs)) (strokes_len (b ∷ bs)) (b ∷ bs), base_text b bs l, run_all Strokes (drop (base_len (b ∷ bs)) (b ∷ bs)), e, refl)
+    by None e = inl (at_from (92 ∷ z) (b ∷ bs) _ (word_len (b ∷ bs)) name (word_within (b ∷ bs)) (
+      take (base_len (b ∷ bs)) (b ∷ bs),
+      take (strokes_len (b ∷ bs)) (drop (base_len (b ∷ bs)) (b ∷ bs)),
+      take-add (base_len (b ∷ bs)) (strokes_len (b ∷ bs)) (b ∷ bs),
+      base_text b bs l,
+      run_all Strokes (drop (base_len (b ∷ bs)) (b ∷ bs)),
+      e,
+      refl,
+    )
         (word_bound z b bs l))
 
 -- ---- symbols
@@ -278,10 +287,12 @@ symbol_none s e = by (begins s (codes "::=")) (begins s (codes "==")) refl refl
   where
     by : (t u : Bool) → begins s (codes "::=") ≡ t → begins s (codes "==") ≡ u → symbol_len s ≡ 1
     by true u f g = absurd (listed_three (ap (λ p. look_up p symbols) (sym (ap (λ n. take n s) (three s f) ∙ taken s (codes "::=") _ 3 (begins_is s (codes "::=") f) refl)) ∙ e))
-    by false true f g = let n : symbol_len s ≡ 2 = rw (f, g) in absurd (listed_two (ap (λ p. look_up p symbols) (sym (ap (λ n. take n s) n ∙ taken s (codes "==") _ 2 (begins_is s (codes "==") g) refl)) ∙ e))
+    by false true f g = let n : symbol_len s ≡ 2 = rw (f, g) in absurd (listed_two
+        (ap (λ p. look_up p symbols) (sym (ap (λ n. take n s) n ∙ taken s (codes "==") _ 2 (begins_is s (codes "==") g) refl)) ∙ e))
     by false false f g = rw (f, g)
 
-other_bound : (z : List ℕ) (b : ℕ) (bs : List ℕ) → Other b → (other : InsideKind) (piece : Piece) (r rest : List ℕ) → SpellsInside (92 ∷ z) other piece r → b ∷ bs ≡ r ++ rest → (look_up r symbols ≡ Some piece) × (fits_symbol r ≡ true)
+other_bound : (z : List ℕ) (b : ℕ) (bs : List ℕ) → Other b → (other : InsideKind) (piece : Piece) (r rest : List ℕ) → SpellsInside (92 ∷ z) other piece r
+    → b ∷ bs ≡ r ++ rest → (look_up r symbols ≡ Some piece) × (fits_symbol r ≡ true)
 other_bound z b bs o fixed piece r rest h e = let l = listed_from r rest piece b bs h e in (h, ap fits_symbol l.is ∙ sym (other_row b l.more o) ∙ l.fits)
 other_bound z b bs o closing piece r rest h e = absurd (both (b == 92) (ap (λ b. b == 92) (headed z closing piece r rest b bs h e)) o.backslash)
 other_bound z b bs o remark piece r rest h e = absurd (both (b == 37) (ap (λ b. b == 37) (headed z remark piece r rest b bs h e)) o.percent)
@@ -305,6 +316,7 @@ symbol_next z b bs o = by (look_up (take (symbol_len (b ∷ bs)) (b ∷ bs)) sym
         let no : look_up r symbols ≡ None = ap (λ p. look_up p symbols) (sym is) ∙ e in
         cc (l, no)
 
-    by : (o : Option Piece) → look_up (take (symbol_len (b ∷ bs)) (b ∷ bs)) symbols ≡ o → Next (92 ∷ z) (b ∷ bs) (or_else o (symbol_len (b ∷ bs)) (found (Refused faults.BadByte) (symbol_len (b ∷ bs))))
+    by : (o : Option Piece) → look_up (take (symbol_len (b ∷ bs)) (b ∷ bs)) symbols ≡ o
+        → Next (92 ∷ z) (b ∷ bs) (or_else o (symbol_len (b ∷ bs)) (found (Refused faults.BadByte) (symbol_len (b ∷ bs))))
     by (Some piece) e = inl (at_from (92 ∷ z) (b ∷ bs) piece (symbol_len (b ∷ bs)) fixed (symbol_within b bs) e bound)
     by None e = inr (refl, none e)

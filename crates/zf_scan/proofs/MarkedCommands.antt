@@ -30,7 +30,8 @@ short_found : (b : ℕ) (s : List ℕ) (piece : Piece) → IsMark b piece → sh
 unfolding short_command
 short_found b s piece m = rw m.alone refl
 
-long_found : (b : ℕ) (s : List ℕ) (piece : Piece) → IsMark b piece → (n : ℕ) (t : List ℕ) → t ≡ take n s → n ≤ length s → or_else (look_up (92 ∷ b ∷ t) symbols) (2 + n) (short_command (92 ∷ b ∷ s) 2) ≡ found piece 2
+long_found : (b : ℕ) (s : List ℕ) (piece : Piece) → IsMark b piece → (n : ℕ) (t : List ℕ) → t ≡ take n s → n ≤ length s
+    → or_else (look_up (92 ∷ b ∷ t) symbols) (2 + n) (short_command (92 ∷ b ∷ s) 2) ≡ found piece 2
 long_found b s piece m n [] e h =
     let none : 2 + n ≡ 2 = omega (arith, length-take-le n s h, ap length e) in
     ap (λ o. or_else o (2 + n) (short_command (92 ∷ b ∷ s) 2)) m.alone ∙ ap (found piece) none
@@ -53,7 +54,8 @@ at_mark end s b piece m long second =
     ∙ ap (λ n. or_else (look_up (92 ∷ b ∷ take tail s) symbols) (2 + tail) (short_command z n)) short
     ∙ long_found b s piece m tail (take tail s) refl (tail_within s)))
 
-pub mark_found : (end s : List ℕ) (b : ℕ) (piece : Piece) → IsMark b piece → 2 ≤ length end → slice_index_or end 1 0 ≡ 101 → 2 ≤ length s → slice_index_or s 0 0 ≡ 92 → slice_index_or s 1 0 ≡ b → found piece 2 ≡ command_found end s
+pub mark_found : (end s : List ℕ) (b : ℕ) (piece : Piece) → IsMark b piece → 2 ≤ length end → slice_index_or end 1 0 ≡ 101 → 2 ≤ length s
+    → slice_index_or s 0 0 ≡ 92 → slice_index_or s 1 0 ≡ b → found piece 2 ≡ command_found end s
 mark_found end [] b piece m long second some e f = absurd (omega arith)
 mark_found end (x ∷ []) b piece m long second some e f = absurd (omega arith)
 mark_found end (x ∷ y ∷ s) b piece m long second some e f = at_mark end s b piece m long second ∙ ap₂ (λ x y. command_found end (x ∷ y ∷ s)) (sym e) (sym f)

@@ -24,10 +24,12 @@ capped v m h = grind (arith, nat_tests)
 kept : (v m : ℕ) → v ≤ m → Some v ≡ (if nat_le v m then Some v else None)
 kept v m h = grind (arith, nat_tests)
 
-pub too_large : (s : List ℕ) (i n d : ℕ) → n ≡ value (take i s) → i < length s → d ≡ get_or s i 0 - 48 → (number_max - d) / 10 < n → None ≡ (if nat_le (value s) number_max then Some (value s) else None)
+pub too_large : (s : List ℕ) (i n d : ℕ) → n ≡ value (take i s) → i < length s → d ≡ get_or s i 0 - 48 → (number_max - d) / 10 < n
+    → None ≡ (if nat_le (value s) number_max then Some (value s) else None)
 too_large s i n d e h f over = capped (value s) number_max (omega (arith, value_le s (i + 1), value-more s i h))
 
-pub one_more : (s : List ℕ) (i n d : ℕ) → n ≡ value (take i s) → i < length s → d ≡ get_or s i 0 - 48 → d < 256 → n ≤ (number_max - d) / 10 → (10 * n + d ≡ value (take (i + 1) s)) × (10 * n + d ≤ number_max)
+pub one_more : (s : List ℕ) (i n d : ℕ) → n ≡ value (take i s) → i < length s → d ≡ get_or s i 0 - 48 → d < 256 → n ≤ (number_max - d) / 10
+    → (10 * n + d ≡ value (take (i + 1) s)) × (10 * n + d ≤ number_max)
 one_more s i n d e h f small fits = (omega (arith, value-more s i h), omega arith)
 
 pub all_read : (s : List ℕ) (i n : ℕ) → n ≡ value (take i s) → length s ≤ i → n ≤ number_max → Some n ≡ (if nat_le (value s) number_max then Some (value s) else None)

@@ -20,7 +20,20 @@ unfoldable pub use Rattle.zf_scan.specs.Pieces.{openings, symbols}
 pub use Rattle.zf_scan.specs.Placing.{between, symbol_at, token_at, unplaced}
 pub use Rattle.zf_scan.specs.Sights.{kind_of, piece_of, seen, told}
 pub use Rattle.zf_scan.specs.Steps.{base_len, begins, command_len, Found, found, has_no_name, long_len, name_of, or_else, plain, run_len, step_len, strokes_len, symbol_len, tail_len, word_len}
-unfoldable pub use Rattle.zf_scan.specs.Steps.{command_found, comment_found, found_at, inside_found, number_found, opening_found, other_opening_found, outside_found, schema_found, short_command, symbol_found, word_found}
+unfoldable pub use Rattle.zf_scan.specs.Steps.{
+  command_found,
+  comment_found,
+  found_at,
+  inside_found,
+  number_found,
+  opening_found,
+  other_opening_found,
+  outside_found,
+  schema_found,
+  short_command,
+  symbol_found,
+  word_found,
+}
 pub use Rattle.zf_scan.specs.declared.fault.TextFault.{TextFault}
 pub use Rattle.zf_scan.specs.declared.fault.TextFaultKind.{TextFaultKind}
 pub use Rattle.zf_scan.specs.declared.fault.TextFaultKind.TheVariants.{BadByte, NotInProfile, TooLong, UnclosedBox}

@@ -108,8 +108,10 @@ outside_quiet informal k p h = let e = h.1 in absurd (cc)
 -- a symbol ends no line
 pub quiet : (place : Place) (s : List ℕ) (f : Found) (k : Kind) → StandsAt place s f → f.piece ≡ Symbol k → newlines (take f.len s) ≡ 0
 quiet places.Outside s f k a e = outside_quiet a.stands.kind k (take f.len s) (subst (λ piece. SpellsOutside a.stands.kind piece (take f.len s)) e a.stands.spells)
-quiet (places.Zed line) s f k a e = inside_quiet (codes "\\end{zed}") refl a.stands.kind k (take f.len s) (subst (λ piece. SpellsInside (codes "\\end{zed}") a.stands.kind piece (take f.len s)) e a.stands.spells)
-quiet (places.Schema line) s f k a e = inside_quiet (codes "\\end{schema}") refl a.stands.kind k (take f.len s) (subst (λ piece. SpellsInside (codes "\\end{schema}") a.stands.kind piece (take f.len s)) e a.stands.spells)
+quiet (places.Zed line) s f k a e = inside_quiet (codes "\\end{zed}") refl a.stands.kind k (take f.len s)
+    (subst (λ piece. SpellsInside (codes "\\end{zed}") a.stands.kind piece (take f.len s)) e a.stands.spells)
+quiet (places.Schema line) s f k a e = inside_quiet (codes "\\end{schema}") refl a.stands.kind k (take f.len s)
+    (subst (λ piece. SpellsInside (codes "\\end{schema}") a.stands.kind piece (take f.len s)) e a.stands.spells)
 
 -- ---- words
 

@@ -72,7 +72,8 @@ run_append run [] x h = sym (zero-add (run_len run x))
 run_append run (b ∷ []) x h = run_len-one run b x h
 run_append run (b ∷ c ∷ bs) x h = by (is_one run b) refl (run_append run (c ∷ bs) x) (run_append run bs x)
   where
-    by : (t : Bool) → is_one run b ≡ t → (is_run run (c ∷ bs) ≡ true → run_len run (c ∷ bs ++ x) ≡ length (c ∷ bs) + run_len run x) → (is_run run bs ≡ true → run_len run (bs ++ x) ≡ length bs + run_len run x)
+    by : (t : Bool) → is_one run b ≡ t → (is_run run (c ∷ bs) ≡ true → run_len run (c ∷ bs ++ x) ≡ length (c ∷ bs) + run_len run x)
+        → (is_run run bs ≡ true → run_len run (bs ++ x) ≡ length bs + run_len run x)
         → run_len run (b ∷ c ∷ bs ++ x) ≡ length (b ∷ c ∷ bs) + run_len run x
     by true e one two = let k : is_run run (c ∷ bs) ≡ true = rw e at h in run_len-one run b (c ∷ bs ++ x) e ∙ omega (arith, one k)
     by false e one two =
@@ -96,7 +97,8 @@ run_all run (b ∷ []) = by (is_one run b) refl
     by false e = rw e refl
 run_all run (b ∷ c ∷ bs) = by (is_one run b) (is_two run b c) refl refl (run_all run (c ∷ bs)) (run_all run bs)
   where
-    by : (t u : Bool) → is_one run b ≡ t → is_two run b c ≡ u → is_run run (take (run_len run (c ∷ bs)) (c ∷ bs)) ≡ true → is_run run (take (run_len run bs) bs) ≡ true → is_run run (take (run_len run (b ∷ c ∷ bs)) (b ∷ c ∷ bs)) ≡ true
+    by : (t u : Bool) → is_one run b ≡ t → is_two run b c ≡ u → is_run run (take (run_len run (c ∷ bs)) (c ∷ bs)) ≡ true
+        → is_run run (take (run_len run bs) bs) ≡ true → is_run run (take (run_len run (b ∷ c ∷ bs)) (b ∷ c ∷ bs)) ≡ true
     by true u e f one two = rw (e, one-add) (is_run-one run b (take (run_len run (c ∷ bs)) (c ∷ bs)) e ∙ one)
     by false true e f one two = rw (e, f, two-add) (rw (e, f) two)
     by false false e f one two = rw (e, f) refl

@@ -86,7 +86,9 @@ name_told z (c ∷ cs) strokes p e f g h = of_name (sym (ap (λ p. look_up p sym
 
     of_name : look_up (c ∷ cs ++ strokes) symbols ≡ None → Symbol (Name (c ∷ cs) strokes) ≡ meaning (92 ∷ z) (c ∷ cs ++ strokes)
     of_name h = sym (unlisted_is (92 ∷ z) (c ∷ cs ++ strokes) h ∙ other_is z c (cs ++ strokes) (letter_byte c letter).1 ∙ letter_is c (cs ++ strokes) (letter_byte c letter).0 letter
-        ∙ ap (λ n. Symbol (Name (take n (c ∷ cs ++ strokes)) (drop n (c ∷ cs ++ strokes)))) long ∙ ap (λ a. Symbol (Name a (drop (length (c ∷ cs)) (c ∷ cs ++ strokes)))) (front_is (c ∷ cs) strokes) ∙ ap (λ b. Symbol (Name (c ∷ cs) b)) (back_is (c ∷ cs) strokes))
+        ∙ ap (λ n. Symbol (Name (take n (c ∷ cs ++ strokes)) (drop n (c ∷ cs ++ strokes)))) long
+        ∙ ap (λ a. Symbol (Name a (drop (length (c ∷ cs)) (c ∷ cs ++ strokes)))) (front_is (c ∷ cs) strokes)
+        ∙ ap (λ b. Symbol (Name (c ∷ cs) b)) (back_is (c ∷ cs) strokes))
 
 closing_told : (z : List ℕ) → Closer z → meaning (92 ∷ z) (92 ∷ z) ≡ Symbol EndBox
 closing_told z closer = unlisted_is (92 ∷ z) (92 ∷ z) closer.unlisted ∙ itself
@@ -116,7 +118,8 @@ unknown_told z w closer h none = unlisted_is (92 ∷ z) (92 ∷ w) none ∙ apar
 told_inside : (z : List ℕ) → Closer z → (kind : InsideKind) (piece : Piece) (p : List ℕ) → SpellsInside (92 ∷ z) kind piece p → piece ≡ meaning (92 ∷ z) p
 told_inside z closer Pieces.fixed piece p h = sym (listed_is (92 ∷ z) p piece h)
 told_inside z closer Pieces.closing piece p h = h.1 ∙ sym (ap (meaning (92 ∷ z)) h.0 ∙ closing_told z closer)
-told_inside z closer InsideKind.remark piece p h = h.1 ∙ ap comment h.0.1 ∙ sym (ap (meaning (92 ∷ z)) h.0.1 ∙ unlisted_is (92 ∷ z) (37 ∷ h.0.0) (unlisted (37 ∷ h.0.0) refl) ∙ other_is z 37 h.0.0 refl ∙ comment_is h.0.0)
+told_inside z closer InsideKind.remark piece p h = h.1 ∙ ap comment h.0.1
+    ∙ sym (ap (meaning (92 ∷ z)) h.0.1 ∙ unlisted_is (92 ∷ z) (37 ∷ h.0.0) (unlisted (37 ∷ h.0.0) refl) ∙ other_is z 37 h.0.0 refl ∙ comment_is h.0.0)
 told_inside z closer Pieces.name piece p h = h.6 ∙ name_told z h.0 h.1 p h.2 h.3 h.4 h.5
 told_inside z closer Pieces.numeral piece p h = h.1 ∙ sym (number_told z p h.0)
 told_inside z closer Pieces.unknown piece p h = h.2 ∙ sym (ap (meaning (92 ∷ z)) h.0.1 ∙ unknown_told z h.0.0 closer h.0.2 (sym (ap (λ p. look_up p symbols) h.0.1) ∙ h.1))

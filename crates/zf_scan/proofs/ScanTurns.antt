@@ -10,30 +10,39 @@ use Rattle.zf_scan.proofs.Scanned.{StandsAt, Next, found_next, seen_at, goes, tu
 pub plain_stands : (place : Place) (s rest : List ℕ) (f : code.Found) → rest ≡ s → told rest f ≡ found_at place rest → 0 < length s → f.sight ≡ sights.Plain → StandsAt place s (told s f)
 plain_stands place s rest f e g some is = goes place s (told s f) (seen_at place s rest f e g some) (subst (λ sight. IsRead (piece_of sight f.amount (take f.len s))) (sym is) tt)
 
-pub symbol_stands : (place : Place) (s rest : List ℕ) (f : code.Found) (next : symbol.Next) → rest ≡ s → told rest f ≡ found_at place rest → 0 < length s → f.sight ≡ sights.Symbol next → StandsAt place s (told s f)
+pub symbol_stands : (place : Place) (s rest : List ℕ) (f : code.Found) (next : symbol.Next) → rest ≡ s → told rest f ≡ found_at place rest → 0 < length s
+    → f.sight ≡ sights.Symbol next → StandsAt place s (told s f)
 symbol_stands place s rest f next e g some is = goes place s (told s f) (seen_at place s rest f e g some) (subst (λ sight. IsRead (piece_of sight f.amount (take f.len s))) (sym is) tt)
 
 blank_stands : (place : Place) (s : List ℕ) → Next place s (found Plain 1) → StandsAt place s (found Plain 1)
 blank_stands place s (inl a) = a
 blank_stands place s (inr n) = let e = n.0 in absurd (cc)
 
-plain_turn : (source : List ℕ) (at line : ℕ) (place : Place) (tokens : List Token) → Before source at line place tokens → (f : Found) → StandsAt place (drop at source) f → f.piece ≡ Plain → (lines : ℕ) → lines ≡ newlines (take f.len (drop at source)) → Before source (at + f.len) (line + lines) place tokens
+plain_turn : (source : List ℕ) (at line : ℕ) (place : Place) (tokens : List Token) → Before source at line place tokens → (f : Found)
+    → StandsAt place (drop at source) f → f.piece ≡ Plain → (lines : ℕ) → lines ≡ newlines (take f.len (drop at source))
+    → Before source (at + f.len) (line + lines) place tokens
 plain_turn source at line place tokens b f s e lines n =
-    moved _ _ _ _ _ (turned source at line place tokens b f s (subst IsRead (sym e) tt)) _ _ _ (ap (λ k. line + k) (sym n)) (ap (entered place line) e) (told_plain source at line place tokens b f (take f.len (drop at source)) e)
+    moved _ _ _ _ _ (turned source at line place tokens b f s (subst IsRead (sym e) tt)) _ _ _ (ap (λ k. line + k) (sym n)) (ap (entered place line) e)
+    (told_plain source at line place tokens b f (take f.len (drop at source)) e)
 
-pub blank_read : (source : List ℕ) (at line : ℕ) (place : Place) (tokens : List Token) → Before source at line place tokens → (rest : List ℕ) → rest ≡ drop at source → 0 < length (drop at source) → found_at place rest ≡ found Plain 1
+pub blank_read : (source : List ℕ) (at line : ℕ) (place : Place) (tokens : List Token) → Before source at line place tokens → (rest : List ℕ)
+    → rest ≡ drop at source → 0 < length (drop at source) → found_at place rest ≡ found Plain 1
     → (lines : ℕ) → lines ≡ newlines (take 1 rest) → Before source (at + 1) (line + lines) place tokens
 blank_read source at line place tokens b rest e some h lines n =
     let next : Next place (drop at source) (found Plain 1) = subst (λ f. Next place (drop at source) f) (ap (found_at place) (sym e) ∙ h) (found_next place (drop at source) some) in
     plain_turn source at line place tokens b (found Plain 1) (blank_stands place (drop at source) next) refl lines (n ∙ ap (λ t. newlines (take 1 t)) e)
 
-pub plain_read : (source : List ℕ) (at line : ℕ) (place : Place) (tokens : List Token) → Before source at line place tokens → (rest : List ℕ) (f : code.Found) → rest ≡ drop at source → told rest f ≡ found_at place rest → 0 < length (drop at source) → f.sight ≡ sights.Plain
+pub plain_read : (source : List ℕ) (at line : ℕ) (place : Place) (tokens : List Token) → Before source at line place tokens → (rest : List ℕ) (f : code.Found)
+    → rest ≡ drop at source → told rest f ≡ found_at place rest → 0 < length (drop at source) → f.sight ≡ sights.Plain
     → (lines : ℕ) → lines ≡ newlines (take f.len rest) → Before source (at + f.len) (line + lines) place tokens
 plain_read source at line place tokens b rest f e g some is lines n =
     let s = drop at source in
-    plain_turn source at line place tokens b (told s f) (plain_stands place s rest f e g some is) (ap (λ sight. piece_of sight f.amount (take f.len s)) is) lines (n ∙ ap (λ t. newlines (take f.len t)) e)
+    plain_turn source at line place tokens b (told s f) (plain_stands place s rest f e g some is)
+    (ap (λ sight. piece_of sight f.amount (take f.len s)) is) lines (n ∙ ap (λ t. newlines (take f.len t)) e)
 
-pub symbol_read : (source : List ℕ) (at line : ℕ) (place : Place) (front : List Token) (symbols : List Placed) → Before source at line place (front ++ map (token_at source) symbols) → (rest : List ℕ) (f : code.Found) (next : symbol.Next) → rest ≡ drop at source → told rest f ≡ found_at place rest → 0 < length (drop at source) → f.sight ≡ sights.Symbol next
+pub symbol_read : (source : List ℕ) (at line : ℕ) (place : Place) (front : List Token) (symbols : List Placed)
+    → Before source at line place (front ++ map (token_at source) symbols) → (rest : List ℕ) (f : code.Found) (next : symbol.Next) → rest ≡ drop at source
+    → told rest f ≡ found_at place rest → 0 < length (drop at source) → f.sight ≡ sights.Symbol next
     → (more : List Placed) → more ≡ symbols ++ record { next = next; line = line; start = at; stop = at + f.len; amount = f.amount } ∷ []
     → (behind : Place) → ((amount : ℕ) (text : List ℕ) → behind ≡ entered place line (Symbol (kind_of next amount text))) → Before source (at + f.len) line behind (front ++ map (token_at source) more)
 symbol_read source at line place front symbols b rest f next e g some is more pushed behind place_is =
@@ -46,4 +55,5 @@ symbol_read source at line place front symbols b rest f next e g some is more pu
     let silent : newlines text ≡ 0 = quiet place s (told s f) kind a piece in
     let same_line : line + newlines text ≡ line = omega (arith, silent) in
     moved _ _ _ _ _ (turned source at line place tokens b (told s f) a (subst IsRead (sym piece) tt)) _ _ _ same_line (ap (entered place line) piece ∙ sym (place_is f.amount text))
-    (told_symbol source at line place tokens b (told s f) text kind piece (length-take-le f.len s a.within) ∙ placed_told source front at f.len symbols next f.amount line ∙ ap (λ ps. front ++ map (token_at source) ps) (sym pushed))
+    (told_symbol source at line place tokens b (told s f) text kind piece (length-take-le f.len s a.within)
+    ∙ placed_told source front at f.len symbols next f.amount line ∙ ap (λ ps. front ++ map (token_at source) ps) (sym pushed))

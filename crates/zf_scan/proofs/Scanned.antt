@@ -55,7 +55,8 @@ newlines_le (x ∷ a) = by (x == 10) (newlines_le a)
 pub begun : (source : List ℕ) → Before source 0 1 places.Outside []
 begun source = record { pieces = []; spot = start; cuts = (refl, refl); told = λ qs. refl; at_is = refl; line_is = refl; place_is = refl }
 
-cuts_more : (ps : List (Piece × List ℕ)) (p : Piece × List ℕ) (a b : Spot) (source rest after : List ℕ) → Cuts ps a source b rest → rest ≡ p.1 ++ after → Stands b.place p.0 p.1 after → IsRead p.0 → Cuts (ps ++ p ∷ []) a source (past b p) after
+cuts_more : (ps : List (Piece × List ℕ)) (p : Piece × List ℕ) (a b : Spot) (source rest after : List ℕ) → Cuts ps a source b rest → rest ≡ p.1 ++ after
+    → Stands b.place p.0 p.1 after → IsRead p.0 → Cuts (ps ++ p ∷ []) a source (past b p) after
 cuts_more [] p a b source rest after c e s r = (after, c.1 ∙ e, subst (λ a. Stands a.place p.0 p.1 after) (sym c.0) s, r, (ap (λ a. past a p) c.0, refl))
 cuts_more (q ∷ ps) p a b source rest after c e s r = (c.0, c.1, c.2, c.3, cuts_more ps p (past a q) b c.0 rest after c.4 e s r)
 
@@ -66,7 +67,8 @@ turned source at line place tokens b f s r = record {
   spot = past b.spot (f.piece, text);
   cuts = subst (λ rest. Cuts (b.pieces ++ (f.piece, text) ∷ []) start source (past b.spot (f.piece, text)) rest) (drop-drop f.len at source)
       (cuts_more b.pieces (f.piece, text) start b.spot source rest after b.cuts (sym (take-append-drop f.len rest)) (subst (λ place. Stands place f.piece text after) b.place_is s.stands) r);
-  told = λ qs. ap (tokens_from start) (append_assoc b.pieces ((f.piece, text) ∷ []) qs) ∙ b.told ((f.piece, text) ∷ qs) ∙ sym (append_assoc tokens (tokens_of b.spot f.piece text) (tokens_from (past b.spot (f.piece, text)) qs));
+  told = λ qs. ap (tokens_from start) (append_assoc b.pieces ((f.piece, text) ∷ []) qs) ∙ b.told ((f.piece, text) ∷ qs)
+      ∙ sym (append_assoc tokens (tokens_of b.spot f.piece text) (tokens_from (past b.spot (f.piece, text)) qs));
   at_is = omega (arith, b.at_is, length-append b.spot.before text, length-take-le f.len rest s.within);
   line_is = omega (arith, b.line_is, newlines_append b.spot.before text);
   place_is = ap (λ place. entered place line f.piece) b.place_is ∙ ap (λ line. entered b.spot.place line f.piece) b.line_is;
@@ -93,15 +95,18 @@ goes place s f (inr n) r = absurd (subst IsRead n.0 r)
 pub line_le : (source : List ℕ) (at line : ℕ) (place : Place) (tokens : List Token) → Before source at line place tokens → line ≤ 1 + at
 line_le source at line place tokens b = omega (arith, b.line_is, b.at_is, newlines_le b.spot.before)
 
-pub moved : (source : List ℕ) (at line : ℕ) (place : Place) (tokens : List Token) → Before source at line place tokens → (line2 : ℕ) (place2 : Place) (tokens2 : List Token) → line ≡ line2 → place ≡ place2 → tokens ≡ tokens2 → Before source at line2 place2 tokens2
+pub moved : (source : List ℕ) (at line : ℕ) (place : Place) (tokens : List Token) → Before source at line place tokens
+    → (line2 : ℕ) (place2 : Place) (tokens2 : List Token) → line ≡ line2 → place ≡ place2 → tokens ≡ tokens2 → Before source at line2 place2 tokens2
 moved source at line place tokens b line2 place2 tokens2 e f g =
     subst (λ tokens. Before source at line2 place2 tokens) g (subst (λ place. Before source at line2 place tokens) f (subst (λ line. Before source at line place tokens) e b))
 
 -- the tokens of what was found
-pub told_plain : (source : List ℕ) (at line : ℕ) (place : Place) (tokens : List Token) (b : Before source at line place tokens) (f : Found) (text : List ℕ) → f.piece ≡ Plain → tokens ++ tokens_of b.spot f.piece text ≡ tokens
+pub told_plain : (source : List ℕ) (at line : ℕ) (place : Place) (tokens : List Token) (b : Before source at line place tokens) (f : Found) (text : List ℕ)
+    → f.piece ≡ Plain → tokens ++ tokens_of b.spot f.piece text ≡ tokens
 told_plain source at line place tokens b f text e = ap (λ piece. tokens ++ tokens_of b.spot piece text) e ∙ append-nil tokens
 
-pub told_symbol : (source : List ℕ) (at line : ℕ) (place : Place) (tokens : List Token) (b : Before source at line place tokens) (f : Found) (text : List ℕ) (kind : Kind) → f.piece ≡ Symbol kind → length text ≡ f.len
+pub told_symbol : (source : List ℕ) (at line : ℕ) (place : Place) (tokens : List Token) (b : Before source at line place tokens) (f : Found) (text : List ℕ)
+    (kind : Kind) → f.piece ≡ Symbol kind → length text ≡ f.len
     → tokens ++ tokens_of b.spot f.piece text ≡ tokens ++ record { kind = kind; start = at; stop = at + f.len; line = line } ∷ []
 told_symbol source at line place tokens b f text kind e n =
     let one : ℕ → ℕ → ℕ → List Token = λ s t l. tokens ++ record { kind = kind; start = s; stop = t; line = l } ∷ [] in

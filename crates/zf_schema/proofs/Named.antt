@@ -52,7 +52,8 @@ type_one_more x (d ∷ ds) c = by (bytes_eq d.name c.name) refl (type_one_more x
   where
     known :
         (t w : Bool) → t ≡ w
-        → type_found (if t then Some (0, comp d.name d.type (d.sets ++ c.sets)) else later (comp_named x ds)) ≡ or_else (type_found (if t then Some (0, d) else later (comp_named x ds))) (if w then Some c.type else None)
+        → type_found (if t then Some (0, comp d.name d.type (d.sets ++ c.sets)) else later (comp_named x ds))
+        ≡ or_else (type_found (if t then Some (0, d) else later (comp_named x ds))) (if w then Some c.type else None)
     known true w e = refl
     known false true e = absurd (cc)
     known false false e = sym (or_none (type_found (later (comp_named x ds))))
@@ -80,7 +81,8 @@ sets_one_more x (d ∷ ds) c = by (bytes_eq d.name c.name) refl (sets_one_more x
   where
     known :
         (t w : Bool) → t ≡ w
-        → sets_found (if t then Some (0, comp d.name d.type (d.sets ++ c.sets)) else later (comp_named x ds)) ≡ sets_found (if t then Some (0, d) else later (comp_named x ds)) ++ (if w then c.sets else [])
+        → sets_found (if t then Some (0, comp d.name d.type (d.sets ++ c.sets)) else later (comp_named x ds))
+        ≡ sets_found (if t then Some (0, d) else later (comp_named x ds)) ++ (if w then c.sets else [])
     known true true e = refl
     known true false e = absurd (cc)
     known false true e = absurd (cc)

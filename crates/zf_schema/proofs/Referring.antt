@@ -6,12 +6,14 @@ use Rattle.zf_calculus.proofs.Monotony.{still_large}
 found : (g : List Defined) (x y : List ℕ) (a : Schema) (n : IsNamed g x a) → x ≡ y → first_named (λ d. d.name) y g ≡ Some (n.0, record { name = x; definition = schema a })
 found g x y a n e = subst (λ (z : List ℕ). first_named (λ (d : Defined). d.name) z g ≡ Some (n.0, record { name = x; definition = schema a })) e n.1
 
-pub refers : (g : List Defined) (r : SchemaRef) (x strokes : List ℕ) (a m b : Schema) → IsNamed g x a → x ≡ r.name.base → strokes ≡ r.name.strokes → MarkAgrees r.mark a → IsNext (marked r.mark r.name.line a) m → b ≡ decorated strokes m → Refers g r b
+pub refers : (g : List Defined) (r : SchemaRef) (x strokes : List ℕ) (a m b : Schema) → IsNamed g x a → x ≡ r.name.base → strokes ≡ r.name.strokes
+    → MarkAgrees r.mark a → IsNext (marked r.mark r.name.line a) m → b ≡ decorated strokes m → Refers g r b
 refers g r x strokes a m b n e f agree next h =
     let made : b ≡ decorated r.name.strokes (marked r.mark r.name.line a) = h ∙ ap (λ (s : List ℕ). decorated s m) f ∙ ap (decorated r.name.strokes) next.0 in
     (n.0, x, a, found g x r.name.base a n e, agree, (made, within_decorated r.name.strokes (marked r.mark r.name.line a) next.1))
 
-pub cant_refer : (g : List Defined) (r : SchemaRef) (x : List ℕ) (a : Schema) → IsNamed g x a → x ≡ r.name.base → (k : Offence) → Stops (MarkClashes r.mark a) (MarkAgrees r.mark a) (marked r.mark r.name.line a) k → OffendsRef g r k r.name.line
+pub cant_refer : (g : List Defined) (r : SchemaRef) (x : List ℕ) (a : Schema) → IsNamed g x a → x ≡ r.name.base → (k : Offence)
+    → Stops (MarkClashes r.mark a) (MarkAgrees r.mark a) (marked r.mark r.name.line a) k → OffendsRef g r k r.name.line
 cant_refer g r x a n e k (inl h) = (refl, inr (inr (n.0, x, a, found g x r.name.base a n e, inl h)))
 cant_refer g r x a n e k (inr h) =
     let b = marked r.mark r.name.line a in

@@ -22,7 +22,8 @@ height_of_joined : (l : ℕ) (ts : List ResolvedTree) → height (joined l ts) �
 height_of_joined l [] = refl
 height_of_joined l (t ∷ ts) = refl
 
-pub height_either : (l : ℕ) (left right : List Batch) (ps : Option (List ℕ)) (whole : Conjunct) → whole ≡ v.Either l left right ps → height (conjunct_of whole) ≡ max (height (joined 0 (all_in left))) (height (joined 0 (all_in right))) + 1
+pub height_either : (l : ℕ) (left right : List Batch) (ps : Option (List ℕ)) (whole : Conjunct) → whole ≡ v.Either l left right ps
+    → height (conjunct_of whole) ≡ max (height (joined 0 (all_in left))) (height (joined 0 (all_in right))) + 1
 height_either l left right ps whole is =
     let seen = ap (λ c. height (conjunct_of c)) is ∙ ap height (of-Either l left right ps) ∙ same_height (numbering ps) (one_holds l (all_in left) (all_in right)) in
     omega (arith, seen, height_of_joined l (all_in left), height_of_joined l (all_in right))
@@ -63,7 +64,8 @@ nodes_of_joined : (l : ℕ) (ts : List ResolvedTree) → nodes (joined l ts) ≡
 nodes_of_joined l [] = refl
 nodes_of_joined l (t ∷ ts) = refl
 
-pub nodes_either : (l : ℕ) (left right : List Batch) (ps : Option (List ℕ)) (whole : Conjunct) → whole ≡ v.Either l left right ps → nodes (conjunct_of whole) ≡ nodes (joined 0 (all_in left)) + nodes (joined 0 (all_in right)) + 1
+pub nodes_either : (l : ℕ) (left right : List Batch) (ps : Option (List ℕ)) (whole : Conjunct) → whole ≡ v.Either l left right ps
+    → nodes (conjunct_of whole) ≡ nodes (joined 0 (all_in left)) + nodes (joined 0 (all_in right)) + 1
 nodes_either l left right ps whole is =
     let seen = ap (λ c. nodes (conjunct_of c)) is ∙ ap nodes (of-Either l left right ps) ∙ same_nodes (numbering ps) (one_holds l (all_in left) (all_in right)) in
     omega (arith, seen, nodes_of_joined l (all_in left), nodes_of_joined l (all_in right))
@@ -90,13 +92,15 @@ same_left (Some n) x y room e h = omega (arith, e, h)
 
 -- ---- the sides, as they are got
 
-pub height_sides : (l : ℕ) (left right a b : List Batch) (ps : Option (List ℕ)) (whole : Conjunct) → whole ≡ v.Either l left right ps → a ≡ left → b ≡ right → height (conjunct_of whole) ≡ max (height (joined 0 (all_in a))) (height (joined 0 (all_in b))) + 1
+pub height_sides : (l : ℕ) (left right a b : List Batch) (ps : Option (List ℕ)) (whole : Conjunct) → whole ≡ v.Either l left right ps → a ≡ left → b ≡ right
+    → height (conjunct_of whole) ≡ max (height (joined 0 (all_in a))) (height (joined 0 (all_in b))) + 1
 height_sides l left right a b ps whole is e f =
     height_either l left right ps whole is
     ∙ ap (λ (bs : List Batch). max (height (joined 0 (all_in bs))) (height (joined 0 (all_in right))) + 1) (sym e)
     ∙ ap (λ (bs : List Batch). max (height (joined 0 (all_in a))) (height (joined 0 (all_in bs))) + 1) (sym f)
 
-pub nodes_sides : (l : ℕ) (left right a b : List Batch) (ps : Option (List ℕ)) (whole : Conjunct) → whole ≡ v.Either l left right ps → a ≡ left → b ≡ right → nodes (conjunct_of whole) ≡ nodes (joined 0 (all_in a)) + nodes (joined 0 (all_in b)) + 1
+pub nodes_sides : (l : ℕ) (left right a b : List Batch) (ps : Option (List ℕ)) (whole : Conjunct) → whole ≡ v.Either l left right ps → a ≡ left → b ≡ right
+    → nodes (conjunct_of whole) ≡ nodes (joined 0 (all_in a)) + nodes (joined 0 (all_in b)) + 1
 nodes_sides l left right a b ps whole is e f =
     nodes_either l left right ps whole is
     ∙ ap (λ (bs : List Batch). nodes (joined 0 (all_in bs)) + nodes (joined 0 (all_in right)) + 1) (sym e)

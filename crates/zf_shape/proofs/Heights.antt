@@ -47,10 +47,13 @@ mutual
   below_part_nodes absent = omega arith
   below_part_nodes (present t) = below_nodes t
 
-pub of_builder : (l : ℕ) (rs : List Range) (p t : Option Resolved) → height (resolved_of (v.Builder l rs p t)) ≡ max (max (tallest_range (ranges (map range_of rs))) (part_height (part_of p))) (part_height (part_of t)) + 1
+pub of_builder : (l : ℕ) (rs : List Range) (p t : Option Resolved) → height (resolved_of (v.Builder l rs p t))
+    ≡ max (max (tallest_range (ranges (map range_of rs))) (part_height (part_of p))) (part_height (part_of t)) + 1
 of_builder l rs p t = ap height (of-Builder l rs p t)
 
-pub of_quantified : (l : ℕ) (q : Quantifier) (rs : List Range) (p : Option Resolved) (t : Resolved) → height (resolved_of (v.Quantified q l rs p t)) ≡ max (max (tallest_range (ranges (map range_of rs))) (part_height (part_of p))) (height (resolved_of t)) + 1
+pub of_quantified : (l : ℕ) (q : Quantifier) (rs : List Range) (p : Option Resolved) (t : Resolved)
+    → height (resolved_of (v.Quantified q l rs p t)) ≡ max (max (tallest_range (ranges (map range_of rs))) (part_height (part_of p)))
+    (height (resolved_of t)) + 1
 of_quantified l q rs p t = ap height (of-Quantified l q rs p t)
 
 pub ruleset heights = (some_height, of_builder, of_quantified)
@@ -68,7 +71,8 @@ link_at [] i x h at l e = absurd (omega arith)
 link_at (y ∷ xs) zero x h at l e = omega (arith, ap (λ z. height (resolved_of z.right)) at, ap (λ z. height z.1) (link-seen y), e)
 link_at (y ∷ xs) (suc i) x h at l e = link_at xs i x h at (omega arith) (omega (arith, e))
 
-pub link_within : (xs ys : List ResolvedLink) (i : ℕ) (x : ResolvedLink) (h : ℕ) → xs ≡ ys → x ≡ get_or xs i x → i < length xs → tallest_link (links (map resolved_link_of ys)) ≤ h → height (resolved_of x.right) ≤ h
+pub link_within : (xs ys : List ResolvedLink) (i : ℕ) (x : ResolvedLink) (h : ℕ) → xs ≡ ys → x ≡ get_or xs i x → i < length xs
+    → tallest_link (links (map resolved_link_of ys)) ≤ h → height (resolved_of x.right) ≤ h
 link_within xs ys i x h same at l e = link_at xs i x h at l (omega (arith, ap (λ zs. tallest_link (links (map resolved_link_of zs))) same, e))
 
 range_at : (xs : List Range) (i : ℕ) (x : Range) (h : ℕ) → x ≡ get_or xs i x → i < length xs → tallest_range (ranges (map range_of xs)) ≤ h → height (resolved_of x.set) ≤ h
@@ -79,49 +83,63 @@ range_at (y ∷ xs) (suc i) x h at l e = range_at xs i x h at (omega arith) (ome
 pub range_within : (xs ys : List Range) (i : ℕ) (x : Range) (h : ℕ) → xs ≡ ys → x ≡ get_or xs i x → i < length xs → tallest_range (ranges (map range_of ys)) ≤ h → height (resolved_of x.set) ≤ h
 range_within xs ys i x h same at l e = range_at xs i x h at l (omega (arith, ap (λ zs. tallest_range (ranges (map range_of zs))) same, e))
 
-terms_next : (xs : List Resolved) (i : ℕ) (x : Resolved) (h : ℕ) → x ≡ get_or xs i x → i < length xs → tallest (terms (map resolved_of (take i xs))) ≤ h → height (resolved_of x) ≤ h → tallest (terms (map resolved_of (take (suc i) xs))) ≤ h
+terms_next : (xs : List Resolved) (i : ℕ) (x : Resolved) (h : ℕ) → x ≡ get_or xs i x → i < length xs → tallest (terms (map resolved_of (take i xs))) ≤ h
+    → height (resolved_of x) ≤ h → tallest (terms (map resolved_of (take (suc i) xs))) ≤ h
 terms_next [] i x h at l e f = absurd (omega arith)
 terms_next (y ∷ xs) zero x h at l e f = omega (arith, ap (λ z. height (resolved_of z)) at, f)
 terms_next (y ∷ xs) (suc i) x h at l e f =
     let rest = terms_next xs i x h at (omega arith) (omega (arith, e)) f in
     omega (arith, e, rest)
 
-pub terms_more : (xs : List Resolved) (i : ℕ) (x : Resolved) (h : ℕ) → x ≡ get_or xs i x → i < length xs → tallest (terms (map resolved_of (take i xs))) ≤ h → height (resolved_of x) ≤ h → tallest (terms (map resolved_of (take (i + 1) xs))) ≤ h
+pub terms_more : (xs : List Resolved) (i : ℕ) (x : Resolved) (h : ℕ) → x ≡ get_or xs i x → i < length xs → tallest (terms (map resolved_of (take i xs))) ≤ h
+    → height (resolved_of x) ≤ h → tallest (terms (map resolved_of (take (i + 1) xs))) ≤ h
 terms_more xs i x h at l e f = rw add-one (terms_next xs i x h at l e f)
 
-links_next : (xs : List ResolvedLink) (i : ℕ) (x : ResolvedLink) (h : ℕ) → x ≡ get_or xs i x → i < length xs → tallest_link (links (map resolved_link_of (take i xs))) ≤ h → height (resolved_of x.right) ≤ h → tallest_link (links (map resolved_link_of (take (suc i) xs))) ≤ h
+links_next : (xs : List ResolvedLink) (i : ℕ) (x : ResolvedLink) (h : ℕ) → x ≡ get_or xs i x → i < length xs
+    → tallest_link (links (map resolved_link_of (take i xs))) ≤ h → height (resolved_of x.right) ≤ h
+    → tallest_link (links (map resolved_link_of (take (suc i) xs))) ≤ h
 links_next [] i x h at l e f = absurd (omega arith)
 links_next (y ∷ xs) zero x h at l e f = omega (arith, ap (λ z. height (resolved_of z.right)) at, ap (λ z. height z.1) (link-seen y), f)
 links_next (y ∷ xs) (suc i) x h at l e f =
     let rest = links_next xs i x h at (omega arith) (omega (arith, e)) f in
     omega (arith, e, rest)
 
-pub links_more : (xs : List ResolvedLink) (i : ℕ) (x : ResolvedLink) (h : ℕ) → x ≡ get_or xs i x → i < length xs → tallest_link (links (map resolved_link_of (take i xs))) ≤ h → height (resolved_of x.right) ≤ h → tallest_link (links (map resolved_link_of (take (i + 1) xs))) ≤ h
+pub links_more : (xs : List ResolvedLink) (i : ℕ) (x : ResolvedLink) (h : ℕ) → x ≡ get_or xs i x → i < length xs
+    → tallest_link (links (map resolved_link_of (take i xs))) ≤ h → height (resolved_of x.right) ≤ h
+    → tallest_link (links (map resolved_link_of (take (i + 1) xs))) ≤ h
 links_more xs i x h at l e f = rw add-one (links_next xs i x h at l e f)
 
-ranges_next : (xs : List Range) (i : ℕ) (x : Range) (h : ℕ) → x ≡ get_or xs i x → i < length xs → tallest_range (ranges (map range_of (take i xs))) ≤ h → height (resolved_of x.set) ≤ h → tallest_range (ranges (map range_of (take (suc i) xs))) ≤ h
+ranges_next : (xs : List Range) (i : ℕ) (x : Range) (h : ℕ) → x ≡ get_or xs i x → i < length xs → tallest_range (ranges (map range_of (take i xs))) ≤ h
+    → height (resolved_of x.set) ≤ h → tallest_range (ranges (map range_of (take (suc i) xs))) ≤ h
 ranges_next [] i x h at l e f = absurd (omega arith)
 ranges_next (y ∷ xs) zero x h at l e f = omega (arith, ap (λ z. height (resolved_of z.set)) at, ap (λ z. height z.1) (range-seen y), f)
 ranges_next (y ∷ xs) (suc i) x h at l e f =
     let rest = ranges_next xs i x h at (omega arith) (omega (arith, e)) f in
     omega (arith, e, rest)
 
-pub ranges_more : (xs : List Range) (i : ℕ) (x : Range) (h : ℕ) → x ≡ get_or xs i x → i < length xs → tallest_range (ranges (map range_of (take i xs))) ≤ h → height (resolved_of x.set) ≤ h → tallest_range (ranges (map range_of (take (i + 1) xs))) ≤ h
+pub ranges_more : (xs : List Range) (i : ℕ) (x : Range) (h : ℕ) → x ≡ get_or xs i x → i < length xs → tallest_range (ranges (map range_of (take i xs))) ≤ h
+    → height (resolved_of x.set) ≤ h → tallest_range (ranges (map range_of (take (i + 1) xs))) ≤ h
 ranges_more xs i x h at l e f = rw add-one (ranges_next xs i x h at l e f)
 
 -- the first of three parts is too high
-pub first_too_high : (x y z whole lower highest : ℕ) (r : Bool) → whole ≡ max (max x y) z + 1 → (1 ≤ highest) × (lower ≡ highest - 1) → (IsTrue r → x ≤ lower) × (x ≤ lower → IsTrue r) → r ≡ false → (IsTrue false → whole ≤ highest) × (whole ≤ highest → IsTrue false)
+pub first_too_high : (x y z whole lower highest : ℕ) (r : Bool) → whole ≡ max (max x y) z + 1 → (1 ≤ highest) × (lower ≡ highest - 1) → (IsTrue r → x ≤ lower)
+    × (x ≤ lower → IsTrue r) → r ≡ false → (IsTrue false → whole ≤ highest) × (whole ≤ highest → IsTrue false)
 first_too_high x y z whole lower highest r is step first no_first = (λ b. absurd (true≢false (sym b)), λ h. sym no_first ∙ first.1 (omega (arith, is, step.0, step.1, h)))
 
 -- the last of three parts decides
-pub last_decides : (x y z whole lower highest : ℕ) (r s b : Bool) → whole ≡ max (max x y) z + 1 → (1 ≤ highest) × (lower ≡ highest - 1) → (IsTrue r → x ≤ lower) × (x ≤ lower → IsTrue r) → r ≡ true → (IsTrue s → y ≤ lower) × (y ≤ lower → IsTrue s) → s ≡ true → (IsTrue b → z ≤ lower) × (z ≤ lower → IsTrue b) → (IsTrue b → whole ≤ highest) × (whole ≤ highest → IsTrue b)
+pub last_decides : (x y z whole lower highest : ℕ) (r s b : Bool) → whole ≡ max (max x y) z + 1 → (1 ≤ highest) × (lower ≡ highest - 1)
+    → (IsTrue r → x ≤ lower) × (x ≤ lower → IsTrue r) → r ≡ true → (IsTrue s → y ≤ lower) × (y ≤ lower → IsTrue s) → s ≡ true → (IsTrue b → z ≤ lower)
+    × (z ≤ lower → IsTrue b) → (IsTrue b → whole ≤ highest) × (whole ≤ highest → IsTrue b)
 last_decides x y z whole lower highest r s b is step first has_first second has_second third =
     let one = first.0 has_first in
     let two = second.0 has_second in
     (λ t. let three = third.0 t in omega (arith, is, step.0, step.1, one, two, three), λ h. third.1 (omega (arith, is, step.0, step.1, h)))
 
-pub is_builder : (l : ℕ) (rs : List Range) (p t : Option Resolved) (whole : Resolved) → whole ≡ v.Builder l rs p t → height (resolved_of whole) ≡ max (max (tallest_range (ranges (map range_of rs))) (part_height (part_of p))) (part_height (part_of t)) + 1
+pub is_builder : (l : ℕ) (rs : List Range) (p t : Option Resolved) (whole : Resolved) → whole ≡ v.Builder l rs p t
+    → height (resolved_of whole) ≡ max (max (tallest_range (ranges (map range_of rs))) (part_height (part_of p))) (part_height (part_of t)) + 1
 is_builder l rs p t whole is = ap (λ w. height (resolved_of w)) is ∙ of_builder l rs p t
 
-pub is_quantified : (l : ℕ) (q : Quantifier) (rs : List Range) (p : Option Resolved) (t u whole : Resolved) → whole ≡ v.Quantified q l rs p t → u ≡ t → height (resolved_of whole) ≡ max (max (tallest_range (ranges (map range_of rs))) (part_height (part_of p))) (height (resolved_of u)) + 1
-is_quantified l q rs p t u whole is get = ap (λ w. height (resolved_of w)) is ∙ of_quantified l q rs p t ∙ ap (λ w. max (max (tallest_range (ranges (map range_of rs))) (part_height (part_of p))) (height (resolved_of w)) + 1) (sym get)
+pub is_quantified : (l : ℕ) (q : Quantifier) (rs : List Range) (p : Option Resolved) (t u whole : Resolved) → whole ≡ v.Quantified q l rs p t → u ≡ t
+    → height (resolved_of whole) ≡ max (max (tallest_range (ranges (map range_of rs))) (part_height (part_of p))) (height (resolved_of u)) + 1
+is_quantified l q rs p t u whole is get = ap (λ w. height (resolved_of w)) is ∙ of_quantified l q rs p t
+    ∙ ap (λ w. max (max (tallest_range (ranges (map range_of rs))) (part_height (part_of p))) (height (resolved_of w)) + 1) (sym get)

@@ -79,17 +79,20 @@ nodes_append (t ∷ ts) us = omega (arith, nodes_append ts us)
 
 -- ---- the first of several conjuncts
 
-pub conjuncts_before : (xs : List Conjunct) (i : ℕ) (x : Conjunct) → x ≡ get_or xs i x → i < length xs → all_nodes (terms (map conjunct_of (take i xs))) + nodes (conjunct_of x) ≤ all_nodes (terms (map conjunct_of xs))
+pub conjuncts_before : (xs : List Conjunct) (i : ℕ) (x : Conjunct) → x ≡ get_or xs i x → i < length xs
+    → all_nodes (terms (map conjunct_of (take i xs))) + nodes (conjunct_of x) ≤ all_nodes (terms (map conjunct_of xs))
 conjuncts_before [] i x at l = absurd (omega arith)
 conjuncts_before (y ∷ xs) zero x at l = omega (arith, ap (λ z. nodes (conjunct_of z)) at)
 conjuncts_before (y ∷ xs) (suc i) x at l = omega (arith, conjuncts_before xs i x at (omega arith))
 
-conjuncts_next : (xs : List Conjunct) (i : ℕ) (x : Conjunct) → x ≡ get_or xs i x → i < length xs → all_nodes (terms (map conjunct_of (take (suc i) xs))) ≡ all_nodes (terms (map conjunct_of (take i xs))) + nodes (conjunct_of x)
+conjuncts_next : (xs : List Conjunct) (i : ℕ) (x : Conjunct) → x ≡ get_or xs i x → i < length xs
+    → all_nodes (terms (map conjunct_of (take (suc i) xs))) ≡ all_nodes (terms (map conjunct_of (take i xs))) + nodes (conjunct_of x)
 conjuncts_next [] i x at l = absurd (omega arith)
 conjuncts_next (y ∷ xs) zero x at l = omega (arith, ap (λ z. nodes (conjunct_of z)) at)
 conjuncts_next (y ∷ xs) (suc i) x at l = omega (arith, conjuncts_next xs i x at (omega arith))
 
-pub conjuncts_more : (xs : List Conjunct) (i : ℕ) (x : Conjunct) → x ≡ get_or xs i x → i < length xs → all_nodes (terms (map conjunct_of (take (i + 1) xs))) ≡ all_nodes (terms (map conjunct_of (take i xs))) + nodes (conjunct_of x)
+pub conjuncts_more : (xs : List Conjunct) (i : ℕ) (x : Conjunct) → x ≡ get_or xs i x → i < length xs
+    → all_nodes (terms (map conjunct_of (take (i + 1) xs))) ≡ all_nodes (terms (map conjunct_of (take i xs))) + nodes (conjunct_of x)
 conjuncts_more xs i x at l = rw add-one (conjuncts_next xs i x at l)
 
 pub low_at : (n d a : ℕ) (xs : List Conjunct) (i : ℕ) (x : Conjunct) → x ≡ get_or xs i x → i < length xs → AreLow n d a (map conjunct_of xs) → height (conjunct_of x) + min (a - i) d ≤ n
@@ -97,12 +100,14 @@ low_at n d a [] i x at l h = absurd (omega arith)
 low_at n d a (y ∷ xs) zero x at l h = omega (arith, ap (λ z. height (conjunct_of z)) at, h.0)
 low_at n d a (y ∷ xs) (suc i) x at l h = omega (arith, low_at n d (a - 1) xs i x at (omega arith) h.1)
 
-low_next : (n d a : ℕ) (xs : List Conjunct) (i : ℕ) (x : Conjunct) → x ≡ get_or xs i x → i < length xs → AreLow n d a (map conjunct_of (take i xs)) → height (conjunct_of x) + min (a - i) d ≤ n → AreLow n d a (map conjunct_of (take (suc i) xs))
+low_next : (n d a : ℕ) (xs : List Conjunct) (i : ℕ) (x : Conjunct) → x ≡ get_or xs i x → i < length xs → AreLow n d a (map conjunct_of (take i xs))
+    → height (conjunct_of x) + min (a - i) d ≤ n → AreLow n d a (map conjunct_of (take (suc i) xs))
 low_next n d a [] i x at l h e = absurd (omega arith)
 low_next n d a (y ∷ xs) zero x at l h e = (omega (arith, ap (λ z. height (conjunct_of z)) at, e), tt)
 low_next n d a (y ∷ xs) (suc i) x at l h e = (h.0, low_next n d (a - 1) xs i x at (omega arith) h.1 (omega (arith, e)))
 
-pub low_more : (n d a : ℕ) (xs : List Conjunct) (i : ℕ) (x : Conjunct) → x ≡ get_or xs i x → i < length xs → AreLow n d a (map conjunct_of (take i xs)) → height (conjunct_of x) + min (a - i) d ≤ n → AreLow n d a (map conjunct_of (take (i + 1) xs))
+pub low_more : (n d a : ℕ) (xs : List Conjunct) (i : ℕ) (x : Conjunct) → x ≡ get_or xs i x → i < length xs → AreLow n d a (map conjunct_of (take i xs))
+    → height (conjunct_of x) + min (a - i) d ≤ n → AreLow n d a (map conjunct_of (take (i + 1) xs))
 low_more n d a xs i x at l h e = rw add-one (low_next n d a xs i x at l h e)
 
 -- ---- the first of several batches
@@ -160,7 +165,8 @@ batches_before xs i x at l =
     let p = parts xs i x at l in
     omega (arith, ap (λ ts. all_nodes (terms ts)) p.1, nodes_append (all_in (take i xs) ++ batch_of x) p.0, nodes_append (all_in (take i xs)) (batch_of x), batch_nodes x)
 
-pub batches_more : (xs : List Batch) (i : ℕ) (x : Batch) → x ≡ get_or xs i x → i < length xs → all_nodes (terms (all_in (take (i + 1) xs))) ≡ all_nodes (terms (all_in (take i xs))) + all_nodes (terms (trees x))
+pub batches_more : (xs : List Batch) (i : ℕ) (x : Batch) → x ≡ get_or xs i x → i < length xs
+    → all_nodes (terms (all_in (take (i + 1) xs))) ≡ all_nodes (terms (all_in (take i xs))) + all_nodes (terms (trees x))
 batches_more xs i x at l = omega (arith, ap (λ ts. all_nodes (terms ts)) (one_more_of_all xs i x at l), nodes_append (all_in (take i xs)) (batch_of x), batch_nodes x)
 
 pub batch_low_at : (n d a b : ℕ) (xs : List Batch) (i : ℕ) (x : Batch) → x ≡ get_or xs i x → i < length xs → b ≡ a - length (all_in (take i xs)) → AreLow n d a (all_in xs) → AreLow n d b (trees x)
@@ -170,6 +176,7 @@ batch_low_at n d a b xs i x at l e h =
     let front = (low_append n d a (a - length first) first p.0 refl).0 (subst (AreLow n d a) p.1 h) in
     (batch_low n d b x).0 ((low_append n d a b (all_in (take i xs)) (batch_of x) e).0 front.0).1
 
-pub batch_low_more : (n d a b : ℕ) (xs : List Batch) (i : ℕ) (x : Batch) → x ≡ get_or xs i x → i < length xs → b ≡ a - length (all_in (take i xs)) → AreLow n d a (all_in (take i xs)) → AreLow n d b (trees x) → AreLow n d a (all_in (take (i + 1) xs))
+pub batch_low_more : (n d a b : ℕ) (xs : List Batch) (i : ℕ) (x : Batch) → x ≡ get_or xs i x → i < length xs → b ≡ a - length (all_in (take i xs))
+    → AreLow n d a (all_in (take i xs)) → AreLow n d b (trees x) → AreLow n d a (all_in (take (i + 1) xs))
 batch_low_more n d a b xs i x at l e before h =
     subst (AreLow n d a) (sym (one_more_of_all xs i x at l)) ((low_append n d a b (all_in (take i xs)) (batch_of x) e).1 (before, (batch_low n d b x).1 h))

@@ -60,7 +60,8 @@ module _ (e : Environment) (state : List Comp) (values : List Value) where
         record { row = x.row; within = both.0; agrees = both.1; truth_of = f.is.truth_of }
 
     -- and each such row is found
-    pub is_found : (ranges : List (List Value)) (t : Truth) → AreRanges e a.comps (held a.comps) ranges → t ≢ False → (h : HasRow e a state values t) → IsEventOf e a (held a.comps) (record { row = h.row; truth = t })
+    pub is_found : (ranges : List (List Value)) (t : Truth) → AreRanges e a.comps (held a.comps) ranges → t ≢ False → (h : HasRow e a state values t)
+        → IsEventOf e a (held a.comps) (record { row = h.row; truth = t })
     is_found ranges t are not h = record {
       ranges = ranges;
       of_components = are;

@@ -67,7 +67,8 @@ past_mapped f (x ∷ xs) (suc i) l = past_mapped f xs i (omega (arith, l))
 
 -- ---- the places of other components
 
-pub others_push : (state comps : List Comp) (i : ℕ) (c : Comp) (old new whole : List ℕ) (b : Bool) → slice_get comps i ≡ Some c → old ++ others_from state i (drop i comps) ≡ whole → b ≡ is_other state c.name
+pub others_push : (state comps : List Comp) (i : ℕ) (c : Comp) (old new whole : List ℕ) (b : Bool) → slice_get comps i ≡ Some c
+    → old ++ others_from state i (drop i comps) ≡ whole → b ≡ is_other state c.name
     → new ≡ old ++ cond b (i ∷ []) [] → new ++ others_from state (i + 1) (drop (i + 1) comps) ≡ whole
 others_push state comps i c old new whole b at h same e =
     let rest = others_from state (i + 1) (drop (i + 1) comps) in

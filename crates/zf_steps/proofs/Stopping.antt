@@ -7,5 +7,6 @@ use Rattle.zf_graph.specs.Texts.{Words}
 use Rattle.zf_reach.proofs.Fronts.{front_whole}
 use Rattle.zf_reach.specs.Runs.{StopsSearch}
 
-pub stops_at_once : {N L : Type 0} (p : Explored N L) (s : Sought N) (w : Words N L) (last : Result → (nodes edges : ℕ) → List ℕ) (limit : ℕ) (origin : Option (List ℕ)) → StopsSearch p s w last limit origin origin
+pub stops_at_once : {N L : Type 0} (p : Explored N L) (s : Sought N) (w : Words N L) (last : Result → (nodes edges : ℕ)
+    → List ℕ) (limit : ℕ) (origin : Option (List ℕ)) → StopsSearch p s w last limit origin origin
 stops_at_once p s w last limit origin = ([], inl refl, front_whole origin origin [] (Appends-nil origin))

@@ -14,12 +14,14 @@ mutual
   onto_behind rs (bracket l t) = onto_behind rs t
   onto_behind rs (listed l form ts) = all_onto_behind rs ts
   onto_behind rs (builder l ds p t) =
-      seam _ _ _ (seam _ _ _ (ranges_onto_behind rs ds) (part_onto_behind (ranges_onto rs ds) p) (part_onto_behind (ranges_onto [] ds) p)) (part_onto_behind (part_onto (ranges_onto rs ds) p) t) (part_onto_behind (part_onto (ranges_onto [] ds) p) t)
+      seam _ _ _ (seam _ _ _ (ranges_onto_behind rs ds) (part_onto_behind (ranges_onto rs ds) p) (part_onto_behind (ranges_onto [] ds) p))
+      (part_onto_behind (part_onto (ranges_onto rs ds) p) t) (part_onto_behind (part_onto (ranges_onto [] ds) p) t)
   onto_behind rs (unary l op t) = onto_behind rs t
   onto_behind rs (binary l op a b) = seam _ _ _ (onto_behind rs a) (onto_behind (onto rs a) b) (onto_behind (onto [] a) b)
   onto_behind rs (chain l t ks) = seam _ _ _ (onto_behind rs t) (links_onto_behind (onto rs t) ks) (links_onto_behind (onto [] t) ks)
   onto_behind rs (quantified l q ds p t) =
-      seam _ _ _ (seam _ _ _ (ranges_onto_behind rs ds) (part_onto_behind (ranges_onto rs ds) p) (part_onto_behind (ranges_onto [] ds) p)) (onto_behind (part_onto (ranges_onto rs ds) p) t) (onto_behind (part_onto (ranges_onto [] ds) p) t)
+      seam _ _ _ (seam _ _ _ (ranges_onto_behind rs ds) (part_onto_behind (ranges_onto rs ds) p) (part_onto_behind (ranges_onto [] ds) p))
+      (onto_behind (part_onto (ranges_onto rs ds) p) t) (onto_behind (part_onto (ranges_onto [] ds) p) t)
 
   pub all_onto_behind : (rs : List Reference) (ts : ResolvedTrees) → all_onto rs ts ≡ rs ++ all_onto [] ts
   all_onto_behind rs no_terms = sym (append-nil rs)

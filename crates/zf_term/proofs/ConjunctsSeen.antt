@@ -18,7 +18,8 @@ of-Term t ps = ap conjunct_of (sym (v.rolls-Term t ps)) ∙ rolled (Conjunct-F.T
 pub of-Member : (i : ℕ) (t : Resolved) (ps : Option (List ℕ)) → conjunct_of (v.Member i t ps) ≡ moved (numbering ps) (is_member i (resolved_of t))
 of-Member i t ps = ap conjunct_of (sym (v.rolls-Member i t ps)) ∙ rolled (Conjunct-F.Member i t ps)
 
-pub of-Either : (l : ℕ) (left right : List Batch) (ps : Option (List ℕ)) → conjunct_of (v.Either l left right ps) ≡ moved (numbering ps) (one_holds l (all_of (map batch_of left)) (all_of (map batch_of right)))
+pub of-Either : (l : ℕ) (left right : List Batch) (ps : Option (List ℕ))
+    → conjunct_of (v.Either l left right ps) ≡ moved (numbering ps) (one_holds l (all_of (map batch_of left)) (all_of (map batch_of right)))
 of-Either l left right ps = ap conjunct_of (sym (v.rolls-Either l left right ps)) ∙ rolled (Conjunct-F.Either l left right ps)
 
 pub ruleset seen = (of-Term, of-Member, of-Either)
@@ -50,13 +51,15 @@ pub ruleset own = (own_term, own_member, own_either)
 
 -- ---- numbered anew
 
-pub moved_term : (own ps : Option (List ℕ)) (g : ℕ → ℕ) (t u : Resolved) (whole : Conjunct) → whole ≡ v.Term t own → u ≡ t → numbering ps ≡ (λ (i : ℕ). g (numbering own i)) → conjunct_of (v.Term u ps) ≡ moved g (conjunct_of whole)
+pub moved_term : (own ps : Option (List ℕ)) (g : ℕ → ℕ) (t u : Resolved) (whole : Conjunct) → whole ≡ v.Term t own → u ≡ t
+    → numbering ps ≡ (λ (i : ℕ). g (numbering own i)) → conjunct_of (v.Term u ps) ≡ moved g (conjunct_of whole)
 moved_term own ps g t u whole is same e =
     of-Term u ps
     ∙ ap (λ (s : Resolved). moved (numbering ps) (resolved_of s)) same
     ∙ numbered_again own ps g (conjunct_of whole) (resolved_of t) (ap conjunct_of is ∙ of-Term t own) e
 
-pub moved_member : (own ps : Option (List ℕ)) (g : ℕ → ℕ) (n : ℕ) (t u : Resolved) (whole : Conjunct) → whole ≡ v.Member n t own → u ≡ t → numbering ps ≡ (λ (i : ℕ). g (numbering own i)) → conjunct_of (v.Member n u ps) ≡ moved g (conjunct_of whole)
+pub moved_member : (own ps : Option (List ℕ)) (g : ℕ → ℕ) (n : ℕ) (t u : Resolved) (whole : Conjunct) → whole ≡ v.Member n t own → u ≡ t
+    → numbering ps ≡ (λ (i : ℕ). g (numbering own i)) → conjunct_of (v.Member n u ps) ≡ moved g (conjunct_of whole)
 moved_member own ps g n t u whole is same e =
     of-Member n u ps
     ∙ ap (λ (s : Resolved). moved (numbering ps) (is_member n (resolved_of s))) same

@@ -109,18 +109,25 @@ form_again (Resolved-F.Bracket l e) = ap (v.Bracket l) e.1 ∙ sym (v.rolls-Brac
 form_again (Resolved-F.Listed l form es) = ap (v.Listed l form) (all_again es) ∙ sym (v.rolls-Listed l form (map (λ e. e.0) es))
 form_again (Resolved-F.Builder l rs None None) = ap (λ z. v.Builder l z None None) (ranges_again rs) ∙ sym (v.rolls-Builder l (map (λ e. e.0) rs) None None)
 form_again (Resolved-F.Builder l rs None (Some t)) =
-    ap (λ z. v.Builder l z None (Some (back (resolved_of t.0)))) (ranges_again rs) ∙ ap (λ u. v.Builder l (map (λ e. e.0) rs) None (Some u)) t.1 ∙ sym (v.rolls-Builder l (map (λ e. e.0) rs) None (Some t.0))
+    ap (λ z. v.Builder l z None (Some (back (resolved_of t.0)))) (ranges_again rs) ∙ ap (λ u. v.Builder l (map (λ e. e.0) rs) None (Some u)) t.1
+    ∙ sym (v.rolls-Builder l (map (λ e. e.0) rs) None (Some t.0))
 form_again (Resolved-F.Builder l rs (Some p) None) =
-    ap (λ z. v.Builder l z (Some (back (resolved_of p.0))) None) (ranges_again rs) ∙ ap (λ u. v.Builder l (map (λ e. e.0) rs) (Some u) None) p.1 ∙ sym (v.rolls-Builder l (map (λ e. e.0) rs) (Some p.0) None)
+    ap (λ z. v.Builder l z (Some (back (resolved_of p.0))) None) (ranges_again rs) ∙ ap (λ u. v.Builder l (map (λ e. e.0) rs) (Some u) None) p.1
+    ∙ sym (v.rolls-Builder l (map (λ e. e.0) rs) (Some p.0) None)
 form_again (Resolved-F.Builder l rs (Some p) (Some t)) =
-    ap (λ z. v.Builder l z (Some (back (resolved_of p.0))) (Some (back (resolved_of t.0)))) (ranges_again rs) ∙ ap (λ u. v.Builder l (map (λ e. e.0) rs) (Some u) (Some (back (resolved_of t.0)))) p.1 ∙ ap (λ u. v.Builder l (map (λ e. e.0) rs) (Some p.0) (Some u)) t.1 ∙ sym (v.rolls-Builder l (map (λ e. e.0) rs) (Some p.0) (Some t.0))
+    ap (λ z. v.Builder l z (Some (back (resolved_of p.0))) (Some (back (resolved_of t.0)))) (ranges_again rs)
+    ∙ ap (λ u. v.Builder l (map (λ e. e.0) rs) (Some u) (Some (back (resolved_of t.0)))) p.1
+    ∙ ap (λ u. v.Builder l (map (λ e. e.0) rs) (Some p.0) (Some u)) t.1 ∙ sym (v.rolls-Builder l (map (λ e. e.0) rs) (Some p.0) (Some t.0))
 form_again (Resolved-F.Unary l op e) = ap (v.Unary l op) e.1 ∙ sym (v.rolls-Unary l op e.0)
 form_again (Resolved-F.Binary l op a b) = ap (λ z. v.Binary l op z (back (resolved_of b.0))) a.1 ∙ ap (v.Binary l op a.0) b.1 ∙ sym (v.rolls-Binary l op a.0 b.0)
-form_again (Resolved-F.Chain l e ks) = ap (λ z. v.Chain l z (links_back (links (map resolved_link_of (map (λ e. e.0) ks))))) e.1 ∙ ap (v.Chain l e.0) (links_again ks) ∙ sym (v.rolls-Chain l e.0 (map (λ e. e.0) ks))
+form_again (Resolved-F.Chain l e ks) = ap (λ z. v.Chain l z (links_back (links (map resolved_link_of (map (λ e. e.0) ks))))) e.1
+    ∙ ap (v.Chain l e.0) (links_again ks) ∙ sym (v.rolls-Chain l e.0 (map (λ e. e.0) ks))
 form_again (Resolved-F.Quantified q l rs None t) =
     ap (λ z. v.Quantified q l z None (back (resolved_of t.0))) (ranges_again rs) ∙ ap (v.Quantified q l (map (λ e. e.0) rs) None) t.1 ∙ sym (v.rolls-Quantified q l (map (λ e. e.0) rs) None t.0)
 form_again (Resolved-F.Quantified q l rs (Some p) t) =
-    ap (λ z. v.Quantified q l z (Some (back (resolved_of p.0))) (back (resolved_of t.0))) (ranges_again rs) ∙ ap (λ u. v.Quantified q l (map (λ e. e.0) rs) (Some u) (back (resolved_of t.0))) p.1 ∙ ap (v.Quantified q l (map (λ e. e.0) rs) (Some p.0)) t.1 ∙ sym (v.rolls-Quantified q l (map (λ e. e.0) rs) (Some p.0) t.0)
+    ap (λ z. v.Quantified q l z (Some (back (resolved_of p.0))) (back (resolved_of t.0))) (ranges_again rs)
+    ∙ ap (λ u. v.Quantified q l (map (λ e. e.0) rs) (Some u) (back (resolved_of t.0))) p.1 ∙ ap (v.Quantified q l (map (λ e. e.0) rs) (Some p.0)) t.1
+    ∙ sym (v.rolls-Quantified q l (map (λ e. e.0) rs) (Some p.0) t.0)
 
 again : (t : Resolved) → back (resolved_of t) ≡ t
 again = ind-Resolved IsSame IsSameRange IsSameLink

@@ -74,5 +74,6 @@ module _ {Y : Type 0} (n : List ℕ) where
       by false (Some x) f e = absurd (true≢false (sym e))
 
 -- globals of more entries
-pub seen_more : {Y : Type 0} (es fs : List (Vec ℕ Y × Entry)) (k : Vec ℕ Y) (e : Entry) → fs ≡ es ++ (k, e) ∷ [] → map (λ x. global x.0.items x.1) fs ≡ map (λ x. global x.0.items x.1) es ++ global k.items e ∷ []
+pub seen_more : {Y : Type 0} (es fs : List (Vec ℕ Y × Entry)) (k : Vec ℕ Y) (e : Entry) → fs ≡ es ++ (k, e) ∷ []
+    → map (λ x. global x.0.items x.1) fs ≡ map (λ x. global x.0.items x.1) es ++ global k.items e ∷ []
 seen_more es fs k e h = ap (map (λ x. global x.0.items x.1)) h ∙ map-append (λ x. global x.0.items x.1) es ((k, e) ∷ [])

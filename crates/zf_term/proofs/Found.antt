@@ -9,7 +9,8 @@ nothing_before false p (Some q) h = absurd (cc)
 
 module _ {X A : Type 0} (f : X → A) (name : A → List ℕ) (n : List ℕ) where
   -- none of those before it has the name, and this one has
-  pub first_at : (xs : List X) (i : ℕ) (x : X) → i < length xs → x ≡ get_or xs i x → first_named name n (map f (take i xs)) ≡ None → bytes_eq (name (f x)) n ≡ true → first_named name n (map f xs) ≡ Some (i, f x)
+  pub first_at : (xs : List X) (i : ℕ) (x : X) → i < length xs → x ≡ get_or xs i x → first_named name n (map f (take i xs)) ≡ None
+      → bytes_eq (name (f x)) n ≡ true → first_named name n (map f xs) ≡ Some (i, f x)
   first_at [] i x l e h t = absurd (omega arith)
   first_at (y ∷ ys) zero x l e h t = let p : bytes_eq (name (f y)) n ≡ true = ap (λ z. bytes_eq (name (f z)) n) (sym e) ∙ t in (rw p (ap (λ z. Some (0, f z)) (sym e)))
   first_at (y ∷ ys) (suc i) x l e h t =
@@ -22,12 +23,15 @@ module _ {X A : Type 0} (f : X → A) (name : A → List ℕ) (n : List ℕ) whe
       let u = nothing_before (bytes_eq (name (f y)) n) (0, f y) (first_named name n (map f ys)) h in
       rw (u.0) (ap later (none_then ys x u.1 t))
 
-  pub none_more : (xs : List X) (i : ℕ) (x : X) → i < length xs → x ≡ get_or xs i x → first_named name n (map f (take i xs)) ≡ None → bytes_eq (name (f x)) n ≡ false → first_named name n (map f (take (i + 1) xs)) ≡ None
+  pub none_more : (xs : List X) (i : ℕ) (x : X) → i < length xs → x ≡ get_or xs i x → first_named name n (map f (take i xs)) ≡ None
+      → bytes_eq (name (f x)) n ≡ false → first_named name n (map f (take (i + 1) xs)) ≡ None
   none_more xs i x l e h t = rw (take_more xs i x l, sym e) (none_then (take i xs) x h t)
 
 module _ {Y : Type 0} (n : List ℕ) where
   -- the entry of the name, as a global
-  pub entry_at : (es : List (Vec ℕ Y × Entry)) (i : ℕ) (k : Vec ℕ Y) (e : Entry) → i < length es → get_or es i (k, e) ≡ (k, e) → bytes_eq n k.items ≡ true → ((j : ℕ) → j < i → bytes_eq n (get_or (keys_of es) j k).items ≡ false) → first_named (λ d. d.name) n (map (λ x. entry_of x.0.items x.1) es) ≡ Some (i, entry_of n e)
+  pub entry_at : (es : List (Vec ℕ Y × Entry)) (i : ℕ) (k : Vec ℕ Y) (e : Entry) → i < length es → get_or es i (k, e) ≡ (k, e) → bytes_eq n k.items ≡ true
+      → ((j : ℕ) → j < i → bytes_eq n (get_or (keys_of es) j k).items ≡ false)
+      → first_named (λ d. d.name) n (map (λ x. entry_of x.0.items x.1) es) ≡ Some (i, entry_of n e)
   entry_at [] i k e l g t before = absurd (omega arith)
   entry_at (x ∷ es) zero k e l g t before =
       let p : bytes_eq x.0.items n ≡ true = ap (λ y. bytes_eq y.0.items n) g ∙ swapped k.items n ∙ t in

@@ -38,7 +38,8 @@ both_full places first other e = in_full places (one_and_other first other) (λ 
 pub unmoved : (t : ResolvedTree) → moved (numbering None) t ≡ t
 unmoved t = stays t
 
-pub composed : (one other : Option (List ℕ)) (f g a b ps qs : List ℕ) → one ≡ Some f → other ≡ Some g → a ≡ f → b ≡ g → qs ≡ ps → place_in ps ≡ one_and_other a b → numbering (Some qs) ≡ (λ (i : ℕ). numbering other (numbering one i))
+pub composed : (one other : Option (List ℕ)) (f g a b ps qs : List ℕ) → one ≡ Some f → other ≡ Some g → a ≡ f → b ≡ g → qs ≡ ps
+    → place_in ps ≡ one_and_other a b → numbering (Some qs) ≡ (λ (i : ℕ). numbering other (numbering one i))
 composed one other f g a b ps qs first then a_is b_is made is =
     ap place_in made
     ∙ is

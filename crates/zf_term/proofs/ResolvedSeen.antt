@@ -54,7 +54,8 @@ of-Binary l op a b = ap resolved_of (sym (v.rolls-Binary l op a b)) ∙ rolled (
 pub of-Chain : (l : ℕ) (t : Resolved) (ks : List ResolvedLink) → resolved_of (v.Chain l t ks) ≡ chain l (resolved_of t) (links (map resolved_link_of ks))
 of-Chain l t ks = ap resolved_of (sym (v.rolls-Chain l t ks)) ∙ rolled (Resolved-F.Chain l t ks)
 
-pub of-Quantified : (l : ℕ) (q : Quantifier) (rs : List Range) (p : Option Resolved) (t : Resolved) → resolved_of (v.Quantified q l rs p t) ≡ quantified l q (ranges (map range_of rs)) (part_of p) (resolved_of t)
+pub of-Quantified : (l : ℕ) (q : Quantifier) (rs : List Range) (p : Option Resolved) (t : Resolved)
+    → resolved_of (v.Quantified q l rs p t) ≡ quantified l q (ranges (map range_of rs)) (part_of p) (resolved_of t)
 of-Quantified l q rs None t = ap resolved_of (sym (v.rolls-Quantified q l rs None t)) ∙ rolled (Resolved-F.Quantified q l rs None t)
 of-Quantified l q rs (Some p) t = ap resolved_of (sym (v.rolls-Quantified q l rs (Some p) t)) ∙ rolled (Resolved-F.Quantified q l rs (Some p) t)
 

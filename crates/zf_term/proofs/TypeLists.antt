@@ -15,7 +15,8 @@ back (t ∷ ts) = ap (λ us. t ∷ us) (back ts)
 pub types_apart : (ts us : List Ty) → types ts ≡ types us → ts ≡ us
 types_apart ts us e = sym (back ts) ∙ ap list_of e ∙ back us
 
-pub grown : (xs ys : List ZType) (i : ℕ) (x y : ZType) → x ≡ get_or xs i x → y ≡ get_or ys i y → i < length xs → i < length ys → take i (map type_of xs) ≡ take i (map type_of ys) → type_of x ≡ type_of y → take (suc i) (map type_of xs) ≡ take (suc i) (map type_of ys)
+pub grown : (xs ys : List ZType) (i : ℕ) (x y : ZType) → x ≡ get_or xs i x → y ≡ get_or ys i y → i < length xs → i < length ys
+    → take i (map type_of xs) ≡ take i (map type_of ys) → type_of x ≡ type_of y → take (suc i) (map type_of xs) ≡ take (suc i) (map type_of ys)
 grown [] ys i x y p q l m e h = absurd (omega arith)
 grown (a ∷ xs) [] i x y p q l m e h = absurd (omega arith)
 grown (a ∷ xs) (b ∷ ys) zero x y p q l m e h = ap (λ t. t ∷ []) (ap type_of (sym p) ∙ h ∙ ap type_of q)
@@ -52,7 +53,8 @@ two_parts a xs t u e h =
     let q : types (map type_of xs) ≡ type t (type u no_types) = (cc) in
     of_two xs t u q
 
-pub two_made : (a : ZType) (xs ys : List ZType) (first second : ZType) → a ≡ v.Product xs → ys ≡ xs → length ys ≡ 2 → first ≡ get_or ys 0 first → second ≡ get_or ys 1 second → type_of a ≡ pair_type (type_of first) (type_of second)
+pub two_made : (a : ZType) (xs ys : List ZType) (first second : ZType) → a ≡ v.Product xs → ys ≡ xs → length ys ≡ 2 → first ≡ get_or ys 0 first
+    → second ≡ get_or ys 1 second → type_of a ≡ pair_type (type_of first) (type_of second)
 two_made a xs [] first second e f l p q = absurd (omega (arith, l))
 two_made a xs (x ∷ []) first second e f l p q = absurd (omega (arith, l))
 two_made a xs (x ∷ y ∷ []) first second e f l p q =
@@ -71,10 +73,12 @@ one_pair (x ∷ y ∷ z ∷ zs) a e l = absurd (omega (arith, l))
 -- ---- nodes
 
 -- what is counted of the rest is counted of its first part, and of what is behind it
-counted_on : (xs : List ZType) (i : ℕ) (x : ZType) → x ≡ get_or xs i x → i < length xs → nodes_of_all (types (map type_of (drop i xs))) ≡ type_nodes (type_of x) + nodes_of_all (types (map type_of (drop (suc i) xs)))
+counted_on : (xs : List ZType) (i : ℕ) (x : ZType) → x ≡ get_or xs i x → i < length xs
+    → nodes_of_all (types (map type_of (drop i xs))) ≡ type_nodes (type_of x) + nodes_of_all (types (map type_of (drop (suc i) xs)))
 counted_on [] i x p l = absurd (omega arith)
 counted_on (a ∷ xs) zero x p l = ap (λ t. type_nodes (type_of t) + nodes_of_all (types (map type_of xs))) (sym p)
 counted_on (a ∷ xs) (suc i) x p l = counted_on xs i x p (omega arith)
 
-pub counted : (xs : List ZType) (i : ℕ) (x : ZType) → x ≡ get_or xs i x → i < length xs → nodes_of_all (types (map type_of (drop i xs))) ≡ type_nodes (type_of x) + nodes_of_all (types (map type_of (drop (i + 1) xs)))
+pub counted : (xs : List ZType) (i : ℕ) (x : ZType) → x ≡ get_or xs i x → i < length xs
+    → nodes_of_all (types (map type_of (drop i xs))) ≡ type_nodes (type_of x) + nodes_of_all (types (map type_of (drop (i + 1) xs)))
 counted xs i x p l = rw add-one (counted_on xs i x p l)

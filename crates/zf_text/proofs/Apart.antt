@@ -49,7 +49,8 @@ on_line l x ts us o h = record { own = o.own; whole = o.whole; always = λ r. (o
 
 schema_own : (x : SchemaTree) (ts us : List Symbol) → SpellsSchema x ts us → Own (SpellsSchema x) ts us
 schema_own (shape.schema_text ds ps) ts us h =
-    four (next_own k.OpenSquare ts h.0 refl h.3) (decls_own ds h.0 h.1 h.4) (predicates_own k.Bar refl ps h.1 h.2 h.5) (next_own k.CloseSquare h.2 us refl h.6) (λ x a b c y p q r s. (a, b, c, p, q, r, s))
+    four (next_own k.OpenSquare ts h.0 refl h.3) (decls_own ds h.0 h.1 h.4) (predicates_own k.Bar refl ps h.1 h.2 h.5) (next_own k.CloseSquare h.2 us refl h.6)
+    (λ x a b c y p q r s. (a, b, c, p, q, r, s))
 schema_own (reference r) ts us h = as_own (marked_own r.mark r.name ts us h) (λ x y p. p)
 schema_own (shape.both x y) ts us h = three (schema_own x ts h.0 h.2) (next_own (k.Connective And) h.0 h.1 refl h.3) (schema_own y h.1 us h.4) (λ x a b y p q r. (a, b, p, q, r))
 schema_own (shape.either l x y) ts us h =

@@ -77,7 +77,8 @@ both_reduced drops (t ∷ ts) us h = by (is_separator t.kind) refl (drops || sta
     Both : Bool → Type 0
     Both drops = reduced_after drops (ts ++ us) ≡ reduced_after drops ts ++ reduced us
 
-    by : (s : Bool) → is_separator t.kind ≡ s → (d : Bool) → (drops || starts_closed ts) ≡ d → Both drops → Both true → Both (opens t.kind) → reduced_after drops (t ∷ (ts ++ us)) ≡ reduced_after drops (t ∷ ts) ++ reduced us
+    by : (s : Bool) → is_separator t.kind ≡ s → (d : Bool) → (drops || starts_closed ts) ≡ d → Both drops → Both true → Both (opens t.kind)
+        → reduced_after drops (t ∷ (ts ++ us)) ≡ reduced_after drops (t ∷ ts) ++ reduced us
     by true s true d same kept other = rw (s, starts_before ts us h, d) same
     by true s false d same kept other = rw (s, starts_before ts us h, d) (ap (λ vs. symbol_of t ∷ vs) kept)
     by false s d e same kept other = rw s (ap (λ vs. symbol_of t ∷ vs) other)
@@ -101,7 +102,8 @@ ends_more t (u ∷ ts) e h = (e, h)
 ends_reduced : (drops : Bool) (ts : List Token) → tokens.EndsOnce ts → EndsOnce (reduced_after drops ts)
 ends_reduced drops [] h = absurd h
 ends_reduced drops (t ∷ []) h = subst (λ s. EndsOnce (if s then (if drops || false then [] else symbol_of t ∷ []) else symbol_of t ∷ [])) (sym (no_end_dropped t.kind h)) (same_end t.kind ∙ h)
-ends_reduced drops (t ∷ (u ∷ ts)) h = by (is_separator t.kind) refl (drops || starts_closed (u ∷ ts)) refl (ends_reduced drops (u ∷ ts) h.1) (ends_reduced true (u ∷ ts) h.1) (ends_reduced (opens t.kind) (u ∷ ts) h.1)
+ends_reduced drops (t ∷ (u ∷ ts)) h = by (is_separator t.kind) refl (drops || starts_closed (u ∷ ts)) refl (ends_reduced drops (u ∷ ts) h.1)
+    (ends_reduced true (u ∷ ts) h.1) (ends_reduced (opens t.kind) (u ∷ ts) h.1)
   where
     Ends : Bool → Type 0
     Ends drops = EndsOnce (reduced_after drops (u ∷ ts))
@@ -142,29 +144,34 @@ one_more bs b ts rs f ends r =
     record {
       levelled = all_and_one bs b f.levelled r.levelled;
       low = omega (arith, most_append box_height bs (b ∷ []));
-      spelled = λ us. subst (λ ts. SpellsUpTo (bs ++ b ∷ []) ts us) (sym (append_assoc ts rs us)) (up_to_more bs b (ts ++ (rs ++ us)) (rs ++ us) us (f.spelled (rs ++ us)) (box_before b rs us r.spelled));
+      spelled = λ us. subst (λ ts. SpellsUpTo (bs ++ b ∷ []) ts us) (sym (append_assoc ts rs us))
+          (up_to_more bs b (ts ++ (rs ++ us)) (rs ++ us) us (f.spelled (rs ++ us)) (box_before b rs us r.spelled));
       apart = λ all us lev h.
           let l = f.apart all (rs ++ us) lev (subst (SpellsBoxes all) (append_assoc ts rs us) h) in
           behind_first all l.later rs us ends l.levelled l.spelled l.low;
     }
 
 -- a box that is refused is in no text
-first_refused : (all later : List BoxTree) (rs us : List Symbol) → EndsOnce rs → AllByRecursion BoxIsLevelled later → SpellsBoxes later (rs ++ us) → highest later ≤ highest all → highest all ≤ height_limit → ((b : BoxTree) → ReadsBox b rs → ⊥) → ⊥
+first_refused : (all later : List BoxTree) (rs us : List Symbol) → EndsOnce rs → AllByRecursion BoxIsLevelled later → SpellsBoxes later (rs ++ us)
+    → highest later ≤ highest all → highest all ≤ height_limit → ((b : BoxTree) → ReadsBox b rs → ⊥) → ⊥
 first_refused all [] rs us ends lev h low limit none = none_left rs us ends h
 first_refused all (b ∷ bs) rs us ends lev h low limit none =
     let a = box_apart b rs us h.0 ends h.1 in
     none b (record { levelled = lev.0; spelled = a.1; low = omega (arith, low, limit) })
 
-first_unread : (later : List BoxTree) (rs us : List Symbol) → EndsOnce rs → AllByRecursion BoxIsLevelled later → SpellsBoxes later (rs ++ us) → ((b : BoxTree) → BoxIsLevelled b → SpellsBox b rs [] → ⊥) → ⊥
+first_unread : (later : List BoxTree) (rs us : List Symbol) → EndsOnce rs → AllByRecursion BoxIsLevelled later → SpellsBoxes later (rs ++ us)
+    → ((b : BoxTree) → BoxIsLevelled b → SpellsBox b rs [] → ⊥) → ⊥
 first_unread [] rs us ends lev h none = none_left rs us ends h
 first_unread (b ∷ bs) rs us ends lev h none = let a = box_apart b rs us h.0 ends h.1 in none b lev.0 a.1
 
-whole_unread : (bs : List BoxTree) (ts rs us : List Symbol) (all : List Token) → AreSoFar bs ts → EndsOnce rs → reduced all ≡ ts ++ (rs ++ us) → ((b : BoxTree) → BoxIsLevelled b → SpellsBox b rs [] → ⊥) → (boxes : List BoxTree) → Reads boxes all → ⊥
+whole_unread : (bs : List BoxTree) (ts rs us : List Symbol) (all : List Token) → AreSoFar bs ts → EndsOnce rs → reduced all ≡ ts ++ (rs ++ us)
+    → ((b : BoxTree) → BoxIsLevelled b → SpellsBox b rs [] → ⊥) → (boxes : List BoxTree) → Reads boxes all → ⊥
 whole_unread bs ts rs us all f ends e none boxes r =
     let l = f.apart boxes (rs ++ us) r.levelled (subst (SpellsBoxes boxes) e r.spelled) in
     first_unread l.later rs us ends l.levelled l.spelled none
 
-whole_refused : (bs : List BoxTree) (ts rs us : List Symbol) (all : List Token) (kind : TextFaultKind) (line : ℕ) → AreSoFar bs ts → EndsOnce rs → reduced all ≡ ts ++ (rs ++ us) → RefusesBox kind line rs → RefusesTokens kind line all
+whole_refused : (bs : List BoxTree) (ts rs us : List Symbol) (all : List Token) (kind : TextFaultKind) (line : ℕ) → AreSoFar bs ts → EndsOnce rs
+    → reduced all ≡ ts ++ (rs ++ us) → RefusesBox kind line rs → RefusesTokens kind line all
 whole_refused bs ts rs us all fault.OutOfMemory line f ends e h = h
 whole_refused bs ts rs us all fault.Unexpected line f ends e h = whole_unread bs ts rs us all f ends e h
 whole_refused bs ts rs us all fault.NotInProfile line f ends e h = whole_unread bs ts rs us all f ends e h
@@ -195,7 +202,8 @@ added source border next boxes more r step one some b read all pushed =
     let same : map box_of boxes ++ box_of b ∷ [] ≡ map box_of all = sym (ap (map box_of) pushed ∙ map-append box_of boxes (b ∷ [])) in
     (r.0 ++ more, step r.0 r.1, subst (λ bs. AreSoFar bs (reduced (r.0 ++ more))) same (subst (AreSoFar (map box_of boxes ++ box_of b ∷ [])) (sym (apart_reduced r.0 more (inr m.begins))) so_far))
 
-pub refused_there : (source : List ℕ) (border next : Border) (boxes : List ZBox) (more : List Token) → ReadsUpTo source border boxes → Steps source border next more → IsBoxAtMost more → (more ≡ [] → ⊥)
+pub refused_there : (source : List ℕ) (border next : Border) (boxes : List ZBox) (more : List Token) → ReadsUpTo source border boxes
+    → Steps source border next more → IsBoxAtMost more → (more ≡ [] → ⊥)
     → (kind : TextFaultKind) (line : ℕ) → RefusesBox kind line (reduced more) → ((ts : List Token) → IsCutUpTo source next ts → IsCutOn source ts)
     → IsWantOfMemory (record { kind = kind; line = line }) ⊎ RefusesSource source (record { kind = kind; line = line })
 refused_there source border next boxes more r step one some kind line h rest =
@@ -203,7 +211,8 @@ refused_there source border next boxes more r step one some kind line h rest =
     let cut = rest (r.0 ++ more) (step r.0 r.1) in
     let whole : reduced ((r.0 ++ more) ++ cut.0) ≡ reduced r.0 ++ (reduced more ++ reduced cut.0) =
     apart_reduced (r.0 ++ more) cut.0 cut.1 ∙ ap (λ ss. ss ++ reduced cut.0) (apart_reduced r.0 more (inr m.begins)) ∙ append_assoc (reduced r.0) (reduced more) (reduced cut.0) in
-    refuses_source kind line source ((r.0 ++ more) ++ cut.0) cut.2 (whole_refused (map box_of boxes) (reduced r.0) (reduced more) (reduced cut.0) ((r.0 ++ more) ++ cut.0) kind line r.2 (ends_reduced true more m.ends) whole h)
+    refuses_source kind line source ((r.0 ++ more) ++ cut.0) cut.2 (whole_refused (map box_of boxes) (reduced r.0) (reduced more) (reduced cut.0)
+    ((r.0 ++ more) ++ cut.0) kind line r.2 (ends_reduced true more m.ends) whole h)
 
 pub none_there : (ps : List Placed) → (length ps == 0) ≡ true → ps ≡ []
 none_there [] e = refl

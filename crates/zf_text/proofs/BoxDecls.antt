@@ -23,14 +23,16 @@ term_there n least ts us x fits e =
     let s = term_sound n least ts us x fits e in
     record { fits = (s.fits, s.levelled); high_is = s.high; low = s.low; spelled = s.spelled }
 
-by_outcome : (n least : ℕ) (t : Tree) (ts us : List Symbol) (o : Outcome (Tall Term)) → least ≤ atom_level → read_term n least ts ≡ o → Answered n o t us → Answers (Seen tree_of t (tree_height t)) n (tree_height t) o us
+by_outcome : (n least : ℕ) (t : Tree) (ts us : List Symbol) (o : Outcome (Tall Term)) → least ≤ atom_level → read_term n least ts ≡ o → Answered n o t us
+    → Answers (Seen tree_of t (tree_height t)) n (tree_height t) o us
 by_outcome n least t ts us (Ok p) fits e a =
     let s = term_sound n least ts p.1 p.0 fits e in
     inl (record { value = p.0; is = record { is = a.0; high = s.high ∙ ap tree_height a.0 }; low = a.2; read = ap (λ us. Ok (p.0, us)) a.1 })
 by_outcome n least t ts us (Err Refused) fits e a = absurd a
 by_outcome n least t ts us (Err TooDeep) fits e a = inr (record { above = a; refused = refl })
 
-pub term_read : (n least : ℕ) (t : Tree) (ts us : List Symbol) → least ≤ atom_level → IsAt least t → Spells t ts us → binds (first us) ≤ least → Answers (Seen tree_of t (tree_height t)) n (tree_height t) (read_term n least ts) us
+pub term_read : (n least : ℕ) (t : Tree) (ts us : List Symbol) → least ≤ atom_level → IsAt least t → Spells t ts us → binds (first us) ≤ least
+    → Answers (Seen tree_of t (tree_height t)) n (tree_height t) (read_term n least ts) us
 term_read n least t ts us fits at h stop =
     by_outcome n least t ts us (read_term n least ts) fits refl (term_answers n least t ts us at h stop)
 
@@ -134,14 +136,16 @@ not_declared Xi n ts us h stop = ap is_declared h.1.1 ∙ ap (λ a. is_mark mark
 abbrev DeclIsRead : ℕ → DeclTree → Outcome (Tall Decl) → List Symbol → Type 0
 DeclIsRead n d o us = Answers (Seen decl_of d (decl_height d)) n (decl_height d) o us
 
-variables_answers : (n : ℕ) (ns : List Name) (t : Tree) (ts us : List Symbol) → IsAt expression_level t → SpellsDecl (vars ns t) ts us → binds (first us) ≤ expression_level → DeclIsRead n (vars ns t) (variables n ts) us
+variables_answers : (n : ℕ) (ns : List Name) (t : Tree) (ts us : List Symbol) → IsAt expression_level t → SpellsDecl (vars ns t) ts us
+    → binds (first us) ≤ expression_level → DeclIsRead n (vars ns t) (variables n ts) us
 unfolding variables
 variables_answers n ns t ts us at h stop =
     let (a, b, names, colon, set) = h in
     let Is = Seen decl_of (vars ns t) (tree_height t) in
     then_answers Is n (tree_height t) (read_names ts) _ ns a us (ok_names ns ts a (not_at mark.Comma k.Colon a b colon refl) names)
     (then_answers Is n (tree_height t) (expect mark.Colon a) _ tt b us (ok_expect mark.Colon a b colon)
-    (and_answers (Seen tree_of t (tree_height t)) Is n (tree_height t) n (tree_height t) (read_term n expression_level b) _ us us (λ above. above) (term_read n expression_level t b us (omega arith) at set stop)
+    (and_answers (Seen tree_of t (tree_height t)) Is n (tree_height t) n (tree_height t) (read_term n expression_level b) _ us us (λ above. above)
+    (term_read n expression_level t b us (omega arith) at set stop)
     (λ x s low. done Is n (tree_height t) (tall (decl.Vars ns x.part) x.height) us (record { is = ap (vars ns) s.is; high = s.high }) low)))
 
 inclusion_answers : (n : ℕ) (r : SchemaRef) (ts us : List Symbol) → SpellsRef r ts us → DeclIsRead n (include r) (inclusion n ts) us
@@ -175,7 +179,8 @@ decls_sound n ts us xs e = items_sound decl_of decl_height DeclIsLevelled Spells
 separator_stops : Stops (next_of separator)
 separator_stops = record { loose = omega arith; no_comma = refl; no_colon = refl }
 
-pub decls_answers : (n : ℕ) (ds : List DeclTree) (ts us : List Symbol) → is_mark mark.Separator (first us) ≡ false → Stops (first us) → AllByRecursion DeclIsLevelled ds → PartedBy separator SpellsDecl ds ts us
+pub decls_answers : (n : ℕ) (ds : List DeclTree) (ts us : List Symbol) → is_mark mark.Separator (first us) ≡ false → Stops (first us)
+    → AllByRecursion DeclIsLevelled ds → PartedBy separator SpellsDecl ds ts us
     → Answers (Seen (map decl_of) ds (most decl_height ds)) n (most decl_height ds) (items mark.Separator (read_decl n) ts) us
 decls_answers n ds ts us last stop all h =
     items_answers decl_of decl_height DeclIsLevelled SpellsDecl mark.Separator n (read_decl n) Stops separator_stops decl_shorter (decl_answers n) ds ts us last stop all h
@@ -209,10 +214,12 @@ predicates_sound n m ts us xs e =
 abbrev IsLoose : code.Next → Type 0
 IsLoose x = binds x ≤ quantifier_level
 
-predicate_answers : (n : ℕ) (t : Tree) (ts us : List Symbol) → IsLevelled t → Spells t ts us → IsLoose (first us) → Answers (Seen tree_of t (tree_height t)) n (tree_height t) (read_term n quantifier_level ts) us
+predicate_answers : (n : ℕ) (t : Tree) (ts us : List Symbol) → IsLevelled t → Spells t ts us → IsLoose (first us)
+    → Answers (Seen tree_of t (tree_height t)) n (tree_height t) (read_term n quantifier_level ts) us
 predicate_answers n t ts us lev h stop = term_read n quantifier_level t ts us (omega arith) (omega arith, lev) h stop
 
-pub predicates_answers : (n : ℕ) (m : Mark) (ps : List Tree) (ts us : List Symbol) → is_mark m (first us) ≡ false → is_mark mark.Separator (first us) ≡ false → binds (first us) ≤ quantifier_level → AllByRecursion IsLevelled ps
+pub predicates_answers : (n : ℕ) (m : Mark) (ps : List Tree) (ts us : List Symbol) → is_mark m (first us) ≡ false → is_mark mark.Separator (first us) ≡ false
+    → binds (first us) ≤ quantifier_level → AllByRecursion IsLevelled ps
     → SpellsPredicates (kind_of m) ps ts us → Answers (Seen (map tree_of) ps (most tree_height ps)) n (most tree_height ps) (predicates n m ts) us
 unfolding predicates
 predicates_answers n m [] ts us none last stop all h =

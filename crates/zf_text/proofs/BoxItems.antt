@@ -41,7 +41,8 @@ and_answers Is Was n h m i o f us vs up (inl r) go = subst (λ o. Answers Was m 
 and_answers Is Was n h m i o f us vs up (inr d) go = inr (record { above = up d.above; refused = ap (λ o. and_then o f) d.refused })
 
 -- a step without height
-pub then_answers : {A B : Type 0} (Was : B → Type 0) (m i : ℕ) (o : Outcome A) (f : A → Parser B) (a : A) (us vs : List Symbol) → o ≡ Ok (a, us) → Answers Was m i (f a us) vs → Answers Was m i (and_then o f) vs
+pub then_answers : {A B : Type 0} (Was : B → Type 0) (m i : ℕ) (o : Outcome A) (f : A → Parser B) (a : A) (us vs : List Symbol) → o ≡ Ok (a, us)
+    → Answers Was m i (f a us) vs → Answers Was m i (and_then o f) vs
 then_answers Was m i o f a us vs e go = subst (λ o. Answers Was m i (and_then o f) vs) (sym e) go
 
 pub if_true : {B : Type 0} (Is : B → Type 0) (n h : ℕ) (b : Bool) (o p : Outcome B) (us : List Symbol) → b ≡ true → Answers Is n h o us → Answers Is n h (if b then o else p) us
@@ -131,7 +132,8 @@ module _ {A T : Type 0} (view : A → T) (high : T → ℕ) (Fits : T → Type 0
     abbrev pub AreRead : List T → Outcome (Tall (List A)) → List Symbol → Type 0
     AreRead all o us = Answers (Seen (map view) all (most high all)) n (most high all) o us
 
-    none_more : (xs : Tall (List A)) (before : List T) (ts us : List Symbol) → map view xs.part ≡ before → xs.height ≡ most high before → most high before ≤ n → ts ≡ us → AreRead (before ++ []) (Ok (xs, ts)) us
+    none_more : (xs : Tall (List A)) (before : List T) (ts us : List Symbol) → map view xs.part ≡ before → xs.height ≡ most high before → most high before ≤ n
+        → ts ≡ us → AreRead (before ++ []) (Ok (xs, ts)) us
     none_more xs before ts us is high_is low same =
         let as_before : AreRead before (Ok (xs, us)) us = done (Seen (map view) before (most high before)) n (most high before) xs us (record { is = is; high = high_is }) low in
         subst (λ ts. AreRead (before ++ []) (Ok (xs, ts)) us) (sym same) (subst (λ all. AreRead all (Ok (xs, us)) us) (sym (append-nil before)) as_before)
@@ -146,7 +148,8 @@ module _ {A T : Type 0} (view : A → T) (high : T → ℕ) (Fits : T → Type 0
     from_answers (t ∷ rs) before (suc j) xs ts us is high_is low stops ends all h short =
         let f = first_of_all t rs h.0 us h.2 in
         let small : length f.0 ≤ j = omega (arith, next_shorter ts h.0 h.1, shorter t h.0 f.0 f.1) in
-        let one : Answers (Seen view t (high t)) n (high t) (item (rest ts)) f.0 = subst (λ b. Answers (Seen view t (high t)) n (high t) (item b) f.0) (sym (passed ts h.0 h.1)) (answers t h.0 f.0 all.0 f.1 (further_ends rs f.0 us ends f.2)) in
+        let one : Answers (Seen view t (high t)) n (high t) (item (rest ts)) f.0 = subst (λ b. Answers (Seen view t (high t)) n (high t) (item b) f.0)
+        (sym (passed ts h.0 h.1)) (answers t h.0 f.0 all.0 f.1 (further_ends rs f.0 us ends f.2)) in
         let next : (x : Tall A) → Seen view t (high t) x → high t ≤ n → AreRead (before ++ t ∷ rs) (items_from part item j (with_item xs x) f.0) us = λ x s low_t.
         let s_is = s.is in
         let s_high = s.high in
@@ -158,7 +161,8 @@ module _ {A T : Type 0} (view : A → T) (high : T → ℕ) (Fits : T → Type 0
         if_true (Seen (map view) (before ++ t ∷ rs) (most high (before ++ t ∷ rs))) n _ _ _ _ us (seen part ts h.0 h.1)
         (and_answers (Seen view t (high t)) (Seen (map view) (before ++ t ∷ rs) (most high (before ++ t ∷ rs))) n (high t) n _ _ _ f.0 us (λ above. omega arith) one next)
 
-    pub items_answers : (rs : List T) (ts us : List Symbol) → is_mark part (first us) ≡ false → Ends (first us) → AllByRecursion Fits rs → PartedBy (kind_of part) S rs ts us → AreRead rs (items part item ts) us
+    pub items_answers : (rs : List T) (ts us : List Symbol) → is_mark part (first us) ≡ false → Ends (first us) → AllByRecursion Fits rs
+        → PartedBy (kind_of part) S rs ts us → AreRead rs (items part item ts) us
     unfolding items
     items_answers [] ts us stops ends all h = absurd h
     items_answers (t ∷ rs) ts us stops ends all h =

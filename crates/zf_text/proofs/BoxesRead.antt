@@ -63,17 +63,21 @@ BoxIsRead n t o us = Answers (λ b. box_of b ≡ t) n (box_height t) o us
 separator_ends : EndsParagraph (next_of separator)
 separator_ends = record { loose = omega arith; no_bar = refl; closes = record { no_and = refl; no_or = refl } }
 
-zed_answers : (n : ℕ) (ps : List ParagraphTree) (ts b us : List Symbol) → BoxIsLevelled (zed ps) → PartedBy separator SpellsParagraph ps ts b → Next k.EndBox b us → BoxIsRead n (zed ps) (read_zed n ts) us
+zed_answers : (n : ℕ) (ps : List ParagraphTree) (ts b us : List Symbol) → BoxIsLevelled (zed ps) → PartedBy separator SpellsParagraph ps ts b
+    → Next k.EndBox b us → BoxIsRead n (zed ps) (read_zed n ts) us
 unfolding read_zed
 zed_answers n ps ts b us lev all end =
     let Is = λ (b : ZBox). box_of b ≡ zed ps in
     let h = most paragraph_height ps in
     let ends : EndsParagraph (first b) = subst (λ b. EndsParagraph (first b)) (sym end.1) (record { loose = omega arith; no_bar = refl; closes = record { no_and = refl; no_or = refl } }) in
     and_answers (Seen (map paragraph_of) ps h) Is n h n h (items mark.Separator (read_paragraph n) ts) _ b us (λ above. above)
-    (items_answers paragraph_of paragraph_height ParagraphIsLevelled SpellsParagraph mark.Separator n (read_paragraph n) EndsParagraph separator_ends paragraph_shorter (paragraph_answers n) ps ts b (not_at mark.Separator k.EndBox b us end refl) ends lev all)
+    (items_answers paragraph_of paragraph_height ParagraphIsLevelled SpellsParagraph mark.Separator n
+    (read_paragraph n) EndsParagraph separator_ends paragraph_shorter (paragraph_answers n) ps ts b
+    (not_at mark.Separator k.EndBox b us end refl) ends lev all)
     (λ xs s low. then_answers Is n h (expect mark.EndBox b) _ tt us us (ok_expect mark.EndBox b us end) (done Is n h (zbox.Zed xs.part) us (ap zed s.is) low))
 
-schema_box_answers : (n : ℕ) (name : Name) (ds : List DeclTree) (ps : List Tree) (ts us : List Symbol) → BoxIsLevelled (schema_box name ds ps) → SpellsBox (schema_box name ds ps) ts us → BoxIsRead n (schema_box name ds ps) (read_schema_box n ts) us
+schema_box_answers : (n : ℕ) (name : Name) (ds : List DeclTree) (ps : List Tree) (ts us : List Symbol) → BoxIsLevelled (schema_box name ds ps)
+    → SpellsBox (schema_box name ds ps) ts us → BoxIsRead n (schema_box name ds ps) (read_schema_box n ts) us
 unfolding read_schema_box
 schema_box_answers n name ds ps ts us lev h =
     let (a, b, c, bare, begin, decls, under, end) = h in
@@ -83,7 +87,8 @@ schema_box_answers n name ds ps ts us lev h =
     let opened : lift (read_opening ts) ≡ Ok (m, a) = ap (λ ts. lift (read_opening ts)) begin in
     let h = box_height (schema_box name ds ps) in
     let last : is_mark mark.Separator (first b) ≡ false = begins (λ x. is_mark mark.Separator x ≡ false) k.Where k.EndBox ps b c us under end refl refl in
-    let stop : Stops (first b) = begins Stops k.Where k.EndBox ps b c us under end (record { loose = omega arith; no_comma = refl; no_colon = refl }) (record { loose = omega arith; no_comma = refl; no_colon = refl }) in
+    let stop : Stops (first b) = begins Stops k.Where k.EndBox ps b c us under end (record { loose = omega arith; no_comma = refl; no_colon = refl })
+    (record { loose = omega arith; no_comma = refl; no_colon = refl }) in
     let loose : binds (first c) ≤ quantifier_level = subst (λ c. binds (first c) ≤ quantifier_level) (sym end.1) (omega arith) in
     then_answers Is n h (lift (read_opening ts)) _ m a us opened
     (and_answers (Seen (map decl_of) ds (most decl_height ds)) Is n (most decl_height ds) n h (read_decls n a) _ b us (λ above. omega arith) (decls_answers n ds a b last stop lev.0 decls)
@@ -91,7 +96,9 @@ schema_box_answers n name ds ps ts us lev h =
     and_answers (Seen (map tree_of) ps (most tree_height ps)) Is n (most tree_height ps) n h (predicates n mark.Where b) _ c us (λ above. omega arith)
     (predicates_answers n mark.Where ps b c (not_at mark.Where k.EndBox c us end refl) (not_at mark.Separator k.EndBox c us end refl) loose lev.1 under)
     (λ ys sy low_y.
-    let same : schema_box m (map decl_of xs.part) (map tree_of ys.part) ≡ schema_box name ds ps = ap (λ m. schema_box m (map decl_of xs.part) (map tree_of ys.part)) m_is ∙ ap (λ ds. schema_box name ds (map tree_of ys.part)) sx.is ∙ ap (schema_box name ds) sy.is in
+    let same : schema_box m (map decl_of xs.part) (map tree_of ys.part) ≡ schema_box name ds ps = ap
+    (λ m. schema_box m (map decl_of xs.part) (map tree_of ys.part)) m_is ∙ ap (λ ds. schema_box name ds (map tree_of ys.part)) sx.is
+    ∙ ap (schema_box name ds) sy.is in
     then_answers Is n h (expect mark.EndBox c) _ tt us us (ok_expect mark.EndBox c us end) (done Is n h (zbox.SchemaBox m xs.part ys.part) us same (omega arith)))))
 
 pub box_answers : (n : ℕ) (t : BoxTree) (ts us : List Symbol) → BoxIsLevelled t → SpellsBox t ts us → BoxIsRead n t (read_box n ts) us
@@ -105,7 +112,13 @@ box_answers n (schema_box name ds ps) ts us lev h =
 
 box_shorter : (t : BoxTree) (ts us : List Symbol) → SpellsBox t ts us → length us + 1 ≤ length ts
 box_shorter (zed ps) ts us h =
-    omega (arith, next_shorter ts h.0 h.2, items_shorter paragraph_of paragraph_height ParagraphIsLevelled SpellsParagraph mark.Separator 0 (read_paragraph 0) paragraph_shorter ps h.0 h.1 h.3, next_shorter h.1 us h.4)
+    omega (
+      arith,
+      next_shorter ts h.0 h.2,
+      items_shorter paragraph_of paragraph_height ParagraphIsLevelled SpellsParagraph mark.Separator 0
+          (read_paragraph 0) paragraph_shorter ps h.0 h.1 h.3,
+      next_shorter h.1 us h.4,
+    )
 box_shorter (schema_box n ds ps) ts us h =
     omega (arith, ap length h.4, decls_shorter ds h.0 h.1 h.5, predicates_shorter k.Where ps h.1 h.2 h.6, next_shorter h.2 us h.7)
 
@@ -177,7 +190,8 @@ none_more n xs before ts is low end =
     let as_before : AreRead n before (Ok (xs, [])) = done (λ bs. map box_of bs ≡ before) n (highest before) xs [] is low in
     subst (λ ts. AreRead n (before ++ []) (Ok (xs, ts))) (sym end) (subst (λ all. AreRead n all (Ok (xs, []))) (sym (append-nil before)) as_before)
 
-from_answers : (n : ℕ) (rs before : List BoxTree) (j : ℕ) (xs : List ZBox) (ts : List Symbol) → map box_of xs ≡ before → highest before ≤ n → AllByRecursion BoxIsLevelled rs → SpellsBoxes rs ts → length ts ≤ j → AreRead n (before ++ rs) (boxes_from n j xs ts)
+from_answers : (n : ℕ) (rs before : List BoxTree) (j : ℕ) (xs : List ZBox) (ts : List Symbol) → map box_of xs ≡ before → highest before ≤ n
+    → AllByRecursion BoxIsLevelled rs → SpellsBoxes rs ts → length ts ≤ j → AreRead n (before ++ rs) (boxes_from n j xs ts)
 unfolding boxes_from
 from_answers n [] before zero xs ts is low all h short = none_more n xs before ts is low h
 from_answers n [] before (suc j) xs ts is low all h short =

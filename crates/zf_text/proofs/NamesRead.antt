@@ -80,7 +80,8 @@ first_name : (m : Mark) (n : Name) (ns : List Name) (ts us : List Symbol) → Pa
 first_name m n [] ts us h = (us, h, refl)
 first_name m n (o ∷ ns) ts us h = (h.0, h.2, (h.1, h.3, h.4))
 
-names_from : (m : Mark) (ns : List Name) (j : ℕ) (xs : List Name) (ts us : List Symbol) → is_mark m (first us) ≡ false → Further m ns ts us → length ts ≤ j → parted_from m read_name j xs ts ≡ Some (xs ++ ns, us)
+names_from : (m : Mark) (ns : List Name) (j : ℕ) (xs : List Name) (ts us : List Symbol) → is_mark m (first us) ≡ false → Further m ns ts us → length ts ≤ j
+    → parted_from m read_name j xs ts ≡ Some (xs ++ ns, us)
 unfolding parted_from
 names_from m [] zero xs ts us stops h low = ap (λ ts. Some (xs, ts)) h ∙ ap (λ xs. Some (xs, us)) (sym (append-nil xs))
 names_from m [] (suc j) xs ts us stops h low =

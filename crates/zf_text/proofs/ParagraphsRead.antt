@@ -35,7 +35,8 @@ free_sound n name begin a ts us x left is e =
     subst (λ p. ParagraphIsThere n p.0 begin p.1) (ok_pair (tall (paragraph.Free name ns.0) 0, ns.1) (x, us) ns.3)
     (record { fits = tt; high_is = refl; low = omega arith; spelled = (a, ts, left, is, parted_names_ok mark.Bar ts ns.1 ns.0 ns.2) })
 
-abbreviation_sound : (n : ℕ) (name : Name) (begin a ts us : List Symbol) (x : Tall Paragraph) → SpellsName name begin a → Next k.Abbreviates a ts → abbreviation n name ts ≡ Ok (x, us) → ParagraphIsThere n x begin us
+abbreviation_sound : (n : ℕ) (name : Name) (begin a ts us : List Symbol) (x : Tall Paragraph) → SpellsName name begin a → Next k.Abbreviates a ts
+    → abbreviation n name ts ≡ Ok (x, us) → ParagraphIsThere n x begin us
 unfolding abbreviation
 abbreviation_sound n name begin a ts us x left is e =
     let t = bind_ok (read_term n expression_level ts) _ (x, us) e in
@@ -47,7 +48,8 @@ bare_is : (s : List ℕ) → is_bare s ≡ true → s ≡ []
 bare_is [] e = refl
 bare_is (c ∷ s) e = absurd (cc)
 
-definition_sound : (n : ℕ) (name : Name) (begin a ts us : List Symbol) (x : Tall Paragraph) → SpellsName name begin a → Next k.Defines a ts → definition n name ts ≡ Ok (x, us) → ParagraphIsThere n x begin us
+definition_sound : (n : ℕ) (name : Name) (begin a ts us : List Symbol) (x : Tall Paragraph) → SpellsName name begin a → Next k.Defines a ts
+    → definition n name ts ≡ Ok (x, us) → ParagraphIsThere n x begin us
 unfolding definition
 definition_sound n name begin a ts us x left is e =
     let bare = if_ok (is_bare name.strokes) _ (x, us) _ e in
@@ -56,7 +58,8 @@ definition_sound n name begin a ts us x left is e =
     subst (λ p. ParagraphIsThere n p.0 begin p.1) (ok_pair (tall (paragraph.Defs name t.0.part) t.0.height, t.1) (x, us) t.3)
     (record { fits = s.fits.1; high_is = s.high_is; low = s.low; spelled = (a, ts, bare_is name.strokes bare.0, left, is, s.spelled) })
 
-named_at : (n : ℕ) (name : Name) (begin : List Symbol) (kind : Kind) (line : ℕ) (ts us : List Symbol) (x : Tall Paragraph) → SpellsName name begin (symbol kind line ∷ ts) → named_by n name (next_of kind) (symbol kind line ∷ ts) ≡ Ok (x, us)
+named_at : (n : ℕ) (name : Name) (begin : List Symbol) (kind : Kind) (line : ℕ) (ts us : List Symbol) (x : Tall Paragraph)
+    → SpellsName name begin (symbol kind line ∷ ts) → named_by n name (next_of kind) (symbol kind line ∷ ts) ≡ Ok (x, us)
     → ParagraphIsThere n x begin us
 named_at n name begin k.FreeType line ts us x left e = free_sound n name begin _ ts us x left (line, refl) e
 named_at n name begin k.Abbreviates line ts us x left e = abbreviation_sound n name begin _ ts us x left (line, refl) e
@@ -98,21 +101,25 @@ given_answers n ns ts b us names close =
     (then_answers Is n 0 (expect mark.CloseSquare b) _ tt us us (ok_expect mark.CloseSquare b us close)
     (done Is n 0 (tall (paragraph.Given ns) 0) us (record { is = refl; high = refl }) (omega arith)))
 
-free_answers : (n : ℕ) (name : Name) (ns : List Name) (ts us : List Symbol) → PartedBy k.Bar SpellsName ns ts us → is_mark mark.Bar (first us) ≡ false → ParagraphIsRead n (shape.free name ns) (free_type name ts) us
+free_answers : (n : ℕ) (name : Name) (ns : List Name) (ts us : List Symbol) → PartedBy k.Bar SpellsName ns ts us → is_mark mark.Bar (first us) ≡ false
+    → ParagraphIsRead n (shape.free name ns) (free_type name ts) us
 unfolding free_type
 free_answers n name ns ts us h stop =
     let Is = Seen paragraph_of (shape.free name ns) 0 in
     then_answers Is n 0 (lift (parted mark.Bar read_name ts)) _ ns us us (ok_parted_names mark.Bar ns ts us stop h)
     (done Is n 0 (tall (paragraph.Free name ns) 0) us (record { is = refl; high = refl }) (omega arith))
 
-abbreviation_answers : (n : ℕ) (name : Name) (t : Tree) (ts us : List Symbol) → IsAt expression_level t → Spells t ts us → binds (first us) ≤ expression_level → ParagraphIsRead n (shape.abbreviation name t) (abbreviation n name ts) us
+abbreviation_answers : (n : ℕ) (name : Name) (t : Tree) (ts us : List Symbol) → IsAt expression_level t → Spells t ts us → binds (first us) ≤ expression_level
+    → ParagraphIsRead n (shape.abbreviation name t) (abbreviation n name ts) us
 unfolding abbreviation
 abbreviation_answers n name t ts us at h stop =
     let Is = Seen paragraph_of (shape.abbreviation name t) (tree_height t) in
-    and_answers (Seen tree_of t (tree_height t)) Is n (tree_height t) n (tree_height t) (read_term n expression_level ts) _ us us (λ above. above) (term_read n expression_level t ts us (omega arith) at h stop)
+    and_answers (Seen tree_of t (tree_height t)) Is n (tree_height t) n (tree_height t) (read_term n expression_level ts) _ us us (λ above. above)
+    (term_read n expression_level t ts us (omega arith) at h stop)
     (λ x s low. done Is n (tree_height t) (tall (paragraph.Abbrev name x.part) x.height) us (record { is = ap (shape.abbreviation name) s.is; high = s.high }) low)
 
-definition_answers : (n : ℕ) (name : Name) (t : SchemaTree) (ts us : List Symbol) → name.strokes ≡ [] → SchemaIsLevelled t → SpellsSchema t ts us → Closes (first us) → ParagraphIsRead n (shape.definition name t) (definition n name ts) us
+definition_answers : (n : ℕ) (name : Name) (t : SchemaTree) (ts us : List Symbol) → name.strokes ≡ [] → SchemaIsLevelled t → SpellsSchema t ts us
+    → Closes (first us) → ParagraphIsRead n (shape.definition name t) (definition n name ts) us
 unfolding definition
 definition_answers n name t ts us bare lev h closes =
     let Is = Seen paragraph_of (shape.definition name t) (schema_height t) in
@@ -121,7 +128,8 @@ definition_answers n name t ts us bare lev h closes =
     (λ x s low. done Is n (schema_height t) (tall (paragraph.Defs name x.part) x.height) us (record { is = ap (shape.definition name) s.is; high = s.high }) low))
 
 -- after a name and its symbol
-behind : (n : ℕ) (p : ParagraphTree) (name : Name) (ts a us : List Symbol) → SpellsName name ts a → (kind : Kind) (b : List Symbol) → Next kind a b → (o : Outcome (Tall Paragraph)) → ((line : ℕ) → named_by n name (next_of kind) (symbol kind line ∷ b) ≡ o) → ParagraphIsRead n p o us
+behind : (n : ℕ) (p : ParagraphTree) (name : Name) (ts a us : List Symbol) → SpellsName name ts a → (kind : Kind) (b : List Symbol) → Next kind a b
+    → (o : Outcome (Tall Paragraph)) → ((line : ℕ) → named_by n name (next_of kind) (symbol kind line ∷ b) ≡ o) → ParagraphIsRead n p o us
     → ParagraphIsRead n p (read_paragraph n ts) us
 unfolding read_paragraph named
 behind n p name ts a us left kind b next o is answers =

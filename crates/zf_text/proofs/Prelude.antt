@@ -39,7 +39,24 @@ pub use Rattle.zf_scan.specs.declared.token.Kind.{Kind}
 pub use Rattle.zf_scan.specs.declared.token.Token.{Token}
 pub use Rattle.zf_text.specs.BoxByBox.{AreSoFar, Later, ReadsBox, ReadsOneBox, ReadsUpTo, RefusesBox, SpellsUpTo}
 pub use Rattle.zf_text.specs.BoxReading.{box_by, is_and, is_or, predicates, read_decls, read_paragraph, read_ref, schema_part_by, with_item}
-unfoldable pub use Rattle.zf_text.specs.BoxReading.{boxes_from, conjunction, disjunction, items, items_from, joined, read_all, read_box, read_boxes, read_only, read_schema, read_schema_box, read_zed, schema_bracket, schema_part, schema_text}
+unfoldable pub use Rattle.zf_text.specs.BoxReading.{
+  boxes_from,
+  conjunction,
+  disjunction,
+  items,
+  items_from,
+  joined,
+  read_all,
+  read_box,
+  read_boxes,
+  read_only,
+  read_schema,
+  read_schema_box,
+  read_zed,
+  schema_bracket,
+  schema_part,
+  schema_text,
+}
 pub use Rattle.zf_text.specs.Height.{box_height, decl_height, tree_height, height_limit, highest, most, paragraph_height, perhaps_height, schema_height, trees_height, links_height, decls_height}
 pub use Rattle.zf_text.specs.Levels.{AreAt, AreEnough, AreTwo, atom_level, BoxIsLevelled, chain_level, DeclIsLevelled, DeclsAreLevelled, expression_level, infix_level, IsAt, IsLevelled, left_place, level, LinksAreLevelled, listed_level, member_place, negation_level, operator_level, ParagraphIsLevelled, PartIsAt, postfix_level, priority, product_level, quantifier_level, right_place, schema_level, SchemaIsLevelled, sign_level, unary_level}
 pub use Rattle.zf_text.specs.ParsingViews.{Parses, ReadsSpec}

@@ -77,7 +77,8 @@ text_sound n begin ts us x opened e =
     let high_p = p.high_is in
     let low_d = d.low in
     let low_p = p.low in
-    made 2 (n + 1) (shape.schema_text (map decl_of ds.0.part) (map tree_of ps.0.part)) (schema.Text ds.0.part ps.0.part) (max ds.0.height ps.0.height + 1) begin end.1 us x (of.of-Text ds.0.part ps.0.part) end.3
+    made 2 (n + 1) (shape.schema_text (map decl_of ds.0.part) (map tree_of ps.0.part)) (schema.Text ds.0.part ps.0.part)
+    (max ds.0.height ps.0.height + 1) begin end.1 us x (of.of-Text ds.0.part ps.0.part) end.3
     (omega arith, (d.fits, p.fits)) (omega arith) (omega arith)
     (ts, ds.1, ps.1, opened, d.spelled, p.spelled, expect_ok mark.CloseSquare ps.1 end.1 end.0 end.2)
 
@@ -87,7 +88,8 @@ ref_exp_sound n ts us x e =
     made 2 (n + 1) (reference r.0) (schema.Ref r.0) 1 ts r.1 us x (of.of-Ref r.0) r.3 (omega arith, tt) refl (omega arith) (ref_sound ts r.1 r.0 r.2)
 
 module _ (joins : code.Next → Bool) (operand : Parser (Tall SchemaExp)) (make : SchemaExp → SchemaExp → SchemaExp) (highest : ℕ) (Whole : Tall SchemaExp → List Symbol → Type 0)
-    (step : (x y : Tall SchemaExp) (a us : List Symbol) → Whole x a → joins (first a) ≡ true → operand (rest a) ≡ Ok (y, us) → max x.height y.height + 1 ≤ highest → Whole (tall (make x.part y.part) (max x.height y.height + 1)) us) where
+    (step : (x y : Tall SchemaExp) (a us : List Symbol) → Whole x a → joins (first a) ≡ true → operand (rest a) ≡ Ok (y, us)
+    → max x.height y.height + 1 ≤ highest → Whole (tall (make x.part y.part) (max x.height y.height + 1)) us) where
   joined_sound : (j : ℕ) (x z : Tall SchemaExp) (a us : List Symbol) → Whole x a → joined joins operand make highest j x a ≡ Ok (z, us) → Whole z us
   unfolding joined
   joined_sound zero x z a us h e = subst (λ p. Whole p.0 p.1) (ok_pair (x, a) (z, us) e) h
@@ -114,7 +116,8 @@ module _ (n : ℕ) (below : Parser (Tall SchemaExp)) (ok : SchemaIsSound n below
       made 2 (n + 1) (shape.schema_bracket (schema_tree_of y.0.part)) (schema.Bracket y.0.part) (y.0.height + 1) begin end.1 us x (of.of-Bracket y.0.part) end.3
       (omega arith, s.fits.1) (omega arith) (omega arith) (ts, y.1, opened, s.spelled, expect_ok mark.CloseRound y.1 end.1 end.0 end.2)
 
-  part_at : (kind : Kind) (line : ℕ) (ts us : List Symbol) (x : Tall SchemaExp) → schema_part_by n below (next_of kind) (symbol kind line ∷ ts) ≡ Ok (x, us) → SchemaIsThere 2 (n + 1) x (symbol kind line ∷ ts) us
+  part_at : (kind : Kind) (line : ℕ) (ts us : List Symbol) (x : Tall SchemaExp) → schema_part_by n below (next_of kind) (symbol kind line ∷ ts) ≡ Ok (x, us)
+      → SchemaIsThere 2 (n + 1) x (symbol kind line ∷ ts) us
   part_at k.OpenSquare line ts us x e = text_sound n (symbol k.OpenSquare line ∷ ts) ts us x (line, refl) e
   part_at k.OpenRound line ts us x e = bracket_sound (symbol k.OpenRound line ∷ ts) ts us x (line, refl) e
   part_at kind line ts us x e = ref_exp_sound n _ us x e
@@ -124,7 +127,8 @@ module _ (n : ℕ) (below : Parser (Tall SchemaExp)) (ok : SchemaIsSound n below
   part_sound [] us x e = ref_exp_sound n [] us x e
   part_sound (t ∷ ts) us x e = part_at t.kind t.line ts us x e
 
-  and_step : (begin : List Symbol) (x y : Tall SchemaExp) (a us : List Symbol) → SchemaIsThere 1 (n + 1) x begin a → is_and (first a) ≡ true → schema_part n below (rest a) ≡ Ok (y, us) → max x.height y.height + 1 ≤ n + 1
+  and_step : (begin : List Symbol) (x y : Tall SchemaExp) (a us : List Symbol) → SchemaIsThere 1 (n + 1) x begin a → is_and (first a) ≡ true
+      → schema_part n below (rest a) ≡ Ok (y, us) → max x.height y.height + 1 ≤ n + 1
       → SchemaIsThere 1 (n + 1) (tall (schema.Both x.part y.part) (max x.height y.height + 1)) begin us
   and_step begin x y a us s is e low =
       let t = part_sound (rest a) us y e in
@@ -142,13 +146,15 @@ module _ (n : ℕ) (below : Parser (Tall SchemaExp)) (ok : SchemaIsSound n below
       joined_sound is_and (schema_part n below) schema.Both (n + 1) (λ x a. SchemaIsThere 1 (n + 1) x ts a) (and_step ts) (length y.1) y.0 x y.1 us
       (record { fits = (omega arith, s.fits.1); high_is = s.high_is; low = s.low; spelled = s.spelled }) y.3
 
-  or_step : (begin : List Symbol) (x y : Tall SchemaExp) (a us : List Symbol) → SchemaIsThere 0 (n + 1) x begin a → is_or (first a) ≡ true → conjunction n below (rest a) ≡ Ok (y, us) → max x.height y.height + 1 ≤ n + 1
+  or_step : (begin : List Symbol) (x y : Tall SchemaExp) (a us : List Symbol) → SchemaIsThere 0 (n + 1) x begin a → is_or (first a) ≡ true
+      → conjunction n below (rest a) ≡ Ok (y, us) → max x.height y.height + 1 ≤ n + 1
       → SchemaIsThere 0 (n + 1) (tall (schema.Or (here begin) x.part y.part) (max x.height y.height + 1)) begin us
   or_step begin x y a us s is e low =
       let t = conjunction_sound (rest a) us y e in
       let high_s = s.high_is in
       let high_t = t.high_is in
-      made 0 (n + 1) (either (here begin) (schema_tree_of x.part) (schema_tree_of y.part)) (schema.Or (here begin) x.part y.part) (max x.height y.height + 1) begin us us _ (of.of-Or (here begin) x.part y.part) refl
+      made 0 (n + 1) (either (here begin) (schema_tree_of x.part) (schema_tree_of y.part)) (schema.Or (here begin) x.part y.part)
+      (max x.height y.height + 1) begin us us _ (of.of-Or (here begin) x.part y.part) refl
       (omega arith, (t.fits.0, s.fits.1, t.fits.1)) (omega arith) low (a, rest a, is_here begin a (schema_shorter (schema_tree_of x.part) begin a s.spelled), s.spelled, or_is a is, t.spelled)
 
   disjunction_sound : (ts us : List Symbol) (x : Tall SchemaExp) → disjunction n below ts ≡ Ok (x, us) → SchemaIsThere 0 (n + 1) x ts us
@@ -172,7 +178,8 @@ schema_sound (suc n) ts us x e =
 abbrev pub SchemaIsRead : ℕ → SchemaTree → Outcome (Tall SchemaExp) → List Symbol → Type 0
 SchemaIsRead n t o us = Answers (Seen schema_tree_of t (schema_height t)) n (schema_height t) o us
 
-ref_first : (n : ℕ) (below : Parser (Tall SchemaExp)) (m : RefMark) (r : Name) (ts us : List Symbol) → SpellsMarked m r ts us → schema_part n below ts ≡ and_then (read_ref ts) (λ r us. Ok (tall (schema.Ref r) 1, us))
+ref_first : (n : ℕ) (below : Parser (Tall SchemaExp)) (m : RefMark) (r : Name) (ts us : List Symbol) → SpellsMarked m r ts us
+    → schema_part n below ts ≡ and_then (read_ref ts) (λ r us. Ok (tall (schema.Ref r) 1, us))
 unfolding schema_part
 ref_first n below Plain r ts us h = ap (λ ts. schema_part_by n below (first ts) ts) h ∙ sym (ap (λ ts. and_then (read_ref ts) (λ r us. Ok (tall (schema.Ref r) 1, us))) h)
 ref_first n below Delta r ts us h = ap (λ ts. schema_part_by n below (first ts) ts) h.1.1 ∙ sym (ap (λ ts. and_then (read_ref ts) (λ r us. Ok (tall (schema.Ref r) 1, us))) h.1.1)
@@ -222,7 +229,8 @@ module _ (joins : code.Next → Bool) (operand : Parser (Tall SchemaExp)) (make 
         inr (record { above = omega arith; refused = rw is at e })
 
     one_turn : (x : Tall SchemaExp) (j : ℕ) → joined joins operand make highest (suc j) x mid
-        ≡ and_then (operand b) (λ y us. if nat_le (max x.height y.height + 1) highest then joined joins operand make highest j (tall (make x.part y.part) (max x.height y.height + 1)) us else Err TooDeep)
+        ≡ and_then (operand b) (λ y us. if nat_le (max x.height y.height + 1) highest then joined joins operand make highest j
+        (tall (make x.part y.part) (max x.height y.height + 1)) us else Err TooDeep)
     unfolding joined
     one_turn x j = rw (is_joined, after) refl
 
@@ -235,13 +243,18 @@ module _ (joins : code.Next → Bool) (operand : Parser (Tall SchemaExp)) (make 
         by r (r.turns - 1) (omega arith) e a
       where
         by : (r : IsRun t mid) (j : ℕ) → length us ≤ j
-            → start ≡ and_then (operand b) (λ y us. if nat_le (max r.value.height y.height + 1) highest then joined joins operand make highest j (tall (make r.value.part y.part) (max r.value.height y.height + 1)) us else Err TooDeep)
+            → start ≡ and_then (operand b) (λ y us. if nat_le (max r.value.height y.height + 1) highest then joined joins operand make highest j
+            (tall (make r.value.part y.part) (max r.value.height y.height + 1)) us else Err TooDeep)
             → SchemaIsRead highest u (operand b) us → Runs node us
         by r j few e (inl y) =
-            let next = λ (o : Outcome (Tall SchemaExp)). and_then o (λ y us. if nat_le (max r.value.height y.height + 1) highest then joined joins operand make highest j (tall (make r.value.part y.part) (max r.value.height y.height + 1)) us else Err TooDeep) in
+            let next = λ (o : Outcome (Tall SchemaExp)). and_then o (λ y us. if nat_le
+            (max r.value.height y.height + 1) highest then joined joins operand make highest j
+            (tall (make r.value.part y.part) (max r.value.height y.height + 1)) us else Err TooDeep) in
             fits r j y.value y.is few (e ∙ ap next y.read) (nat_le (max r.value.height y.value.height + 1) highest) refl
         by r j few e (inr d) =
-            let next = λ (o : Outcome (Tall SchemaExp)). and_then o (λ y us. if nat_le (max r.value.height y.height + 1) highest then joined joins operand make highest j (tall (make r.value.part y.part) (max r.value.height y.height + 1)) us else Err TooDeep) in
+            let next = λ (o : Outcome (Tall SchemaExp)). and_then o (λ y us. if nat_le
+            (max r.value.height y.height + 1) highest then joined joins operand make highest j
+            (tall (make r.value.part y.part) (max r.value.height y.height + 1)) us else Err TooDeep) in
             inr (record { above = omega (arith, d.above); refused = e ∙ ap next d.refused })
 
   stops : (j : ℕ) (x : Tall SchemaExp) (us : List Symbol) → joins (first us) ≡ false → joined joins operand make highest j x us ≡ Ok (x, us)
@@ -255,7 +268,8 @@ module _ (joins : code.Next → Bool) (operand : Parser (Tall SchemaExp)) (make 
   finish t us none (inr d) = inr d
 
 -- the first operand
-begun : (joins : code.Next → Bool) (operand : Parser (Tall SchemaExp)) (make : SchemaExp → SchemaExp → SchemaExp) (highest : ℕ) (ts : List Symbol) (t : SchemaTree) (us : List Symbol) → SchemaIsRead highest t (operand ts) us
+begun : (joins : code.Next → Bool) (operand : Parser (Tall SchemaExp)) (make : SchemaExp → SchemaExp
+    → SchemaExp) (highest : ℕ) (ts : List Symbol) (t : SchemaTree) (us : List Symbol) → SchemaIsRead highest t (operand ts) us
     → Runs joins operand make highest (and_then (operand ts) (λ x us. joined joins operand make highest (length us) x us)) t us
 begun joins operand make highest ts t us (inl r) =
     inl (record { value = r.value; is = r.is; low = r.low; turns = length us; enough = omega arith; same = ap (λ o. and_then o (λ x us. joined joins operand make highest (length us) x us)) r.read })
@@ -271,14 +285,16 @@ abbrev SchemaIsComplete : ℕ → Parser (Tall SchemaExp) → Type 0
 SchemaIsComplete n below = (t : SchemaTree) (ts us : List Symbol) → SchemaIsLevelled t → SpellsSchema t ts us → Closes (first us) → SchemaIsRead n t (below ts) us
 
 module _ (n : ℕ) (below : Parser (Tall SchemaExp)) (ok : SchemaIsComplete n below) where
-  text_answers : (ds : List DeclTree) (ps : List Tree) (ts us : List Symbol) → AllByRecursion DeclIsLevelled ds → AllByRecursion IsLevelled ps → (b c : List Symbol) → PartedBy separator SpellsDecl ds ts b → SpellsPredicates k.Bar ps b c → Next k.CloseSquare c us
+  text_answers : (ds : List DeclTree) (ps : List Tree) (ts us : List Symbol) → AllByRecursion DeclIsLevelled ds → AllByRecursion IsLevelled ps
+      → (b c : List Symbol) → PartedBy separator SpellsDecl ds ts b → SpellsPredicates k.Bar ps b c → Next k.CloseSquare c us
       → SchemaIsRead (n + 1) (shape.schema_text ds ps) (schema_text n ts) us
   unfolding schema_text
   text_answers ds ps ts us lev_d lev_p b c decls under close =
       let Is = Seen schema_tree_of (shape.schema_text ds ps) (schema_height (shape.schema_text ds ps)) in
       let h = schema_height (shape.schema_text ds ps) in
       let last : is_mark mark.Separator (first b) ≡ false = begins (λ x. is_mark mark.Separator x ≡ false) k.Bar k.CloseSquare ps b c us under close refl refl in
-      let stop : Stops (first b) = begins Stops k.Bar k.CloseSquare ps b c us under close (record { loose = omega arith; no_comma = refl; no_colon = refl }) (record { loose = omega arith; no_comma = refl; no_colon = refl }) in
+      let stop : Stops (first b) = begins Stops k.Bar k.CloseSquare ps b c us under close (record { loose = omega arith; no_comma = refl; no_colon = refl })
+      (record { loose = omega arith; no_comma = refl; no_colon = refl }) in
       let loose : binds (first c) ≤ quantifier_level = subst (λ c. binds (first c) ≤ quantifier_level) (sym close.1) (omega arith) in
       and_answers (Seen (map decl_of) ds (most decl_height ds)) Is n (most decl_height ds) (n + 1) h (read_decls n ts) _ b us (λ above. omega arith) (decls_answers n ds ts b last stop lev_d decls)
       (λ xs sx low_x.
@@ -287,11 +303,13 @@ module _ (n : ℕ) (below : Parser (Tall SchemaExp)) (ok : SchemaIsComplete n be
       (λ ys sy low_y.
       let high_x = sx.high in
       let high_y = sy.high in
-      let same : shape.schema_text (map decl_of xs.part) (map tree_of ys.part) ≡ shape.schema_text ds ps = ap (λ ds. shape.schema_text ds (map tree_of ys.part)) sx.is ∙ ap (shape.schema_text ds) sy.is in
+      let same : shape.schema_text (map decl_of xs.part) (map tree_of ys.part)
+      ≡ shape.schema_text ds ps = ap (λ ds. shape.schema_text ds (map tree_of ys.part)) sx.is ∙ ap (shape.schema_text ds) sy.is in
       then_answers Is (n + 1) h (expect mark.CloseSquare c) _ tt us us (ok_expect mark.CloseSquare c us close)
       (done Is (n + 1) h (tall (schema.Text xs.part ys.part) (max xs.height ys.height + 1)) us (record { is = of.of-Text xs.part ys.part ∙ same; high = omega arith }) (omega arith))))
 
-  bracket_answers : (t : SchemaTree) (ts b us : List Symbol) → SchemaIsLevelled t → SpellsSchema t ts b → Next k.CloseRound b us → SchemaIsRead (n + 1) (shape.schema_bracket t) (schema_bracket n below ts) us
+  bracket_answers : (t : SchemaTree) (ts b us : List Symbol) → SchemaIsLevelled t → SpellsSchema t ts b → Next k.CloseRound b us
+      → SchemaIsRead (n + 1) (shape.schema_bracket t) (schema_bracket n below ts) us
   unfolding schema_bracket
   bracket_answers t ts b us lev h close =
       let Is = Seen schema_tree_of (shape.schema_bracket t) (schema_height t + 1) in
@@ -302,7 +320,8 @@ module _ (n : ℕ) (below : Parser (Tall SchemaExp)) (ok : SchemaIsComplete n be
       then_answers Is (n + 1) (schema_height t + 1) (expect mark.CloseRound b) _ tt us us (ok_expect mark.CloseRound b us close)
       (done Is (n + 1) (schema_height t + 1) (tall (schema.Bracket x.part) (x.height + 1)) us (record { is = of.of-Bracket x.part ∙ ap shape.schema_bracket s.is; high = omega arith }) (omega arith)))
 
-  part_is : (kind : Kind) (ts a : List Symbol) → Next kind ts a → (o : Outcome (Tall SchemaExp)) → ((line : ℕ) → schema_part_by n below (next_of kind) (symbol kind line ∷ a) ≡ o) → schema_part n below ts ≡ o
+  part_is : (kind : Kind) (ts a : List Symbol) → Next kind ts a → (o : Outcome (Tall SchemaExp))
+      → ((line : ℕ) → schema_part_by n below (next_of kind) (symbol kind line ∷ a) ≡ o) → schema_part n below ts ≡ o
   unfolding schema_part
   part_is kind ts a next o is = ap (λ ts. schema_part_by n below (first ts) ts) next.1 ∙ is next.0
 
@@ -332,7 +351,8 @@ module _ (n : ℕ) (below : Parser (Tall SchemaExp)) (ok : SchemaIsComplete n be
       let (mid, c, left, next, right) = h in
       let runs = and_runs a ts mid (at.1.0, at.1.2) left in
       let after = part_answers b c us (at.1.1, at.1.3) right in
-      turn is_and (schema_part n below) schema.Both (n + 1) (and_then (schema_part n below ts) (λ x us. joined is_and (schema_part n below) schema.Both (n + 1) (length us) x us)) a b (both a b) mid c us
+      turn is_and (schema_part n below) schema.Both (n + 1) (and_then (schema_part n below ts)
+      (λ x us. joined is_and (schema_part n below) schema.Both (n + 1) (length us) x us)) a b (both a b) mid c us
       (ap (λ ts. is_and (first ts)) next.1) (passed mid c next) (next_shorter mid c next) (omega (arith, schema_shorter b c us right)) refl
       (λ x y is_x is_y. of.of-Both x y ∙ ap (λ a. both a (schema_tree_of y)) is_x ∙ ap (both a) is_y) runs after
   and_runs (either l a b) ts us at h = absurd (omega (arith, at.0))
@@ -343,10 +363,12 @@ module _ (n : ℕ) (below : Parser (Tall SchemaExp)) (ok : SchemaIsComplete n be
   conjunction_answers : (t : SchemaTree) (ts us : List Symbol) → SchemaIsAt 1 t → SpellsSchema t ts us → is_and (first us) ≡ false → SchemaIsRead (n + 1) t (conjunction n below ts) us
   unfolding conjunction
   conjunction_answers t ts us at h none =
-      finish is_and (schema_part n below) schema.Both (n + 1) (and_then (schema_part n below ts) (λ x us. joined is_and (schema_part n below) schema.Both (n + 1) (length us) x us)) t us none (and_runs t ts us at h)
+      finish is_and (schema_part n below) schema.Both (n + 1) (and_then (schema_part n below ts)
+      (λ x us. joined is_and (schema_part n below) schema.Both (n + 1) (length us) x us)) t us none (and_runs t ts us at h)
 
   abbrev OrRuns : List Symbol → SchemaTree → List Symbol → Type 0
-  OrRuns ts = Runs is_or (conjunction n below) (schema.Or (here ts)) (n + 1) (and_then (conjunction n below ts) (λ x us. joined is_or (conjunction n below) (schema.Or (here ts)) (n + 1) (length us) x us))
+  OrRuns ts = Runs is_or (conjunction n below) (schema.Or (here ts)) (n + 1)
+      (and_then (conjunction n below ts) (λ x us. joined is_or (conjunction n below) (schema.Or (here ts)) (n + 1) (length us) x us))
 
   or_begun : (t : SchemaTree) (ts us : List Symbol) → SchemaIsAt 1 t → SpellsSchema t ts us → is_and (first us) ≡ false → OrRuns ts t us
   or_begun t ts us at h none = begun is_or (conjunction n below) (schema.Or (here ts)) (n + 1) ts t us (conjunction_answers t ts us at h none)
@@ -356,9 +378,11 @@ module _ (n : ℕ) (below : Parser (Tall SchemaExp)) (ok : SchemaIsComplete n be
       let (mid, c, on, left, next, right) = h in
       let runs = or_runs a ts mid lev.1 left (ap (λ ts. is_and (first ts)) next.1) in
       let after = conjunction_answers b c us (lev.0, lev.2) right none in
-      turn is_or (conjunction n below) (schema.Or (here ts)) (n + 1) (and_then (conjunction n below ts) (λ x us. joined is_or (conjunction n below) (schema.Or (here ts)) (n + 1) (length us) x us)) a b (either l a b) mid c us
+      turn is_or (conjunction n below) (schema.Or (here ts)) (n + 1) (and_then (conjunction n below ts)
+      (λ x us. joined is_or (conjunction n below) (schema.Or (here ts)) (n + 1) (length us) x us)) a b (either l a b) mid c us
       (ap (λ ts. is_or (first ts)) next.1) (passed mid c next) (next_shorter mid c next) (omega (arith, schema_shorter b c us right)) refl
-      (λ x y is_x is_y. of.of-Or (here ts) x y ∙ ap (λ l. either l (schema_tree_of x) (schema_tree_of y)) (here_is l ts on) ∙ ap (λ a. either l a (schema_tree_of y)) is_x ∙ ap (either l a) is_y) runs after
+      (λ x y is_x is_y. of.of-Or (here ts) x y ∙ ap (λ l. either l (schema_tree_of x) (schema_tree_of y)) (here_is l ts on)
+      ∙ ap (λ a. either l a (schema_tree_of y)) is_x ∙ ap (either l a) is_y) runs after
   or_runs (both a b) ts us lev h none = or_begun (both a b) ts us (omega arith, lev) h none
   or_runs (shape.schema_text ds ps) ts us lev h none = or_begun (shape.schema_text ds ps) ts us (omega arith, lev) h none
   or_runs (reference r) ts us lev h none = or_begun (reference r) ts us (omega arith, lev) h none
@@ -367,7 +391,8 @@ module _ (n : ℕ) (below : Parser (Tall SchemaExp)) (ok : SchemaIsComplete n be
   disjunction_answers : (t : SchemaTree) (ts us : List Symbol) → SchemaIsLevelled t → SpellsSchema t ts us → Closes (first us) → SchemaIsRead (n + 1) t (disjunction n below ts) us
   unfolding disjunction
   disjunction_answers t ts us lev h closes =
-      finish is_or (conjunction n below) (schema.Or (here ts)) (n + 1) (and_then (conjunction n below ts) (λ x us. joined is_or (conjunction n below) (schema.Or (here ts)) (n + 1) (length us) x us)) t us closes.no_or (or_runs t ts us lev h closes.no_and)
+      finish is_or (conjunction n below) (schema.Or (here ts)) (n + 1) (and_then (conjunction n below ts)
+      (λ x us. joined is_or (conjunction n below) (schema.Or (here ts)) (n + 1) (length us) x us)) t us closes.no_or (or_runs t ts us lev h closes.no_and)
 
 some_schema_height : (t : SchemaTree) → 0 < schema_height t
 some_schema_height (reference r) = omega arith

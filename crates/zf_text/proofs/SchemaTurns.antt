@@ -3,7 +3,8 @@ use Rattle.zf_text.proofs.Prelude.{◌+◌, ◌<◌, ◌≡◌, ◌≤◌, Bool,
 use Rattle.zf_scan.specs.declared.next.Next as code
 use Rattle.zf_text.proofs.TermTurns.{fails_then}
 
-module _ (joins : code.Next → Bool) (operand : Parser (Tall SchemaExp)) (make : SchemaExp → SchemaExp → SchemaExp) (highest n : ℕ) (x : Tall SchemaExp) (ts : List Symbol) (is : joins (first ts) ≡ true) where
+module _ (joins : code.Next → Bool) (operand : Parser (Tall SchemaExp)) (make : SchemaExp → SchemaExp
+    → SchemaExp) (highest n : ℕ) (x : Tall SchemaExp) (ts : List Symbol) (is : joins (first ts) ≡ true) where
   pub goes_on : (y : Tall SchemaExp) (us : List Symbol) → operand (rest ts) ≡ Ok (y, us) → max x.height y.height + 1 ≤ highest
       → joined joins operand make highest (suc n) x ts ≡ joined joins operand make highest n (tall (make x.part y.part) (max x.height y.height + 1)) us
   unfolding joined

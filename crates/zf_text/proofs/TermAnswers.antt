@@ -38,7 +38,8 @@ pub term_answers : (n least : ℕ) (t : Tree) (ts us : List Symbol) → IsAt lea
 term_answers n least t ts us at h stop = by_outcome n least t ts us (read_term n least ts) at h stop refl
 
 -- no two levelled trees are spelled by the same symbols, if what follows does not go on with them
-pub one_term : (least : ℕ) (t u : Tree) (ts us vs : List Symbol) → IsAt least t → IsAt least u → Spells t ts us → Spells u ts vs → binds (first us) ≤ least → binds (first vs) ≤ least → (t ≡ u) × (us ≡ vs)
+pub one_term : (least : ℕ) (t u : Tree) (ts us vs : List Symbol) → IsAt least t → IsAt least u → Spells t ts us → Spells u ts vs → binds (first us) ≤ least
+    → binds (first vs) ≤ least → (t ≡ u) × (us ≡ vs)
 one_term least t u ts us vs at_t at_u h g stop_t stop_u =
     let n = tree_height t + tree_height u in
     let r = term_complete n least t ts us at_t.0 at_t.1 (omega arith) h stop_t in

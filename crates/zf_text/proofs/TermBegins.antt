@@ -43,7 +43,8 @@ module _ (below : Reader) (n : ℕ) (ok : IsSound n below) where
   two_of x [] some = absurd some
   two_of x (y ∷ more) some = tt
 
-  pub all_sound : (highest least place : ℕ) (m : Mark) (x : Tall Term) (all : Tall (List Term)) (ts a us : List Symbol) → place ≤ atom_level → place ≤ level (tree_of x.part) → Sound highest least x ts a
+  pub all_sound : (highest least place : ℕ) (m : Mark) (x : Tall Term) (all : Tall (List Term)) (ts a us : List Symbol) → place ≤ atom_level
+      → place ≤ level (tree_of x.part) → Sound highest least x ts a
       → further below m place x a ≡ Ok (all, us) → AllTerms place m x all ts a us
   unfolding further
   all_sound highest least place m x all ts a us fits first_fits s e =
@@ -69,7 +70,8 @@ module _ (below : Reader) (n : ℕ) (ok : IsSound n below) where
     pub opens : (vs : Trees) → IsFirstLine (line_of (tree_of x.part)) vs → Opens form line vs begin ts
     pub low : (h : ℕ) → (x.height ≤ n → h ≤ n) → z.height ≡ h + 1 → h ≤ n
 
-  pub listed_sound : (highest line least : ℕ) (form : Listed) (x z : Tall Term) (begin ts a us : List Symbol) → Listing line least form x z begin ts a → Sound highest quantifier_level x ts a → listed below line form x a ≡ Ok (z, us)
+  pub listed_sound : (highest line least : ℕ) (form : Listed) (x z : Tall Term) (begin ts a us : List Symbol) → Listing line least form x z begin ts a
+      → Sound highest quantifier_level x ts a → listed below line form x a ≡ Ok (z, us)
       → Whole least z begin us
   unfolding listed
   listed_sound highest line least form x z begin ts a us l s e =
@@ -108,7 +110,8 @@ module _ (below : Reader) (n : ℕ) (ok : IsSound n below) where
   round_at line least x y k.Comma c ts a us fits s e = tuple_sound line least c x y ts a us fits s e
   round_at line least x y _ c ts a us fits s e = absurd (cc)
 
-  round_then : (line least : ℕ) (x y : Tall Term) (ts a us : List Symbol) → least ≤ atom_level → Sound n quantifier_level x ts a → round_by below line x (first a) a ≡ Ok (y, us) → Whole least y (symbol k.OpenRound line ∷ ts) us
+  round_then : (line least : ℕ) (x y : Tall Term) (ts a us : List Symbol) → least ≤ atom_level → Sound n quantifier_level x ts a
+      → round_by below line x (first a) a ≡ Ok (y, us) → Whole least y (symbol k.OpenRound line ∷ ts) us
   round_then line least x y ts [] us fits s e = absurd (cc)
   round_then line least x y ts (b ∷ a) us fits s e = round_at line least x y b.kind b.line ts a us fits s e
 
@@ -146,7 +149,8 @@ module _ (below : Reader) (n : ℕ) (ok : IsSound n below) where
       let low = s.low in
       let low_p = sp.low in
       let low_q = sq.low in
-      made (n + 1) least (shape.builder line (decls_of ds.0.part) (part_of p.0.part) (part_of q.0.part)) (term.Builder line ds.0.part p.0.part q.0.part) (max (max ds.0.height p.0.height) q.0.height + 1) _ end.1 us y
+      made (n + 1) least (shape.builder line (decls_of ds.0.part) (part_of p.0.part) (part_of q.0.part)) (term.Builder line ds.0.part p.0.part q.0.part)
+      (max (max ds.0.height p.0.height) q.0.height + 1) _ end.1 us y
       (of.of-Builder line ds.0.part p.0.part q.0.part) end.3
       (record {
         fits = fits;
@@ -161,7 +165,8 @@ module _ (below : Reader) (n : ℕ) (ok : IsSound n below) where
   braced_sound line least y ts us fits e =
       if_cases (begins_decl true ts) _ _ (y, us) e (λ is e. builder_sound line least y ts us fits e) (λ is e. display_sound line least y ts us fits e)
 
-  quantified_sound : (line least : ℕ) (q : Quantifier) (y : Tall Term) (ts us : List Symbol) → least ≤ quantifier_level → quantified below line q ts ≡ Ok (y, us) → Whole least y (symbol (k.Quantifier q) line ∷ ts) us
+  quantified_sound : (line least : ℕ) (q : Quantifier) (y : Tall Term) (ts us : List Symbol) → least ≤ quantifier_level
+      → quantified below line q ts ≡ Ok (y, us) → Whole least y (symbol (k.Quantifier q) line ∷ ts) us
   unfolding quantified
   quantified_sound line least q y ts us fits e =
       let ds = bind_ok (decls below ts) _ (y, us) e in
@@ -177,7 +182,8 @@ module _ (below : Reader) (n : ℕ) (ok : IsSound n below) where
       let low = s.low in
       let low_p = sp.low in
       let low_x = sx.low in
-      made (n + 1) least (shape.quantified line q (decls_of ds.0.part) (part_of p.0.part) (tree_of x.0.part)) (term.Quantified q line ds.0.part p.0.part x.0.part) (max (max ds.0.height p.0.height) x.0.height + 1) _ x.1 us y
+      made (n + 1) least (shape.quantified line q (decls_of ds.0.part) (part_of p.0.part) (tree_of x.0.part))
+      (term.Quantified q line ds.0.part p.0.part x.0.part) (max (max ds.0.height p.0.height) x.0.height + 1) _ x.1 us y
       (of.of-Quantified line q ds.0.part p.0.part x.0.part) x.3
       (record {
         fits = fits;
@@ -217,12 +223,26 @@ module _ (below : Reader) (n : ℕ) (ok : IsSound n below) where
       let high = s.high in
       let low = s.low in
       made (n + 1) least (shape.unary line op (tree_of x.0.part)) (term.Unary line op x.0.part) (x.0.height + 1) _ x.1 us y (of.of-Unary line op x.0.part) x.3
-      (record { fits = leb-true least (unary_level op) g.0; levelled = (s.fits, s.levelled); high = omega arith; low = omega arith; spelled = (ts, x.1, before (tree_of x.0.part), s.spelled, after x.1) })
+      (record {
+        fits = leb-true least (unary_level op) g.0;
+        levelled = (s.fits, s.levelled);
+        high = omega arith;
+        low = omega arith;
+        spelled = (
+          ts,
+          x.1,
+          before (tree_of x.0.part),
+          s.spelled,
+          after x.1,
+        );
+      })
 
-  beginning_at : (least : ℕ) (kind : Kind) (line : ℕ) (ts us : List Symbol) (y : Tall Term) → least ≤ atom_level → beginning_by below least line (next_of kind) (symbol kind line ∷ ts) ≡ Ok (y, us) → Whole least y (symbol kind line ∷ ts) us
+  beginning_at : (least : ℕ) (kind : Kind) (line : ℕ) (ts us : List Symbol) (y : Tall Term) → least ≤ atom_level
+      → beginning_by below least line (next_of kind) (symbol kind line ∷ ts) ≡ Ok (y, us) → Whole least y (symbol kind line ∷ ts) us
   beginning_at least (k.Name b s) line ts us y fits e =
       let name : Name = record { base = b; strokes = s; line = line } in
-      made (n + 1) least (named name) (term.Name line (ident_of name)) 1 _ ts us y (of.of-Name line (ident_of name)) e (record { fits = fits; levelled = tt; high = refl; low = omega arith; spelled = refl })
+      made (n + 1) least (named name) (term.Name line (ident_of name)) 1 _ ts us y (of.of-Name line (ident_of name)) e
+      (record { fits = fits; levelled = tt; high = refl; low = omega arith; spelled = refl })
   beginning_at least (k.Number v) line ts us y fits e =
       made (n + 1) least (numeral line v) (term.Number line v) 1 _ ts us y (of.of-Number line v) e (record { fits = fits; levelled = tt; high = refl; low = omega arith; spelled = refl })
   beginning_at least (k.Constant c) line ts us y fits e =

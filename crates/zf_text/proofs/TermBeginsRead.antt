@@ -31,10 +31,20 @@ parts list.Product = omega arith
 parts _ = omega arith
 
 closes_round : (ts us : List Symbol) → Closes list.Tuple ts us → Closing list.Tuple ts us
-closes_round ts us h = record { closed = ok_expect mark.CloseRound ts us h; none = first_is (λ x. is_mark mark.Comma x ≡ false) ts us h refl; stop = first_is (λ x. binds x ≤ expression_level) ts us h (omega arith) }
+closes_round ts us h = record {
+  closed = ok_expect mark.CloseRound ts us h;
+  none = first_is (λ x. is_mark mark.Comma x ≡ false) ts us h refl;
+  stop = first_is
+      (λ x. binds x ≤ expression_level) ts us h (omega arith);
+}
 
 closes_brace : (ts us : List Symbol) → Closes list.Display ts us → Closing list.Display ts us
-closes_brace ts us h = record { closed = ok_expect mark.CloseBrace ts us h; none = first_is (λ x. is_mark mark.Comma x ≡ false) ts us h refl; stop = first_is (λ x. binds x ≤ expression_level) ts us h (omega arith) }
+closes_brace ts us h = record {
+  closed = ok_expect mark.CloseBrace ts us h;
+  none = first_is (λ x. is_mark mark.Comma x ≡ false) ts us h refl;
+  stop = first_is
+      (λ x. binds x ≤ expression_level) ts us h (omega arith);
+}
 
 module _ (below : Reader) (n : ℕ) (ok : IsComplete n below) where
   pub moved : (o p : Outcome (Tall Term)) (t : Tree) (us : List Symbol) → o ≡ p → IsRead p t us → IsRead o t us
@@ -52,7 +62,8 @@ module _ (below : Reader) (n : ℕ) (ok : IsComplete n below) where
   unfolding beginning
   constant_begins least l c ts us h = record { term = term.Constant l c; is = of.of-Constant l c; read = ap (beginning below least) h }
 
-  pub empty_set_begins : (least l : ℕ) (t : Tree) (ts us : List Symbol) → IsLevelled (shape.empty_set l t) → tree_height (shape.empty_set l t) ≤ n + 1 → Spells (shape.empty_set l t) ts us → IsRead (beginning below least ts) (shape.empty_set l t) us
+  pub empty_set_begins : (least l : ℕ) (t : Tree) (ts us : List Symbol) → IsLevelled (shape.empty_set l t) → tree_height (shape.empty_set l t) ≤ n + 1
+      → Spells (shape.empty_set l t) ts us → IsRead (beginning below least ts) (shape.empty_set l t) us
   unfolding beginning empty_set
   empty_set_begins least l t ts us lev low h =
       let x = ok expression_level t h.1 h.2 lev.0 lev.1 (omega arith) h.5 (first_is (λ x. binds x ≤ expression_level) h.2 us h.6 (omega arith)) in
@@ -72,7 +83,8 @@ module _ (below : Reader) (n : ℕ) (ok : IsComplete n below) where
         read = ap (beginning below least) h.2 ∙ rw x.read refl;
       }
 
-  pub listed_complete : (form : Listed) (l : ℕ) (x : Term) (t : Tree) (vs : Trees) (a b us : List Symbol) → tree_of x ≡ t → AreAt (member_place form) vs → trees_height vs ≤ n → SpellsFurther (parting form) vs a b → Closing form b us
+  pub listed_complete : (form : Listed) (l : ℕ) (x : Term) (t : Tree) (vs : Trees) (a b us : List Symbol) → tree_of x ≡ t → AreAt (member_place form) vs
+      → trees_height vs ≤ n → SpellsFurther (parting form) vs a b → Closing form b us
       → IsRead (listed below l form (tall x (tree_height t)) a) (shape.listed l form (tree t vs)) us
   unfolding listed
   listed_complete form l x t vs a b us is lev low h end =
@@ -80,7 +92,8 @@ module _ (below : Reader) (n : ℕ) (ok : IsComplete n below) where
       let all = all_complete below n ok (parted_by form) (member_place form) (parts form) x t vs a b is lev low end.none end.stop more in
       record { term = term.Listed l form all.all; is = of.of-Listed l form all.all ∙ ap (shape.listed l form) all.are; read = rw (all.read, end.closed) refl }
 
-  pub tuple_begins : (least l : ℕ) (t u : Tree) (vs : Trees) (ts us : List Symbol) → AreAt expression_level (tree t (tree u vs)) → trees_height (tree t (tree u vs)) ≤ n → Spells (shape.listed l list.Tuple (tree t (tree u vs))) ts us
+  pub tuple_begins : (least l : ℕ) (t u : Tree) (vs : Trees) (ts us : List Symbol) → AreAt expression_level (tree t (tree u vs))
+      → trees_height (tree t (tree u vs)) ≤ n → Spells (shape.listed l list.Tuple (tree t (tree u vs))) ts us
       → IsRead (beginning below least ts) (shape.listed l list.Tuple (tree t (tree u vs))) us
   unfolding beginning round
   tuple_begins least l t u vs ts us lev low h =
@@ -91,7 +104,8 @@ module _ (below : Reader) (n : ℕ) (ok : IsComplete n below) where
       moved _ _ _ us (ap (beginning below least) starts ∙ rw (x.read, le-leb expression_level (level (tree_of x.term)) fits) refl)
       (listed_complete list.Tuple l x.term t (tree u vs) at b us x.is lev.2 (omega arith) (d, e, (comma.0, refl), s_u, further_u) (closes_round b us close))
 
-  pub display_begins : (least l : ℕ) (t : Tree) (vs : Trees) (ts us : List Symbol) → AreAt expression_level (tree t vs) → trees_height (tree t vs) ≤ n → Spells (shape.listed l list.Display (tree t vs)) ts us
+  pub display_begins : (least l : ℕ) (t : Tree) (vs : Trees) (ts us : List Symbol) → AreAt expression_level (tree t vs) → trees_height (tree t vs) ≤ n
+      → Spells (shape.listed l list.Display (tree t vs)) ts us
       → IsRead (beginning below least ts) (shape.listed l list.Display (tree t vs)) us
   unfolding beginning braced display
   display_begins least l t vs ts us lev low h =
@@ -101,7 +115,8 @@ module _ (below : Reader) (n : ℕ) (ok : IsComplete n below) where
       let is : begins_decl true a ≡ false = from_false (begins_decl true a) (items_do_not t vs a c b us lev.1 lev.2 s more close) in
       moved _ _ _ us (ap (beginning below least) starts ∙ rw (is, not_closed t a c s, x.read) refl) (listed_complete list.Display l x.term t vs c b us x.is lev.2 (omega arith) more end)
 
-  pub builder_begins : (least l : ℕ) (ds : VarDecls) (p t : Perhaps) (ts us : List Symbol) → IsLevelled (shape.builder l ds p t) → tree_height (shape.builder l ds p t) ≤ n + 1 → Spells (shape.builder l ds p t) ts us
+  pub builder_begins : (least l : ℕ) (ds : VarDecls) (p t : Perhaps) (ts us : List Symbol) → IsLevelled (shape.builder l ds p t)
+      → tree_height (shape.builder l ds p t) ≤ n + 1 → Spells (shape.builder l ds p t) ts us
       → IsRead (beginning below least ts) (shape.builder l ds p t) us
   unfolding beginning braced builder
   builder_begins least l ds p t ts us lev low h =
@@ -110,7 +125,8 @@ module _ (below : Reader) (n : ℕ) (ok : IsComplete n below) where
       let stop_d = first_is (λ x. binds x ≤ expression_level) d us close (omega arith) in
       let no_bar = part_first k.At (λ x. is_mark mark.Bar x ≡ false) t c d t_h refl (first_is (λ x. is_mark mark.Bar x ≡ false) d us close refl) in
       let stop_c = part_first k.At (λ x. binds x ≤ quantifier_level) t c d t_h (omega arith) (first_is (λ x. binds x ≤ quantifier_level) d us close (omega arith)) in
-      let no_sep = part_first k.Bar (λ x. is_mark mark.Separator x ≡ false) p b c p_h refl (part_first k.At (λ x. is_mark mark.Separator x ≡ false) t c d t_h refl (first_is (λ x. is_mark mark.Separator x ≡ false) d us close refl)) in
+      let no_sep = part_first k.Bar (λ x. is_mark mark.Separator x ≡ false) p b c p_h refl
+      (part_first k.At (λ x. is_mark mark.Separator x ≡ false) t c d t_h refl (first_is (λ x. is_mark mark.Separator x ≡ false) d us close refl)) in
       let stop_b = part_first k.Bar (λ x. binds x ≤ expression_level) p b c p_h (omega arith) (part_first k.At (λ x. binds x ≤ expression_level) t c d t_h (omega arith) stop_d) in
       let xs = decls_complete below n ok ds a b lev.0 (omega arith) no_sep stop_b decls_h in
       let q = part_complete below n ok mark.Bar quantifier_level p b c lev.1 (omega arith) no_bar stop_c p_h in
@@ -125,7 +141,8 @@ module _ (below : Reader) (n : ℕ) (ok : IsComplete n below) where
         read = ap (beginning below least) starts ∙ rw (decls_begin ds a b decls_h, xs.read, q.read, r.read, ok_expect mark.CloseBrace d us close) refl;
       }
 
-  pub quantified_begins : (least l : ℕ) (w : Quantifier) (ds : VarDecls) (p : Perhaps) (t : Tree) (ts us : List Symbol) → least ≤ quantifier_level → IsLevelled (shape.quantified l w ds p t) → tree_height (shape.quantified l w ds p t) ≤ n + 1
+  pub quantified_begins : (least l : ℕ) (w : Quantifier) (ds : VarDecls) (p : Perhaps) (t : Tree) (ts us : List Symbol) → least ≤ quantifier_level
+      → IsLevelled (shape.quantified l w ds p t) → tree_height (shape.quantified l w ds p t) ≤ n + 1
       → Spells (shape.quantified l w ds p t) ts us → binds (first us) ≤ quantifier_level → IsRead (beginning below least ts) (shape.quantified l w ds p t) us
   unfolding beginning quantified
   quantified_begins least l w ds p t ts us fits lev low h stop =
@@ -147,22 +164,26 @@ module _ (below : Reader) (n : ℕ) (ok : IsComplete n below) where
         read = ap (beginning below least) starts ∙ rw (le-leb least quantifier_level fits, xs.read, q.read, ok_expect mark.At c d at, x.read) refl;
       }
 
-  prefixed_complete : (op : Unary) (least l : ℕ) (t : Tree) (ts a us : List Symbol) → least ≤ unary_level op → IsLevelled (shape.unary l op t) → tree_height t ≤ n → basic.rest ts ≡ a → Spells t a us → binds (first us) ≤ unary_level op
+  prefixed_complete : (op : Unary) (least l : ℕ) (t : Tree) (ts a us : List Symbol) → least ≤ unary_level op → IsLevelled (shape.unary l op t)
+      → tree_height t ≤ n → basic.rest ts ≡ a → Spells t a us → binds (first us) ≤ unary_level op
       → IsRead (prefixed below least l op ts) (shape.unary l op t) us
   unfolding prefixed
   prefixed_complete op least l t ts a us fits lev low is h stop =
       let x = ok (unary_level op) t a us lev.0 lev.1 low h stop in
       record { term = term.Unary l op x.term; is = of.of-Unary l op x.term ∙ ap (shape.unary l op) x.is; read = rw (le-leb least (unary_level op) fits, is, x.read) refl }
 
-  pub sign_begins : (s : Sign) (least l : ℕ) (t : Tree) (ts us : List Symbol) → least ≤ sign_level s → IsLevelled (shape.unary l (one.Sign s) t) → tree_height t ≤ n → Spells (shape.unary l (one.Sign s) t) ts us → binds (first us) ≤ sign_level s
+  pub sign_begins : (s : Sign) (least l : ℕ) (t : Tree) (ts us : List Symbol) → least ≤ sign_level s → IsLevelled (shape.unary l (one.Sign s) t)
+      → tree_height t ≤ n → Spells (shape.unary l (one.Sign s) t) ts us → binds (first us) ≤ sign_level s
       → IsRead (beginning below least ts) (shape.unary l (one.Sign s) t) us
   unfolding beginning
   sign_begins sign.Minus least l t ts us fits lev low h stop =
       moved _ _ _ us (ap (beginning below least) h.2) (prefixed_complete (one.Sign sign.Minus) least l t (symbol (k.Infix Minus) l ∷ h.0) h.0 us fits lev low refl (subst (Spells t h.0) h.4 h.3) stop)
   sign_begins (sign.Symbol s) least l t ts us fits lev low h stop =
-      moved _ _ _ us (ap (beginning below least) h.2) (prefixed_complete (one.Sign (sign.Symbol s)) least l t (symbol (k.Prefix s) l ∷ h.0) h.0 us fits lev low refl (subst (Spells t h.0) h.4 h.3) stop)
+      moved _ _ _ us (ap (beginning below least) h.2) (prefixed_complete (one.Sign (sign.Symbol s)) least l t
+      (symbol (k.Prefix s) l ∷ h.0) h.0 us fits lev low refl (subst (Spells t h.0) h.4 h.3) stop)
 
-  pub not_begins : (least l : ℕ) (t : Tree) (ts us : List Symbol) → least ≤ negation_level → IsLevelled (shape.unary l one.Not t) → tree_height t ≤ n → Spells (shape.unary l one.Not t) ts us → binds (first us) ≤ negation_level
+  pub not_begins : (least l : ℕ) (t : Tree) (ts us : List Symbol) → least ≤ negation_level → IsLevelled (shape.unary l one.Not t) → tree_height t ≤ n
+      → Spells (shape.unary l one.Not t) ts us → binds (first us) ≤ negation_level
       → IsRead (beginning below least ts) (shape.unary l one.Not t) us
   unfolding beginning
   not_begins least l t ts us fits lev low h stop =

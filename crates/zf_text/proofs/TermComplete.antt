@@ -57,7 +57,8 @@ module _ (below : Reader) (n : ℕ) (ok : IsComplete n below) where
   begun least t ts us r = record { term = r.term; is = r.is; turns = n + 1; enough = omega (arith, some_height t); same = rw (r.read) refl }
 
   -- one turn
-  turn : (least : ℕ) (t u : Tree) (ts mid us : List Symbol) (r : Role) → role_of (first mid) ≡ r → Reaches least t ts mid → tree_height t < tree_height u → tree_height u ≤ n + 1 → least < bound_by r → place_before r ≤ level t
+  turn : (least : ℕ) (t u : Tree) (ts mid us : List Symbol) (r : Role) → role_of (first mid) ≡ r → Reaches least t ts mid → tree_height t < tree_height u
+      → tree_height u ≤ n + 1 → least < bound_by r → place_before r ≤ level t
       → ((x : Term) → tree_of x ≡ t → IsRead (longer_by below (tall x (tree_height t)) r mid) u us) → Reaches least u ts us
   turn least t u ts mid us r role_is before taller low b l longer =
       let enough = before.enough in
@@ -71,10 +72,12 @@ module _ (below : Reader) (n : ℕ) (ok : IsComplete n below) where
         is = x.is;
         turns = before.turns - 1;
         enough = omega arith;
-        same = before.same ∙ ap (λ m. climb below (n + 1) least m (tall before.term (tree_height t)) mid) is ∙ goes_on below (n + 1) least (before.turns - 1) (tall before.term (tree_height t)) mid tight fits (tall x.term (tree_height u)) us read low;
+        same = before.same ∙ ap (λ m. climb below (n + 1) least m (tall before.term (tree_height t)) mid) is
+            ∙ goes_on below (n + 1) least (before.turns - 1) (tall before.term (tree_height t)) mid tight fits (tall x.term (tree_height u)) us read low;
       }
 
-  binary_complete : (l : ℕ) (op : Operator) (x : Term) (s t : Tree) (a b c us : List Symbol) → tree_of x ≡ s → l ≡ line_of s → Joins op a b → right_place op ≤ level t → IsLevelled t → tree_height t ≤ n → Spells t b c → Behind op c us
+  binary_complete : (l : ℕ) (op : Operator) (x : Term) (s t : Tree) (a b c us : List Symbol) → tree_of x ≡ s → l ≡ line_of s → Joins op a b
+      → right_place op ≤ level t → IsLevelled t → tree_height t ≤ n → Spells t b c → Behind op c us
       → binds (first us) ≤ operator_closing op → IsRead (binary below op (tall x (tree_height s)) a) (shape.binary l op s t) us
   unfolding binary
   binary_complete l op x s t a b c us is line joins fits lev low h close stop =
@@ -84,7 +87,8 @@ module _ (below : Reader) (n : ℕ) (ok : IsComplete n below) where
       let same : shape.binary (line_of (tree_of x)) op (tree_of x) (tree_of y.term) ≡ shape.binary l op s t = cc in
       record { term = term.Binary (line_of (tree_of x)) op x y.term; is = of.of-Binary (line_of (tree_of x)) op x y.term ∙ same; read = rw (joins.passed, y.read, ended op c us close) refl }
 
-  chained_complete : (l : ℕ) (x : Term) (t : Tree) (r : Relation) (u : Tree) (ks : Links) (a us : List Symbol) → tree_of x ≡ t → l ≡ line_of t → LinksAreLevelled (link r u ks) → links_height (link r u ks) ≤ n → SpellsLinks (link r u ks) a us
+  chained_complete : (l : ℕ) (x : Term) (t : Tree) (r : Relation) (u : Tree) (ks : Links) (a us : List Symbol) → tree_of x ≡ t → l ≡ line_of t
+      → LinksAreLevelled (link r u ks) → links_height (link r u ks) ≤ n → SpellsLinks (link r u ks) a us
       → binds (first us) ≤ chain_level → IsRead (chained below (tall x (tree_height t)) a) (chain l t (link r u ks)) us
   unfolding chained chain_links
   chained_complete l x t r u ks a us is line lev low h stop =
@@ -132,14 +136,16 @@ module _ (below : Reader) (n : ℕ) (ok : IsComplete n below) where
       let at : List Symbol = symbol k.Inverse after.0 ∷ us in
       let whole_s = subst (λ ts. Spells t ts at) (sym same) (subst (Spells t a) after.1 s) in
       let left = spine t least ts at (omega arith) lev.1 (omega arith) whole_s (closes t postfix_level (postfix_level + 1) postfix_gap (omega arith) lev.0) in
-      turn least t _ ts at us role.Inverse refl left (omega arith) low (omega arith) lev.0 (λ x is. record { term = term.Unary (line_of (tree_of x)) one.Inverse x; is = inverse_seen l x t is line; read = refl })
+      turn least t _ ts at us role.Inverse refl left (omega arith) low (omega arith) lev.0
+      (λ x is. record { term = term.Unary (line_of (tree_of x)) one.Inverse x; is = inverse_seen l x t is line; read = refl })
   spine (shape.binary l op x y) least ts us fits lev low h stop =
       let (a, b, c, line, s, between, s_y, close) = h in
       let joins = joined op y a b c lev.2 lev.3 between s_y in
       let place = stands op in
       let tight : binds (first a) ≤ closing x = omega (arith, ap bound_by joins.role, closes x (left_place op) (operator_level op + 1) place.gap place.some lev.0) in
       let left = spine x least ts a (omega (arith, place.left, lev.0)) lev.1 (omega arith) s tight in
-      turn least x _ ts a us (role.Operator op) joins.role left (omega arith) low (omega arith) lev.0 (λ z is. binary_complete l op z x y a b c us is line joins lev.2 lev.3 (omega arith) s_y close stop)
+      turn least x _ ts a us (role.Operator op) joins.role left (omega arith) low (omega arith) lev.0
+      (λ z is. binary_complete l op z x y a b c us is line joins lev.2 lev.3 (omega arith) s_y close stop)
   spine (chain l t no_links) least ts us fits lev low h stop = absurd h.3
   spine (chain l t (link r u ks)) least ts us fits lev low h stop =
       let (a, line, s, more) = h in
@@ -147,7 +153,8 @@ module _ (below : Reader) (n : ℕ) (ok : IsComplete n below) where
       let relates = split.2 in
       let at : List Symbol = symbol (k.Relation r) relates.0 ∷ split.0 in
       let left = spine t least ts at (omega arith) lev.1 (omega arith) (subst (Spells t ts) relates.1 s) (closes t expression_level (chain_level + 1) chain_gap (omega arith) lev.0) in
-      turn least t (chain l t (link r u ks)) ts at us role.Relation refl left (omega arith) low (omega arith) lev.0 (λ x is. chained_complete l x t r u ks at us is line lev.2 (omega arith) (subst (λ a. SpellsLinks (link r u ks) a us) relates.1 more) stop)
+      turn least t (chain l t (link r u ks)) ts at us role.Relation refl left (omega arith) low (omega arith) lev.0
+      (λ x is. chained_complete l x t r u ks at us is line lev.2 (omega arith) (subst (λ a. SpellsLinks (link r u ks) a us) relates.1 more) stop)
 
   stops : (least j : ℕ) (x : Tall Term) (us : List Symbol) → 0 < j → binds (first us) ≤ least → climb below (n + 1) least j x us ≡ Ok (x, us)
   unfolding climb

@@ -117,14 +117,16 @@ pub link_first : (p : Relation × Tree) (ks : Links) (ts a b us : List Symbol) �
 link_first p no_links ts a b us begins s h = (a, begins, subst (Spells p.1 a) h s)
 link_first p (link r t ks) ts a b us begins s h = (a, b, begins, s, h)
 
-pub decl_first : (p : List Name × Tree) (ds : VarDecls) (ts a b c us : List Symbol) → SpellsNames p.0 ts a → Next k.Colon a b → Spells p.1 b c → SpellsFurtherDecls ds c us → SpellsDecls (var_decl p.0 p.1 ds) ts us
+pub decl_first : (p : List Name × Tree) (ds : VarDecls) (ts a b c us : List Symbol) → SpellsNames p.0 ts a → Next k.Colon a b → Spells p.1 b c
+    → SpellsFurtherDecls ds c us → SpellsDecls (var_decl p.0 p.1 ds) ts us
 decl_first p no_decls ts a b c us names colon s h = (a, b, names, colon, subst (Spells p.1 b) h s)
 decl_first p (var_decl ns t ds) ts a b c us names colon s h = (a, b, c, h.0, names, colon, s, h.1, h.2)
 
 module _ (below : Reader) (n : ℕ) (ok : IsSound n below) where
   -- ---- further terms
 
-  terms_end : (place turns : ℕ) (m : Mark) (xs ys : Tall (List Term)) (ts us : List Symbol) → (is_mark m (first ts) ≡ true → 0 < turns → ⊥) → ◌≡◌ {A = Outcome (Tall (List Term))} (Ok (xs, ts)) (Ok (ys, us)) → SoundTerms n place turns m xs ys ts us
+  terms_end : (place turns : ℕ) (m : Mark) (xs ys : Tall (List Term)) (ts us : List Symbol) → (is_mark m (first ts) ≡ true → 0 < turns → ⊥)
+      → ◌≡◌ {A = Outcome (Tall (List Term))} (Ok (xs, ts)) (Ok (ys, us)) → SoundTerms n place turns m xs ys ts us
   terms_end place turns m xs ys ts us none e =
       let same = ok_value xs ys ts us e in
       let high : xs.height ≡ ys.height = ap (λ s. s.height) same in
@@ -138,7 +140,8 @@ module _ (below : Reader) (n : ℕ) (ok : IsSound n below) where
         spelled = ok_rest xs ys ts us e;
       }
 
-  terms_more : (place j : ℕ) (m : Mark) (xs ys : Tall (List Term)) (ts a us : List Symbol) (x : Tall Term) → is_mark m (first ts) ≡ true → Sound n place x (rest ts) a → SoundTerms n place j m (with_term xs x) ys a us → SoundTerms n place (suc j) m xs ys ts us
+  terms_more : (place j : ℕ) (m : Mark) (xs ys : Tall (List Term)) (ts a us : List Symbol) (x : Tall Term) → is_mark m (first ts) ≡ true
+      → Sound n place x (rest ts) a → SoundTerms n place j m (with_term xs x) ys a us → SoundTerms n place (suc j) m xs ys ts us
   terms_more place j m xs ys ts a us x is sx r =
       let high = sx.high in
       let low = sx.low in
@@ -153,7 +156,8 @@ module _ (below : Reader) (n : ℕ) (ok : IsSound n below) where
         spelled = (rest ts, a, marked m ts is, sx.spelled, r.spelled);
       }
 
-  pub further_sound : (place : ℕ) → place ≤ atom_level → (turns : ℕ) (m : Mark) (xs ys : Tall (List Term)) (ts us : List Symbol) → further_from below m place turns xs ts ≡ Ok (ys, us) → SoundTerms n place turns m xs ys ts us
+  pub further_sound : (place : ℕ) → place ≤ atom_level → (turns : ℕ) (m : Mark) (xs ys : Tall (List Term)) (ts us : List Symbol)
+      → further_from below m place turns xs ts ≡ Ok (ys, us) → SoundTerms n place turns m xs ys ts us
   unfolding further_from
   further_sound place fits zero m xs ys ts us e = terms_end place zero m xs ys ts us (λ is p. omega arith) e
   further_sound place fits (suc j) m xs ys ts us e =
@@ -178,7 +182,8 @@ module _ (below : Reader) (n : ℕ) (ok : IsSound n below) where
         spelled = ok_rest xs ys ts us e;
       }
 
-  links_more : (xs ys : Tall (List Link)) (ts a us : List Symbol) (r : Relation) (x : Tall Term) → IsLink n (r, tree_of x.part) x.height ts a → SoundLinks n (with_link xs r x) ys a us → SoundLinks n xs ys ts us
+  links_more : (xs ys : Tall (List Link)) (ts a us : List Symbol) (r : Relation) (x : Tall Term) → IsLink n (r, tree_of x.part) x.height ts a
+      → SoundLinks n (with_link xs r x) ys a us → SoundLinks n xs ys ts us
   links_more xs ys ts a us r x one more =
       let s = subst (λ p. IsLink n p x.height ts a) (sym (of.of-link r x.part)) one in
       let high = s.high in
@@ -224,7 +229,19 @@ module _ (below : Reader) (n : ℕ) (ok : IsSound n below) where
       let y = bind_ok (below expression_level colon.1) _ (x, us) colon.3 in
       let s = ok expression_level colon.1 y.1 y.0 (omega arith) y.2 in
       let one : IsDecl n (ns.0, tree_of y.0.part) y.0.height ts y.1 =
-      record { fits = s.fits; levelled = s.levelled; high = s.high; low = s.low; spelled = (ns.1, colon.1, names_ok ts ns.1 ns.0 ns.2, expect_ok mark.Colon ns.1 colon.1 colon.0 colon.2, s.spelled) } in
+      record {
+        fits = s.fits;
+        levelled = s.levelled;
+        high = s.high;
+        low = s.low;
+        spelled = (
+          ns.1,
+          colon.1,
+          names_ok ts ns.1 ns.0 ns.2,
+          expect_ok mark.Colon ns.1 colon.1 colon.0 colon.2,
+          s.spelled,
+        );
+      } in
       subst (λ p. IsDecl n (var_decl_of p.0.part) p.0.height ts p.1) (ok_pair (tall (new_decl ns.0 y.0.part) y.0.height, y.1) (x, us) y.3)
       (subst (λ p. IsDecl n p y.0.height ts y.1) (sym (of.of-decl ns.0 y.0.part)) one)
 
@@ -241,7 +258,8 @@ module _ (below : Reader) (n : ℕ) (ok : IsSound n below) where
         spelled = ok_rest xs ys ts us e;
       }
 
-  decls_more : (xs ys : Tall (List VarDecl)) (ts a us : List Symbol) (x : Tall VarDecl) → is_mark mark.Separator (first ts) ≡ true → IsDecl n (var_decl_of x.part) x.height (rest ts) a → SoundDecls n (with_decl xs x) ys a us → SoundDecls n xs ys ts us
+  decls_more : (xs ys : Tall (List VarDecl)) (ts a us : List Symbol) (x : Tall VarDecl) → is_mark mark.Separator (first ts) ≡ true
+      → IsDecl n (var_decl_of x.part) x.height (rest ts) a → SoundDecls n (with_decl xs x) ys a us → SoundDecls n xs ys ts us
   decls_more xs ys ts a us x is s more =
       let high = s.high in
       let low = s.low in

@@ -69,7 +69,8 @@ decls_begin (var_decl ns t ds) ts us h =
     let s = split_decls ns t ds ts us h in
     names_begin ns ts s.0 s.3 (ap (begins_decl false) s.4.1)
 
-pub items_do_not : (t : Tree) (vs : Trees) (ts a us ws : List Symbol) → IsLevelled t → AreAt expression_level vs → Spells t ts a → SpellsFurther k.Comma vs a us → Next k.CloseBrace us ws → begins_decl true ts ≡ true → ⊥
+pub items_do_not : (t : Tree) (vs : Trees) (ts a us ws : List Symbol) → IsLevelled t → AreAt expression_level vs → Spells t ts a
+    → SpellsFurther k.Comma vs a us → Next k.CloseBrace us ws → begins_decl true ts ≡ true → ⊥
 items_do_not t no_trees ts a us ws lev all s h end is =
     let e : false ≡ true = sym (ap (begins_decl false) end.1) ∙ sym (ap (begins_decl false) h) ∙ only_name t ts a lev s is in
     cc
@@ -93,7 +94,8 @@ module _ (below : Reader) (n : ℕ) (ok : IsComplete n below) where
     pub are : trees_of more ≡ vs
     pub read : further_from below m place j xs ts ≡ Ok (tall (xs.part ++ more) (max xs.height (trees_height vs)), us)
 
-  further_complete : (m : Mark) (place : ℕ) → Parts m place → (vs : Trees) (j : ℕ) (xs : Tall (List Term)) (ts us : List Symbol) → AreAt place vs → trees_height vs ≤ n → length ts ≤ j → is_mark m (first us) ≡ false → binds (first us) ≤ place
+  further_complete : (m : Mark) (place : ℕ) → Parts m place → (vs : Trees) (j : ℕ) (xs : Tall (List Term)) (ts us : List Symbol) → AreAt place vs
+      → trees_height vs ≤ n → length ts ≤ j → is_mark m (first us) ≡ false → binds (first us) ≤ place
       → SpellsFurther (kind_of m) vs ts us → ReadTerms m place j xs vs ts us
   unfolding further_from
   further_complete m place parts no_trees zero xs ts us lev low fuel none stop h =
@@ -116,7 +118,8 @@ module _ (below : Reader) (n : ℕ) (ok : IsComplete n below) where
       record {
         more = x.term ∷ more.more;
         are = cc;
-        read = rw (is, item) (more.read ∙ ap (λ h. Ok (tall ((xs.part ++ x.term ∷ []) ++ more.more) h, us)) high ∙ ap (λ ys. Ok (tall ys (max xs.height (max (tree_height t) (trees_height vs))), us)) (append_assoc xs.part (x.term ∷ []) more.more));
+        read = rw (is, item) (more.read ∙ ap (λ h. Ok (tall ((xs.part ++ x.term ∷ []) ++ more.more) h, us)) high
+            ∙ ap (λ ys. Ok (tall ys (max xs.height (max (tree_height t) (trees_height vs))), us)) (append_assoc xs.part (x.term ∷ []) more.more));
       }
 
   -- all terms, of which the first is read
@@ -125,7 +128,8 @@ module _ (below : Reader) (n : ℕ) (ok : IsComplete n below) where
     pub are : trees_of all ≡ tree t vs
     pub read : further below m place (tall x (tree_height t)) a ≡ Ok (tall all (trees_height (tree t vs)), us)
 
-  pub all_complete : (m : Mark) (place : ℕ) → Parts m place → (x : Term) (t : Tree) (vs : Trees) (a us : List Symbol) → tree_of x ≡ t → AreAt place vs → trees_height vs ≤ n → is_mark m (first us) ≡ false → binds (first us) ≤ place
+  pub all_complete : (m : Mark) (place : ℕ) → Parts m place → (x : Term) (t : Tree) (vs : Trees) (a us : List Symbol) → tree_of x ≡ t → AreAt place vs
+      → trees_height vs ≤ n → is_mark m (first us) ≡ false → binds (first us) ≤ place
       → SpellsFurther (kind_of m) vs a us → ReadAll m place x t vs a us
   unfolding further
   all_complete m place parts x t vs a us is lev low none stop h =
@@ -154,11 +158,17 @@ module _ (below : Reader) (n : ℕ) (ok : IsComplete n below) where
       at (k.Relation r) line stop = absurd (omega arith)
       at _ line stop = refl
 
-  pub links_complete : (ks : Links) (j : ℕ) (xs : Tall (List Link)) (ts us : List Symbol) → LinksAreLevelled ks → links_height ks ≤ n → length ts ≤ j → binds (first us) ≤ chain_level → SpellsSomeLinks ks ts us → ReadLinks j xs ks ts us
+  pub links_complete : (ks : Links) (j : ℕ) (xs : Tall (List Link)) (ts us : List Symbol) → LinksAreLevelled ks → links_height ks ≤ n → length ts ≤ j
+      → binds (first us) ≤ chain_level → SpellsSomeLinks ks ts us → ReadLinks j xs ks ts us
   unfolding links_from
   links_complete no_links j xs ts us lev low fuel stop h =
       let high : xs.height ≡ max xs.height 0 = omega arith in
-      record { more = []; are = refl; read = ap (links_from below j xs) h ∙ links_end xs j us stop ∙ ap (λ h. Ok (tall xs.part h, us)) high ∙ ap (λ ys. Ok (tall ys (max xs.height 0), us)) (sym (append-nil xs.part)) }
+      record {
+        more = [];
+        are = refl;
+        read = ap (links_from below j xs) h ∙ links_end xs j us stop ∙ ap (λ h. Ok (tall xs.part h, us)) high
+            ∙ ap (λ ys. Ok (tall ys (max xs.height 0), us)) (sym (append-nil xs.part));
+      }
   links_complete (link r t ks) zero xs ts us lev low fuel stop h =
       let s = split_links r t ks ts us h in
       absurd (omega (arith, next_shorter ts s.0 s.2))
@@ -172,7 +182,9 @@ module _ (below : Reader) (n : ℕ) (ok : IsComplete n below) where
       record {
         more = new_link r x.term ∷ more.more;
         are = ap (λ p. link p.0 p.1 (links_of more.more)) one ∙ ap (λ t. link r t (links_of more.more)) x.is ∙ ap (link r t) more.are;
-        read = ap (links_from below (suc j) xs) s.2.1 ∙ rw x.read (more.read ∙ ap (λ h. Ok (tall ((xs.part ++ new_link r x.term ∷ []) ++ more.more) h, us)) high ∙ ap (λ ys. Ok (tall ys (max xs.height (max (tree_height t) (links_height ks))), us)) (append_assoc xs.part (new_link r x.term ∷ []) more.more));
+        read = ap (links_from below (suc j) xs) s.2.1 ∙ rw x.read (more.read
+            ∙ ap (λ h. Ok (tall ((xs.part ++ new_link r x.term ∷ []) ++ more.more) h, us)) high
+            ∙ ap (λ ys. Ok (tall ys (max xs.height (max (tree_height t) (links_height ks))), us)) (append_assoc xs.part (new_link r x.term ∷ []) more.more));
       }
 
   -- ---- declarations
@@ -182,7 +194,8 @@ module _ (below : Reader) (n : ℕ) (ok : IsComplete n below) where
     pub is : tree_of term ≡ t
     pub read : read_decl below ts ≡ Ok (tall (new_decl ns term) (tree_height t), us)
 
-  decl_complete : (ns : List Name) (t : Tree) (ts a b us : List Symbol) → expression_level ≤ level t → IsLevelled t → tree_height t ≤ n → SpellsNames ns ts a → Next k.Colon a b → Spells t b us → binds (first us) ≤ expression_level → ReadDecl ns t ts us
+  decl_complete : (ns : List Name) (t : Tree) (ts a b us : List Symbol) → expression_level ≤ level t → IsLevelled t → tree_height t ≤ n → SpellsNames ns ts a
+      → Next k.Colon a b → Spells t b us → binds (first us) ≤ expression_level → ReadDecl ns t ts us
   unfolding read_decl
   decl_complete ns t ts a b us fits lev low names colon h stop =
       let x = ok expression_level t b us fits lev low h stop in
@@ -202,7 +215,8 @@ module _ (below : Reader) (n : ℕ) (ok : IsComplete n below) where
   decls_are ns x t es ds is are =
       ap (λ p. var_decl p.0 p.1 (decls_of es)) (of.of-decl ns x) ∙ ap (λ t. var_decl ns t (decls_of es)) is ∙ ap (var_decl ns t) are
 
-  decls_from_complete : (ds : VarDecls) (j : ℕ) (xs : Tall (List VarDecl)) (ts us : List Symbol) → DeclsAreLevelled ds → decls_height ds ≤ n → length ts ≤ j → is_mark mark.Separator (first us) ≡ false → binds (first us) ≤ expression_level
+  decls_from_complete : (ds : VarDecls) (j : ℕ) (xs : Tall (List VarDecl)) (ts us : List Symbol) → DeclsAreLevelled ds → decls_height ds ≤ n → length ts ≤ j
+      → is_mark mark.Separator (first us) ≡ false → binds (first us) ≤ expression_level
       → SpellsFurtherDecls ds ts us → ReadDecls j xs ds ts us
   unfolding decls_from
   decls_from_complete no_decls zero xs ts us lev low fuel none stop h =
@@ -224,7 +238,8 @@ module _ (below : Reader) (n : ℕ) (ok : IsComplete n below) where
       record {
         more = new_decl ns x.term ∷ more.more;
         are = decls_are ns x.term t more.more ds x.is more.are;
-        read = rw (is, item) (more.read ∙ ap (λ h. Ok (tall ((xs.part ++ new_decl ns x.term ∷ []) ++ more.more) h, us)) high ∙ ap (λ ys. Ok (tall ys (max xs.height (max (tree_height t) (decls_height ds))), us)) (append_assoc xs.part (new_decl ns x.term ∷ []) more.more));
+        read = rw (is, item) (more.read ∙ ap (λ h. Ok (tall ((xs.part ++ new_decl ns x.term ∷ []) ++ more.more) h, us)) high
+            ∙ ap (λ ys. Ok (tall ys (max xs.height (max (tree_height t) (decls_height ds))), us)) (append_assoc xs.part (new_decl ns x.term ∷ []) more.more));
       }
 
   pub record ReadAllDecls (ds : VarDecls) (ts us : List Symbol) : Type 0 where
@@ -232,7 +247,8 @@ module _ (below : Reader) (n : ℕ) (ok : IsComplete n below) where
     pub are : decls_of all ≡ ds
     pub read : decls below ts ≡ Ok (tall all (decls_height ds), us)
 
-  pub decls_complete : (ds : VarDecls) (ts us : List Symbol) → DeclsAreLevelled ds → decls_height ds ≤ n → is_mark mark.Separator (first us) ≡ false → binds (first us) ≤ expression_level → SpellsDecls ds ts us → ReadAllDecls ds ts us
+  pub decls_complete : (ds : VarDecls) (ts us : List Symbol) → DeclsAreLevelled ds → decls_height ds ≤ n → is_mark mark.Separator (first us) ≡ false
+      → binds (first us) ≤ expression_level → SpellsDecls ds ts us → ReadAllDecls ds ts us
   unfolding decls
   decls_complete no_decls ts us lev low none stop h = absurd h
   decls_complete (var_decl ns t ds) ts us lev low none stop h =
@@ -246,7 +262,8 @@ module _ (below : Reader) (n : ℕ) (ok : IsComplete n below) where
     pub is : part_of term ≡ p
     pub read : part below m place ts ≡ Ok (tall term (perhaps_height p), us)
 
-  pub part_complete : (m : Mark) (place : ℕ) (p : Perhaps) (ts us : List Symbol) → PartIsAt place p → perhaps_height p ≤ n → is_mark m (first us) ≡ false → binds (first us) ≤ place → SpellsPart (kind_of m) p ts us → ReadPart m place p ts us
+  pub part_complete : (m : Mark) (place : ℕ) (p : Perhaps) (ts us : List Symbol) → PartIsAt place p → perhaps_height p ≤ n → is_mark m (first us) ≡ false
+      → binds (first us) ≤ place → SpellsPart (kind_of m) p ts us → ReadPart m place p ts us
   unfolding part
   part_complete m place absent ts us lev low none stop h =
       let is : is_mark m (first ts) ≡ false = ap (λ ts. is_mark m (first ts)) h ∙ none in

@@ -24,7 +24,8 @@ module _ (below : Reader) (n : ℕ) (ok : IsSound n below) where
 
   -- what goes on with a term, which spells the symbols from `ts` to `a`
 
-  binary_sound : (least : ℕ) (op : Operator) (x z : Tall Term) (ts a b us : List Symbol) → least < operator_level op + 1 → left_place op ≤ level (tree_of x.part) → Sound (n + 1) quantifier_level x ts a → Between op a b → beyond op a ≡ b
+  binary_sound : (least : ℕ) (op : Operator) (x z : Tall Term) (ts a b us : List Symbol) → least < operator_level op + 1
+      → left_place op ≤ level (tree_of x.part) → Sound (n + 1) quantifier_level x ts a → Between op a b → beyond op a ≡ b
       → binary below op x a ≡ Ok (z, us) → z.height ≤ n + 1 → Whole least z ts us
   unfolding binary
   binary_sound least op x z ts a b us fits left sx between is e low =
@@ -35,7 +36,8 @@ module _ (below : Reader) (n : ℕ) (ok : IsSound n below) where
       let high = sx.high in
       let high_y = sy.high in
       let high_z : max x.height y.0.height + 1 ≡ z.height = ap (λ z. z.height) (ok_value (over_both (term.Binary l op) x y.0) z end.1 us end.3) in
-      made (n + 1) least (shape.binary l op (tree_of x.part) (tree_of y.0.part)) (term.Binary l op x.part y.0.part) (max x.height y.0.height + 1) ts end.1 us z (of.of-Binary l op x.part y.0.part) end.3
+      made (n + 1) least (shape.binary l op (tree_of x.part) (tree_of y.0.part)) (term.Binary l op x.part y.0.part) (max x.height y.0.height + 1) ts end.1 us z
+      (of.of-Binary l op x.part y.0.part) end.3
       (record {
         fits = omega arith;
         levelled = (left, sx.levelled, sy.fits, sy.levelled);
@@ -44,7 +46,8 @@ module _ (below : Reader) (n : ℕ) (ok : IsSound n below) where
         spelled = (a, b, y.1, refl, sx.spelled, between, sy.spelled, ended_ok op y.1 end.1 end.0 end.2);
       })
 
-  inverse_sound : (least o : ℕ) (x z : Tall Term) (ts a us : List Symbol) → least < postfix_level + 1 → postfix_level ≤ level (tree_of x.part) → Sound (n + 1) quantifier_level x ts (symbol k.Inverse o ∷ a)
+  inverse_sound : (least o : ℕ) (x z : Tall Term) (ts a us : List Symbol) → least < postfix_level + 1 → postfix_level ≤ level (tree_of x.part)
+      → Sound (n + 1) quantifier_level x ts (symbol k.Inverse o ∷ a)
       → ◌≡◌ {A = Outcome (Tall Term)} (Ok (over (term.Unary (line_of (tree_of x.part)) one.Inverse) x, a)) (Ok (z, us)) → z.height ≤ n + 1 → Whole least z ts us
   inverse_sound least o x z ts a us fits left sx e low =
       let l = line_of (tree_of x.part) in
@@ -53,7 +56,8 @@ module _ (below : Reader) (n : ℕ) (ok : IsSound n below) where
       made (n + 1) least (shape.unary l one.Inverse (tree_of x.part)) (term.Unary l one.Inverse x.part) (x.height + 1) ts a us z (of.of-Unary l one.Inverse x.part) e
       (record { fits = omega arith; levelled = (left, sx.levelled); high = omega arith; low = omega arith; spelled = (ts, symbol k.Inverse o ∷ a, (refl, refl), sx.spelled, (o, refl)) })
 
-  product_sound : (least o : ℕ) (x z : Tall Term) (ts a us : List Symbol) → least < product_level + 1 → product_level + 1 ≤ level (tree_of x.part) → Sound (n + 1) quantifier_level x ts (symbol k.Cross o ∷ a)
+  product_sound : (least o : ℕ) (x z : Tall Term) (ts a us : List Symbol) → least < product_level + 1 → product_level + 1 ≤ level (tree_of x.part)
+      → Sound (n + 1) quantifier_level x ts (symbol k.Cross o ∷ a)
       → listed below (line_of (tree_of x.part)) list.Product x (symbol k.Cross o ∷ a) ≡ Ok (z, us) → z.height ≤ n + 1 → Whole least z ts us
   product_sound least o x z ts a us fits left sx e low =
       listed_sound below n ok (n + 1) (line_of (tree_of x.part)) least list.Product x z ts ts (symbol k.Cross o ∷ a) us
@@ -82,7 +86,8 @@ module _ (below : Reader) (n : ℕ) (ok : IsSound n below) where
         spelled = subst (λ xs. SpellsLinks (links_of xs) (symbol (k.Relation r) o ∷ a) us) (sym is) spelled;
       }
 
-  chained_sound : (least : ℕ) (r : Relation) (o : ℕ) (x z : Tall Term) (ts a us : List Symbol) → least < chain_level + 1 → expression_level ≤ level (tree_of x.part) → Sound (n + 1) quantifier_level x ts (symbol (k.Relation r) o ∷ a)
+  chained_sound : (least : ℕ) (r : Relation) (o : ℕ) (x z : Tall Term) (ts a us : List Symbol) → least < chain_level + 1
+      → expression_level ≤ level (tree_of x.part) → Sound (n + 1) quantifier_level x ts (symbol (k.Relation r) o ∷ a)
       → chained below x (symbol (k.Relation r) o ∷ a) ≡ Ok (z, us) → z.height ≤ n + 1 → Whole least z ts us
   unfolding chained
   chained_sound least r o x z ts a us fits left sx e low =
@@ -95,7 +100,8 @@ module _ (below : Reader) (n : ℕ) (ok : IsSound n below) where
       made (n + 1) least (chain l (tree_of x.part) (links_of ks.0.part)) (term.Chain l x.part ks.0.part) (max x.height ks.0.height + 1) ts ks.1 us z (of.of-Chain l x.part ks.0.part) ks.3
       (record { fits = omega arith; levelled = (left, sx.levelled, s.levelled); high = omega arith; low = omega arith; spelled = (symbol (k.Relation r) o ∷ a, refl, sx.spelled, s.spelled) })
 
-  longer_at : (least : ℕ) (x z : Tall Term) (kind : Kind) (o : ℕ) (ts a us : List Symbol) → least < binds (next_of kind) → place_before (role_of (next_of kind)) ≤ level (tree_of x.part) → Sound (n + 1) quantifier_level x ts (symbol kind o ∷ a)
+  longer_at : (least : ℕ) (x z : Tall Term) (kind : Kind) (o : ℕ) (ts a us : List Symbol) → least < binds (next_of kind)
+      → place_before (role_of (next_of kind)) ≤ level (tree_of x.part) → Sound (n + 1) quantifier_level x ts (symbol kind o ∷ a)
       → longer_by below x (role_of (next_of kind)) (symbol kind o ∷ a) ≡ Ok (z, us) → z.height ≤ n + 1 → Whole least z ts us
   longer_at least x z (k.Infix op) o ts a us fits left sx e low = binary_sound least (operator.Function op) x z ts _ a us fits left sx (o, refl) refl e low
   longer_at least x z (k.Arrow op) o ts a us fits left sx e low = binary_sound least (operator.Generic op) x z ts _ a us fits left sx (o, refl) refl e low
@@ -112,7 +118,8 @@ module _ (below : Reader) (n : ℕ) (ok : IsSound n below) where
   longer_at least x z k.Inverse o ts a us fits left sx e low = inverse_sound least o x z ts a us fits left sx e low
   longer_at least x z _ o ts a us fits left sx e low = absurd (omega arith)
 
-  longer_sound : (least : ℕ) (x z : Tall Term) (ts a us : List Symbol) → least < binds (first a) → place_before (role_of (first a)) ≤ level (tree_of x.part) → Sound (n + 1) quantifier_level x ts a → longer_by below x (role_of (first a)) a ≡ Ok (z, us) → z.height ≤ n + 1 → Whole least z ts us
+  longer_sound : (least : ℕ) (x z : Tall Term) (ts a us : List Symbol) → least < binds (first a) → place_before (role_of (first a)) ≤ level (tree_of x.part)
+      → Sound (n + 1) quantifier_level x ts a → longer_by below x (role_of (first a)) a ≡ Ok (z, us) → z.height ≤ n + 1 → Whole least z ts us
   longer_sound least x z ts [] us fits left sx e low = absurd (omega arith)
   longer_sound least x z ts (s ∷ a) us fits left sx e low = longer_at least x z s.kind s.line ts a us fits left sx e low
 

@@ -69,15 +69,51 @@ infix_gap : (op : Infix) → Gap (infix_level op) (infix_level op + 1)
 infix_gap op =
     let low = priority_some op in
     let high = priority_le op in
-    record { near = omega arith; two = λ h. omega arith; five = λ h. omega arith; six = λ h. omega arith; seven = λ h. omega arith; eight = λ h. omega arith; fifteen = λ h. omega arith; sixteen = λ h. omega arith; seventeen = λ h. omega arith; top = omega arith }
+    record {
+      near = omega arith;
+      two = λ h. omega arith;
+      five = λ h. omega arith;
+      six = λ h. omega arith;
+      seven = λ h. omega arith;
+      eight = λ h. omega
+          arith;
+      fifteen = λ h. omega arith;
+      sixteen = λ h. omega arith;
+      seventeen = λ h. omega arith;
+      top = omega arith;
+    }
 
 fixed_gap : (p b : ℕ) → b ≤ p + 1 → 6 < p → (p ≤ 7 → b ≤ 7) → (p ≤ 8 → b ≤ 8) → (p ≤ 15 → b ≤ 15) → (p ≤ 17 → b ≤ 17) → b ≤ 19 → Gap p b
 fixed_gap p b near high seven eight fifteen seventeen top =
-    record { near = near; two = λ h. omega arith; five = λ h. omega arith; six = λ h. omega arith; seven = seven; eight = eight; fifteen = fifteen; sixteen = λ h. omega arith; seventeen = seventeen; top = top }
+    record {
+      near = near;
+      two = λ h. omega arith;
+      five = λ h. omega arith;
+      six = λ h. omega arith;
+      seven = seven;
+      eight = eight;
+      fifteen = fifteen;
+      sixteen = λ
+          h. omega arith;
+      seventeen = seventeen;
+      top = top;
+    }
 
 loose_gap : (p b : ℕ) → b ≤ p + 1 → (p ≤ 2 → b ≤ 2) → p ≤ 4 → Gap p b
 loose_gap p b near two low =
-    record { near = near; two = two; five = λ h. omega arith; six = λ h. omega arith; seven = λ h. omega arith; eight = λ h. omega arith; fifteen = λ h. omega arith; sixteen = λ h. omega arith; seventeen = λ h. omega arith; top = omega arith }
+    record {
+      near = near;
+      two = two;
+      five = λ h. omega arith;
+      six = λ h. omega arith;
+      seven = λ h. omega arith;
+      eight = λ h. omega arith;
+      fifteen = λ h. omega
+          arith;
+      sixteen = λ h. omega arith;
+      seventeen = λ h. omega arith;
+      top = omega arith;
+    }
 
 pub chain_gap : Gap expression_level (chain_level + 1)
 chain_gap = fixed_gap 7 7 (omega arith) (omega arith) (λ h. omega arith) (λ h. omega arith) (λ h. omega arith) (λ h. omega arith) (omega arith)
@@ -99,13 +135,84 @@ pub record Stands (op : Operator) : Type 0 where
   pub gaps : (p b : ℕ) → Gap p b → p ≤ operator_level op → b ≤ operator_closing op
 
 pub stands : (op : Operator) → Stands op
-stands (operator.Function op) = record { low = omega (arith, priority_some op, priority_le op); right = omega (arith, priority_some op, priority_le op); some = omega (arith, priority_some op, priority_le op); left = omega (arith, priority_some op, priority_le op); closes = omega (arith, priority_some op, priority_le op); gap = infix_gap op; gaps = λ p b g fits. omega (arith, g.near) }
-stands (operator.Generic a) = record { low = omega arith; right = omega arith; some = omega arith; left = omega arith; closes = omega arith; gap = fixed_gap 8 8 (omega arith) (omega arith) (λ h. omega arith) (λ h. omega arith) (λ h. omega arith) (λ h. omega arith) (omega arith); gaps = λ p b g fits. g.seven fits }
-stands (operator.Connective And) = record { low = omega arith; right = omega arith; some = omega arith; left = omega arith; closes = omega arith; gap = loose_gap _ _ (omega arith) (λ h. omega arith) (omega arith); gaps = λ p b g fits. omega (arith, g.near) }
-stands (operator.Connective Or) = record { low = omega arith; right = omega arith; some = omega arith; left = omega arith; closes = omega arith; gap = loose_gap _ _ (omega arith) (λ h. omega arith) (omega arith); gaps = λ p b g fits. omega (arith, g.near) }
-stands (operator.Connective Implies) = record { low = omega arith; right = omega arith; some = omega arith; left = omega arith; closes = omega arith; gap = loose_gap _ _ (omega arith) (λ h. omega arith) (omega arith); gaps = λ p b g fits. g.two fits }
-stands (operator.Connective Iff) = record { low = omega arith; right = omega arith; some = omega arith; left = omega arith; closes = omega arith; gap = loose_gap _ _ (omega arith) (λ h. omega arith) (omega arith); gaps = λ p b g fits. omega (arith, g.near) }
-stands operator.Application = record { low = omega arith; right = omega arith; some = omega arith; left = omega arith; closes = omega arith; gap = fixed_gap 16 17 (omega arith) (omega arith) (λ h. omega arith) (λ h. omega arith) (λ h. omega arith) (λ h. omega arith) (omega arith); gaps = λ p b g fits. omega (arith, g.sixteen fits) }
+stands (operator.Function op) = record {
+  low = omega (arith, priority_some op, priority_le op);
+  right = omega (
+    arith,
+    priority_some op,
+    priority_le op,
+  );
+  some = omega (arith, priority_some op, priority_le op);
+  left = omega (arith, priority_some op, priority_le op);
+  closes = omega (
+    arith,
+    priority_some op,
+    priority_le op,
+  );
+  gap = infix_gap op;
+  gaps = λ p b g fits. omega (arith, g.near);
+}
+stands (operator.Generic a) = record {
+  low = omega arith;
+  right = omega arith;
+  some = omega arith;
+  left = omega arith;
+  closes = omega arith;
+  gap = fixed_gap 8
+      8 (omega arith) (omega arith) (λ h. omega arith) (λ h. omega arith) (λ h. omega arith) (λ h. omega arith) (omega arith);
+  gaps = λ p b g fits. g.seven fits;
+}
+stands (operator.Connective And) = record {
+  low = omega arith;
+  right = omega arith;
+  some = omega arith;
+  left = omega arith;
+  closes = omega arith;
+  gap
+      = loose_gap _ _ (omega arith) (λ h. omega arith) (omega arith);
+  gaps = λ p b g fits. omega (arith, g.near);
+}
+stands (operator.Connective Or) = record {
+  low = omega arith;
+  right = omega arith;
+  some = omega arith;
+  left = omega arith;
+  closes = omega arith;
+  gap
+      = loose_gap _ _ (omega arith) (λ h. omega arith) (omega arith);
+  gaps = λ p b g fits. omega (arith, g.near);
+}
+stands (operator.Connective Implies) = record {
+  low = omega arith;
+  right = omega arith;
+  some = omega arith;
+  left = omega arith;
+  closes = omega arith;
+  gap
+      = loose_gap _ _ (omega arith) (λ h. omega arith) (omega arith);
+  gaps = λ p b g fits. g.two fits;
+}
+stands (operator.Connective Iff) = record {
+  low = omega arith;
+  right = omega arith;
+  some = omega arith;
+  left = omega arith;
+  closes = omega arith;
+  gap
+      = loose_gap _ _ (omega arith) (λ h. omega arith) (omega arith);
+  gaps = λ p b g fits. omega (arith, g.near);
+}
+stands operator.Application = record {
+  low = omega arith;
+  right = omega arith;
+  some = omega arith;
+  left = omega arith;
+  closes = omega arith;
+  gap = fixed_gap 16
+      17 (omega arith) (omega arith) (λ h. omega arith) (λ h. omega arith) (λ h. omega arith) (λ h. omega arith) (omega arith);
+  gaps = λ p b g fits. omega
+      (arith, g.sixteen fits);
+}
 stands operator.Image = record { low = omega arith; right = omega arith; some = omega arith; left = omega arith; closes = omega arith; gap = postfix_gap; gaps = λ p b g fits. g.top }
 
 unary_gaps : (op : Unary) (p b : ℕ) → Gap p b → p ≤ unary_level op → b ≤ unary_closing op

@@ -9,8 +9,10 @@ fails_then o f fault.NotInProfile line h = ap (λ o. and_then o f) h
 fails_then o f fault.TooDeep line h = ap (λ o. and_then o f) h
 fails_then o f _ line h = absurd h
 
-module _ (below : ℕ → Parser (Tall Term)) (highest least n : ℕ) (x : Tall Term) (ts : List Symbol) (tight : least < binds (first ts)) (fits : place_before (role_of (first ts)) ≤ level (tree_of x.part)) where
-  pub goes_on : (y : Tall Term) (us : List Symbol) → longer_by below x (role_of (first ts)) ts ≡ Ok (y, us) → y.height ≤ highest → climb below highest least (suc n) x ts ≡ climb below highest least n y us
+module _ (below : ℕ → Parser (Tall Term)) (highest least n : ℕ) (x : Tall Term) (ts : List Symbol) (tight : least < binds (first ts))
+    (fits : place_before (role_of (first ts)) ≤ level (tree_of x.part)) where
+  pub goes_on : (y : Tall Term) (us : List Symbol) → longer_by below x (role_of (first ts)) ts ≡ Ok (y, us) → y.height ≤ highest
+      → climb below highest least (suc n) x ts ≡ climb below highest least n y us
   unfolding climb
   goes_on y us e low = rw (lt-leb (binds (first ts)) least tight, le-leb _ _ fits, e, le-leb y.height highest low) refl
 

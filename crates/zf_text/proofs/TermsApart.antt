@@ -132,9 +132,11 @@ mutual
   term_own (numeral l v) ts us h = as_own (starts_own (k.Number v) l ts us refl h) (λ x y p. p)
   term_own (constant l c) ts us h = as_own (starts_own (k.Constant c) l ts us refl h) (λ x y p. p)
   term_own (empty_set l t) ts us h =
-      four (starts_own k.EmptySet l ts h.0 refl h.3) (next_own k.OpenSquare h.0 h.1 refl h.4) (term_own t h.1 h.2 h.5) (next_own k.CloseSquare h.2 us refl h.6) (λ x a b c y p q r s. (a, b, c, p, q, r, s))
+      four (starts_own k.EmptySet l ts h.0 refl h.3) (next_own k.OpenSquare h.0 h.1 refl h.4) (term_own t h.1 h.2 h.5) (next_own k.CloseSquare h.2 us refl h.6)
+      (λ x a b c y p q r s. (a, b, c, p, q, r, s))
   term_own (bracket l t) ts us h = three (starts_own k.OpenRound l ts h.0 refl h.2) (term_own t h.0 h.1 h.3) (next_own k.CloseRound h.1 us refl h.4) (λ x a b y p q r. (a, b, p, q, r))
-  term_own (listed l form vs) ts us h = three (opens_own form l vs ts h.0 h.2) (items_own (parting form) (parting_kept form) vs h.0 h.1 h.3) (closes_own form h.1 us h.4) (λ x a b y p q r. (a, b, p, q, r))
+  term_own (listed l form vs) ts us h = three (opens_own form l vs ts h.0 h.2) (items_own (parting form) (parting_kept form) vs h.0 h.1 h.3)
+      (closes_own form h.1 us h.4) (λ x a b y p q r. (a, b, p, q, r))
   term_own (builder l ds p t) ts us h =
       five (starts_own k.OpenBrace l ts h.0 refl h.4) (decls_own ds h.0 h.1 h.5) (part_own k.Bar refl p h.1 h.2 h.6) (part_own k.At refl t h.2 h.3 h.7) (next_own k.CloseBrace h.3 us refl h.8)
       (λ x a b c d y p q r s t. (a, b, c, d, p, q, r, s, t))

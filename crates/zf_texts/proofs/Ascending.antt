@@ -51,7 +51,8 @@ less Less e = refl
 less Equal e = (cc)
 less Greater e = (cc)
 
-pub above_iff : (xs : List Value) (l v : Value) (o : Ordering) (b : Bool) → slice_get xs (length xs - 1) ≡ Some l → IsAscending xs → o ≡ value_order l v → b ≡ is_lt o → IsTrue b ↔ IsAscending (xs ++ v ∷ [])
+pub above_iff : (xs : List Value) (l v : Value) (o : Ordering) (b : Bool) → slice_get xs (length xs - 1) ≡ Some l → IsAscending xs → o ≡ value_order l v
+    → b ≡ is_lt o → IsTrue b ↔ IsAscending (xs ++ v ∷ [])
 above_iff xs l v o b g h c t = (
   λ s. above_last xs l v g h (sym c ∙ less o (sym t ∙ s)),
   λ up. t ∙ ap is_lt (c ∙ last_under xs l v g up),

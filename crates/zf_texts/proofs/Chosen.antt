@@ -62,7 +62,8 @@ module _ (ss : List Spelling) (e : Environment) where
   not_next (c ∷ cs) (Some v ∷ held) clear n bytes q name rest named other ends is =
       let line = q ∙ goes_on-first n (component_text ss c v) (texts cs held) in
       let here = cancel (comma_before n) _ _ (sym line ∙ is) in
-      let run = one_run c.name name (codes " == " ++ (value_text ss v ++ later_parts (texts cs held))) rest (name_in_word c.name clear.0.1) (name_in_word name named.1) refl ends (sym (component_parts ss c v (later_parts (texts cs held))) ∙ here) in
+      let run = one_run c.name name (codes " == " ++ (value_text ss v ++ later_parts (texts cs held))) rest (name_in_word c.name clear.0.1)
+      (name_in_word name named.1) refl ends (sym (component_parts ss c v (later_parts (texts cs held))) ∙ here) in
       other.0 run.0
 
   line_is_next : (cs : List Comp) (n : ℕ) (bytes : List ℕ) (held : List (Option Value)) → AreNames (names cs) → AreApart (names cs) → length held ≡ length cs

@@ -24,7 +24,8 @@ ends_not (x ∷ bytes) b h k e = let same : x ≡ b = same_Some x b h in let bot
 pub sliced : (xs : List ℕ) (i : ℕ) → take (length xs - i) (drop i xs) ≡ drop i xs
 sliced xs i = let l = length-drop i xs in take_all (length xs - i) (drop i xs) (omega (arith, l))
 
-pub of_ends : (r : Bool) (name bytes here rest : List ℕ) → here ≡ bytes → here ≡ name ++ rest → MatchBool r (Ends rest) (GoesOn rest) → MatchBool r (BeginsWithName name bytes) (BeginsWithoutName name bytes)
+pub of_ends : (r : Bool) (name bytes here rest : List ℕ) → here ≡ bytes → here ≡ name ++ rest → MatchBool r (Ends rest) (GoesOn rest)
+    → MatchBool r (BeginsWithName name bytes) (BeginsWithoutName name bytes)
 unfolding BeginsWithoutName GoesOn
 of_ends true name bytes here rest same is h = (rest, h, sym same ∙ is)
 of_ends false name bytes here rest same is h = λ w. h (subst Ends (cancel name w.0 rest (sym w.2 ∙ sym same ∙ is)) w.1)
@@ -159,8 +160,10 @@ module _ (ss : List Spelling) (e : Environment) where
       subst (IsHeldLine ss e (map comp_of cs) text) (append-nil held) (here.whole [] (drop-end at text k))
 
   -- one turn more
-  pub turn_taken : (cs : List Component) (i : ℕ) (c : Component) (text : List ℕ) (at n end place count later : ℕ) (held new now : List (Option Value)) (v : Value) → c ≡ get_or cs i c → i < length cs → n ≤ i
-      → HeldSoFar (map comp_of cs) (map comp_of (drop i cs)) text n held (drop at text) → HoldsIfNamed ss e (comp_of c) text n at (Some (v, end)) → new ≡ held ++ Some v ∷ [] → now ≡ new → place ≡ end → count ≡ n + 1 → later ≡ i + 1
+  pub turn_taken : (cs : List Component) (i : ℕ) (c : Component) (text : List ℕ) (at n end place count later : ℕ) (held new now : List (Option Value))
+      (v : Value) → c ≡ get_or cs i c → i < length cs → n ≤ i
+      → HeldSoFar (map comp_of cs) (map comp_of (drop i cs)) text n held (drop at text) → HoldsIfNamed ss e (comp_of c) text n at (Some (v, end))
+      → new ≡ held ++ Some v ∷ [] → now ≡ new → place ≡ end → count ≡ n + 1 → later ≡ i + 1
       → (place ≤ length text) × (count ≤ i + 1) × (later ≤ i + 1) × HeldSoFar (map comp_of cs) (map comp_of (drop (i + 1) cs)) text count now (drop place text)
   turn_taken cs i c text at n end place count later held new now v got l few r k pushed same there counted next = (
     subst (λ p. p ≤ length text) (sym there) k.held.stands.within,
@@ -170,8 +173,10 @@ module _ (ss : List Spelling) (e : Environment) where
         (subst (λ m. HeldSoFar (map comp_of cs) (map comp_of (drop (i + 1) cs)) text m now (drop end text)) (sym counted) (one_taken cs i c text at n end held now v got l r k (same ∙ pushed))),
   )
 
-  pub turn_skipped : (cs : List Component) (i : ℕ) (c : Component) (text : List ℕ) (at n behind place count later : ℕ) (held new now : List (Option Value)) → c ≡ get_or cs i c → i < length cs → at ≤ length text → n ≤ i → behind ≤ i
-      → HeldSoFar (map comp_of cs) (map comp_of (drop i cs)) text n held (drop at text) → HoldsIfNamed ss e (comp_of c) text n at None → new ≡ held ++ None ∷ [] → now ≡ new → place ≡ at → count ≡ n → later ≡ behind
+  pub turn_skipped : (cs : List Component) (i : ℕ) (c : Component) (text : List ℕ) (at n behind place count later : ℕ) (held new now : List (Option Value))
+      → c ≡ get_or cs i c → i < length cs → at ≤ length text → n ≤ i → behind ≤ i
+      → HeldSoFar (map comp_of cs) (map comp_of (drop i cs)) text n held (drop at text) → HoldsIfNamed ss e (comp_of c) text n at None
+      → new ≡ held ++ None ∷ [] → now ≡ new → place ≡ at → count ≡ n → later ≡ behind
       → (place ≤ length text) × (count ≤ i + 1) × (later ≤ i + 1) × HeldSoFar (map comp_of cs) (map comp_of (drop (i + 1) cs)) text count now (drop place text)
   turn_skipped cs i c text at n behind place count later held new now got l within few before r k pushed same there counted next = (
     subst (λ p. p ≤ length text) (sym there) within,

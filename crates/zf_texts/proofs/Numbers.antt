@@ -27,7 +27,8 @@ signed_unparsed word r f is p n fits e = no_error r n f is (signed_parsed word n
 pub unsigned_unparsed : {E : Type 0} (word : List ℕ) (r : Result ℕ E) (f : E) → r ≡ Err f → ParsesUnsigned 64 10 word r → (n : ℕ) → n < 2 ^ 64 → word ≡ decimal n → ⊥
 unsigned_unparsed word r f is p n fits e = no_error r n f is (unsigned_parsed word n r fits e p)
 
-pub signed_other : {E : Type 0} (word : List ℕ) (r : Result ℤ E) (m : ℤ) → r ≡ Ok m → ParsesSigned w64 10 word r → (signed_decimal m ≡ word → ⊥) → (n : ℤ) → FitsSigned w64 n → word ≡ signed_decimal n → ⊥
+pub signed_other : {E : Type 0} (word : List ℕ) (r : Result ℤ E) (m : ℤ) → r ≡ Ok m → ParsesSigned w64 10 word r → (signed_decimal m ≡ word → ⊥) → (n : ℤ)
+    → FitsSigned w64 n → word ≡ signed_decimal n → ⊥
 signed_other word r m is p differs n fits e = differs (ap signed_decimal (same_ok r m n is (signed_parsed word n r fits e p)) ∙ sym e)
 
 pub unsigned_other : {E : Type 0} (word : List ℕ) (r : Result ℕ E) (m : ℕ) → r ≡ Ok m → ParsesUnsigned 64 10 word r → (decimal m ≡ word → ⊥) → (n : ℕ) → n < 2 ^ 64 → word ≡ decimal n → ⊥

@@ -53,12 +53,14 @@ one_word : (f : Format) (a b r s : List ℕ) → IsWord a → IsWord b → Ends 
 one_word Lines a b r s x y g h q = one_run a b r s x.0 y.0 g h q
 one_word Objects a b r s x y g h q = one_string a b r s q
 
-one_element : (f : Format) (ss : List Spelling) (e : Environment) (o : Option ℕ) (v w : Value) (r t : List ℕ) → AreClear ss e.sizes → IsExistingElement e o v → IsExistingElement e o w → Ends r → Ends t → value_in f ss v ++ r ≡ value_in f ss w ++ t → (v ≡ w) × (r ≡ t)
+one_element : (f : Format) (ss : List Spelling) (e : Environment) (o : Option ℕ) (v w : Value) (r t : List ℕ) → AreClear ss e.sizes → IsExistingElement e o v
+    → IsExistingElement e o w → Ends r → Ends t → value_in f ss v ++ r ≡ value_in f ss w ++ t → (v ≡ w) × (r ≡ t)
 one_element f ss e None v w r t c g h a b q = absurd g
 one_element f ss e (Some n) v w r t c (k, i, at, l, is) (m, j, there, less, are) a b q =
     let (s, found, clear) = c.spelled n k at in
     let sizes : k ≡ m = same_some k m (sym at ∙ there) in
-    let texts : element_in f (spelled s i) ++ r ≡ element_in f (spelled s j) ++ t = sym (ap (λ l. l ++ r) (element_spelled f ss n i v s is found)) ∙ q ∙ ap (λ l. l ++ t) (element_spelled f ss n j w s are found) in
+    let texts : element_in f (spelled s i) ++ r ≡ element_in f (spelled s j) ++ t = sym (ap (λ l. l ++ r) (element_spelled f ss n i v s is found)) ∙ q
+    ∙ ap (λ l. l ++ t) (element_spelled f ss n j w s are found) in
     let words = one_word f (spelled s i) (spelled s j) r t (spelled_word s k i clear l) (spelled_word s k j clear (omega arith)) a b texts in
     let places = spelled_one s k i j clear l (omega arith) words.0 in
     (is ∙ ap (Elem n) places ∙ sym are, words.1)
@@ -152,27 +154,34 @@ inside_tuple Objects ts us r s q = inside 91 (parted ts) (codes "]") (parted us)
 abbrev pub OneAt : Format → List Spelling → Environment → Ty → Type 0
 OneAt f ss e t = (v w : Value) (r s : List ℕ) → IsOfType e t v → IsOfType e t w → EndsAs t r → EndsAs t s → value_in f ss v ++ r ≡ value_in f ss w ++ s → (v ≡ w) × (r ≡ s)
 
-pub one_later : (f : Format) (ss : List Spelling) (e : Environment) (t : Ty) (one : OneAt f ss e t) (c : AreClear ss e.sizes) (xs ys : List Value) (r s : List ℕ) → Every (λ z. IsOfType e t z) xs → Every (λ z. IsOfType e t z) ys → Closes r → Closes s → later_parts (map (value_in f ss) xs) ++ r ≡ later_parts (map (value_in f ss) ys) ++ s → (xs ≡ ys) × (r ≡ s)
+pub one_later : (f : Format) (ss : List Spelling) (e : Environment) (t : Ty) (one : OneAt f ss e t) (c : AreClear ss e.sizes) (xs ys : List Value)
+    (r s : List ℕ) → Every (λ z. IsOfType e t z) xs → Every (λ z. IsOfType e t z) ys → Closes r → Closes s
+    → later_parts (map (value_in f ss) xs) ++ r ≡ later_parts (map (value_in f ss) ys) ++ s → (xs ≡ ys) × (r ≡ s)
 one_later f ss e t one c [] [] r s h g a b q = (refl, q)
 one_later f ss e t one c [] (y ∷ ys) r s h g a b q = absurd (later_no_closing (value_in f ss y) (map (value_in f ss) ys) r s a (sym q))
 one_later f ss e t one c (x ∷ xs) [] r s h g a b q = absurd (later_no_closing (value_in f ss x) (map (value_in f ss) xs) s r b q)
 one_later f ss e t one c (x ∷ xs) (y ∷ ys) r s h g a b q =
     let after : value_in f ss x ++ later_parts (map (value_in f ss) xs) ++ r ≡ value_in f ss y ++ later_parts (map (value_in f ss) ys) ++ s = (cc) in
-    let first = one x y _ _ h.0 g.0 (ends_as t _ (ends_later (map (value_in f ss) xs) r a)) (ends_as t _ (ends_later (map (value_in f ss) ys) s b)) (sym (append_assoc (value_in f ss x) _ r) ∙ after ∙ append_assoc (value_in f ss y) _ s) in
+    let first = one x y _ _ h.0 g.0 (ends_as t _ (ends_later (map (value_in f ss) xs) r a)) (ends_as t _ (ends_later (map (value_in f ss) ys) s b))
+    (sym (append_assoc (value_in f ss x) _ r) ∙ after ∙ append_assoc (value_in f ss y) _ s) in
     let others = one_later f ss e t one c xs ys r s h.1 g.1 a b first.1 in
     ((cc), others.1)
 
-pub one_members : (f : Format) (ss : List Spelling) (e : Environment) (t : Ty) (one : OneAt f ss e t) (c : AreClear ss e.sizes) (xs ys : List Value) (r s : List ℕ) → Every (λ z. IsOfType e t z) xs → Every (λ z. IsOfType e t z) ys → Closes r → Closes s → parted (map (value_in f ss) xs) ++ r ≡ parted (map (value_in f ss) ys) ++ s → (xs ≡ ys) × (r ≡ s)
+pub one_members : (f : Format) (ss : List Spelling) (e : Environment) (t : Ty) (one : OneAt f ss e t) (c : AreClear ss e.sizes) (xs ys : List Value)
+    (r s : List ℕ) → Every (λ z. IsOfType e t z) xs → Every (λ z. IsOfType e t z) ys → Closes r → Closes s
+    → parted (map (value_in f ss) xs) ++ r ≡ parted (map (value_in f ss) ys) ++ s → (xs ≡ ys) × (r ≡ s)
 one_members f ss e t one c [] [] r s h g a b q = (refl, q)
 one_members f ss e t one c [] (y ∷ ys) r s h g a b q = absurd (begins_no_closing f ss e t y r _ c g.0 a (sym (append_assoc (value_in f ss y) _ s) ∙ sym q))
 one_members f ss e t one c (x ∷ xs) [] r s h g a b q = absurd (begins_no_closing f ss e t x s _ c h.0 b (sym (append_assoc (value_in f ss x) _ r) ∙ q))
 one_members f ss e t one c (x ∷ xs) (y ∷ ys) r s h g a b q =
-    let first = one x y _ _ h.0 g.0 (ends_as t _ (ends_later (map (value_in f ss) xs) r a)) (ends_as t _ (ends_later (map (value_in f ss) ys) s b)) (sym (append_assoc (value_in f ss x) _ r) ∙ q ∙ append_assoc (value_in f ss y) _ s) in
+    let first = one x y _ _ h.0 g.0 (ends_as t _ (ends_later (map (value_in f ss) xs) r a)) (ends_as t _ (ends_later (map (value_in f ss) ys) s b))
+    (sym (append_assoc (value_in f ss x) _ r) ∙ q ∙ append_assoc (value_in f ss y) _ s) in
     let others = one_later f ss e t one c xs ys r s h.1 g.1 a b first.1 in
     ((cc), others.1)
 
 mutual
-  pub one_front : (f : Format) (ss : List Spelling) (e : Environment) (c : AreClear ss e.sizes) (t : Ty) (v w : Value) (r s : List ℕ) → IsOfType e t v → IsOfType e t w → EndsAs t r → EndsAs t s → value_in f ss v ++ r ≡ value_in f ss w ++ s → (v ≡ w) × (r ≡ s)
+  pub one_front : (f : Format) (ss : List Spelling) (e : Environment) (c : AreClear ss e.sizes) (t : Ty) (v w : Value) (r s : List ℕ) → IsOfType e t v
+      → IsOfType e t w → EndsAs t r → EndsAs t s → value_in f ss v ++ r ≡ value_in f ss w ++ s → (v ≡ w) × (r ≡ s)
   one_front f ss e c int v w r s h g a b q =
       let words = one_run (value_in f ss v) (value_in f ss w) r s (word_of_number f ss e v h).0 (word_of_number f ss e w g).0 a b q in
       (number_told f ss e v w h g words.0, words.1)
@@ -188,19 +197,26 @@ mutual
       let lists = one_tuple f ss e c ts vs ws (tuple_end f ++ r) (tuple_end f ++ s) h g (tuple_closes f r) (tuple_closes f s) shorn in
       (is ∙ ap Tuple lists.0 ∙ sym are, cancel (tuple_end f) r s lists.1)
 
-  one_tuple : (f : Format) (ss : List Spelling) (e : Environment) (c : AreClear ss e.sizes) (ts : Tys) (vs ws : List Value) (r s : List ℕ) → AreOfTypes e ts vs → AreOfTypes e ts ws → Closes r → Closes s → parted (map (value_in f ss) vs) ++ r ≡ parted (map (value_in f ss) ws) ++ s → (vs ≡ ws) × (r ≡ s)
+  one_tuple : (f : Format) (ss : List Spelling) (e : Environment) (c : AreClear ss e.sizes) (ts : Tys) (vs ws : List Value) (r s : List ℕ) → AreOfTypes e ts vs
+      → AreOfTypes e ts ws → Closes r → Closes s → parted (map (value_in f ss) vs) ++ r ≡ parted (map (value_in f ss) ws) ++ s → (vs ≡ ws) × (r ≡ s)
   one_tuple f ss e c no_types vs ws r s h g a b q = (h ∙ sym g, sym (ap (λ l. parted (map (value_in f ss) l) ++ r) h) ∙ q ∙ ap (λ l. parted (map (value_in f ss) l) ++ s) g)
   one_tuple f ss e c (type t ts) vs ws r s (x, xs, is, h, hs) (y, ys, are, g, gs) a b q =
-      let texts : parted (map (value_in f ss) (x ∷ xs)) ++ r ≡ parted (map (value_in f ss) (y ∷ ys)) ++ s = sym (ap (λ l. parted (map (value_in f ss) l) ++ r) is) ∙ q ∙ ap (λ l. parted (map (value_in f ss) l) ++ s) are in
-      let first = one_front f ss e c t x y _ _ h g (ends_as t _ (ends_later (map (value_in f ss) xs) r a)) (ends_as t _ (ends_later (map (value_in f ss) ys) s b)) (sym (append_assoc (value_in f ss x) _ r) ∙ texts ∙ append_assoc (value_in f ss y) _ s) in
+      let texts : parted (map (value_in f ss) (x ∷ xs)) ++ r ≡ parted (map (value_in f ss) (y ∷ ys))
+      ++ s = sym (ap (λ l. parted (map (value_in f ss) l) ++ r) is) ∙ q ∙ ap (λ l. parted (map (value_in f ss) l) ++ s) are in
+      let first = one_front f ss e c t x y _ _ h g (ends_as t _ (ends_later (map (value_in f ss) xs) r a))
+      (ends_as t _ (ends_later (map (value_in f ss) ys) s b)) (sym (append_assoc (value_in f ss x) _ r) ∙ texts ∙ append_assoc (value_in f ss y) _ s) in
       let others = one_further f ss e c ts xs ys r s hs gs a b first.1 in
       ((cc), others.1)
 
-  pub one_further : (f : Format) (ss : List Spelling) (e : Environment) (c : AreClear ss e.sizes) (ts : Tys) (vs ws : List Value) (r s : List ℕ) → AreOfTypes e ts vs → AreOfTypes e ts ws → Closes r → Closes s → later_parts (map (value_in f ss) vs) ++ r ≡ later_parts (map (value_in f ss) ws) ++ s → (vs ≡ ws) × (r ≡ s)
+  pub one_further : (f : Format) (ss : List Spelling) (e : Environment) (c : AreClear ss e.sizes) (ts : Tys) (vs ws : List Value) (r s : List ℕ)
+      → AreOfTypes e ts vs → AreOfTypes e ts ws → Closes r → Closes s → later_parts (map (value_in f ss) vs) ++ r ≡ later_parts (map (value_in f ss) ws) ++ s
+      → (vs ≡ ws) × (r ≡ s)
   one_further f ss e c no_types vs ws r s h g a b q = (h ∙ sym g, sym (ap (λ l. later_parts (map (value_in f ss) l) ++ r) h) ∙ q ∙ ap (λ l. later_parts (map (value_in f ss) l) ++ s) g)
   one_further f ss e c (type t ts) vs ws r s (x, xs, is, h, hs) (y, ys, are, g, gs) a b q =
-      let texts : later_parts (map (value_in f ss) (x ∷ xs)) ++ r ≡ later_parts (map (value_in f ss) (y ∷ ys)) ++ s = sym (ap (λ l. later_parts (map (value_in f ss) l) ++ r) is) ∙ q ∙ ap (λ l. later_parts (map (value_in f ss) l) ++ s) are in
+      let texts : later_parts (map (value_in f ss) (x ∷ xs)) ++ r ≡ later_parts (map (value_in f ss) (y ∷ ys))
+      ++ s = sym (ap (λ l. later_parts (map (value_in f ss) l) ++ r) is) ∙ q ∙ ap (λ l. later_parts (map (value_in f ss) l) ++ s) are in
       let after : value_in f ss x ++ later_parts (map (value_in f ss) xs) ++ r ≡ value_in f ss y ++ later_parts (map (value_in f ss) ys) ++ s = (cc) in
-      let first = one_front f ss e c t x y _ _ h g (ends_as t _ (ends_later (map (value_in f ss) xs) r a)) (ends_as t _ (ends_later (map (value_in f ss) ys) s b)) (sym (append_assoc (value_in f ss x) _ r) ∙ after ∙ append_assoc (value_in f ss y) _ s) in
+      let first = one_front f ss e c t x y _ _ h g (ends_as t _ (ends_later (map (value_in f ss) xs) r a))
+      (ends_as t _ (ends_later (map (value_in f ss) ys) s b)) (sym (append_assoc (value_in f ss x) _ r) ∙ after ∙ append_assoc (value_in f ss y) _ s) in
       let others = one_further f ss e c ts xs ys r s hs gs a b first.1 in
       ((cc), others.1)

@@ -36,7 +36,22 @@ pub use Rattle.zf_texts.specs.Readings.{IfMisfit, IsLineOf}
 unfoldable pub use Rattle.zf_texts.specs.Readings.{IsNoLine}
 pub use Rattle.zf_texts.specs.Spellings.{element_text, or_empty, spelled, spelled_if, spellings, with_spelling}
 pub use Rattle.zf_texts.specs.Steps.{AreMembers, AreMembersAt, ArePartsAt, BeginsWithName, Closes, EndsAs, goes_on, HoldsIfNamed, is_opening, IsComponentAt, IsHeldAt, IsItem, IsNamedAt, IsNext, IsSpelledType, IsValueAt, IsWordAt}
-unfoldable pub use Rattle.zf_texts.specs.Steps.{AreNoMembers, AreNoParts, BeginsWithoutName, GoesOn, HasNoElements, HoldsNothing, IsNoComponent, IsNoItem, IsNoNext, IsNoRest, IsNoSpelledType, IsNotNamed, IsNoValue, SpellsNone}
+unfoldable pub use Rattle.zf_texts.specs.Steps.{
+  AreNoMembers,
+  AreNoParts,
+  BeginsWithoutName,
+  GoesOn,
+  HasNoElements,
+  HoldsNothing,
+  IsNoComponent,
+  IsNoItem,
+  IsNoNext,
+  IsNoRest,
+  IsNoSpelledType,
+  IsNotNamed,
+  IsNoValue,
+  SpellsNone,
+}
 pub use Rattle.zf_texts.specs.ValueTexts.{comma_before, element_in, later_parts, parted, set_in, tuple_in, value_step, value_text}
 unfoldable pub use Rattle.zf_texts.specs.ValueTexts.{value_in}
 pub use Rattle.zf_texts.specs.declared.spelling.Spelling.{Spelling}

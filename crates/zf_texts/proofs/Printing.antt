@@ -17,14 +17,16 @@ pub goes_on-later : (n m : ℕ) (ts : List (List ℕ)) → m ≡ suc n → goes_
 goes_on-later n m ts e = ap (λ k. goes_on k ts) e
 
 -- what was ahead is ahead behind one more part
-pub ahead-more : (text mid new closing whole t : List ℕ) (n : ℕ) (ts : List (List ℕ)) → text ++ (goes_on n (t ∷ ts) ++ closing) ≡ whole → mid ≡ text ++ comma_before n → new ≡ mid ++ t → new ++ (goes_on (n + 1) ts ++ closing) ≡ whole
+pub ahead-more : (text mid new closing whole t : List ℕ) (n : ℕ) (ts : List (List ℕ)) → text ++ (goes_on n (t ∷ ts) ++ closing) ≡ whole
+    → mid ≡ text ++ comma_before n → new ≡ mid ++ t → new ++ (goes_on (n + 1) ts ++ closing) ≡ whole
 ahead-more text mid new closing whole t n ts h e f =
     let later = goes_on-later n (n + 1) ts (omega arith) in
     let split : text ++ ((comma_before n ++ (t ++ later_parts ts)) ++ closing) ≡ whole = ap (λ l. text ++ (l ++ closing)) (sym (goes_on-first n t ts)) ∙ h in
     ap (λ l. new ++ (l ++ closing)) later ∙ ap (λ l. l ++ (later_parts ts ++ closing)) (f ∙ ap (λ l. l ++ t) e) ∙ regrouped text (comma_before n) t (later_parts ts) closing ∙ split
 
 -- the same where nothing closes
-pub ahead-further : (text mid new whole t : List ℕ) (n : ℕ) (ts : List (List ℕ)) → text ++ goes_on n (t ∷ ts) ≡ whole → mid ≡ text ++ comma_before n → new ≡ mid ++ t → new ++ goes_on (n + 1) ts ≡ whole
+pub ahead-further : (text mid new whole t : List ℕ) (n : ℕ) (ts : List (List ℕ)) → text ++ goes_on n (t ∷ ts) ≡ whole → mid ≡ text ++ comma_before n
+    → new ≡ mid ++ t → new ++ goes_on (n + 1) ts ≡ whole
 ahead-further text mid new whole t n ts h e f =
     let none : (l : List ℕ) → l ++ [] ≡ l = append-nil in
     ap (λ l. new ++ l) (sym (none (goes_on (n + 1) ts))) ∙ ahead-more text mid new [] whole t n ts (ap (λ l. text ++ l) (none (goes_on n (t ∷ ts))) ∙ h) e f
@@ -88,8 +90,10 @@ line-ended text whole n ts none h =
     let nothing : (l : List ℕ) → l ++ [] ≡ l = append-nil in
     sym (nothing text) ∙ ap (λ l. text ++ l) (sym (ap (goes_on n) none ∙ goes_on-nil n)) ∙ h
 
-pub texts-drop : (f : Format) (ss : List Spelling) (all cs : List Component) (vs : List Value) (i : ℕ) (c : Component) (v : Value) → cs ≡ all → c ≡ get_or cs i c → i < length cs → slice_get vs i ≡ Some v
+pub texts-drop : (f : Format) (ss : List Spelling) (all cs : List Component) (vs : List Value) (i : ℕ) (c : Component) (v : Value) → cs ≡ all
+    → c ≡ get_or cs i c → i < length cs → slice_get vs i ≡ Some v
     → components_in f ss (map comp_of (drop i all)) (drop i vs) ≡ component_in f ss (comp_of c) v ∷ components_in f ss (map comp_of (drop (i + 1) all)) (drop (i + 1) vs)
 texts-drop f ss all cs vs i c v same at l g =
     ap (λ m. components_in f ss (map comp_of (drop i m)) (drop i vs)) (sym same) ∙ ap (λ m. components_in f ss m (drop i vs)) (comps-drop cs i c at l)
-    ∙ ap (components_in f ss (comp_of c ∷ map comp_of (drop (i + 1) cs))) (values-drop vs i v g) ∙ ap (λ m. component_in f ss (comp_of c) v ∷ components_in f ss (map comp_of (drop (i + 1) m)) (drop (i + 1) vs)) same
+    ∙ ap (components_in f ss (comp_of c ∷ map comp_of (drop (i + 1) cs))) (values-drop vs i v g)
+    ∙ ap (λ m. component_in f ss (comp_of c) v ∷ components_in f ss (map comp_of (drop (i + 1) m)) (drop (i + 1) vs)) same

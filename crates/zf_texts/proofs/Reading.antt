@@ -17,7 +17,8 @@ module _ (ss : List Spelling) (e : Environment) where
   ends_member t ts rest = ends_as t _ (ends_later ts (codes "}" ++ rest) (refl, refl))
 
   -- the bytes, where such parts stand there
-  parts_split : (n : ℕ) (vs : List Value) (w : Value) (ws : List Value) (bytes c : List ℕ) → vs ≡ w ∷ ws → bytes ≡ goes_on n (map text vs) ++ c → bytes ≡ comma_before n ++ (text w ++ (later_parts (map text ws) ++ c))
+  parts_split : (n : ℕ) (vs : List Value) (w : Value) (ws : List Value) (bytes c : List ℕ) → vs ≡ w ∷ ws → bytes ≡ goes_on n (map text vs) ++ c
+      → bytes ≡ comma_before n ++ (text w ++ (later_parts (map text ws) ++ c))
   parts_split n vs w ws bytes c is q = q ∙ ap (λ l. goes_on n (map text l) ++ c) is ∙ front n (text w) (map text ws) c
 
   pub parts_unseparated : (t : Ty) (ts : Tys) (n : ℕ) (bytes : List ℕ) → IsNoItem (comma_before n) bytes → AreNoParts ss e (type t ts) n bytes
@@ -29,7 +30,8 @@ module _ (ss : List Spelling) (e : Environment) where
   parts_unread t ts n bytes mid m none clear vs rest (w, ws, is, h, hs) q =
       none clear w _ h (ends_part t (map text ws) rest) (cancel (comma_before n) mid _ (sym m ∙ parts_split n vs w ws bytes (codes ")" ++ rest) is q))
 
-  pub parts_next : (t : Ty) (ts : Tys) (n m : ℕ) (bytes mid more : List ℕ) (v : Value) → m ≡ suc n → bytes ≡ comma_before n ++ mid → mid ≡ text v ++ more → IsOfType e t v → EndsAs t more → AreNoParts ss e ts m more → AreNoParts ss e (type t ts) n bytes
+  pub parts_next : (t : Ty) (ts : Tys) (n m : ℕ) (bytes mid more : List ℕ) (v : Value) → m ≡ suc n → bytes ≡ comma_before n ++ mid → mid ≡ text v ++ more
+      → IsOfType e t v → EndsAs t more → AreNoParts ss e ts m more → AreNoParts ss e (type t ts) n bytes
   unfolding AreNoParts
   parts_next t ts n m bytes mid more v next b x k ends none clear vs rest (w, ws, is, h, hs) q =
       let here = cancel (comma_before n) mid _ (sym b ∙ parts_split n vs w ws bytes (codes ")" ++ rest) is q) in
@@ -81,7 +83,8 @@ module _ (ss : List Spelling) (e : Environment) where
       let up = ascending_front (vs ++ w ∷ []) ws (subst IsAscending (pushed vs ws w) h.ascending) in
       none clear w _ (every_behind t vs (w ∷ ws) h.values).0 up (ends_member t (map text ws) rest) here
 
-  pub members_next : (t : Ty) (vs : List Value) (bytes mid more : List ℕ) (v : Value) → IsNoItem (codes "}") bytes → bytes ≡ comma_before (length vs) ++ mid → mid ≡ text v ++ more → IsOfType e t v → EndsAs t more → AreNoMembers ss e t (vs ++ v ∷ []) more → AreNoMembers ss e t vs bytes
+  pub members_next : (t : Ty) (vs : List Value) (bytes mid more : List ℕ) (v : Value) → IsNoItem (codes "}") bytes → bytes ≡ comma_before (length vs) ++ mid
+      → mid ≡ text v ++ more → IsOfType e t v → EndsAs t more → AreNoMembers ss e t (vs ++ v ∷ []) more → AreNoMembers ss e t vs bytes
   unfolding IsNoItem AreNoMembers
   members_next t vs bytes mid more v ahead b x k ends none clear [] rest h q = ahead rest (none_closed (length vs) [] bytes rest refl q)
   members_next t vs bytes mid more v ahead b x k ends none clear (w ∷ ws) rest h q =

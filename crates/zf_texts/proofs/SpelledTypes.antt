@@ -70,12 +70,14 @@ dotted word name rest digits i w r d = w ∙ ap (λ l. name ++ l) (r ∙ ap (λ 
 pub same_numbers : (digits : List ℕ) (m n : ℕ) → m < 2 ^ 64 → n < 2 ^ 64 → digits ≡ decimal m → digits ≡ decimal n → m ≡ n
 same_numbers digits m n l k a b = decimal_injective m n l k (sym a ∙ b)
 
-pub counted_by : (r : Option ℕ) (digits : List ℕ) (number count : ℕ) → number < 2 ^ 64 → count < 2 ^ 64 → digits ≡ decimal number → MatchOption r ((i : ℕ) → i < count → number ≡ i + 1 → ⊥) (λ i. (i < count) × (number ≡ i + 1))
+pub counted_by : (r : Option ℕ) (digits : List ℕ) (number count : ℕ) → number < 2 ^ 64 → count < 2 ^ 64 → digits ≡ decimal number
+    → MatchOption r ((i : ℕ) → i < count → number ≡ i + 1 → ⊥) (λ i. (i < count) × (number ≡ i + 1))
     → MatchOption r ((i : ℕ) → i < count → digits ≡ decimal (i + 1) → ⊥) (λ i. (i < count) × (digits ≡ decimal (i + 1)))
 counted_by None digits number count a b d h = λ i l q. h i l (same_numbers digits number (i + 1) a (omega arith) d q)
 counted_by (Some i) digits number count a b d h = (h.0, d ∙ ap decimal h.1)
 
-pub numbered_by : (r : Option ℕ) (word name rest digits : List ℕ) (count : ℕ) → word ≡ name ++ rest → rest ≡ codes "." ++ digits → MatchOption r ((i : ℕ) → i < count → digits ≡ decimal (i + 1) → ⊥) (λ i. (i < count) × (digits ≡ decimal (i + 1)))
+pub numbered_by : (r : Option ℕ) (word name rest digits : List ℕ) (count : ℕ) → word ≡ name ++ rest → rest ≡ codes "." ++ digits
+    → MatchOption r ((i : ℕ) → i < count → digits ≡ decimal (i + 1) → ⊥) (λ i. (i < count) × (digits ≡ decimal (i + 1)))
     → MatchOption r ((i : ℕ) → i < count → word ≡ name ++ codes "." ++ decimal (i + 1) → ⊥) (λ i. (i < count) × (word ≡ name ++ codes "." ++ decimal (i + 1)))
 numbered_by None word name rest digits count w x h = λ i l q. h i l (dotted_digits word name rest digits i w x q)
 numbered_by (Some i) word name rest digits count w x h = (h.0, dotted word name rest digits i w x h.1)
@@ -89,7 +91,8 @@ name_got (x ∷ names) (suc n) name at l = name_got names n name at (omega arith
 
 pub none_so_far : (word : List ℕ) (names : List (List ℕ)) (n : ℕ) (name : List ℕ) → name ≡ get_or names n name → n < length names → (name ≡ word → ⊥)
     → ((i : ℕ) → i < n → word ≡ or_empty (slice_get names i) → ⊥) → (i : ℕ) → i < n + 1 → word ≡ or_empty (slice_get names i) → ⊥
-none_so_far word names n name at l differs none i k q = ⊎_elim (λ less. none i less q) (λ same. differs (sym (name_got names n name at l) ∙ ap (λ j. or_empty (slice_get names j)) (sym same) ∙ sym q)) (split i n k)
+none_so_far word names n name at l differs none i k q = ⊎_elim (λ less. none i less q)
+    (λ same. differs (sym (name_got names n name at l) ∙ ap (λ j. or_empty (slice_get names j)) (sym same) ∙ sym q)) (split i n k)
   where
     split : (i n : ℕ) → i < n + 1 → (i < n) ⊎ (i ≡ n)
     split zero zero k = inr refl
@@ -107,13 +110,16 @@ typed_by ss e name n (Some p) is (same, size, spelling) = record { number = sym 
 
 -- ---- a word among the spellings
 
-pub among_numbered : (r : Option ℕ) (s : Spelling) (word name : List ℕ) (count : ℕ) → s ≡ Numbered name → MatchOption r ((i : ℕ) → i < count → word ≡ name ++ codes "." ++ decimal (i + 1) → ⊥) (λ i. (i < count) × (word ≡ name ++ codes "." ++ decimal (i + 1)))
+pub among_numbered : (r : Option ℕ) (s : Spelling) (word name : List ℕ) (count : ℕ) → s ≡ Numbered name
+    → MatchOption r ((i : ℕ) → i < count → word ≡ name ++ codes "." ++ decimal (i + 1) → ⊥) (λ i. (i < count) × (word ≡ name ++ codes "." ++ decimal (i + 1)))
     → MatchOption r (SpellsNone s count word) (λ i. (i < count) × (word ≡ spelled s i))
 unfolding SpellsNone
 among_numbered None s word name count is h = λ clear i l q. h i l (q ∙ ap (λ x. spelled x i) is)
 among_numbered (Some i) s word name count is h = (h.0, h.1 ∙ ap (λ x. spelled x i) (sym is))
 
-pub among_named : (r : Option ℕ) (s : Spelling) (word : List ℕ) (names : List (List ℕ)) (count : ℕ) → s ≡ Named names → MatchOption r ((i : ℕ) → i < count → i < length names → word ≡ or_empty (slice_get names i) → ⊥) (λ i. (i < count) × (word ≡ or_empty (slice_get names i)))
+pub among_named : (r : Option ℕ) (s : Spelling) (word : List ℕ) (names : List (List ℕ)) (count : ℕ) → s ≡ Named names
+    → MatchOption r ((i : ℕ) → i < count → i < length names → word ≡ or_empty (slice_get names i) → ⊥) (λ i. (i < count)
+    × (word ≡ or_empty (slice_get names i)))
     → MatchOption r (SpellsNone s count word) (λ i. (i < count) × (word ≡ spelled s i))
 unfolding SpellsNone
 among_named None s word names count is h = λ clear i l q.

@@ -22,7 +22,8 @@ module _ (ss : List Spelling) (e : Environment) where
   number_text : (v : Value) (n : ℤ) → v ≡ Int n → value_text ss v ≡ signed_decimal n
   number_text v n is = ap (value_text ss) is ∙ of-Int Lines ss n
 
-  pub number_at : (bytes : List ℕ) (place : ℕ) (word : List ℕ) (n m : ℤ) → m ≡ n → FitsSigned w64 n → word ≡ signed_decimal n → IsWordAt bytes place word → IsValueAt ss e int bytes place (Int m) (place + length word)
+  pub number_at : (bytes : List ℕ) (place : ℕ) (word : List ℕ) (n m : ℤ) → m ≡ n → FitsSigned w64 n → word ≡ signed_decimal n → IsWordAt bytes place word
+      → IsValueAt ss e int bytes place (Int m) (place + length word)
   number_at bytes place word n m same fits is h = record {
     value = (n, ap Int same, fits);
     stands = word_item bytes place word (value_text ss (Int m)) h (is ∙ sym (number_text (Int m) n (ap Int same)));
@@ -41,7 +42,8 @@ module _ (ss : List Spelling) (e : Environment) where
   element_text : (n i : ℕ) (v : Value) (s : Spelling) → v ≡ Elem n i → slice_get ss n ≡ Some s → value_text ss v ≡ spelled s i
   element_text n i v s is found = ap (value_text ss) is ∙ of-Elem Lines ss n i ∙ ap (λ o. spelled_if o i) found
 
-  pub element_at : (name bytes : List ℕ) (place : ℕ) (word : List ℕ) (n k i : ℕ) (s : Spelling) → IsSpelledType ss e name n k s → i < k → word ≡ spelled s i → IsWordAt bytes place word → IsValueAt ss e (basic name) bytes place (Elem n i) (place + length word)
+  pub element_at : (name bytes : List ℕ) (place : ℕ) (word : List ℕ) (n k i : ℕ) (s : Spelling) → IsSpelledType ss e name n k s → i < k → word ≡ spelled s i
+      → IsWordAt bytes place word → IsValueAt ss e (basic name) bytes place (Elem n i) (place + length word)
   element_at name bytes place word n k i s h less is at = record {
     value = subst (λ o. IsExistingElement e o (Elem n i)) (sym h.number) (k, i, h.size, less, refl);
     stands = word_item bytes place word (value_text ss (Elem n i)) at (is ∙ sym (element_text n i (Elem n i) s refl h.spelling));
@@ -55,7 +57,8 @@ module _ (ss : List Spelling) (e : Environment) where
   same_some : {A : Type 0} (x y : A) → Some x ≡ Some y → x ≡ y
   same_some x y h = (cc)
 
-  pub no_element : (name bytes : List ℕ) (place : ℕ) (word : List ℕ) (n k : ℕ) (s : Spelling) → IsSpelledType ss e name n k s → IsWordAt bytes place word → SpellsNone s k word → IsNoValue ss e (basic name) (drop place bytes)
+  pub no_element : (name bytes : List ℕ) (place : ℕ) (word : List ℕ) (n k : ℕ) (s : Spelling) → IsSpelledType ss e name n k s → IsWordAt bytes place word
+      → SpellsNone s k word → IsNoValue ss e (basic name) (drop place bytes)
   unfolding SpellsNone IsNoValue
   no_element name bytes place word n k s typed h none clear v rest element ends q =
       let (j, i, size, less, is) = subst (λ o. IsExistingElement e o v) typed.number element in
@@ -73,10 +76,12 @@ module _ (ss : List Spelling) (e : Environment) where
   tuple_text : (v : Value) (vs : List Value) (rest : List ℕ) → v ≡ Tuple vs → value_text ss v ++ rest ≡ codes "(" ++ (parted (map (value_text ss) vs) ++ (codes ")" ++ rest))
   tuple_text v vs rest is = ap (λ l. l ++ rest) (ap (value_text ss) is ∙ of-Tuple Lines ss vs) ∙ ap (λ l. codes "(" ++ l) (append_assoc (parted (map (value_text ss) vs)) (codes ")") rest)
 
-  pub tuple_at : (ts : Tys) (bytes : List ℕ) (place start end : ℕ) (vs ws : List Value) → ws ≡ vs → IsItem bytes place (codes "(") start → ArePartsAt ss e ts bytes start vs end → IsValueAt ss e (product ts) bytes place (Tuple ws) end
+  pub tuple_at : (ts : Tys) (bytes : List ℕ) (place start end : ℕ) (vs ws : List Value) → ws ≡ vs → IsItem bytes place (codes "(") start
+      → ArePartsAt ss e ts bytes start vs end → IsValueAt ss e (product ts) bytes place (Tuple ws) end
   tuple_at ts bytes place start end vs ws same h k = record {
     value = (vs, ap Tuple same, k.values);
-    stands = subst (λ l. IsItem bytes place l end) (sym (ap (λ l. value_text ss (Tuple l)) same ∙ of-Tuple Lines ss vs)) (joined bytes place start end (codes "(") (parted (map (value_text ss) vs) ++ codes ")") h k.stand);
+    stands = subst (λ l. IsItem bytes place l end) (sym (ap (λ l. value_text ss (Tuple l)) same ∙ of-Tuple Lines ss vs))
+        (joined bytes place start end (codes "(") (parted (map (value_text ss) vs) ++ codes ")") h k.stand);
     ends = tt;
   }
 
@@ -93,10 +98,12 @@ module _ (ss : List Spelling) (e : Environment) where
   set_text : (v : Value) (vs : List Value) (rest : List ℕ) → v ≡ SetOf vs → value_text ss v ++ rest ≡ codes "{" ++ (parted (map (value_text ss) vs) ++ (codes "}" ++ rest))
   set_text v vs rest is = ap (λ l. l ++ rest) (ap (value_text ss) is ∙ of-SetOf Lines ss vs) ∙ ap (λ l. codes "{" ++ l) (append_assoc (parted (map (value_text ss) vs)) (codes "}") rest)
 
-  pub set_at : (t : Ty) (bytes : List ℕ) (place start end : ℕ) (vs ws : List Value) → ws ≡ vs → IsItem bytes place (codes "{") start → AreMembersAt ss e t bytes start vs end → IsValueAt ss e (power t) bytes place (SetOf ws) end
+  pub set_at : (t : Ty) (bytes : List ℕ) (place start end : ℕ) (vs ws : List Value) → ws ≡ vs → IsItem bytes place (codes "{") start
+      → AreMembersAt ss e t bytes start vs end → IsValueAt ss e (power t) bytes place (SetOf ws) end
   set_at t bytes place start end vs ws same h k = record {
     value = (vs, ap SetOf same, k.members.ascending, k.members.few, k.members.values);
-    stands = subst (λ l. IsItem bytes place l end) (sym (ap (λ l. value_text ss (SetOf l)) same ∙ of-SetOf Lines ss vs)) (joined bytes place start end (codes "{") (parted (map (value_text ss) vs) ++ codes "}") h k.stand);
+    stands = subst (λ l. IsItem bytes place l end) (sym (ap (λ l. value_text ss (SetOf l)) same ∙ of-SetOf Lines ss vs))
+        (joined bytes place start end (codes "{") (parted (map (value_text ss) vs) ++ codes "}") h k.stand);
     ends = tt;
   }
 
@@ -106,7 +113,8 @@ module _ (ss : List Spelling) (e : Environment) where
 
   pub set_unread : (t : Ty) (bytes more : List ℕ) → bytes ≡ codes "{" ++ more → AreNoMembers ss e t [] more → IsNoValue ss e (power t) bytes
   unfolding AreNoMembers IsNoValue
-  set_unread t bytes more m none clear v rest (vs, is, up, few, h) ends q = none clear vs rest (record { ascending = up; few = few; values = h }) (cancel (codes "{") more _ (sym m ∙ q ∙ set_text v vs rest is))
+  set_unread t bytes more m none clear v rest (vs, is, up, few, h) ends q = none clear vs rest (record { ascending = up; few = few; values = h })
+      (cancel (codes "{") more _ (sym m ∙ q ∙ set_text v vs rest is))
 
   -- ---- components
 
@@ -117,7 +125,8 @@ module _ (ss : List Spelling) (e : Environment) where
   unfolding IsNoItem IsNoComponent
   unnamed c name bytes is none clear v rest h ends q = none _ (q ∙ component_split c v rest ∙ ap (λ l. l ++ (codes " == " ++ (value_text ss v ++ rest))) (sym is))
 
-  behind_name : (c : Comp) (name bytes more : List ℕ) (v : Value) (rest : List ℕ) → name ≡ c.name → bytes ≡ name ++ more → bytes ≡ component_text ss c v ++ rest → more ≡ codes " == " ++ (value_text ss v ++ rest)
+  behind_name : (c : Comp) (name bytes more : List ℕ) (v : Value) (rest : List ℕ) → name ≡ c.name → bytes ≡ name ++ more
+      → bytes ≡ component_text ss c v ++ rest → more ≡ codes " == " ++ (value_text ss v ++ rest)
   behind_name c name bytes more v rest is m q = cancel name more _ (sym m ∙ q ∙ component_split c v rest ∙ ap (λ l. l ++ (codes " == " ++ (value_text ss v ++ rest))) (sym is))
 
   pub unequal : (c : Comp) (name bytes more : List ℕ) → name ≡ c.name → bytes ≡ name ++ more → IsNoItem (codes " == ") more → IsNoComponent ss e c bytes

@@ -35,7 +35,8 @@ dropped_more (suc place) n [] = dropped_none n ∙ sym (dropped_none (suc place 
 dropped_more (suc place) n (b ∷ bs) = dropped_more place n bs ∙ ap (λ m. drop m (b ∷ bs)) (shifted place n)
 
 -- a word goes on by one byte
-pub word_more : (bs : List ℕ) (place end : ℕ) → place ≤ end → end < length bs → AreInWord (take (end - place) (drop place bs)) → is_in_word (get_or bs end 0) ≡ true → AreInWord (take (end + 1 - place) (drop place bs))
+pub word_more : (bs : List ℕ) (place end : ℕ) → place ≤ end → end < length bs → AreInWord (take (end - place) (drop place bs))
+    → is_in_word (get_or bs end 0) ≡ true → AreInWord (take (end + 1 - place) (drop place bs))
 word_more bs place end l k h t =
     let long = length-drop place bs in
     let at : place + (end - place) ≡ end = omega arith in
@@ -44,7 +45,8 @@ word_more bs place end l k h t =
     subst (λ n. AreInWord (take n (drop place bs))) next (taken_more (drop place bs) (end - place) inside h (ap is_in_word (got_dropped place (end - place) bs 0 ∙ ap (λ n. get_or bs n 0) at) ∙ t))
 
 -- a word ends before a byte that goes on with none
-pub word_ended : (bs : List ℕ) (place end : ℕ) → place ≤ end → end < length bs → AreInWord (take (end - place) (drop place bs)) → is_in_word (get_or bs end 0) ≡ false → IsWordAt bs place (take (end - place) (drop place bs))
+pub word_ended : (bs : List ℕ) (place end : ℕ) → place ≤ end → end < length bs → AreInWord (take (end - place) (drop place bs))
+    → is_in_word (get_or bs end 0) ≡ false → IsWordAt bs place (take (end - place) (drop place bs))
 word_ended bs place end l k h f =
     let dropped = length-drop place bs in
     let long = length_taken (end - place) (drop place bs) (omega (arith, dropped)) in

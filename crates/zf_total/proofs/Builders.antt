@@ -22,10 +22,13 @@ module _ (F : Truth → Type 0) (T : Outcome → Type 0) (one_truth : (t u : Tru
   given truth.False o f g = listed_none (λ z. F truth.True × T (Is z)) (λ z h. let e = one_truth _ _ f h.0 in (cc))
   given truth.Out o f g = listed_none (λ z. F truth.True × T (Is z)) (λ z h. let e = one_truth _ _ f h.0 in (cc))
 
-module _ (F : List Value → Truth → Type 0) (T : List Value → Outcome → Type 0) (truth_of : (vs : List Value) → HasSome (F vs)) (outcome_of : (vs : List Value) → HasSome (T vs)) (one_truth : (vs : List Value) (t u : Truth) → F vs t → F vs u → t ≡ u) (one_outcome : (vs : List Value) (o p : Outcome) → T vs o → T vs p → o ≡ p) where
+module _ (F : List Value → Truth → Type 0) (T : List Value → Outcome → Type 0) (truth_of : (vs : List Value) → HasSome (F vs)) (outcome_of : (vs : List Value)
+    → HasSome (T vs)) (one_truth : (vs : List Value) (t u : Truth) → F vs t → F vs u → t ≡ u) (one_outcome : (vs : List Value) (o p : Outcome) → T vs o
+    → T vs p → o ≡ p) where
   listed_built : (R : List Value → Type 0) → Listed R → Listed (IsBuiltBy R F T)
   listed_built R rows =
-      listed_same (listed_some (λ vs z. F vs truth.True × T vs (Is z)) rows (λ vs. given (F vs) (T vs) (one_truth vs) (one_outcome vs) (truth_of vs).0 (outcome_of vs).0 (truth_of vs).1 (outcome_of vs).1)) (λ z. (
+      listed_same (listed_some (λ vs z. F vs truth.True × T vs (Is z)) rows
+      (λ vs. given (F vs) (T vs) (one_truth vs) (one_outcome vs) (truth_of vs).0 (outcome_of vs).0 (truth_of vs).1 (outcome_of vs).1)) (λ z. (
         λ h. (h.0, h.1, h.2.0, h.2.1),
         λ h. (h.0, h.1, (h.2, h.3)),
       ))

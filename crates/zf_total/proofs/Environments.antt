@@ -23,7 +23,8 @@ abbrev at_sizes : List Defined → List ℕ → (numbers : Option ℕ) → List 
 at_sizes g sizes n outcomes = record { globals = g; sizes = sizes; outcomes = outcomes; numbers = n }
 
 -- the outcomes of the rest, one after another
-worked_out : (g : List Defined) (sizes : List ℕ) (m : Option ℕ) (n i : ℕ) (outcomes : List Outcome) → i + n ≡ length g → AreWorkedOutTo i (at_sizes g sizes m outcomes) → (all : List Outcome) × AreWorkedOut (at_sizes g sizes m all)
+worked_out : (g : List Defined) (sizes : List ℕ) (m : Option ℕ) (n i : ℕ) (outcomes : List Outcome) → i + n ≡ length g
+    → AreWorkedOutTo i (at_sizes g sizes m outcomes) → (all : List Outcome) × AreWorkedOut (at_sizes g sizes m all)
 worked_out g sizes m zero i outcomes e h = (outcomes, all-worked_out i (at_sizes g sizes m outcomes) (omega arith) h)
 worked_out g sizes m (suc n) i outcomes e h =
     let before = at_sizes g sizes m outcomes in

@@ -101,7 +101,8 @@ search_list : {A : Type 0} (X Y : A → Type 0) (xs : List A) → ((a : A) → C
 search_list X Y [] f = inr (λ a m. absurd (Contains-nil a m))
 search_list {A} X Y (x ∷ xs) f = elim (f x (Contains-head x xs)) [
   | inl h ↦ inl (x, Contains-head x xs, h)
-  | inr h ↦ ⊎_elim (λ r. inl (r.0, Contains-later x xs r.0 r.1, r.2)) (λ g. inr (λ a m. ⊎_elim (λ e. subst Y e h) (λ n. g a n) (Contains-cases x xs a m))) (search_list X Y xs (λ a m. f a (Contains-later x xs a m)))
+  | inr h ↦ ⊎_elim (λ r. inl (r.0, Contains-later x xs r.0 r.1, r.2)) (λ g. inr (λ a m. ⊎_elim (λ e. subst Y e h) (λ n. g a n) (Contains-cases x xs a m)))
+      (search_list X Y xs (λ a m. f a (Contains-later x xs a m)))
 ]
 
 -- one of them is so, or all are otherwise

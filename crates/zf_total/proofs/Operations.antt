@@ -82,7 +82,8 @@ IsPath r q p = (Relates r p.0.0 p.0.1 × Relates q p.1.0 p.1.1) × (p.0.1 ≡ p.
 
 listed_paths : (r q : List Value) → Listed (IsPath r q)
 listed_paths r q =
-    listed_kept (λ (p : (Value × Value) × (Value × Value)). p.0.1 ≡ p.1.0) (listed_pairs (λ (a b : Value × Value). Relates q b.0 b.1) (listed_related r) (λ a. listed_related q)) (λ p. same_value p.0.1 p.1.0)
+    listed_kept (λ (p : (Value × Value) × (Value × Value)). p.0.1 ≡ p.1.0)
+    (listed_pairs (λ (a b : Value × Value). Relates q b.0 b.1) (listed_related r) (λ a. listed_related q)) (λ p. same_value p.0.1 p.1.0)
 
 pub some_composition : (r q : List Value) → HasSome (IsComposition r q)
 unfolding IsComposition
@@ -151,8 +152,10 @@ some_that P d a b =
     )))
 
 -- of each two pairs this is decided
-decided_of_pairs : (r : List Value) (P : Value × Value → Value × Value → Type 0) → ((p q : Value × Value) → Decided (P p q)) → Decided ((p : Value × Value) → Relates r p.0 p.1 → (q : Value × Value) → Relates r q.0 q.1 → P p q)
-decided_of_pairs r P d = decided_all (λ (p : Value × Value). (q : Value × Value) → Relates r q.0 q.1 → P p q) (listed_related r) (λ p. decided_all (λ (q : Value × Value). P p q) (listed_related r) (λ q. d p q))
+decided_of_pairs : (r : List Value) (P : Value × Value → Value × Value → Type 0) → ((p q : Value × Value) → Decided (P p q))
+    → Decided ((p : Value × Value) → Relates r p.0 p.1 → (q : Value × Value) → Relates r q.0 q.1 → P p q)
+decided_of_pairs r P d = decided_all (λ (p : Value × Value). (q : Value × Value) → Relates r q.0 q.1
+    → P p q) (listed_related r) (λ p. decided_all (λ (q : Value × Value). P p q) (listed_related r) (λ q. d p q))
 
 decided_functional : (r : List Value) → Decided (IsFunctional r)
 decided_functional r =

@@ -28,7 +28,8 @@ module _ {A : Type 0} (cmp : A → A → Ordering) (order : IsTotalOrder cmp) (t
       at : (o : Ordering) → cmp x y ≡ o → InOrder cmp (λ z. (x ≡ z) ⊎ Contains ys z) → InOrder cmp (λ z. (x ≡ z) ⊎ Contains (y ∷ ys) z)
       at Less e r = record {
         list = x ∷ y ∷ ys;
-        ascending = AllPairs-cons (λ a b. cmp a b ≡ Less) x (y ∷ ys) (λ z m. ⊎_elim (λ s. subst (λ u. cmp x u ≡ Less) s e) (λ n. order.trans x y z e (AllPairs-head (λ a b. cmp a b ≡ Less) y ys h z n)) (Contains-cases y ys z m)) h;
+        ascending = AllPairs-cons (λ a b. cmp a b ≡ Less) x (y ∷ ys) (λ z m. ⊎_elim (λ s. subst (λ u. cmp x u ≡ Less) s e)
+            (λ n. order.trans x y z e (AllPairs-head (λ a b. cmp a b ≡ Less) y ys h z n)) (Contains-cases y ys z m)) h;
         members = λ z. (λ m. Contains-cases x (y ∷ ys) z m, λ m. ⊎_elim (λ s. subst (Contains (x ∷ y ∷ ys)) s (Contains-head x (y ∷ ys))) (λ n. Contains-later x (y ∷ ys) z n) m);
       }
       at Equal e r = record {
@@ -38,10 +39,13 @@ module _ {A : Type 0} (cmp : A → A → Ordering) (order : IsTotalOrder cmp) (t
       }
       at Greater e r = record {
         list = y ∷ r.list;
-        ascending = AllPairs-cons (λ a b. cmp a b ≡ Less) y r.list (λ z m. ⊎_elim (λ s. subst (λ u. cmp y u ≡ Less) s (below x y e)) (λ n. AllPairs-head (λ a b. cmp a b ≡ Less) y ys h z n) ((r.members z).0 m)) r.ascending;
+        ascending = AllPairs-cons (λ a b. cmp a b ≡ Less) y r.list (λ z m. ⊎_elim (λ s. subst (λ u. cmp y u ≡ Less) s (below x y e))
+            (λ n. AllPairs-head (λ a b. cmp a b ≡ Less) y ys h z n) ((r.members z).0 m)) r.ascending;
         members = λ z. (
           λ m. ⊎_elim (λ s. inr (subst (Contains (y ∷ ys)) s (Contains-head y ys))) (λ n. ⊎_elim (λ s. inl s) (λ k. inr (Contains-later y ys z k)) ((r.members z).0 n)) (Contains-cases y r.list z m),
-          λ m. ⊎_elim (λ s. Contains-later y r.list z ((r.members z).1 (inl s))) (λ n. ⊎_elim (λ s. subst (Contains (y ∷ r.list)) s (Contains-head y r.list)) (λ k. Contains-later y r.list z ((r.members z).1 (inr k))) (Contains-cases y ys z n)) m,
+          λ m. ⊎_elim (λ s. Contains-later y r.list z ((r.members z).1 (inl s)))
+              (λ n. ⊎_elim (λ s. subst (Contains (y ∷ r.list)) s (Contains-head y r.list)) (λ k. Contains-later y r.list z ((r.members z).1 (inr k)))
+              (Contains-cases y ys z n)) m,
         );
       }
 
@@ -107,7 +111,8 @@ module _ {A : Type 0} (same : (x y : A) → Decided (x ≡ y)) where
 module _ {A B : Type 0} (f : A → B) where
   pub Contains-map : (xs : List A) (x : A) → Contains xs x → Contains (map f xs) (f x)
   Contains-map [] x m = absurd (Contains-nil x m)
-  Contains-map (y ∷ xs) x m = ⊎_elim (λ e. subst (λ z. Contains (map f (y ∷ xs)) (f z)) e (Contains-head (f y) (map f xs))) (λ n. Contains-later (f y) (map f xs) (f x) (Contains-map xs x n)) (Contains-cases y xs x m)
+  Contains-map (y ∷ xs) x m = ⊎_elim (λ e. subst (λ z. Contains (map f (y ∷ xs)) (f z)) e (Contains-head (f y) (map f xs)))
+      (λ n. Contains-later (f y) (map f xs) (f x) (Contains-map xs x n)) (Contains-cases y xs x m)
 
   pub Contains-mapped : (xs : List A) (y : B) → Contains (map f xs) y → (x : A) × Contains xs x × (f x ≡ y)
   Contains-mapped [] y m = absurd (Contains-nil y m)
@@ -116,4 +121,5 @@ module _ {A B : Type 0} (f : A → B) where
   pub AllPairs-mapped : (R : B → B → Type 0) (xs : List A) → AllPairs (λ a b. R (f a) (f b)) xs → AllPairs R (map f xs)
   AllPairs-mapped R [] h = AllPairs-nil R
   AllPairs-mapped R (x ∷ xs) h =
-      AllPairs-cons R (f x) (map f xs) (λ y m. let r = Contains-mapped xs y m in subst (R (f x)) r.2 (AllPairs-head (λ a b. R (f a) (f b)) x xs h r.0 r.1)) (AllPairs-mapped R xs (AllPairs-tail (λ a b. R (f a) (f b)) x xs h))
+      AllPairs-cons R (f x) (map f xs) (λ y m. let r = Contains-mapped xs y m in subst (R (f x)) r.2 (AllPairs-head (λ a b. R (f a) (f b)) x xs h r.0 r.1))
+      (AllPairs-mapped R xs (AllPairs-tail (λ a b. R (f a) (f b)) x xs h))

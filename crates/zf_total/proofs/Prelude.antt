@@ -8,7 +8,33 @@ pub use Rattle.zf_value.proofs.Among.{ascending-take, contained, every-take, eve
 pub use Rattle.zf_value.proofs.Exact.{exact}
 pub use Rattle.zf_value.proofs.Seen.{is_Int, no_Int, parts-Tuple, same_number}
 pub use Rattle.zf_value.specs.Operations.{AreFrom, IsBetween, IsFunctional, IsInDomain, IsInjective, IsInRange, IsPairOf, IsRelationThat, IsTotal, pair, Relates}
-unfoldable pub use Rattle.zf_value.specs.Operations.{AreElements, ArePartialFunctions, ArePartialInjections, AreRelations, AreTotalFunctions, AreTotalInjections, IsApplied, IsComposition, IsCross, IsDisplay, IsDomain, IsDomainRestriction, IsDomainSubtraction, IsElement, IsImage, IsIntersection, IsInverse, IsOverriding, IsPower, IsRange, IsRangeRestriction, IsRangeSubtraction, IsSetDifference, IsSize, IsUnion}
+unfoldable pub use Rattle.zf_value.specs.Operations.{
+  AreElements,
+  ArePartialFunctions,
+  ArePartialInjections,
+  AreRelations,
+  AreTotalFunctions,
+  AreTotalInjections,
+  IsApplied,
+  IsComposition,
+  IsCross,
+  IsDisplay,
+  IsDomain,
+  IsDomainRestriction,
+  IsDomainSubtraction,
+  IsElement,
+  IsImage,
+  IsIntersection,
+  IsInverse,
+  IsOverriding,
+  IsPower,
+  IsRange,
+  IsRangeRestriction,
+  IsRangeSubtraction,
+  IsSetDifference,
+  IsSize,
+  IsUnion,
+}
 pub use Rattle.zf_value.specs.Sets.{Every, IsAscending, IsMember, IsSetOf, members, value_order}
 pub use Rattle.zf_value.specs.SetLaws.{parts}
 unfoldable pub use Rattle.zf_value.specs.Sets.{AreAmong}

@@ -15,8 +15,10 @@ pub record Ordered (P : Value → Type 0) : Type 0 where
 
 ascending_from : (xs : List Value) → AllPairs (λ x y. value_order x y ≡ Less) xs → IsAscending xs
 ascending_from [] h = tt
-ascending_from (x ∷ xs) h =
-    (every_from (λ y. value_order x y ≡ Less) xs (λ y m. AllPairs-head (λ x y. value_order x y ≡ Less) x xs h y (contained xs y m)), ascending_from xs (AllPairs-tail (λ x y. value_order x y ≡ Less) x xs h))
+ascending_from (x ∷ xs) h = (
+  every_from (λ y. value_order x y ≡ Less) xs (λ y m. AllPairs-head (λ x y. value_order x y ≡ Less) x xs h y (contained xs y m)),
+  ascending_from xs (AllPairs-tail (λ x y. value_order x y ≡ Less) x xs h),
+)
 
 pub ordered : {P : Value → Type 0} → Listed P → Ordered P
 ordered h =

@@ -63,7 +63,8 @@ all_sized_or_not sets sizes (suc n) i e a h =
 
 pub complete_or_refused : (sets : List (List ℕ)) (sizes : List Size) → AreComplete sets sizes ⊎ IsRefused sets sizes
 complete_or_refused sets sizes =
-    ⊎_elim (λ a. ⊎_elim (λ s. inl (record { accepted = a; sized = s })) (λ f. inr f) (all_sized_or_not sets sizes (length sets) 0 (omega arith) a (All-nil (λ set. Contains (names sizes) set)))) (λ f. inr f)
+    ⊎_elim (λ a. ⊎_elim (λ s. inl (record { accepted = a; sized = s })) (λ f. inr f)
+    (all_sized_or_not sets sizes (length sets) 0 (omega arith) a (All-nil (λ set. Contains (names sizes) set)))) (λ f. inr f)
     (all_accepted_or_not sets sizes (length sizes) 0 (omega arith) (AreAccepted-none sets))
 
 -- ---- the sizes

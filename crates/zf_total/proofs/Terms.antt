@@ -129,7 +129,8 @@ mutual
   some_outcome c (listed l form ts) = let s = some_several c ts in let o = some_on_several s.0 (ListedOutcome form) (some_listed form) in (o.0, (s.0, s.1, o.1))
   some_outcome c (builder l rs f t) =
       let s = some_ranges c rs in
-      let o = some_built (λ vs u. IsConstraint (within c vs) f u) (λ vs x. Builds (within c vs) vs t x) (λ vs. some_constraint (within c vs) f) (λ vs. some_build (within c vs) vs t) (λ vs u w. one_constraint (within c vs) f u w) (λ vs x y. one_build (within c vs) vs t x y) s.0 in
+      let o = some_built (λ vs u. IsConstraint (within c vs) f u) (λ vs x. Builds (within c vs) vs t x) (λ vs. some_constraint (within c vs) f)
+      (λ vs. some_build (within c vs) vs t) (λ vs u w. one_constraint (within c vs) f u w) (λ vs x y. one_build (within c vs) vs t x y) s.0 in
       (o.0, (s.0, s.1, o.1))
   some_outcome c (unary l op t) = let x = some_outcome c t in let o = some_on_one x.0 (UnaryOutcome op) (some_unary op) in (o.0, (x.0, x.1, o.1))
   some_outcome c (binary l op a b) =

@@ -140,7 +140,8 @@ module _ (R : List Value → Type 0) (P : List Value → Truth → Type 0) (rows
   decided_two one =
       let is : (vs : List Value) → Decided (P vs True) = λ vs. is_true_or_not (P vs) (one vs) (some vs).0 (some vs).1 in
       decided_same (λ h. (h.0.0, h.0.1, h.1.0, h.1.1, h.2.0, h.2.1.0, h.2.1.1)) (λ h. ((h.0, h.1), (h.2, h.3), (h.4, (h.5, h.6))))
-      (decided_some (λ (p : List Value × List Value). P p.0 True × (P p.1 True × (p.0 ≡ p.1 → ⊥))) (listed_pairs (λ vs ws. R ws) rows (λ vs. rows)) (λ p. decided_both (is p.0) (decided_both (is p.1) (decided_not (same_row p.0 p.1)))))
+      (decided_some (λ (p : List Value × List Value). P p.0 True × (P p.1 True × (p.0 ≡ p.1 → ⊥))) (listed_pairs (λ vs ws. R ws) rows (λ vs. rows))
+      (λ p. decided_both (is p.0) (decided_both (is p.1) (decided_not (same_row p.0 p.1)))))
 
   -- where no two rows are true, and none is out
   one_true : (HasTwo R P → ⊥) → ((vs : List Value) → R vs → P vs True ⊎ P vs False) → HasSome (IsExistsOne R P)
@@ -160,7 +161,8 @@ module _ (R : List Value → Type 0) (P : List Value → Truth → Type 0) (rows
   some_over quantifier.Exists one = some_exists
   some_over quantifier.ExistsOne one = some_exists_one one
 
-pub some_quantified : (q : Quantifier) (s : Several) (P : List Value → Truth → Type 0) → ((vs : List Value) → HasSome (P vs)) → ((vs : List Value) (t u : Truth) → P vs t → P vs u → t ≡ u) → HasSome (IsQuantified q s P)
+pub some_quantified : (q : Quantifier) (s : Several) (P : List Value → Truth → Type 0) → ((vs : List Value) → HasSome (P vs))
+    → ((vs : List Value) (t u : Truth) → P vs t → P vs u → t ≡ u) → HasSome (IsQuantified q s P)
 some_quantified q one_out P f one = (Out, refl)
 some_quantified q one_undefined P f one = some_over (λ vs. ⊥) P (listed_none (λ vs. ⊥) (λ vs h. h)) f q one
 some_quantified q (values ss) P f one = some_over (λ vs. AreFrom vs ss) P (listed_rows ss) f q one

@@ -55,7 +55,8 @@ of-Binary l op a b = ap tree_of (sym (v.rolls-Binary l op a b)) ∙ rolled (Term
 pub of-Chain : (l : ℕ) (t : Term) (ks : List Link) → tree_of (v.Chain l t ks) ≡ chain l (tree_of t) (links (map link_of ks))
 of-Chain l t ks = ap tree_of (sym (v.rolls-Chain l t ks)) ∙ rolled (Term-F.Chain l t ks)
 
-pub of-Quantified : (l : ℕ) (q : Quantifier) (ds : List VarDecl) (p : Option Term) (t : Term) → tree_of (v.Quantified q l ds p t) ≡ quantified l q (var_decls (map var_decl_of ds)) (part_of p) (tree_of t)
+pub of-Quantified : (l : ℕ) (q : Quantifier) (ds : List VarDecl) (p : Option Term) (t : Term)
+    → tree_of (v.Quantified q l ds p t) ≡ quantified l q (var_decls (map var_decl_of ds)) (part_of p) (tree_of t)
 of-Quantified l q ds None t = ap tree_of (sym (v.rolls-Quantified q l ds None t)) ∙ rolled (Term-F.Quantified q l ds None t)
 of-Quantified l q ds (Some p) t = ap tree_of (sym (v.rolls-Quantified q l ds (Some p) t)) ∙ rolled (Term-F.Quantified q l ds (Some p) t)
 

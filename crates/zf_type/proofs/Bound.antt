@@ -78,7 +78,8 @@ pub depth_of : (p : program.Scope) → length p.locals ≡ length (scope_of p).l
 unfolding scope_of
 depth_of p = sym (length-map p.locals variable_of)
 
-pub more_bound : (p q : program.Scope) (vs : List Variable) → q.globals ≡ p.globals → q.components ≡ p.components → q.locals ≡ p.locals ++ vs → scope_of q ≡ with_variables (scope_of p) (map variable_of vs)
+pub more_bound : (p q : program.Scope) (vs : List Variable) → q.globals ≡ p.globals → q.components ≡ p.components → q.locals ≡ p.locals ++ vs
+    → scope_of q ≡ with_variables (scope_of p) (map variable_of vs)
 unfolding scope_of
 more_bound p q vs g c l =
     let locals = ap (map variable_of) l ∙ map-append variable_of p.locals vs in
@@ -94,12 +95,14 @@ same_bound p q g c l =
     ∙ ap (λ x. record { globals = globals_of p.globals.now; comps = map comp_of p.components.now; locals = map variable_of x }) l
 
 -- of a scope within another, as many variables as that one has are that one's
-pub less_bound : (p q : program.Scope) (s : Scope) (vs : List Var) (n : ℕ) → q.globals ≡ p.globals → q.components ≡ p.components → q.locals ≡ take n p.locals → scope_of p ≡ with_variables s vs → n ≡ length s.locals → scope_of q ≡ s
+pub less_bound : (p q : program.Scope) (s : Scope) (vs : List Var) (n : ℕ) → q.globals ≡ p.globals → q.components ≡ p.components → q.locals ≡ take n p.locals
+    → scope_of p ≡ with_variables s vs → n ≡ length s.locals → scope_of q ≡ s
 unfolding scope_of
 less_bound p q s vs n g c l h e =
     let globals : globals_of q.globals.now ≡ s.globals = ap (λ x. globals_of x.now) g ∙ ap (λ z. z.globals) h in
     let comps : map comp_of q.components.now ≡ s.comps = ap (λ x. map comp_of x.now) c ∙ ap (λ z. z.comps) h in
-    let locals : map variable_of q.locals ≡ s.locals = ap (map variable_of) l ∙ sym (take-map variable_of n p.locals) ∙ ap (take n) (ap (λ z. z.locals) h) ∙ ap (λ k. take k (s.locals ++ vs)) e ∙ take-append_seam s.locals vs in
+    let locals : map variable_of q.locals ≡ s.locals = ap (map variable_of) l ∙ sym (take-map variable_of n p.locals) ∙ ap (take n) (ap (λ z. z.locals) h)
+    ∙ ap (λ k. take k (s.locals ++ vs)) e ∙ take-append_seam s.locals vs in
     ap (λ x. record { globals = x; comps = map comp_of q.components.now; locals = map variable_of q.locals }) globals
     ∙ ap (λ x. record { globals = s.globals; comps = x; locals = map variable_of q.locals }) comps
     ∙ ap (λ x. record { globals = s.globals; comps = s.comps; locals = x }) locals

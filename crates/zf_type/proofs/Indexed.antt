@@ -13,7 +13,8 @@ last_then : (b : ℕ) (cs : List Chained) (c : Chained) → last_in b (cs ++ c �
 last_then b [] c = refl
 last_then b (d ∷ cs) c = by (b == bucket c.variable.name) (last_then b cs c)
   where
-    by : (here : Bool) → last_in b (cs ++ c ∷ []) ≡ last_after here (length cs) (last_in b cs) → before (last_in b (cs ++ c ∷ [])) b d.variable.name ≡ last_after here (suc (length cs)) (before (last_in b cs) b d.variable.name)
+    by : (here : Bool) → last_in b (cs ++ c ∷ []) ≡ last_after here (length cs) (last_in b cs)
+        → before (last_in b (cs ++ c ∷ [])) b d.variable.name ≡ last_after here (suc (length cs)) (before (last_in b cs) b d.variable.name)
     by true e = ap (λ p. before p b d.variable.name) e
     by false e = ap (λ p. before p b d.variable.name) e
 
@@ -107,10 +108,12 @@ comes_before cs heads place c i l is =
     let before = subst (λ z. z.previous ≡ last_in (bucket z.variable.name) (take place cs)) (sym is) (i.2 place c l) in
     omega (arith, before, at_most (bucket c.variable.name) (take place cs), length-take-le place cs (omega (arith, l)))
 
-seen_at : (x : List ℕ) (cs : List Chained) (ahead place : ℕ) (c : Chained) → IsAhead x cs ahead → ahead ≡ place + 1 → c ≡ get_or cs place c → found x (take ahead cs) ≡ (if bytes_eq c.variable.name x then Some (place, variable_of c.variable) else found x (take place cs))
+seen_at : (x : List ℕ) (cs : List Chained) (ahead place : ℕ) (c : Chained) → IsAhead x cs ahead → ahead ≡ place + 1 → c ≡ get_or cs place c
+    → found x (take ahead cs) ≡ (if bytes_eq c.variable.name x then Some (place, variable_of c.variable) else found x (take place cs))
 seen_at x cs ahead place c a e is = last_at (λ c. variable_of c.variable) (λ v. v.name) x cs ahead place c e (omega (arith, e, a.within)) is
 
-pub next_ahead : (x : List ℕ) (cs : List Chained) (heads : List ℕ) (ahead place : ℕ) (c : Chained) → IsIndexed cs heads → IsAhead x cs ahead → ahead ≡ place + 1 → c ≡ get_or cs place c → bytes_eq c.variable.name x ≡ false → IsAhead x cs c.previous
+pub next_ahead : (x : List ℕ) (cs : List Chained) (heads : List ℕ) (ahead place : ℕ) (c : Chained) → IsIndexed cs heads → IsAhead x cs ahead
+    → ahead ≡ place + 1 → c ≡ get_or cs place c → bytes_eq c.variable.name x ≡ false → IsAhead x cs c.previous
 unfolding IsIndexed
 next_ahead x cs heads ahead place c i a e is other =
     let before = subst (λ z. z.previous ≡ last_in (bucket z.variable.name) (take place cs)) (sym is) (i.2 place c (omega (arith, e, a.within))) in
@@ -118,7 +121,8 @@ next_ahead x cs heads ahead place c i a e is other =
     subst (λ n. IsAhead x cs n) (sym (before ∙ ap (λ b. last_in b (take place cs)) same))
     (ahead_of x cs place (omega (arith, e, a.within)) (a.behind ∙ seen_at x cs ahead place c a e is ∙ ap (λ t. if t then Some (place, variable_of c.variable) else found x (take place cs)) other))
 
-pub here_ahead : (x : List ℕ) (cs : List Chained) (ahead place : ℕ) (c : Chained) → IsAhead x cs ahead → ahead ≡ place + 1 → c ≡ get_or cs place c → bytes_eq c.variable.name x ≡ true → Some (place, variable_of c.variable) ≡ found x cs
+pub here_ahead : (x : List ℕ) (cs : List Chained) (ahead place : ℕ) (c : Chained) → IsAhead x cs ahead → ahead ≡ place + 1 → c ≡ get_or cs place c
+    → bytes_eq c.variable.name x ≡ true → Some (place, variable_of c.variable) ≡ found x cs
 here_ahead x cs ahead place c a e is same =
     sym (a.behind ∙ seen_at x cs ahead place c a e is ∙ ap (λ t. if t then Some (place, variable_of c.variable) else found x (take place cs)) same)
 
@@ -182,14 +186,16 @@ at_last cs c d k e =
     ap (λ z. z.previous ≡ last_in (bucket z.variable.name) (take k (cs ++ c ∷ []))) (get_or_push cs c d k (sym e))
     ∙ ap (λ zs. c.previous ≡ last_in (bucket c.variable.name) zs) (ap (λ j. take j (cs ++ c ∷ [])) e ∙ take-append_seam cs (c ∷ []))
 
-pub one_pushed : (cs : List Chained) (heads : List ℕ) (v : Variable) (p n : ℕ) → IsIndexed cs heads → length heads ≡ 4096 → p ≡ get_or heads (bucket v.name) p → bucket v.name < 4096 → n ≡ length cs + 1 → IsIndexed (cs ++ record { variable = v; previous = p } ∷ []) (set heads (bucket v.name) n)
+pub one_pushed : (cs : List Chained) (heads : List ℕ) (v : Variable) (p n : ℕ) → IsIndexed cs heads → length heads ≡ 4096 → p ≡ get_or heads (bucket v.name) p
+    → bucket v.name < 4096 → n ≡ length cs + 1 → IsIndexed (cs ++ record { variable = v; previous = p } ∷ []) (set heads (bucket v.name) n)
 unfolding IsIndexed
 one_pushed cs heads v p n i l e small m =
     let c : Chained = record { variable = v; previous = p } in
     let within : bucket v.name < length heads = omega (arith, small, l) in
     let before : p ≡ last_in (bucket v.name) cs = get_or_read_under heads (bucket v.name) (length heads) p 0 e within refl ∙ i.1 (bucket v.name) within in (
       inr (length-set heads (bucket v.name) n ∙ l),
-      (λ b k. let under : b < length heads = subst (λ x. b < x) (length-set heads (bucket v.name) n) k in head_set heads b (bucket v.name) n (last_in b (cs ++ c ∷ [])) under (λ e. m ∙ sym (last_same b cs c e ∙ omega arith)) (λ e. i.1 b under ∙ sym (last_other b cs c e))),
+      (λ b k. let under : b < length heads = subst (λ x. b < x) (length-set heads (bucket v.name) n) k in head_set heads b (bucket v.name) n
+          (last_in b (cs ++ c ∷ [])) under (λ e. m ∙ sym (last_same b cs c e ∙ omega arith)) (λ e. i.1 b under ∙ sym (last_other b cs c e))),
       λ k d u.
           ⊎_elim (λ s. subst (λ T. T) (sym (at_last cs c d k s)) before) (λ s. subst (λ T. T) (sym (earlier cs c d k s)) (i.2 k d s)) (eq-or-lt_of_le (omega (arith, u, length-append cs (c ∷ [])))),
     )
@@ -202,6 +208,7 @@ one_popped cs c heads i =
     let long : length heads ≡ 4096 = ⊎_elim (λ t. absurd (omega (arith, more, ap length t.0))) (λ l. l) i.0 in
     let before : c.previous ≡ last_in h cs = subst (λ T. T) (at_last cs c c (length cs) refl) (i.2 (length cs) c (omega (arith, more))) in (
       inr (length-set heads h c.previous ∙ long),
-      (λ b k. let under : b < length heads = subst (λ x. b < x) (length-set heads h c.previous) k in head_set heads b h c.previous (last_in b cs) under (λ e. before ∙ ap (λ x. last_in x cs) (sym e)) (λ e. i.1 b under ∙ last_other b cs c e)),
+      (λ b k. let under : b < length heads = subst (λ x. b < x) (length-set heads h c.previous) k in head_set heads b h c.previous (last_in b cs) under
+          (λ e. before ∙ ap (λ x. last_in x cs) (sym e)) (λ e. i.1 b under ∙ last_other b cs c e)),
       λ k d u. subst (λ T. T) (earlier cs c d k u) (i.2 k d (omega (arith, u, more))),
     )

@@ -56,7 +56,8 @@ pub from_memory : (s : Scope) (n : Need) (e : Tree) (r : Result Judged Refusal) 
 from_memory s n e r p g = from_fault s n e OutOfMemory r tt p g
 
 -- what offends of a part offends of the whole
-pub from_part : (s t : Scope) (n m : Need) (e f : Tree) (x : Refusal) (r : Result Judged Refusal) → ((k : Offence) (l : ℕ) → Offends s n e k l → Offends t m f k l) → Judges s n e (Err x) → IsErr r → IsErrAnd r (λ y. y ≡ x) → Judges t m f r
+pub from_part : (s t : Scope) (n m : Need) (e f : Tree) (x : Refusal) (r : Result Judged Refusal)
+    → ((k : Offence) (l : ℕ) → Offends s n e k l → Offends t m f k l) → Judges s n e (Err x) → IsErr r → IsErrAnd r (λ y. y ≡ x) → Judges t m f r
 from_part s t n m e f x r step h p g = from_fault t m f x r (if_fault x (λ k l. Offends s n e k l) (λ k l. Offends t m f k l) step (fault_of s n e x h)) p g
 
 -- the same scope and need, and a term that stands in a box

@@ -18,7 +18,8 @@ one_differs s u (e ∷ es) (type v vs) o m h d =
     let q = h.4 in
     let first : v ≡ h.0 = (cc) in
     let rest : vs ≡ h.1 = (cc) in
-    ⊎_elim (λ w. inl (h.0, h.2, (λ same. w.0 (same ∙ sym first)), w.1 ∙ ap (λ t. mismatch (typed u) (typed t)) first, w.2)) (λ w. inr (one_differs s u es vs o m (subst (λ ws. AreMembers Display s (trees es) ws) (sym rest) h.3) w)) d
+    ⊎_elim (λ w. inl (h.0, h.2, (λ same. w.0 (same ∙ sym first)), w.1 ∙ ap (λ t. mismatch (typed u) (typed t)) first, w.2))
+    (λ w. inr (one_differs s u es vs o m (subst (λ ws. AreMembers Display s (trees es) ws) (sym rest) h.3) w)) d
 
 differ : (s : Scope) (l : ℕ) (es : List Tree) (us : Tys) (o : Offence) (m : ℕ) → AreMembers Display s (trees es) us → DiffersAt l es us o m → Differ Display s l (trees es) o m
 differ s l [] us o m h d = (d.1, d.2)
@@ -29,7 +30,8 @@ differ s l (e ∷ es) (type v vs) o m h d =
     let rest : vs ≡ h.1 = (cc) in
     (v, subst (λ w. IsOf s e (typed w)) (sym first) h.2, one_differs s v es vs o m (subst (λ ws. AreMembers Display s (trees es) ws) (sym rest) h.3) d)
 
-pub list_differs : (form : Listed) (s : Scope) (l : ℕ) (es : List Tree) (us : Tys) (k : Offence) (m : ℕ) → AreMembers form s (trees es) us → (form ≡ Display) × DiffersAt l es us k m → Differ form s l (trees es) k m
+pub list_differs : (form : Listed) (s : Scope) (l : ℕ) (es : List Tree) (us : Tys) (k : Offence) (m : ℕ) → AreMembers form s (trees es) us → (form ≡ Display)
+    × DiffersAt l es us k m → Differ form s l (trees es) k m
 list_differs Tuple s l es us k m h d = let e = d.0 in absurd (cc)
 list_differs Product s l es us k m h d = let e = d.0 in absurd (cc)
 list_differs Display s l es us k m h d = differ s l es us k m h d.1
@@ -41,13 +43,17 @@ none_first [] [] l h e = (refl, refl, refl)
 none_first [] (r ∷ rs) l h e = absurd (omega (arith, e))
 none_first (t ∷ ts) rs l h e = absurd (cc)
 
-other_at : (u : Ty) (ts : List ZType) (rs : List Term) (i : ℕ) (t : ZType) (r : Term) → i < length ts → length rs ≡ length ts → t ≡ get_or ts i t → r ≡ get_or rs i r → (u ≡ type_of t → ⊥) → IsOther u (map tree_of rs) (types (map type_of ts)) (mismatch (typed u) (typed (type_of t))) (line_of (tree_of r))
+other_at : (u : Ty) (ts : List ZType) (rs : List Term) (i : ℕ) (t : ZType) (r : Term) → i < length ts → length rs ≡ length ts → t ≡ get_or ts i t
+    → r ≡ get_or rs i r → (u ≡ type_of t → ⊥) → IsOther u (map tree_of rs) (types (map type_of ts)) (mismatch (typed u) (typed (type_of t)))
+    (line_of (tree_of r))
 other_at u [] rs i t r l e p q d = absurd (omega arith)
 other_at u (v ∷ ts) [] i t r l e p q d = absurd (omega (arith, e))
 other_at u (v ∷ ts) (w ∷ rs) zero t r l e p q d = inl ((λ same. d (same ∙ ap type_of (sym p))), ap (λ x. mismatch (typed u) (typed (type_of x))) p, ap (λ x. line_of (tree_of x)) q)
 other_at u (v ∷ ts) (w ∷ rs) (suc i) t r l e p q d = inr (other_at u ts rs i t r (omega arith) (omega (arith, e)) p q d)
 
-pub differs_at : (ts : List ZType) (rs : List Term) (first : ZType) (l i : ℕ) (t : ZType) (r : Term) → Some first ≡ slice_get ts 0 → 1 ≤ i → i < length ts → length rs ≡ length ts → t ≡ get_or ts i t → r ≡ get_or rs i r → (type_of first ≡ type_of t → ⊥) → DiffersAt l (map tree_of rs) (types (map type_of ts)) (mismatch (typed (type_of first)) (typed (type_of t))) (line_of (tree_of r))
+pub differs_at : (ts : List ZType) (rs : List Term) (first : ZType) (l i : ℕ) (t : ZType) (r : Term) → Some first ≡ slice_get ts 0 → 1 ≤ i → i < length ts
+    → length rs ≡ length ts → t ≡ get_or ts i t → r ≡ get_or rs i r → (type_of first ≡ type_of t → ⊥)
+    → DiffersAt l (map tree_of rs) (types (map type_of ts)) (mismatch (typed (type_of first)) (typed (type_of t))) (line_of (tree_of r))
 differs_at [] rs first l i t r f o m e p q d = absurd (omega arith)
 differs_at (v ∷ ts) [] first l i t r f o m e p q d = absurd (omega (arith, e))
 differs_at (v ∷ ts) (w ∷ rs) first l zero t r f o m e p q d = absurd (omega (arith, o))

@@ -101,7 +101,8 @@ no_repetition (n ∷ ns) k m apart (inr o) = no_repetition ns k m apart.1 o
 
 -- ---- what members make
 
-listed_not_too_large : (form : Listed) (s : Scope) (l : ℕ) (es : Trees) (us : Tys) (u : Ty) (k : Offence) (m : ℕ) → AreMembers form s es us → Makes form us u → IsSmall u → ListedTooLarge form s l es k m → ⊥
+listed_not_too_large : (form : Listed) (s : Scope) (l : ℕ) (es : Trees) (us : Tys) (u : Ty) (k : Offence) (m : ℕ) → AreMembers form s es us → Makes form us u
+    → IsSmall u → ListedTooLarge form s l es k m → ⊥
 listed_not_too_large form s l es us u k m p made small o = o.4 (subst IsSmall (one_made form us o.0 u o.1 (one_row form s es us o.0 p o.2) made o.3) small)
 
 rest_of_all : (s : Scope) (e : Tree) (es : Trees) (t : Ty) (ts : Tys) (u : Ty) → AreMembers Display s (tree e es) ts → AreAll (type t ts) u → AreAll ts u

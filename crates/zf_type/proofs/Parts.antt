@@ -54,18 +54,23 @@ some_kept s n (present e) j t is h = ap (λ u. kept.present (kept_views.resolved
 -- ---- what stands within declarations
 
 -- the row of these variables
-pub row_here : {E : Type 0} (r : Result ZType E) (t s : Scope) (vs : List Var) (n : ℕ) → t ≡ with_variables s vs → n ≡ length s.locals → IfOk r (λ u. (z : Scope) (us : List Var) → t ≡ with_variables z us → n ≡ length z.locals → type_of u ≡ row_type us) → IfOk r (λ u. type_of u ≡ row_type vs)
+pub row_here : {E : Type 0} (r : Result ZType E) (t s : Scope) (vs : List Var) (n : ℕ) → t ≡ with_variables s vs → n ≡ length s.locals
+    → IfOk r (λ u. (z : Scope) (us : List Var) → t ≡ with_variables z us → n ≡ length z.locals → type_of u ≡ row_type us)
+    → IfOk r (λ u. type_of u ≡ row_type vs)
 row_here (Ok u) t s vs n h e row = row s vs h e
 row_here (Err x) t s vs n h e row = tt
 
 module _ (s : Scope) (ds : VarDecls) (vs : List Var) (declares : Declare s ds vs) (rs : List Range) (sets : kept_views.ranges (map kept_views.range_of rs) ≡ resolved_ranges s ds) where
-  pub quantified_kept : (l : ℕ) (q : Quantifier) (p : Perhaps) (e : Tree) (o : Option Resolved) (t : Resolved) → kept_views.part_of o ≡ resolved_part (with_variables s vs) p → kept_views.resolved_of t ≡ resolved (with_variables s vs) e → kept_views.resolved_of (v.Quantified q l rs o t) ≡ resolved s (quantified l q ds p e)
+  pub quantified_kept : (l : ℕ) (q : Quantifier) (p : Perhaps) (e : Tree) (o : Option Resolved) (t : Resolved)
+      → kept_views.part_of o ≡ resolved_part (with_variables s vs) p → kept_views.resolved_of t ≡ resolved (with_variables s vs) e
+      → kept_views.resolved_of (v.Quantified q l rs o t) ≡ resolved s (quantified l q ds p e)
   quantified_kept l q p e o t condition body =
       let one = condition ∙ sym (part_within s ds vs p declares) in
       let two = body ∙ sym (resolved_within s ds vs e declares) in
       seen.of-Quantified l q rs o t ∙ (cc)
 
-  pub builder_kept : (l : ℕ) (p e : Perhaps) (o t : Option Resolved) → kept_views.part_of o ≡ resolved_part (with_variables s vs) p → kept_views.part_of t ≡ resolved_part (with_variables s vs) e → kept_views.resolved_of (v.Builder l rs o t) ≡ resolved s (builder l ds p e)
+  pub builder_kept : (l : ℕ) (p e : Perhaps) (o t : Option Resolved) → kept_views.part_of o ≡ resolved_part (with_variables s vs) p
+      → kept_views.part_of t ≡ resolved_part (with_variables s vs) e → kept_views.resolved_of (v.Builder l rs o t) ≡ resolved s (builder l ds p e)
   builder_kept l p e o t condition term =
       let one = condition ∙ sym (part_within s ds vs p declares) in
       let two = term ∙ sym (part_within s ds vs e declares) in

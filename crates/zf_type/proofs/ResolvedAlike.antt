@@ -26,7 +26,8 @@ abbrev last_place : List ℕ → List (List ℕ) → Option ℕ
 last_place x [] = None
 last_place x (n ∷ ns) = or_else (next_place (last_place x ns)) (if bytes_eq n x then Some 0 else None)
 
-one_further : (v : Var) (found : Option (ℕ × Var)) (here : Bool) → place_of (or_else (later found) (if here then Some (0, v) else None)) ≡ or_else (next_place (place_of found)) (if here then Some 0 else None)
+one_further : (v : Var) (found : Option (ℕ × Var)) (here : Bool) → place_of (or_else (later found) (if here then Some (0, v) else None))
+    ≡ or_else (next_place (place_of found)) (if here then Some 0 else None)
 one_further v (Some p) here = refl
 one_further v None true = refl
 one_further v None false = refl

@@ -17,7 +17,8 @@ of_many ts (v ∷ w ∷ vs) d h = ap (λ us. product (types us)) h ∙ ap produc
 -- ---- the variables within
 
 -- one is ahead
-pub row_ahead : (xs : List Variable) (i : ℕ) (x : Variable) → x ≡ get_or xs i x → i < length xs → type_of x.ztype ∷ map var_type (map variable_of (drop (i + 1) xs)) ≡ map var_type (map variable_of (drop i xs))
+pub row_ahead : (xs : List Variable) (i : ℕ) (x : Variable) → x ≡ get_or xs i x → i < length xs
+    → type_of x.ztype ∷ map var_type (map variable_of (drop (i + 1) xs)) ≡ map var_type (map variable_of (drop i xs))
 row_ahead xs i x e l = ap (λ ys. map var_type (map variable_of ys)) (sym (dropped xs i x l e))
 
 -- none is

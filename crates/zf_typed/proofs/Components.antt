@@ -39,7 +39,8 @@ pub one_more_for : (g : List Defined) (cs : List Comp) (c : Comp) → AreCompsFo
 one_more_for g [] c h a k = (k, tt)
 one_more_for g (d ∷ ds) c h a k = by (bytes_eq d.name c.name) a (λ b. one_more_for g ds c h.1 b k)
   where
-    by : (s : Bool) → HasTypeOf (if s then Some (0, d) else later (comp_named c.name ds)) c → (Agrees ds c → AreCompsFor g (with_comp ds c)) → AreCompsFor g (if s then comp d.name d.type (d.sets ++ c.sets) ∷ ds else d ∷ with_comp ds c)
+    by : (s : Bool) → HasTypeOf (if s then Some (0, d) else later (comp_named c.name ds)) c → (Agrees ds c → AreCompsFor g (with_comp ds c))
+        → AreCompsFor g (if s then comp d.name d.type (d.sets ++ c.sets) ∷ ds else d ∷ with_comp ds c)
     by true b rest = ((some_joined d.sets c.sets h.0.0, for_joined g d.type d.sets c.sets h.0.1 (subst (λ t. AreSetsFor g t (sets_of c.sets)) (sym b) k.1)), h.1)
     by false b rest = (h.0, rest (earlier (comp_named c.name ds) c b))
 
@@ -85,7 +86,8 @@ marked_for g Xi l a h once agree = delta_for g a h once agree
 
 -- ---- disjunction
 
-side_for : (g : List Defined) (cs : List Comp) (x : List ℕ) (t : Ty) → AreCompsFor g cs → ((p : ℕ × Comp) → comp_named x cs ≡ Some p → p.1.type ≡ t) → (o : Option (ℕ × Comp)) → comp_named x cs ≡ o → IsSome (sets_of (sets_on o t)) × AreSetsFor g t (sets_of (sets_on o t))
+side_for : (g : List Defined) (cs : List Comp) (x : List ℕ) (t : Ty) → AreCompsFor g cs → ((p : ℕ × Comp) → comp_named x cs ≡ Some p → p.1.type ≡ t)
+    → (o : Option (ℕ × Comp)) → comp_named x cs ≡ o → IsSome (sets_of (sets_on o t)) × AreSetsFor g t (sets_of (sets_on o t))
 side_for g cs x t h same None e = (tt, (refl, tt))
 side_for g cs x t h same (Some p) e =
     let k = comp_at g cs p.0 p.1 h (named_there (λ c. c.name) x cs p e).0 in
@@ -101,7 +103,8 @@ agrees_at cs [] i c agreed e = absurd (none-some c e)
 agrees_at cs (d ∷ ds) zero c agreed e = subst (Agrees cs) (same_Some d c e) agreed.0
 agrees_at cs (d ∷ ds) (suc i) c agreed e = agrees_at cs ds i c agreed.1 e
 
-type_right : (cs ds : List Comp) (i : ℕ) (c : Comp) → AreOnce (with_comps cs ds) → Agree cs ds → slice_get (with_comps cs ds) i ≡ Some c → (p : ℕ × Comp) → comp_named c.name ds ≡ Some p → p.1.type ≡ c.type
+type_right : (cs ds : List Comp) (i : ℕ) (c : Comp) → AreOnce (with_comps cs ds) → Agree cs ds → slice_get (with_comps cs ds) i ≡ Some c → (p : ℕ × Comp)
+    → comp_named c.name ds ≡ Some p → p.1.type ≡ c.type
 type_right cs ds i c once agree at p e =
     let there = named_there (λ d. d.name) c.name ds p e in
     let agrees = subst (λ x. HasTypeOf (comp_named x cs) p.1) there.1 (agrees_at cs ds p.0 p.1 agree there.0) in

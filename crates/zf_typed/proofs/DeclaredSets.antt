@@ -135,7 +135,8 @@ module _ (e : Environment) (well : AreWellTyped e.globals) (typed : (i : ℕ) (d
     far_sets no_sets n m k far l h = tt
     far_sets (set d ds) n m k far l h = (far_set d n m k.0 far l h.0, far_sets ds n m k.1 far l h.1)
 
-  pub listed_typed : (t : Ty) (ds : DeclaredSets) (xs : List Value) → IsSome ds → AreSetsFor e.globals t ds → ((v : Value) → IsMember v xs ↔ IsInSets e ds v) → (v : Value) → IsMember v xs → IsOfType e t v
+  pub listed_typed : (t : Ty) (ds : DeclaredSets) (xs : List Value) → IsSome ds → AreSetsFor e.globals t ds → ((v : Value) → IsMember v xs ↔ IsInSets e ds v)
+      → (v : Value) → IsMember v xs → IsOfType e t v
   listed_typed t ds xs some k all v m = ⊎_elim (λ h. h) (λ far. absurd (never far)) (in_sets t ds v some k ((all v).0 m))
     where
       never : IsFar t v → ⊥

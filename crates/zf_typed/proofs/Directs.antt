@@ -39,7 +39,8 @@ constant_numbers constants.Positives u s h e = typed_same u (power int) h
 
 module _ (g : List Defined) (well : AreWellTyped g) where
   -- a global whose extent is infinite
-  global_numbers : (j : ℕ) (name : List ℕ) (x : Definition) (u : Ty) (s : Infinite) → IsNumbersAt g j → IsMadeAfter (take j g) name x → definition_sort name x ≡ typed u → extent_set (definition_extent x) ≡ Some s → u ≡ power int
+  global_numbers : (j : ℕ) (name : List ℕ) (x : Definition) (u : Ty) (s : Infinite) → IsNumbersAt g j → IsMadeAfter (take j g) name x
+      → definition_sort name x ≡ typed u → extent_set (definition_extent x) ≡ Some s → u ≡ power int
   global_numbers j name (given_set n) u s before made sort e = none_found s e
   global_numbers j name (free_type n names) u s before made sort e = none_found s e
   global_numbers j name (constructor n t p) u s before made sort e = none_found s e
@@ -48,14 +49,17 @@ module _ (g : List Defined) (well : AreWellTyped g) where
       sym (typed_same t u sort) ∙ before (take j g) made.0 t s (λ i l. front_of j i g l) made.1 (sym (ap (direct (take j g)) made.2) ∙ there)
   global_numbers j name (schema a) u s before made sort e = none_found s e
 
-  named_numbers : (n : ℕ) (h : List Defined) (x : List ℕ) (u : Ty) (s : Infinite) → ((j : ℕ) → j < n → IsNumbersAt g j) → Begin n g h → (r : Reference) → (o : Option (ℕ × Defined)) → first_named (λ d. d.name) x (take n g) ≡ o → global_meaning o ≡ Some (r, typed u) → extent_set (extent_named h (referent (global_meaning o))) ≡ Some s → u ≡ power int
+  named_numbers : (n : ℕ) (h : List Defined) (x : List ℕ) (u : Ty) (s : Infinite) → ((j : ℕ) → j < n → IsNumbersAt g j) → Begin n g h → (r : Reference)
+      → (o : Option (ℕ × Defined)) → first_named (λ d. d.name) x (take n g) ≡ o → global_meaning o ≡ Some (r, typed u)
+      → extent_set (extent_named h (referent (global_meaning o))) ≡ Some s → u ≡ power int
   named_numbers n h x u s before begin r None found m e = none_found (r, typed u) m
   named_numbers n h x u s before begin r (Some p) found m e =
       let there = in_front n p.0 g p.1 (named_there (λ d. d.name) x (take n g) p found).0 in
       let same = begin p.0 there.0 ∙ there.1 in
       global_numbers p.0 p.1.name p.1.definition u s (before p.0 there.0) (well p.0 p.1 there.1) (ap (λ q. q.1) (same_Some _ _ m)) (sym (ap (λ o. extent_set (extent_found o)) same) ∙ e)
 
-  tree_numbers : (n : ℕ) → ((j : ℕ) → j < n → IsNumbersAt g j) → (h : List Defined) (a : Tree) (u : Ty) (s : Infinite) → Begin n g h → IsOf (outside (take n g)) a (typed u) → direct h (resolved (outside (take n g)) a) ≡ Some s → u ≡ power int
+  tree_numbers : (n : ℕ) → ((j : ℕ) → j < n → IsNumbersAt g j) → (h : List Defined) (a : Tree) (u : Ty) (s : Infinite) → Begin n g h
+      → IsOf (outside (take n g)) a (typed u) → direct h (resolved (outside (take n g)) a) ≡ Some s → u ≡ power int
   tree_numbers n before h (text.named m) u s begin is e = named_numbers n h (spelling m) u s before begin is.0 (first_named (λ d. d.name) (spelling m) (take n g)) refl is.1 e
   tree_numbers n before h (text.constant l k) u s begin is e = constant_numbers k u s is e
   tree_numbers n before h (text.bracket l a) u s begin is e = tree_numbers n before h a u s begin is.0 e
@@ -72,5 +76,6 @@ module _ (g : List Defined) (well : AreWellTyped g) where
   numbers_below zero n l = absurd (omega (arith, l))
   numbers_below (suc k) n l = tree_numbers n (λ j m. numbers_below k j (omega (arith, l, m)))
 
-pub are_numbers : (g : List Defined) → AreWellTyped g → (n : ℕ) (a : Tree) (u : Ty) (s : Infinite) → IsOf (outside (take n g)) a (typed u) → direct g (resolved (outside (take n g)) a) ≡ Some s → u ≡ power int
+pub are_numbers : (g : List Defined) → AreWellTyped g → (n : ℕ) (a : Tree) (u : Ty) (s : Infinite) → IsOf (outside (take n g)) a (typed u)
+    → direct g (resolved (outside (take n g)) a) ≡ Some s → u ≡ power int
 are_numbers g well n a u s is e = numbers_below g well (suc n) n (omega arith) g a u s (λ i l. refl) is e

@@ -52,7 +52,8 @@ size_behind stated name (constructor m t p) later sizes n h = none_behind n late
 size_behind stated name (abbreviation t r x) later sizes n h = none_behind n later sizes h
 size_behind stated name (schema a) later sizes n h = none_behind n later sizes h
 
-pub size_at : (stated : List Size) (g : List Defined) (sizes : List ℕ) (i : ℕ) (name : List ℕ) (n : ℕ) (names : List (List ℕ)) → AreSizes stated g sizes → slice_get g i ≡ Some (record { name = name; definition = free_type n names }) → slice_get sizes (next_number (take i g)) ≡ Some (length names)
+pub size_at : (stated : List Size) (g : List Defined) (sizes : List ℕ) (i : ℕ) (name : List ℕ) (n : ℕ) (names : List (List ℕ)) → AreSizes stated g sizes
+    → slice_get g i ≡ Some (record { name = name; definition = free_type n names }) → slice_get sizes (next_number (take i g)) ≡ Some (length names)
 size_at stated [] sizes i name n names h at = absurd (none-some _ at)
 size_at stated (d ∷ g) sizes zero name n names h at = here d (same_Some d _ at) h
   where
@@ -104,7 +105,8 @@ module _ (e : Environment) (stated : List Size) (well : AreWellTyped e.globals) 
   number_of_type : (i : ℕ) (d : Defined) (n : ℕ) → slice_get e.globals i ≡ Some d → definition_number d.definition ≡ Some n → type_number e d.name ≡ Some n
   number_of_type i d n at number = ap found_number (first_at (λ x. x.name) e.globals i d once at) ∙ number
 
-  constructor_typed : (i : ℕ) (name : List ℕ) (n : ℕ) (of_type : List ℕ) (place : ℕ) (v : Value) → IsMadeAfter (take i e.globals) name (constructor n of_type place) → Is v ≡ element n place → IsOfType e (basic of_type) v
+  constructor_typed : (i : ℕ) (name : List ℕ) (n : ℕ) (of_type : List ℕ) (place : ℕ) (v : Value)
+      → IsMadeAfter (take i e.globals) name (constructor n of_type place) → Is v ≡ element n place → IsOfType e (basic of_type) v
   constructor_typed i name n of_type place v made h =
       let whole : Defined = record { name = of_type; definition = free_type n made.1 } in
       let there = in_front i made.0 e.globals whole made.2 in
@@ -119,9 +121,12 @@ module _ (e : Environment) (stated : List Size) (well : AreWellTyped e.globals) 
     locals = locals;
   }
 
-  definition_typed : (i : ℕ) (name : List ℕ) (x : Definition) (o : Outcome) → AreTypedBelow e i → slice_get e.globals i ≡ Some (record { name = name; definition = x }) → IsMadeAfter (take i e.globals) name x → IsOutcomeOf (before e i) x o → HasValues e (record { name = name; definition = x }) o
+  definition_typed : (i : ℕ) (name : List ℕ) (x : Definition) (o : Outcome) → AreTypedBelow e i
+      → slice_get e.globals i ≡ Some (record { name = name; definition = x }) → IsMadeAfter (take i e.globals) name x → IsOutcomeOf (before e i) x o
+      → HasValues e (record { name = name; definition = x }) o
   definition_typed i name (given_set n) o ahead at made h v is = type_set_typed e name n v (number_of_type i (record { name = name; definition = given_set n }) n at refl) (subst (IsTypeSet e n) is h)
-  definition_typed i name (free_type n names) o ahead at made h v is = type_set_typed e name n v (number_of_type i (record { name = name; definition = free_type n names }) n at refl) (subst (IsTypeSet e n) is h)
+  definition_typed i name (free_type n names) o ahead at made h v is = type_set_typed e name n v
+      (number_of_type i (record { name = name; definition = free_type n names }) n at refl) (subst (IsTypeSet e n) is h)
   definition_typed i name (constructor n of_type place) o ahead at made h v is = constructor_typed i name n of_type place v made (sym is ∙ h)
   definition_typed i name (abbreviation t r x) o ahead at made h v is =
       term_typed e (outside (take i e.globals)) (globally (before e i)) made.0 (typed t) v (fits_before i ahead (globally (before e i)) refl refl) made.1
@@ -132,22 +137,28 @@ module _ (e : Environment) (stated : List Size) (well : AreWellTyped e.globals) 
   typed_below worked zero i d o l at there = absurd (omega (arith, l))
   typed_below worked (suc n) i d o l at there =
       let w = worked.1 i d at in
-      definition_typed i d.name d.definition o (λ j k q m. typed_below worked n j k q (omega (arith, l, m))) at (well i d at) (subst (IsOutcomeOf (before e i) d.definition) (same_Some w.0 o (sym w.1 ∙ there)) w.2)
+      definition_typed i d.name d.definition o (λ j k q m. typed_below worked n j k q (omega (arith, l, m))) at (well i d at)
+      (subst (IsOutcomeOf (before e i) d.definition) (same_Some w.0 o (sym w.1 ∙ there)) w.2)
 
-pub globals_typed : (e : Environment) (g : List Defined) (stated : List Size) (numbers : Option ℕ) → AreWellTyped g → AreDefinedOnce g → IsEnvironment g stated numbers e → (i : ℕ) (d : Defined) (o : Outcome) → slice_get g i ≡ Some d → slice_get e.outcomes i ≡ Some o → HasValues e d o
+pub globals_typed : (e : Environment) (g : List Defined) (stated : List Size) (numbers : Option ℕ) → AreWellTyped g → AreDefinedOnce g
+    → IsEnvironment g stated numbers e → (i : ℕ) (d : Defined) (o : Outcome) → slice_get g i ≡ Some d → slice_get e.outcomes i ≡ Some o → HasValues e d o
 globals_typed e g stated numbers well once h i d o at there =
-    typed_below e stated (subst AreWellTyped (sym h.0) well) (subst AreDefinedOnce (sym h.0) once) (subst (λ x. AreSizes stated x e.sizes) (sym h.0) h.1) h.2 (suc i) i d o (omega arith) (subst (λ x. slice_get x i ≡ Some d) (sym h.0) at) there
+    typed_below e stated (subst AreWellTyped (sym h.0) well) (subst AreDefinedOnce (sym h.0) once) (subst (λ x. AreSizes stated x e.sizes) (sym h.0) h.1) h.2
+    (suc i) i d o (omega arith) (subst (λ x. slice_get x i ≡ Some d) (sym h.0) at) there
 
 -- ---- scopes
 
-row_at : (e : Environment) (cs : List Comp) (vs : List Value) (i : ℕ) (d : Comp) (v : Value) → AreOfTypes e (types (map (λ c. c.type) (take (length vs) cs))) vs → slice_get cs i ≡ Some d → slice_get vs i ≡ Some v → IsOfType e d.type v
+row_at : (e : Environment) (cs : List Comp) (vs : List Value) (i : ℕ) (d : Comp) (v : Value)
+    → AreOfTypes e (types (map (λ c. c.type) (take (length vs) cs))) vs → slice_get cs i ≡ Some d → slice_get vs i ≡ Some v → IsOfType e d.type v
 row_at e cs [] i d v h a b = absurd (none-some v b)
 row_at e [] (w ∷ ws) i d v h a b = absurd (none-some d a)
 row_at e (c ∷ cs) (w ∷ ws) zero d v h a b =
     subst (λ (x : Comp). IsOfType e x.type v) (same_Some c d a) (subst (IsOfType e c.type) (same_Some w v b) (first_of_types e c.type (types (map (λ c. c.type) (take (length ws) cs))) w ws h).0)
 row_at e (c ∷ cs) (w ∷ ws) (suc i) d v h a b = row_at e cs ws i d v (first_of_types e c.type (types (map (λ c. c.type) (take (length ws) cs))) w ws h).1 a b
 
-pub fits_all : (e : Environment) (g : List Defined) (stated : List Size) (numbers : Option ℕ) (n : ℕ) (comps : List Comp) (variables : List Var) (row locals : List Value) → AreWellTyped g → AreDefinedOnce g → IsEnvironment g stated numbers e → IsFrontOfRow e comps row → AreOfTypes e (types_of variables) locals → Fits e (scope g n comps variables) (context e row locals)
+pub fits_all : (e : Environment) (g : List Defined) (stated : List Size) (numbers : Option ℕ) (n : ℕ) (comps : List Comp) (variables : List Var)
+    (row locals : List Value) → AreWellTyped g → AreDefinedOnce g → IsEnvironment g stated numbers e → IsFrontOfRow e comps row
+    → AreOfTypes e (types_of variables) locals → Fits e (scope g n comps variables) (context e row locals)
 fits_all e g stated numbers n comps variables row locals well once env r l = record {
   globals = λ i d o at there. let p = in_front n i g d at in globals_typed e g stated numbers well once env i d o p.1 there;
   comps = λ i d v at there. row_at e comps row i d v r at there;

@@ -26,7 +26,12 @@ module _ (G : Value → Value → Type 0) where
       let here = f x (inl refl) in
       let s = split ys here.0 here.1 in
       let rest = counted xs (s.0 ++ s.1) d.1
-      (λ z m. let there = f z (inr m) in (there.0, other s.0 s.1 here.0 there.0 (λ e. d.0 (subst (λ u. IsMember u xs) (one z x here.0 (subst (G z) e there.2) here.2) m)) (subst (IsMember there.0) s.2 there.1), there.2))
+      (λ z m. let there = f z (inr m) in (
+        there.0,
+        other s.0 s.1 here.0 there.0
+            (λ e. d.0 (subst (λ u. IsMember u xs) (one z x here.0 (subst (G z) e there.2) here.2) m)) (subst (IsMember there.0) s.2 there.1),
+        there.2,
+      ))
       one in
       omega (arith, rest, length-append s.0 s.1, length-append s.0 (here.0 ∷ s.1), ap length s.2)
 

@@ -205,7 +205,9 @@ module _ (e : Environment) where
   listed z t v q h = members_of e t v (sorted z (set_sort t) v q h)
 
   pub infixed : (op : Infix) (x y z : Sort) (a b v : Value) → Takes (function_rule op) x y z → IsOfSort e x a → IsOfSort e y b → InfixOutcome op a b (Is v) → IsOfSort e z v
-  infixed Maplet x y z a b v k h g p = sorted (typed (pair_type k.0 k.1)) z v (sym k.4) (subst (IsOfType e (pair_type k.0 k.1)) (sym (is_value v (op.pair a b) p)) (a_pair e k.0 k.1 a b (sorted x (typed k.0) a k.2 h) (sorted y (typed k.1) b k.3 g)))
+  infixed Maplet x y z a b v k h g p = sorted (typed (pair_type k.0 k.1)) z v (sym k.4)
+      (subst (IsOfType e (pair_type k.0 k.1)) (sym (is_value v (op.pair a b) p))
+      (a_pair e k.0 k.1 a b (sorted x (typed k.0) a k.2 h) (sorted y (typed k.1) b k.3 g)))
     where
       is_value : (w u : Value) → Is w ≡ Is u → w ≡ u
       is_value w u q = cc
@@ -220,7 +222,8 @@ module _ (e : Environment) where
   infixed Difference x y z a b v k h g p = sorted (set_sort k.0) z v (sym k.3) (a_set_difference k.0 (members a) (members b) v (listed x k.0 a k.1 h) p)
   infixed Composition x y z a b v k h g p =
       sorted (relation_sort k.0 k.2) z v (sym k.5) (a_composition k.0 k.1 k.2 (members a) (members b) v (listed x (pair_type k.0 k.1) a k.3 h) (listed y (pair_type k.1 k.2) b k.4 g) p)
-  infixed Overriding x y z a b v k h g p = sorted (relation_sort k.0 k.1) z v (sym k.4) (an_overriding k.0 k.1 (members a) (members b) v (listed x (pair_type k.0 k.1) a k.2 h) (listed y (pair_type k.0 k.1) b k.3 g) p)
+  infixed Overriding x y z a b v k h g p = sorted (relation_sort k.0 k.1) z v (sym k.4)
+      (an_overriding k.0 k.1 (members a) (members b) v (listed x (pair_type k.0 k.1) a k.2 h) (listed y (pair_type k.0 k.1) b k.3 g) p)
   infixed DomainRestriction x y z a b v k h g p = sorted (relation_sort k.0 k.1) z v (sym k.4) (domain_restricted k.0 k.1 (members a) (members b) v (listed y (pair_type k.0 k.1) b k.3 g) p)
   infixed DomainSubtraction x y z a b v k h g p = sorted (relation_sort k.0 k.1) z v (sym k.4) (domain_subtracted k.0 k.1 (members a) (members b) v (listed y (pair_type k.0 k.1) b k.3 g) p)
   infixed RangeRestriction x y z a b v k h g p = sorted (relation_sort k.0 k.1) z v (sym k.4) (range_restricted k.0 k.1 (members a) (members b) v (listed x (pair_type k.0 k.1) a k.2 h) p)

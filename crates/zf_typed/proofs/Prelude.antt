@@ -11,7 +11,32 @@ pub use Rattle.zf_value.proofs.Seen.{members-SetOf, number_of-Int, parts-Tuple, 
 pub use Rattle.zf_value.specs.Numbers.{IsNumber, number_of, OnNumber, OnNumbers}
 unfoldable pub use Rattle.zf_value.specs.Numbers.{IsBetweenNumbers, IsDifference, IsInterval, IsModulus, IsNegation, IsProduct, IsQuotient, IsSum}
 pub use Rattle.zf_value.specs.Operations.{AreFrom, IsBetween, IsFunctional, IsInDomain, IsInjective, IsInRange, IsPairOf, IsRelationThat, IsSubset, IsTotal, Relates}
-unfoldable pub use Rattle.zf_value.specs.Operations.{AreElements, ArePartialFunctions, ArePartialInjections, AreRelations, AreTotalFunctions, AreTotalInjections, IsApplied, IsComposition, IsCross, IsDisplay, IsDomain, IsDomainRestriction, IsDomainSubtraction, IsImage, IsIntersection, IsInverse, IsOverriding, IsPower, IsRange, IsRangeRestriction, IsRangeSubtraction, IsSetDifference, IsSize, IsUnion}
+unfoldable pub use Rattle.zf_value.specs.Operations.{
+  AreElements,
+  ArePartialFunctions,
+  ArePartialInjections,
+  AreRelations,
+  AreTotalFunctions,
+  AreTotalInjections,
+  IsApplied,
+  IsComposition,
+  IsCross,
+  IsDisplay,
+  IsDomain,
+  IsDomainRestriction,
+  IsDomainSubtraction,
+  IsImage,
+  IsIntersection,
+  IsInverse,
+  IsOverriding,
+  IsPower,
+  IsRange,
+  IsRangeRestriction,
+  IsRangeSubtraction,
+  IsSetDifference,
+  IsSize,
+  IsUnion,
+}
 pub use Rattle.zf_value.specs.Sets.{IsAscending, IsMember, IsSetOf, members, value_order}
 pub use Rattle.zf_value.specs.SetLaws.{parts}
 unfoldable pub use Rattle.zf_value.specs.Sets.{AreAmong}

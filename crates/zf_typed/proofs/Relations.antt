@@ -48,7 +48,8 @@ module _ (e : Environment) (t u : Ty) (a b : List Value) (left : AreMembers e t 
       omega (arith, l, left.few)
 
   -- each pair of a relation makes a relation of its own
-  few_of_relation : (all : List Value) (r : List Value) → length all ≤ SET_MAX → ((z : Value) → IsRelationThat (λ s. Unit {0}) a b z → IsMember z all) → IsAscending r → IsBetween a b r → length r ≤ SET_MAX
+  few_of_relation : (all : List Value) (r : List Value) → length all ≤ SET_MAX → ((z : Value) → IsRelationThat (λ s. Unit {0}) a b z → IsMember z all)
+      → IsAscending r → IsBetween a b r → length r ≤ SET_MAX
   few_of_relation all r few has h k =
       let l = no_longer (λ z s. s ≡ SetOf (z ∷ [])) r all h
       (λ z m. (SetOf (z ∷ []), has (SetOf (z ∷ [])) (z ∷ [], refl, (tt, tt), (λ w n. ⊎_elim (λ q. k w (subst (λ x. IsMember x r) q m)) (λ q. absurd q) n), tt), refl))
@@ -61,7 +62,8 @@ module _ (e : Environment) (t u : Ty) (a b : List Value) (left : AreMembers e t 
   relations : (v : Value) → IsSetOf (IsRelationThat (λ s. Unit {0}) a b) (Is v) → IsOfType e (power (power (pair_type t u))) v
   relations v h = a_set e (power (pair_type t u)) (IsRelationThat (λ s. Unit {0}) a b) v h (λ z p. a_relation (λ s. Unit {0}) z (λ r asc k q. few_of_relation h.0 r h.3 (λ w s. (h.4 w).1 s) asc k) p)
 
-pub an_arrow : (e : Environment) (t u : Ty) (op : Arrow) (x y v : Value) → AreMembers e t (members x) → AreMembers e u (members y) → ArrowOutcome op x y (Is v) → IsOfType e (power (power (pair_type t u))) v
+pub an_arrow : (e : Environment) (t u : Ty) (op : Arrow) (x y v : Value) → AreMembers e t (members x) → AreMembers e u (members y) → ArrowOutcome op x y (Is v)
+    → IsOfType e (power (power (pair_type t u))) v
 unfolding AreRelations ArePartialFunctions AreTotalFunctions ArePartialInjections AreTotalInjections
 an_arrow e t u arrow.Relation x y v h k p = relations e t u (members x) (members y) h k v p
 an_arrow e t u arrow.PartialFunction x y v h k p = functions e t u (members x) (members y) h k IsFunctional v (λ r q. q) p

@@ -13,7 +13,8 @@ use Rattle.zf_typed.proofs.Schemas.{comps_for}
 
 row_typed :
     (e : Environment) → AreWellTyped e.globals → ((i : ℕ) (d : Defined) (o : Outcome) → slice_get e.globals i ≡ Some d → slice_get e.outcomes i ≡ Some o → HasValues e d o)
-    → (cs : List Comp) (held : List (Option Value)) (ranges : List (List Value)) (row : List Value) → AreCompsFor e.globals cs → AreHeldTyped e cs held → AreRanges e cs held ranges → IsRowOf ranges row → IsRow e cs row
+    → (cs : List Comp) (held : List (Option Value)) (ranges : List (List Value)) (row : List Value) → AreCompsFor e.globals cs → AreHeldTyped e cs held
+    → AreRanges e cs held ranges → IsRowOf ranges row → IsRow e cs row
 row_typed e well typed [] held [] [] h t r m = refl
 row_typed e well typed [] held [] (v ∷ row) h t r m = absurd m
 row_typed e well typed [] held (xs ∷ ranges) row h t r m = absurd r

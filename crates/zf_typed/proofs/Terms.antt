@@ -87,7 +87,8 @@ from_typed e (type u us) (s ∷ ss) (v ∷ vs) h k =
     let p = first_of_types e (power u) (powers us) s ss h in
     (v, vs, refl, (members_of e u s p.0).each v k.0, from_typed e us ss vs p.1 k.1)
 
-declared_typed : (e : Environment) (ns : List Name) (u : Ty) (us : List Var) (s : Value) (ss : List Value) → IsOfType e (power u) s → AreOfTypes e (powers (types_of us)) ss → AreOfTypes e (powers (types_of (variables ns u ++ us))) (replicate (length ns) s ++ ss)
+declared_typed : (e : Environment) (ns : List Name) (u : Ty) (us : List Var) (s : Value) (ss : List Value) → IsOfType e (power u) s
+    → AreOfTypes e (powers (types_of us)) ss → AreOfTypes e (powers (types_of (variables ns u ++ us))) (replicate (length ns) s ++ ss)
 declared_typed e [] u us s ss h k = k
 declared_typed e (n ∷ ns) u us s ss h k = (s, replicate (length ns) s ++ ss, refl, h, declared_typed e ns u us s ss h k)
 
@@ -127,7 +128,8 @@ none_told e Tuple = refl
 none_told e Display = refl
 none_told e Product = refl
 
-one_told : (e : Environment) (form : Listed) (u : Ty) (us : Tys) (w : Value) (ws : List Value) → IsOfSort e (member_sort form u) w → AreOfTypes e (member_types form us) ws → AreOfTypes e (member_types form (type u us)) (w ∷ ws)
+one_told : (e : Environment) (form : Listed) (u : Ty) (us : Tys) (w : Value) (ws : List Value) → IsOfSort e (member_sort form u) w
+    → AreOfTypes e (member_types form us) ws → AreOfTypes e (member_types form (type u us)) (w ∷ ws)
 one_told e Tuple u us w ws h k = (w, ws, refl, h, k)
 one_told e Display u us w ws h k = (w, ws, refl, h, k)
 one_told e Product u us w ws h k = (w, ws, refl, h, k)
@@ -136,10 +138,12 @@ one_told e Product u us w ws h k = (w, ws, refl, h, k)
 each_typed : (e : Environment) (us : Tys) (u : Ty) (vs : List Value) → AreAll us u → AreOfTypes e us vs → (x : Value) → IsMember x vs → IsOfType e u x
 each_typed e no_types u vs a h x m = absurd a
 each_typed e (type t no_types) u vs a h x m = ⊎_elim (λ k. subst (IsOfType e u) k (subst (λ v. IsOfType e v h.0) a h.3)) (λ k. absurd (subst (IsMember x) h.4 k)) (subst (IsMember x) h.2 m)
-each_typed e (type t (type w ws)) u vs a h x m = ⊎_elim (λ k. subst (IsOfType e u) k (subst (λ v. IsOfType e v h.0) a.0 h.3)) (λ k. each_typed e (type w ws) u h.1 a.1 h.4 x k) (subst (IsMember x) h.2 m)
+each_typed e (type t (type w ws)) u vs a h x m = ⊎_elim (λ k. subst (IsOfType e u) k (subst (λ v. IsOfType e v h.0) a.0 h.3))
+    (λ k. each_typed e (type w ws) u h.1 a.1 h.4 x k) (subst (IsMember x) h.2 m)
 
 -- what members make is of the type that their types make
-listed_typed : (e : Environment) (form : Listed) (us : Tys) (u : Ty) (vs : List Value) (v : Value) → Makes form us u → AreOfTypes e (member_types form us) vs → ListedOutcome form vs (Is v) → IsOfType e u v
+listed_typed : (e : Environment) (form : Listed) (us : Tys) (u : Ty) (vs : List Value) (v : Value) → Makes form us u → AreOfTypes e (member_types form us) vs
+    → ListedOutcome form vs (Is v) → IsOfType e u v
 listed_typed e Tuple us u vs v m h p = subst (λ t. IsOfType e t v) (sym m) (vs, is_value v (value.Tuple vs) p, h)
 listed_typed e Display us u vs v m h p = subst (λ t. IsOfType e t v) (sym m.2) (display_typed e m.0 vs v (each_typed e us m.0 vs m.1 h) p)
 listed_typed e Product us u vs v m h p = subst (λ t. IsOfType e t v) (sym m) (cross_typed e us vs v h p)
@@ -156,7 +160,8 @@ built_typed e u vs (values ss) F T v r g h = a_set e u (IsBuiltBy (λ ws. AreFro
 -- ---- operands
 
 module _ (e : Environment) (c : Context) where
-  unary_typed : (op : Unary) (a : ResolvedTree) (x z : Sort) (v : Value) → UnaryTakes op x z → ((w : Value) → HasOutcome c a (Is w) → IsOfSort e x w) → (o : Outcome) → HasOutcome c a o → OnOne o (UnaryOutcome op) (Is v) → IsOfSort e z v
+  unary_typed : (op : Unary) (a : ResolvedTree) (x z : Sort) (v : Value) → UnaryTakes op x z → ((w : Value) → HasOutcome c a (Is w) → IsOfSort e x w)
+      → (o : Outcome) → HasOutcome c a o → OnOne o (UnaryOutcome op) (Is v) → IsOfSort e z v
   unary_typed op a x z v k f o h p = let q = one o (UnaryOutcome op) v p in unary_made e op x z q.0 v k (f q.0 (subst (HasOutcome c a) q.1 h)) q.2
 
   binary_typed :
@@ -183,14 +188,17 @@ mutual
       sorted e (set_sort h.1) z v (sym h.7)
       (built_typed e h.1 h.0 p.0 (λ ws u. IsConstraint (within c ws) (resolved_part (bound s ds) b) u) (λ ws x. meaning.Builds (within c ws) ws (resolved_part (bound s ds) a) x) v
       (λ ss q. ranges_typed e s c ds h.0 ss f h.3 (subst (HaveRanges c (resolved_ranges s ds)) q p.1))
-      (λ ws x k q. part_typed e (scopes.with_variables s h.0) (within c ws) a h.0 ws h.1 x (fits_within e s c h.0 ws f k) k h.5 (subst (λ (r : ResolvedPart). meaning.Builds (within c ws) ws r (Is x)) (part_within s ds h.0 a h.3) q))
+      (λ ws x k q. part_typed e (scopes.with_variables s h.0) (within c ws) a h.0 ws h.1 x (fits_within e s c h.0 ws f k) k h.5
+      (subst (λ (r : ResolvedPart). meaning.Builds (within c ws) ws r (Is x)) (part_within s ds h.0 a h.3) q))
       p.2)
   term_typed e s c (text.unary l op a) z v f h p = unary_typed e c op (resolved s a) h.0 z v h.2 (λ w q. term_typed e s c a h.0 w f h.1 q) p.0 p.1 p.2
-  term_typed e s c (text.binary l op a b) z v f h p = binary_typed e c op (resolved s a) (resolved s b) h.0 h.1 z v h.4 (λ w q. term_typed e s c a h.0 w f h.2 q) (λ w q. term_typed e s c b h.1 w f h.3 q) p.0 p.1 p.2 p.3 p.4
+  term_typed e s c (text.binary l op a b) z v f h p = binary_typed e c op (resolved s a) (resolved s b) h.0 h.1 z v h.4
+      (λ w q. term_typed e s c a h.0 w f h.2 q) (λ w q. term_typed e s c b h.1 w f h.3 q) p.0 p.1 p.2 p.3 p.4
   term_typed e s c (text.chain l a ks) z v f h p = sorted e predicate z v (sym h.3) tt
   term_typed e s c (text.quantified l q ds b a) z v f h p = sorted e predicate z v (sym h.5) tt
 
-  members_typed : (e : Environment) (s : Scope) (c : Context) (form : Listed) (es : Trees) (us : Tys) (vs : List Value) → Fits e s c → AreMembers form s es us → HaveOutcomes c (resolved_all s es) (values vs) → AreOfTypes e (member_types form us) vs
+  members_typed : (e : Environment) (s : Scope) (c : Context) (form : Listed) (es : Trees) (us : Tys) (vs : List Value) → Fits e s c → AreMembers form s es us
+      → HaveOutcomes c (resolved_all s es) (values vs) → AreOfTypes e (member_types form us) vs
   members_typed e s c form no_trees us vs f h p = subst (λ u. AreOfTypes e (member_types form u) vs) (sym h) (subst (AreOfTypes e (member_types form no_types)) (nothing vs p) (none_told e form))
     where
       nothing : (ws : List Value) → values ws ≡ values [] → [] ≡ ws
@@ -201,7 +209,8 @@ mutual
       let rest = members_typed e s c form es h.1 q.1 f h.3 (subst (HaveOutcomes c (resolved_all s es)) q.3 p.3) in
       subst (λ u. AreOfTypes e (member_types form u) vs) (sym h.4) (subst (AreOfTypes e (member_types form (type h.0 h.1))) (sym q.4) (one_told e form h.0 h.1 q.0 q.1 first rest))
 
-  ranges_typed : (e : Environment) (s : Scope) (c : Context) (ds : VarDecls) (vs : List Var) (ss : List Value) → Fits e s c → Declare s ds vs → HaveRanges c (resolved_ranges s ds) (values ss) → AreOfTypes e (powers (types_of vs)) ss
+  ranges_typed : (e : Environment) (s : Scope) (c : Context) (ds : VarDecls) (vs : List Var) (ss : List Value) → Fits e s c → Declare s ds vs
+      → HaveRanges c (resolved_ranges s ds) (values ss) → AreOfTypes e (powers (types_of vs)) ss
   ranges_typed e s c no_decls vs ss f h p = subst (λ us. AreOfTypes e (powers (types_of us)) ss) (sym h) (cc)
   ranges_typed e s c (var_decl ns a ds) vs ss f h p =
       let q = all_repeated (length ns) p.0 p.1 ss p.4 in
@@ -209,6 +218,7 @@ mutual
       let rest = ranges_typed e s c ds h.1 q.1 f h.3 (subst (HaveRanges c (resolved_ranges s ds)) q.3 p.3) in
       subst (λ us. AreOfTypes e (powers (types_of us)) ss) (sym h.4) (subst (AreOfTypes e (powers (types_of (variables ns h.0 ++ h.1)))) (sym q.4) (declared_typed e ns h.0 h.1 q.0 q.1 first rest))
 
-  part_typed : (e : Environment) (s : Scope) (c : Context) (a : Perhaps) (vs : List Var) (ws : List Value) (u : Ty) (x : Value) → Fits e s c → AreOfTypes e (types_of vs) ws → typing.HasMemberType s vs a u → meaning.Builds c ws (resolved_part s a) (Is x) → IsOfType e u x
+  part_typed : (e : Environment) (s : Scope) (c : Context) (a : Perhaps) (vs : List Var) (ws : List Value) (u : Ty) (x : Value) → Fits e s c
+      → AreOfTypes e (types_of vs) ws → typing.HasMemberType s vs a u → meaning.Builds c ws (resolved_part s a) (Is x) → IsOfType e u x
   part_typed e s c text.absent vs ws u x f k h p = subst (λ r. IsOfType e r x) (sym h) (subst (IsOfType e (row_type vs)) (sym (is_value x (row_value ws) p)) (row_typed e vs ws k))
   part_typed e s c (text.present a) vs ws u x f k h p = term_typed e s c a (typed u) x f h p

@@ -117,7 +117,8 @@ is_less Less e = refl
 is_less Equal e = (cc)
 is_less Greater e = (cc)
 
-pub adjacent_more : (xs : List Value) (i : ℕ) (x y : Value) (o : Ordering) → 1 ≤ i → i < length xs → x ≡ get_or xs (i - 1) x → y ≡ get_or xs i y → o ≡ value_order x y → is_lt o ≡ true → AllAdjacentBelow IsBefore xs i → AllAdjacentBelow IsBefore xs (i + 1)
+pub adjacent_more : (xs : List Value) (i : ℕ) (x y : Value) (o : Ordering) → 1 ≤ i → i < length xs → x ≡ get_or xs (i - 1) x → y ≡ get_or xs i y
+    → o ≡ value_order x y → is_lt o ≡ true → AllAdjacentBelow IsBefore xs i → AllAdjacentBelow IsBefore xs (i + 1)
 adjacent_more xs i x y o p l e f s t h =
     all_adjacent_more xs IsBefore i (omega (arith, p)) h (λ d.
     let at_x : get_or xs (i - 1) d ≡ x = get_or_default xs (i - 1) d x (omega (arith, p, l)) ∙ sym e in

@@ -10,20 +10,23 @@ IsOnly xs r = MatchOption r ((u y : Value) → Relates xs u y → ⊥) (λ w. (u
 pub only_none : IsOnly [] None
 only_none u y m = absurd m
 
-pub only_pass : (xs : List Value) (i : ℕ) (z : Value) (r : Option (Bor Value)) → z ≡ get_or xs i z → i < length xs → ((x y : Value) → z ≡ pair x y → ⊥) → IsOnly (take i xs) r → IsOnly (take (i + 1) xs) r
+pub only_pass : (xs : List Value) (i : ℕ) (z : Value) (r : Option (Bor Value)) → z ≡ get_or xs i z → i < length xs → ((x y : Value) → z ≡ pair x y → ⊥)
+    → IsOnly (take i xs) r → IsOnly (take (i + 1) xs) r
 only_pass xs i z None e l n h = rw add-one (λ u y m. ⊎_elim (λ k. h u y k) (λ s. n u y s) ((members-take_more xs i z e l (pair u y)).0 m))
 only_pass xs i z (Some w) e l n h =
     rw add-one
     (h.0, (members-take_more xs i z e l (pair h.0 w.now)).1 (inl h.1), λ v y m. ⊎_elim (λ k. h.2 v y k) (λ s. absurd (n v y s)) ((members-take_more xs i z e l (pair v y)).0 m))
 
-pub only_first : (xs : List Value) (i : ℕ) (z x : Value) (y : Bor Value) (r : Option (Bor Value)) → z ≡ get_or xs i z → i < length xs → z ≡ pair x y.now → is_some r ≡ false → IsOnly (take i xs) r → IsOnly (take (i + 1) xs) (Some y)
+pub only_first : (xs : List Value) (i : ℕ) (z x : Value) (y : Bor Value) (r : Option (Bor Value)) → z ≡ get_or xs i z → i < length xs → z ≡ pair x y.now
+    → is_some r ≡ false → IsOnly (take i xs) r → IsOnly (take (i + 1) xs) (Some y)
 only_first xs i z x y (Some w) e l s n h = (cc)
 only_first xs i z x y None e l s n h =
     rw add-one
     (x, (members-take_more xs i z e l (pair x y.now)).1 (inr s), λ v u m. ⊎_elim (λ k. absurd (h v u k)) (λ t. sym t ∙ s) ((members-take_more xs i z e l (pair v u)).0 m))
 
 -- two pairs: the value is taken to none alone
-pub only_twice : (f xs : List Value) (x : Value) (i : ℕ) (z a y : Value) (r : Option (Bor Value)) → AreRelated f x xs → z ≡ get_or xs i z → i < length xs → z ≡ pair a y → is_some r ≡ true → IsOnly (take i xs) r → IsApplied f x Undefined
+pub only_twice : (f xs : List Value) (x : Value) (i : ℕ) (z a y : Value) (r : Option (Bor Value)) → AreRelated f x xs → z ≡ get_or xs i z → i < length xs
+    → z ≡ pair a y → is_some r ≡ true → IsOnly (take i xs) r → IsApplied f x Undefined
 unfolding IsApplied
 only_twice f xs x i z a y None h e l s b o = (cc)
 only_twice f xs x i z a y (Some w) h e l s b o = λ v only.
@@ -40,10 +43,12 @@ only_twice f xs x i z a y (Some w) h e l s b o = λ v only.
     not_twice [] k v g p q m = absurd (omega arith)
     not_twice (u ∷ us) zero v g p q m = absurd m
     not_twice (u ∷ us) (suc k) v g p q m =
-        ⊎_elim (λ t. not_below_itself v (subst (λ n. value_order n v ≡ Less) t (subst (λ n. value_order u n ≡ Less) (sym p) (below_at (u ∷ us) 0 (suc k) v g (omega arith) q)))) (λ n. not_twice us k v g.1 p (omega arith) n) m
+        ⊎_elim (λ t. not_below_itself v (subst (λ n. value_order n v ≡ Less) t
+        (subst (λ n. value_order u n ≡ Less) (sym p) (below_at (u ∷ us) 0 (suc k) v g (omega arith) q)))) (λ n. not_twice us k v g.1 p (omega arith) n) m
 
 -- at the end of the list
-pub only_one : (f xs : List Value) (x : Value) (i : ℕ) (r : Option (Bor Value)) → AreRelated f x xs → length xs ≤ i → IsOnly (take i xs) r → MatchOption r (IsApplied f x Undefined) (λ y. IsApplied f x (Is y.now))
+pub only_one : (f xs : List Value) (x : Value) (i : ℕ) (r : Option (Bor Value)) → AreRelated f x xs → length xs ≤ i → IsOnly (take i xs) r
+    → MatchOption r (IsApplied f x Undefined) (λ y. IsApplied f x (Is y.now))
 unfolding IsApplied
 only_one f xs x i None h l o =
     let all : IsOnly xs None = subst (λ ys. IsOnly ys None) (take_all i xs l) o in

@@ -11,7 +11,8 @@ pub adds_none : (x : Value) (old : List Value) → AddsPairs x [] old old
 unfolding AddsPairs
 adds_none x old w = (λ m. inl m, λ m. ⊎_elim (λ a. a) (λ p. absurd p.2) m)
 
-pub adds_pass : (x : Value) (ps : List Value) (i : ℕ) (z : Value) (old new : List Value) → z ≡ get_or ps i z → i < length ps → ((u y : Value) → z ≡ pair u y → ⊥) → AddsPairs x (take i ps) old new → AddsPairs x (take (i + 1) ps) old new
+pub adds_pass : (x : Value) (ps : List Value) (i : ℕ) (z : Value) (old new : List Value) → z ≡ get_or ps i z → i < length ps
+    → ((u y : Value) → z ≡ pair u y → ⊥) → AddsPairs x (take i ps) old new → AddsPairs x (take (i + 1) ps) old new
 unfolding AddsPairs
 adds_pass x ps i z old new e l n h w =
     rw add-one (
@@ -19,7 +20,8 @@ adds_pass x ps i z old new e l n h w =
       λ m. ⊎_elim (λ a. (h w).1 (inl a)) (λ p. ⊎_elim (λ k. (h w).1 (inr (p.0, p.1, k, p.3))) (λ s. absurd (n p.0 p.1 s)) ((members-take_more ps i z e l (pair p.0 p.1)).0 p.2)) m,
     )
 
-pub adds_push : (x : Value) (ps : List Value) (i : ℕ) (z u y v : Value) (old between new : List Value) → z ≡ get_or ps i z → i < length ps → z ≡ pair u y → v ≡ pair x y → new ≡ between ++ v ∷ [] → AddsPairs x (take i ps) old between → AddsPairs x (take (i + 1) ps) old new
+pub adds_push : (x : Value) (ps : List Value) (i : ℕ) (z u y v : Value) (old between new : List Value) → z ≡ get_or ps i z → i < length ps → z ≡ pair u y
+    → v ≡ pair x y → new ≡ between ++ v ∷ [] → AddsPairs x (take i ps) old between → AddsPairs x (take (i + 1) ps) old new
 unfolding AddsPairs
 adds_push x ps i z u y v old between new e l s t n h w =
     let both = members-push between v w in
@@ -28,7 +30,8 @@ adds_push x ps i z u y v old between new e l s t n h w =
           ⊎_elim (λ a. ⊎_elim (λ b. inl b) (λ p. inr (p.0, p.1, (members-take_more ps i z e l (pair p.0 p.1)).1 (inl p.2), p.3)) ((h w).0 a))
           (λ k. inr (u, y, (members-take_more ps i z e l (pair u y)).1 (inr s), sym k ∙ t)) (both.0 (subst (IsMember w) n m)),
       λ m. subst (IsMember w) (sym n) (both.1 (
-          ⊎_elim (λ a. inl ((h w).1 (inl a))) (λ p. ⊎_elim (λ k. inl ((h w).1 (inr (p.0, p.1, k, p.3)))) (λ k. inr (t ∙ ap (pair x) (same_pair u y p.0 p.1 (sym s ∙ k)).1 ∙ sym p.3)) ((members-take_more ps i z e l (pair p.0 p.1)).0 p.2)) m)),
+          ⊎_elim (λ a. inl ((h w).1 (inl a))) (λ p. ⊎_elim (λ k. inl ((h w).1 (inr (p.0, p.1, k, p.3))))
+          (λ k. inr (t ∙ ap (pair x) (same_pair u y p.0 p.1 (sym s ∙ k)).1 ∙ sym p.3)) ((members-take_more ps i z e l (pair p.0 p.1)).0 p.2)) m)),
     )
 
 pub adds_all : (x : Value) (ps : List Value) (i : ℕ) (old new : List Value) → length ps ≤ i → AddsPairs x (take i ps) old new → AddsPairs x ps old new
@@ -40,7 +43,8 @@ adds_all x ps i old new l h = subst (λ ys. AddsPairs x ys old new) (take_all i 
 abbrev pub Composes : List Value → Value → Value → Type 0
 Composes q z w = (x y v : Value) × (z ≡ pair x y) × Relates q y v × (w ≡ pair x v)
 
-pub composed_more : (q r : List Value) (i : ℕ) (z x y : Value) (ps old new : List Value) → z ≡ get_or r i z → i < length r → z ≡ pair x y → AreRelated q y ps → AddsPairs x ps old new → IsGathered (Composes q) (take i r) old → IsGathered (Composes q) (take (i + 1) r) new
+pub composed_more : (q r : List Value) (i : ℕ) (z x y : Value) (ps old new : List Value) → z ≡ get_or r i z → i < length r → z ≡ pair x y → AreRelated q y ps
+    → AddsPairs x ps old new → IsGathered (Composes q) (take i r) old → IsGathered (Composes q) (take (i + 1) r) new
 unfolding AddsPairs
 composed_more q r i z x y ps old new e l s h a g =
     gathered_more (Composes q) r i z old new e l g (λ w. (
@@ -50,7 +54,8 @@ composed_more q r i z x y ps old new e l s h a g =
           inr (y, c.2, (h.same c.2).1 (subst (λ u. Relates q u c.2) (sym same.1) c.4), c.5 ∙ ap (λ u. pair u c.2) (sym same.0))) m),
     ))
 
-pub composed_pass : (q r : List Value) (i : ℕ) (z : Value) (out : List Value) → z ≡ get_or r i z → i < length r → ((x y : Value) → z ≡ pair x y → ⊥) → IsGathered (Composes q) (take i r) out → IsGathered (Composes q) (take (i + 1) r) out
+pub composed_pass : (q r : List Value) (i : ℕ) (z : Value) (out : List Value) → z ≡ get_or r i z → i < length r → ((x y : Value) → z ≡ pair x y → ⊥)
+    → IsGathered (Composes q) (take i r) out → IsGathered (Composes q) (take (i + 1) r) out
 composed_pass q r i z out e l n g = gathered_pass (Composes q) r i z out e l g (λ w c. n c.0 c.1 c.3)
 
 abbrev IsComposed : List Value → List Value → Value → Type 0
@@ -71,7 +76,9 @@ composition_out r q all i g d = (d.0, d.1, d.2, every_also (λ z. IsMember z all
 
 -- ---- overriding
 
-pub overriding_made : (r q firsts ordered kept all : List Value) (o : Result Outcome AllocError) → IsGathered (IsPartOf First) q firsts → HaveSameMembers firsts ordered → IsGathered (IsSelected First Others ordered Whole) r kept → all ≡ kept ++ q → IfOk o (IsDisplay all) → IsMade (IsOverriding r q) o
+pub overriding_made : (r q firsts ordered kept all : List Value) (o : Result Outcome AllocError) → IsGathered (IsPartOf First) q firsts
+    → HaveSameMembers firsts ordered → IsGathered (IsSelected First Others ordered Whole) r kept → all ≡ kept ++ q → IfOk o (IsDisplay all)
+    → IsMade (IsOverriding r q) o
 unfolding IsOverriding IsGathered HaveSameMembers
 overriding_made r q firsts ordered kept all o f s g e d =
     let in_firsts : (x : Value) → IsMember x ordered ↔ IsInDomain q x = λ x. (λ m. (in_domain q x).0 ((f x).0 ((s x).1 m)), λ p. (s x).0 ((f x).1 ((in_domain q x).1 p))) in

@@ -9,7 +9,8 @@ unfolding IsGathered
 gathered_none G out e w = (λ m. absurd (subst (IsMember w) e m), λ g. absurd g.1)
 
 -- what one more member gives is added
-pub gathered_more : (G : Value → Value → Type 0) (xs : List Value) (i : ℕ) (x : Value) (out new : List Value) → x ≡ get_or xs i x → i < length xs → IsGathered G (take i xs) out → ((w : Value) → IsMember w new ↔ (IsMember w out ⊎ G x w)) → IsGathered G (take (i + 1) xs) new
+pub gathered_more : (G : Value → Value → Type 0) (xs : List Value) (i : ℕ) (x : Value) (out new : List Value) → x ≡ get_or xs i x → i < length xs
+    → IsGathered G (take i xs) out → ((w : Value) → IsMember w new ↔ (IsMember w out ⊎ G x w)) → IsGathered G (take (i + 1) xs) new
 unfolding IsGathered
 gathered_more G xs i x out new e l h f w =
     rw add-one (
@@ -18,7 +19,8 @@ gathered_more G xs i x out new e l h f w =
     )
 
 -- it gives one value, or none
-pub gathered_push : (G : Value → Value → Type 0) (xs : List Value) (i : ℕ) (x : Value) (out new : List Value) (v : Value) → x ≡ get_or xs i x → i < length xs → IsGathered G (take i xs) out → ((w : Value) → G x w ↔ (v ≡ w)) → new ≡ out ++ v ∷ [] → IsGathered G (take (i + 1) xs) new
+pub gathered_push : (G : Value → Value → Type 0) (xs : List Value) (i : ℕ) (x : Value) (out new : List Value) (v : Value) → x ≡ get_or xs i x → i < length xs
+    → IsGathered G (take i xs) out → ((w : Value) → G x w ↔ (v ≡ w)) → new ≡ out ++ v ∷ [] → IsGathered G (take (i + 1) xs) new
 gathered_push G xs i x out new v e l h f s =
     gathered_more G xs i x out new e l h (λ w.
     let both = members-push out v w in (
@@ -26,7 +28,8 @@ gathered_push G xs i x out new v e l h f s =
       λ m. subst (IsMember w) (sym s) (both.1 (⊎_elim (λ a. inl a) (λ b. inr ((f w).0 b)) m)),
     ))
 
-pub gathered_pass : (G : Value → Value → Type 0) (xs : List Value) (i : ℕ) (x : Value) (out : List Value) → x ≡ get_or xs i x → i < length xs → IsGathered G (take i xs) out → ((w : Value) → G x w → ⊥) → IsGathered G (take (i + 1) xs) out
+pub gathered_pass : (G : Value → Value → Type 0) (xs : List Value) (i : ℕ) (x : Value) (out : List Value) → x ≡ get_or xs i x → i < length xs
+    → IsGathered G (take i xs) out → ((w : Value) → G x w → ⊥) → IsGathered G (take (i + 1) xs) out
 gathered_pass G xs i x out e l h f = gathered_more G xs i x out out e l h (λ w. (λ m. inl m, λ m. ⊎_elim (λ a. a) (λ g. absurd (f w g)) m))
 
 pub gathered_all : (G : Value → Value → Type 0) (xs : List Value) (i : ℕ) (out : List Value) → length xs ≤ i → IsGathered G (take i xs) out → IsGathered G xs out
@@ -110,12 +113,14 @@ kept_others keep set p true e h = subst (λ k. IsTrue false ↔ IsKept k set p) 
 kept_others keep set p false e h = subst (λ k. IsTrue true ↔ IsKept k set p) (sym e) (λ t m. let k = h.1 m in (cc), λ f. refl)
 
 -- the tested part is kept
-pub selected : (test : Part) (keep : Keep) (set : List Value) (given : Part) (z : Value) (p : Bor Value) (r : Option (Bor Value)) → GivesJust (IsPartOf test z) (Some p) → IsKept keep set p.now → GivesJust (IsPartOf given z) r → GivesJust (IsSelected test keep set given z) r
+pub selected : (test : Part) (keep : Keep) (set : List Value) (given : Part) (z : Value) (p : Bor Value) (r : Option (Bor Value))
+    → GivesJust (IsPartOf test z) (Some p) → IsKept keep set p.now → GivesJust (IsPartOf given z) r → GivesJust (IsSelected test keep set given z) r
 unfolding GivesJust
 selected test keep set given z p None h k f = λ v s. f v s.3
 selected test keep set given z p (Some w) h k f = λ v. (λ s. (f v).0 s.3, λ e. (p.now, (h p.now).1 refl, k, (f v).1 e))
 
-pub not_kept : (test : Part) (keep : Keep) (set : List Value) (given : Part) (z : Value) (p : Bor Value) → GivesJust (IsPartOf test z) (Some p) → (IsKept keep set p.now → ⊥) → GivesJust (IsSelected test keep set given z) None
+pub not_kept : (test : Part) (keep : Keep) (set : List Value) (given : Part) (z : Value) (p : Bor Value) → GivesJust (IsPartOf test z) (Some p)
+    → (IsKept keep set p.now → ⊥) → GivesJust (IsSelected test keep set given z) None
 unfolding GivesJust
 not_kept test keep set given z p h n = λ v s. n (subst (IsKept keep set) (sym ((h s.0).0 s.1)) s.2)
 
@@ -125,8 +130,11 @@ not_tested test keep set given z h = λ v s. h s.0 s.1
 
 -- ---- a step of a loop that collects
 
-pub step_push : (G : Value → Value → Type 0) (xs : List Value) (i : ℕ) (x : Value) (out new : List Value) (r : Option (Bor Value)) (p : Bor Value) (v : Value) → x ≡ get_or xs i x → i < length xs → IsGathered G (take i xs) out → GivesJust (G x) r → r ≡ Some p → v ≡ p.now → new ≡ out ++ v ∷ [] → IsGathered G (take (i + 1) xs) new
+pub step_push : (G : Value → Value → Type 0) (xs : List Value) (i : ℕ) (x : Value) (out new : List Value) (r : Option (Bor Value)) (p : Bor Value) (v : Value)
+    → x ≡ get_or xs i x → i < length xs → IsGathered G (take i xs) out → GivesJust (G x) r → r ≡ Some p → v ≡ p.now → new ≡ out ++ v ∷ []
+    → IsGathered G (take (i + 1) xs) new
 step_push G xs i x out new r p v e l h f s k n = gathered_push G xs i x out new v e l h (λ w. subst (λ u. G x w ↔ (u ≡ w)) (sym k) (given (G x) r p s f w)) n
 
-pub step_pass : (G : Value → Value → Type 0) (xs : List Value) (i : ℕ) (x : Value) (out : List Value) (r : Option (Bor Value)) → x ≡ get_or xs i x → i < length xs → IsGathered G (take i xs) out → GivesJust (G x) r → r ≡ None → IsGathered G (take (i + 1) xs) out
+pub step_pass : (G : Value → Value → Type 0) (xs : List Value) (i : ℕ) (x : Value) (out : List Value) (r : Option (Bor Value)) → x ≡ get_or xs i x
+    → i < length xs → IsGathered G (take i xs) out → GivesJust (G x) r → r ≡ None → IsGathered G (take (i + 1) xs) out
 step_pass G xs i x out r e l h f s = gathered_pass G xs i x out e l h (not_given (G x) r s f)

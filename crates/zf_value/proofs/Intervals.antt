@@ -53,7 +53,11 @@ pub lists_all : (a b : ℤ) (k : ℕ) (old : List Value) (v : Vec Value Global) 
 lists_all a b k old v e o n =
     let all : v.items ≡ number_list a (suc k) = number_more a b k old v.items e o n in
     let past : (a +ℤ pos (suc k)) ≡ (b +ℤ pos 1) = omega (arith, ints, e) in
-    record { ascending = subst IsAscending (sym all) (ascending-number_list a (suc k)); members = λ z. subst (λ xs. IsMember z xs ↔ IsBetweenNumbers a b z) (sym all) (numbers_between a b (suc k) past z) }
+    record {
+      ascending = subst IsAscending (sym all) (ascending-number_list a (suc k));
+      members = λ z. subst (λ xs. IsMember z xs ↔ IsBetweenNumbers a b z)
+          (sym all) (numbers_between a b (suc k) past z);
+    }
 
 pub lists_same : (a b x y : ℤ) (v : Vec Value Global) → a ≡ x → b ≡ y → ListsNumbers a b v → ListsNumbers x y v
 lists_same a b x y v e f h = subst (λ n. ListsNumbers n y v) e (subst (λ n. ListsNumbers a n v) f h)

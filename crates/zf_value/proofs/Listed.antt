@@ -64,10 +64,12 @@ turned : (z : Value) (x y : Value) → z ≡ pair x y → (w : Value) → IsTurn
 turned z x y e w =
     (λ t. let same = same_pair x y t.0 t.1 (sym e ∙ t.2) in ap (λ u. pair u x) same.1 ∙ ap (pair t.1) same.0 ∙ sym t.3, λ s. (x, y, e, sym s))
 
-pub turned_more : (xs : List Value) (i : ℕ) (z : Value) (out new : List Value) (x y v : Value) → z ≡ get_or xs i z → i < length xs → IsGathered IsTurned (take i xs) out → z ≡ pair x y → v ≡ pair y x → new ≡ out ++ v ∷ [] → IsGathered IsTurned (take (i + 1) xs) new
+pub turned_more : (xs : List Value) (i : ℕ) (z : Value) (out new : List Value) (x y v : Value) → z ≡ get_or xs i z → i < length xs
+    → IsGathered IsTurned (take i xs) out → z ≡ pair x y → v ≡ pair y x → new ≡ out ++ v ∷ [] → IsGathered IsTurned (take (i + 1) xs) new
 turned_more xs i z out new x y v e l h p k n = gathered_push IsTurned xs i z out new v e l h (λ w. subst (λ u. IsTurned z w ↔ (u ≡ w)) (sym k) (turned z x y p w)) n
 
-pub turned_pass : (xs : List Value) (i : ℕ) (z : Value) (out : List Value) → z ≡ get_or xs i z → i < length xs → IsGathered IsTurned (take i xs) out → ((x y : Value) → z ≡ pair x y → ⊥) → IsGathered IsTurned (take (i + 1) xs) out
+pub turned_pass : (xs : List Value) (i : ℕ) (z : Value) (out : List Value) → z ≡ get_or xs i z → i < length xs → IsGathered IsTurned (take i xs) out
+    → ((x y : Value) → z ≡ pair x y → ⊥) → IsGathered IsTurned (take (i + 1) xs) out
 turned_pass xs i z out e l h f = gathered_pass IsTurned xs i z out e l h (λ w t. f t.0 t.1 t.2)
 
 in_image : (r a : List Value) (w : Value) → ((z : Value) × IsMember z r × IsSelected First Members a Second z w) ↔ ((x : Value) × IsMember x a × Relates r x w)

@@ -37,7 +37,8 @@ equal_is : (x y : Value) → equality.ghosts.eq x y ≡ true → x ≡ y
 equal_is x y e = exact x y (is_eq_true (value_order x y) (sym (order_laws.matches_eq-law x y) ∙ e))
 
 -- a list that was sorted, and its repeats dropped
-pub sorted_out : (xs sorted ys : List Value) → IsPermutation xs sorted → IsSorted value_order sorted → IsFiltered (DiffersFromLast equality.ghosts.eq) [] sorted ys → IsAscending ys × HaveSameMembers xs ys
+pub sorted_out : (xs sorted ys : List Value) → IsPermutation xs sorted → IsSorted value_order sorted
+    → IsFiltered (DiffersFromLast equality.ghosts.eq) [] sorted ys → IsAscending ys × HaveSameMembers xs ys
 unfolding HaveSameMembers
 sorted_out xs sorted ys moved order kept =
     let is : ys ≡ dedup equality.ghosts.eq sorted = dedup_is _ _ _ kept in (
@@ -82,6 +83,7 @@ unfolding IsDisplay HaveSameMembers
 made_same xs ys r s h = IfOk-weaker r _ _ (λ o q. same_set _ (λ z. IsMember z xs) o (λ z. (λ m. (s z).1 m, λ m. (s z).0 m)) q) h
 
 -- a set made of what was gathered
-pub made_gathered : (G : Value → Value → Type 0) (P : Value → Type 0) (xs out : List Value) (r : Result Outcome AllocError) → IsGathered G xs out → ((w : Value) → ((z : Value) × IsMember z xs × G z w) ↔ P w) → IfOk r (IsDisplay out) → IfOk r (IsSetOf P)
+pub made_gathered : (G : Value → Value → Type 0) (P : Value → Type 0) (xs out : List Value) (r : Result Outcome AllocError) → IsGathered G xs out
+    → ((w : Value) → ((z : Value) × IsMember z xs × G z w) ↔ P w) → IfOk r (IsDisplay out) → IfOk r (IsSetOf P)
 unfolding IsGathered
 made_gathered G P xs out r g f h = made P out r (λ w. (λ m. (f w).0 ((g w).0 m), λ p. (g w).1 ((f w).1 p))) h

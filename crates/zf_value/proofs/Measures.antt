@@ -105,7 +105,8 @@ first_some x y (u ∷ us) l e = ap (λ v. value_order v x) e
 pub beside_none : (x z : Value) (f : Form) (xs ys : List Value) → value_of f ≡ z → f ≡ form.Tuple xs → ys ≡ xs → length ys ≡ 0 → Less ≡ place_beside x z
 beside_none x z f xs ys e i s l = first_none x ys l ∙ beside_Tuple x z f xs ys e i s
 
-pub beside_some : (x z : Value) (f : Form) (xs ys : List Value) (y : Value) (o : Ordering) → value_of f ≡ z → f ≡ form.Tuple xs → ys ≡ xs → 1 ≤ length ys → y ≡ get_or ys 0 y → o ≡ value_order y x → o ≡ place_beside x z
+pub beside_some : (x z : Value) (f : Form) (xs ys : List Value) (y : Value) (o : Ordering) → value_of f ≡ z → f ≡ form.Tuple xs → ys ≡ xs → 1 ≤ length ys
+    → y ≡ get_or ys 0 y → o ≡ value_order y x → o ≡ place_beside x z
 beside_some x z f xs ys y o e i s l g k = k ∙ first_some x y ys l g ∙ beside_Tuple x z f xs ys e i s
 
 -- a pair has two items

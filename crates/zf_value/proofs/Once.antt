@@ -24,7 +24,8 @@ in_rest x y z xs ys h e f m =
     let l = every_at (λ u. value_order x u ≡ Less) xs z h.0 m in
     ⊎_elim (λ s. absurd (not_below_itself x (subst (λ u. value_order x u ≡ Less) (sym (e ∙ s)) l))) (λ n. n) (f (inr m))
 
-mutual_same : (x y : Value) (xs ys : List Value) → IsAscending (x ∷ xs) → IsAscending (y ∷ ys) → ((z : Value) → IsMember z (x ∷ xs) ↔ IsMember z (y ∷ ys)) → (o : Ordering) → value_order x y ≡ o → x ≡ y
+mutual_same : (x y : Value) (xs ys : List Value) → IsAscending (x ∷ xs) → IsAscending (y ∷ ys) → ((z : Value) → IsMember z (x ∷ xs) ↔ IsMember z (y ∷ ys))
+    → (o : Ordering) → value_order x y ≡ o → x ≡ y
 mutual_same x y xs ys h k f Less e = absurd (not_among x y ys k e ((f x).0 (inl refl)))
 mutual_same x y xs ys h k f Equal e = exact x y e
 mutual_same x y xs ys h k f Greater e = absurd (not_among y x xs h (above x y e) ((f y).1 (inl refl)))
@@ -46,7 +47,8 @@ no_longer [] (x ∷ xs) k h f = absurd (f x (inl refl))
 no_longer (y ∷ ys) [] k h f = omega arith
 no_longer (y ∷ ys) (x ∷ xs) k h f = at (value_order x y) refl (λ g. no_longer ys xs k.1 h.1 g) (λ g. no_longer ys (x ∷ xs) k.1 h g)
   where
-    at : (o : Ordering) → value_order x y ≡ o → (((z : Value) → IsMember z xs → IsMember z ys) → length xs ≤ length ys) → (((z : Value) → IsMember z (x ∷ xs) → IsMember z ys) → length (x ∷ xs) ≤ length ys) → length (x ∷ xs) ≤ length (y ∷ ys)
+    at : (o : Ordering) → value_order x y ≡ o → (((z : Value) → IsMember z xs → IsMember z ys) → length xs ≤ length ys)
+        → (((z : Value) → IsMember z (x ∷ xs) → IsMember z ys) → length (x ∷ xs) ≤ length ys) → length (x ∷ xs) ≤ length (y ∷ ys)
     at Less e a b = absurd (not_among x y ys k e (f x (inl refl)))
     at Equal e a b = let q = a (λ z m. in_rest x y z xs ys h (exact x y e) (f z) m) in omega (arith, q)
     at Greater e a b =

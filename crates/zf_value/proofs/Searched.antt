@@ -32,7 +32,8 @@ found z xs (Err i) h l s =
     let apart = s (rising (λ y. ordering_index (value_order y z)) xs h (λ a b k. index_below z a b _ refl k)) in
     (λ b. (cc), λ m. let c = contained xs z m in absurd (neither c.0 c.2 (apart.0 c.0 z) (apart.1 c.0 z) (cases_lt c.0 i) c.1))
   where
-    neither : (k : ℕ) → get_or xs k z ≡ z → (0 ≤ k → k < i → value_order (get_or xs k z) z ≡ Less) → (i ≤ k → k < length xs → value_order (get_or xs k z) z ≡ Greater) → (k < i) ⊎ (i ≤ k) → k < length xs → ⊥
+    neither : (k : ℕ) → get_or xs k z ≡ z → (0 ≤ k → k < i → value_order (get_or xs k z) z ≡ Less)
+        → (i ≤ k → k < length xs → value_order (get_or xs k z) z ≡ Greater) → (k < i) ⊎ (i ≤ k) → k < length xs → ⊥
     neither k e low high b q =
         let t = tied_itself total-law z in
         let same : value_order (get_or xs k z) z ≡ value_order z z = ap (λ u. value_order u z) e in

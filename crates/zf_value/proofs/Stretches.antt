@@ -99,7 +99,15 @@ from_part r i j k z l a b e =
     member _ z (k - i, omega (arith, n, l, length-take (j - i) (drop i r), length-drop i r), get_or-take (j - i) (drop i r) (k - i) z n ∙ get_or-drop i r (k - i) z ∙ ap (λ n. get_or r n z) s ∙ e)
 
 pub related_between : (x : Value) (r : List Value) (i j : ℕ) → IsAscending r → IsStart x r i → IsEnd x r j → j ≤ length r → AreRelated r x (take (j - i) (drop i r))
-related_between x r i j h s e l = record { ascending = ascending-take (j - i) (drop i r) (ascending-drop i r h); first = first; same = λ y. (λ m. let p = in_part r i j (pair x y) l m in member r (pair x y) (p.0, omega (arith, p.2, l), p.3), λ m. back y (contained r (pair x y) m)) }
+related_between x r i j h s e l = record {
+  ascending = ascending-take (j - i) (drop i r)
+      (ascending-drop i r h);
+  first = first;
+  same = λ y. (
+    λ m. let p = in_part r i j (pair x y) l m in member r (pair x y) (p.0, omega (arith, p.2, l), p.3),
+    λ m. back y (contained r (pair x y) m),
+  );
+}
   where
     first : (u y : Value) → IsMember (pair u y) (take (j - i) (drop i r)) → u ≡ x
     first u y m =
@@ -110,7 +118,8 @@ related_between x r i j h s e l = record { ascending = ascending-take (j - i) (d
     back : (y : Value) → Contains r (pair x y) → IsMember (pair x y) (take (j - i) (drop i r))
     back y c =
         let at : place_beside x (get_or r c.0 (pair x y)) ≡ Equal = ap (place_beside x) c.2 ∙ pair_place x x y ∙ tied_itself total-law x in
-        from_part r i j c.0 (pair x y) l (⊎_elim (λ k. absurd (no_start (s.0 c.0 (pair x y) (omega arith) k) at)) (λ k. k) (cases_lt c.0 i)) (⊎_elim (λ k. k) (λ k. absurd (no_end (e.1 c.0 (pair x y) k c.1) at)) (cases_lt c.0 j)) c.2
+        from_part r i j c.0 (pair x y) l (⊎_elim (λ k. absurd (no_start (s.0 c.0 (pair x y) (omega arith) k) at)) (λ k. k) (cases_lt c.0 i))
+        (⊎_elim (λ k. k) (λ k. absurd (no_end (e.1 c.0 (pair x y) k c.1) at)) (cases_lt c.0 j)) c.2
       where
         no_start : {o : Ordering} → is_lt o ≡ true → o ≡ Equal → ⊥
         no_start {o} a b = let f : is_lt o ≡ false = ap is_lt b in (cc)

@@ -76,7 +76,8 @@ item_judged g (a_box n ds ps) =
 abbrev HasVerdict : List Defined → List Item → Type 0
 HasVerdict g steps = (h : List Defined) × (faults : List Fault) × ChecksAll g steps h faults
 
-of_item : (g : List Defined) (item : Item) (steps : List Item) → ((h : List Defined) × Defines g item h) ⊎ SomeOffence (OffendsItem g item) → ((mid : List Defined) → HasVerdict mid steps) → HasVerdict g (item ∷ steps)
+of_item : (g : List Defined) (item : Item) (steps : List Item) → ((h : List Defined) × Defines g item h) ⊎ SomeOffence (OffendsItem g item)
+    → ((mid : List Defined) → HasVerdict mid steps) → HasVerdict g (item ∷ steps)
 of_item g item steps (inl p) rest = let q = rest p.0 in (q.0, q.1, (p.0, [], q.1, inl (p.1, refl), q.2, refl))
 of_item g item steps (inr o) rest =
     let q = rest g in

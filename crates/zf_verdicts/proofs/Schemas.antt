@@ -18,7 +18,8 @@ module _ (Step : Schema → Type 0) (Rest : Schema → Schema → Type 0) (Stopp
   then_rest (inr o) rest = inr (o.0, o.1, inl o.2)
   then_rest (inl p) rest = by (rest p.0)
     where
-      by : ((b : Schema) × Rest p.0 b) ⊎ SomeOffence (Later p.0) → ((b : Schema) × ((mid : Schema) × Step mid × Rest mid b)) ⊎ SomeOffence (λ k m. Stopped k m ⊎ ((mid : Schema) × Step mid × Later mid k m))
+      by : ((b : Schema) × Rest p.0 b) ⊎ SomeOffence (Later p.0) → ((b : Schema)
+          × ((mid : Schema) × Step mid × Rest mid b)) ⊎ SomeOffence (λ k m. Stopped k m ⊎ ((mid : Schema) × Step mid × Later mid k m))
       by (inl q) = inl (q.0, (p.0, p.1, q.1))
       by (inr o) = inr (o.0, o.1, inr (p.0, p.1, o.2))
 
@@ -188,7 +189,8 @@ module _ (g : List Defined) (x y : SchemaTree) where
   of_either l (inl p) (inr o) = inr (o.0, o.1, inr (inl o.2))
   of_either l (inl p) (inl q) = by (agree p.0.comps q.0.comps)
     where
-      sized : Agree p.0.comps q.0.comps → OrTold (IsWithin (disjoined l p.0 q.0)) (IsTooLarge (disjoined l p.0 q.0)) → ((c : Schema) × IsSchema g (either l x y) c) ⊎ SomeOffence (OffendsSchema g (either l x y))
+      sized : Agree p.0.comps q.0.comps → OrTold (IsWithin (disjoined l p.0 q.0)) (IsTooLarge (disjoined l p.0 q.0))
+          → ((c : Schema) × IsSchema g (either l x y) c) ⊎ SomeOffence (OffendsSchema g (either l x y))
       sized agreed (inl within) = inl (disjoined l p.0 q.0, (p.0, q.0, p.1, q.1, agreed, (refl, within)))
       sized agreed (inr large) = inr (large.0, l, inr (inr (p.0, q.0, p.1, q.1, inr (refl, agreed, large.1))))
 

@@ -125,7 +125,8 @@ module _ (s : Scope) (left : Tree) (x : Sort) (r : Relation) (e : Tree) (ks : Li
   of_link p (inl h) (inr o) rest = inr (o.0, o.1, inr (inl o.2))
   of_link p (inl h) (inl q) rest = by (combined (relation_rule r) x q.0 h q.2)
     where
-      linked : (z : Sort) → Takes (relation_rule r) x q.0 z → LinksAreTyped s q.0 ks ⊎ SomeOffence (LinksOffend s e ks) → LinksAreTyped s x (link r e ks) ⊎ SomeOffence (LinksOffend s left (link r e ks))
+      linked : (z : Sort) → Takes (relation_rule r) x q.0 z → LinksAreTyped s q.0 ks ⊎ SomeOffence (LinksOffend s e ks)
+          → LinksAreTyped s x (link r e ks) ⊎ SomeOffence (LinksOffend s left (link r e ks))
       linked z w (inl links) = inl (q.0, q.1, relates r x q.0 z w, links)
       linked z w (inr o) = inr (o.0, o.1, inr (inr (inr o.2)))
 
@@ -160,7 +161,9 @@ module _ (s : Scope) (n : Need) (l : ℕ) (ds : VarDecls) (p e : Perhaps) where
       sized c u b (inl small) = placed s n (builder l ds p e) (set_sort u) (d.0, u, apart, d.1, c, b, small, refl) (λ k m o. inr (inr (inr o)))
       sized c u b (inr large) = inr (too_large TypeNodes, l, inr (inr (inl (d.0, (apart, d.1), inr (inr (u, b, large, refl, refl))))))
 
-      by : PartIsPredicate (with_variables s d.0) p ⊎ SomeOffence (PartOffends (with_variables s d.0) need.Predicate p) → ((u : Ty) × HasMemberType (with_variables s d.0) d.0 e u) ⊎ SomeOffence (PartOffends (with_variables s d.0) need.Expression e) → IsJudged s n (builder l ds p e)
+      by : PartIsPredicate (with_variables s d.0) p ⊎ SomeOffence (PartOffends (with_variables s d.0) need.Predicate p)
+          → ((u : Ty) × HasMemberType (with_variables s d.0) d.0 e u) ⊎ SomeOffence (PartOffends (with_variables s d.0) need.Expression e)
+          → IsJudged s n (builder l ds p e)
       by (inr o) term = inr (o.0, o.1, inr (inr (inl (d.0, (apart, d.1), inl o.2))))
       by (inl c) (inr o) = inr (o.0, o.1, inr (inr (inl (d.0, (apart, d.1), inr (inl o.2)))))
       by (inl c) (inl b) = sized c b.0 b.1 (is_small (power b.0))
@@ -176,7 +179,8 @@ module _ (s : Scope) (n : Need) (l : ℕ) (q : Quantifier) (ds : VarDecls) (p : 
   of_quantifier (inl apart) (inr o) constraint body = inr (o.0, o.1, inr (inl o.2))
   of_quantifier (inl apart) (inl d) constraint body = by (constraint (with_variables s d.0)) (body (with_variables s d.0))
     where
-      by : PartIsPredicate (with_variables s d.0) p ⊎ SomeOffence (PartOffends (with_variables s d.0) need.Predicate p) → IsJudged (with_variables s d.0) need.Predicate e → IsJudged s n (quantified l q ds p e)
+      by : PartIsPredicate (with_variables s d.0) p ⊎ SomeOffence (PartOffends (with_variables s d.0) need.Predicate p)
+          → IsJudged (with_variables s d.0) need.Predicate e → IsJudged s n (quantified l q ds p e)
       by (inr o) body = inr (o.0, o.1, inr (inr (inl (d.0, (apart, d.1), inl o.2))))
       by (inl c) (inr o) = inr (o.0, o.1, inr (inr (inl (d.0, (apart, d.1), inr o.2))))
       by (inl c) (inl b) = placed s n (quantified l q ds p e) predicate (d.0, apart, d.1, c, subst (IsOf (with_variables s d.0) e) b.2 b.1, refl) (λ k m o. inr (inr (inr o)))

@@ -31,7 +31,8 @@ module _ {V : Type 0} (cmp : V → V → Ordering) (o : IsTotalOrder cmp) where
   fronts-follow (suc k) [] (y ∷ b) l h e = cc
   fronts-follow (suc k) (x ∷ a) [] l h e = absurd (omega arith)
   fronts-follow (suc k) (x ∷ a) (y ∷ b) l h e = go (cmp x y) h e (fronts-follow k a b (omega arith)) where
-    go : (q : Ordering) → ordering_then q (slice_cmp cmp a b) ≡ Less → ordering_then q (slice_cmp cmp (take k a) (take k b)) ≡ Greater → (ComesAfter cmp a b → slice_cmp cmp (take k a) (take k b) ≢ Greater) → ⊥
+    go : (q : Ordering) → ordering_then q (slice_cmp cmp a b) ≡ Less → ordering_then q (slice_cmp cmp (take k a) (take k b)) ≡ Greater
+        → (ComesAfter cmp a b → slice_cmp cmp (take k a) (take k b) ≢ Greater) → ⊥
     go Less h e ih = cc
     go Equal h e ih = ih h e
     go Greater h e ih = cc
@@ -63,7 +64,8 @@ module _ {V : Type 0} (cmp : V → V → Ordering) (o : IsTotalOrder cmp) where
             (λ m. let i = (ev.members f).0 (Contains-right front (e ∷ rest) f (Contains-later e rest f m)) in
                 record { within = i.within; later = AllPairs-head Follows e rest back f m; truth_of = i.truth_of; not_false = i.not_false }),
             (λ i. let later : ComesAfter cmp e.row f.row = i.later in
-                let here : Contains (front ++ e ∷ rest) f = (ev.members f).1 (record { within = i.within; later = IsLater-on after e.row f.row there.later later; truth_of = i.truth_of; not_false = i.not_false }) in
+                let here : Contains (front ++ e ∷ rest) f = (ev.members f).1
+                (record { within = i.within; later = IsLater-on after e.row f.row there.later later; truth_of = i.truth_of; not_false = i.not_false }) in
                 elim (Contains-either front (e ∷ rest) f here) [
                   | inl m ↦ absurd (never-both e.row f.row later (AllPairs-across Follows front (e ∷ rest) ev.ascending f e m (Contains-head e rest)))
                   | inr m ↦ elim (Contains-cases e rest f m) [

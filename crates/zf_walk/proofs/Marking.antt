@@ -70,7 +70,8 @@ and-has a b i h = both-bits (bit_at a i) (bit_at b i) (bit_at-lt a i) (bit_at-lt
 digits : (w n front i : ℕ) → i < w → n ≡ front * w + i → (n / w ≡ front) × (n % w ≡ i)
 digits w n front i low is = one_digit (n / w) front w (n % w) i (mod-lt n {m = w} (omega arith)) low (div-add-mod' n w ∙ is)
 
-pub seen-marked : (t : Table) (places : List ℕ) (front count i : ℕ) (last : Used) (u : Truth) → count ≡ length t.used.items → 0 < count → last ≡ get_or t.used.items (count - 1) last → last.component ≡ length places → last.count ≡ t.width
+pub seen-marked : (t : Table) (places : List ℕ) (front count i : ℕ) (last : Used) (u : Truth) → count ≡ length t.used.items → 0 < count
+    → last ≡ get_or t.used.items (count - 1) last → last.component ≡ length places → last.count ≡ t.width
     → number front (drop (count - 1) t.used.items) (places ++ i ∷ []) ≡ number 0 t.used.items (places ++ i ∷ []) → HavePlaces t.used.items (places ++ i ∷ [])
     → IsSeen (get_or t.seen.items front unseen) i u → IsMarked t (number 0 t.used.items (places ++ i ∷ [])) u
 seen-marked t places front count i last u all some is at wide whole have seen =
@@ -82,15 +83,19 @@ seen-marked t places front count i last u all some is at wide whole have seen =
     sym whole ∙ ap (λ us. number front us (places ++ i ∷ [])) one ∙ ap (λ p. front * last.count + p) place ∙ ap (λ w. front * w + i) wide in
     let member : Contains t.used.items last = (count - 1, near, sym is) in
     let low : i < t.width = let h = have last member in omega (arith, h.1, place, wide) in
-    let d = digits t.width (number 0 t.used.items (places ++ i ∷ [])) front i low n in
-    (omega arith, subst (λ k. IsSeen (get_or t.seen.items k unseen) (number 0 t.used.items (places ++ i ∷ []) % t.width) u) (sym d.0) (subst (λ k. IsSeen (get_or t.seen.items front unseen) k u) (sym d.1) seen))
+    let d = digits t.width (number 0 t.used.items (places ++ i ∷ [])) front i low n in (
+      omega arith,
+      subst (λ k. IsSeen (get_or t.seen.items k unseen) (number 0 t.used.items (places ++ i ∷ []) % t.width) u) (sym d.0)
+          (subst (λ k. IsSeen (get_or t.seen.items front unseen) k u) (sym d.1) seen),
+    )
 
 -- the number of the first places, with one more of them
 module _ (us : List Used) (places : List ℕ) (n k : ℕ) (u : Used) (is : u ≡ get_or us k u) (near : k < length us) (low : u.component < length places) where
   early : (i : ℕ) → get_or (places ++ i ∷ []) u.component 0 ≡ get_or places u.component 0
   early i = get_or_append_left places (i ∷ []) 0 u.component low
 
-  pub front-next : (i : ℕ) → number n (drop k us) (places ++ i ∷ []) ≡ number 0 us (places ++ i ∷ []) → number (n * u.count + get_or places u.component 0) (drop (k + 1) us) (places ++ i ∷ []) ≡ number 0 us (places ++ i ∷ [])
+  pub front-next : (i : ℕ) → number n (drop k us) (places ++ i ∷ []) ≡ number 0 us (places ++ i ∷ [])
+      → number (n * u.count + get_or places u.component 0) (drop (k + 1) us) (places ++ i ∷ []) ≡ number 0 us (places ++ i ∷ [])
   front-next i e =
       subst (λ p. number (n * u.count + p) (drop (k + 1) us) (places ++ i ∷ []) ≡ number 0 us (places ++ i ∷ [])) (early i)
       (subst (λ (w : Used). number (n * w.count + get_or (places ++ i ∷ []) w.component 0) (drop (k + 1) us) (places ++ i ∷ []) ≡ number 0 us (places ++ i ∷ [])) (sym is)

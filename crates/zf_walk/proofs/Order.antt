@@ -112,7 +112,8 @@ module _ {V : Type 0} (cmp : V → V → Ordering) (o : IsTotalOrder cmp) where
     begins [] row h = inr refl
     begins (x ∷ path) [] h = absurd (false≢true h)
     begins (x ∷ path) (v ∷ row) h = go (cmp x v) refl h (begins path row) where
-      go : (q : Ordering) → cmp x v ≡ q → first_of q (reaches cmp true path row) ≡ true → (reaches cmp true path row ≡ true → (reaches cmp false path row ≡ true) ⊎ (path ++ drop (length path) row ≡ row))
+      go : (q : Ordering) → cmp x v ≡ q → first_of q (reaches cmp true path row) ≡ true
+          → (reaches cmp true path row ≡ true → (reaches cmp false path row ≡ true) ⊎ (path ++ drop (length path) row ≡ row))
           → (first_of q (reaches cmp false path row) ≡ true) ⊎ (x ∷ (path ++ drop (length path) row) ≡ v ∷ row)
       go Less e k ih = inl refl
       go Equal e k ih = elim (ih k) [ inl past ↦ inl past | inr same ↦ inr (let q : x ≡ v = ties x v e in cc) ]

@@ -87,13 +87,15 @@ module _ {V : Type 0} (cmp : V → V → Ordering) (o : IsTotalOrder cmp) where
   shut here named [] tail h l = absurd (false≢true (sym h))
   shut here [] (v ∷ road) tail h l = absurd (omega arith)
   shut here (x ∷ named) (v ∷ road) tail h l = go (cmp x v) h (shut here named road tail) where
-    go : (q : Ordering) → first_of q (reaches cmp true (take (length road) named) road) ≡ false → (reaches cmp true (take (length road) named) road ≡ false → length road ≤ length named → reaches cmp here named (road ++ tail) ≡ false)
+    go : (q : Ordering) → first_of q (reaches cmp true (take (length road) named) road) ≡ false
+        → (reaches cmp true (take (length road) named) road ≡ false → length road ≤ length named → reaches cmp here named (road ++ tail) ≡ false)
         → first_of q (reaches cmp here named (road ++ tail)) ≡ false
     go Less k ih = absurd (false≢true (sym k))
     go Equal k ih = ih k (omega arith)
     go Greater k ih = refl
 
-  pub unreached : (after : Option (List V)) (n : ℕ) (road tail : List V) → HasLength after n → length (road ++ tail) ≤ n → is_reached cmp after n road ≡ false → is_reached cmp after n (road ++ tail) ≡ false
+  pub unreached : (after : Option (List V)) (n : ℕ) (road tail : List V) → HasLength after n → length (road ++ tail) ≤ n → is_reached cmp after n road ≡ false
+      → is_reached cmp after n (road ++ tail) ≡ false
   unreached None n road tail l s h = absurd (false≢true (sym h))
   unreached (Some named) n road tail l s h = elim (cases_eq (length road) n) [
     | inl e ↦ let none : tail ≡ [] = nil_from_length tail (omega (arith, length-append road tail)) in

@@ -52,7 +52,8 @@ module _ {V : Type 0} (ranges : List (List V)) (uses : ℕ → Bool) where
   get-past (v ∷ row) (suc k) h = get-past row k (omega arith)
 
   -- rows with one number agree in what is used
-  pub same-used : (us : List Used) (places others : List ℕ) → AreUsed ranges uses (length places) us → AreWithin ranges places → AreWithin ranges others → length places ≡ length others → number 0 us others ≡ number 0 us places
+  pub same-used : (us : List Used) (places others : List ℕ) → AreUsed ranges uses (length places) us → AreWithin ranges places → AreWithin ranges others
+      → length places ≡ length others → number 0 us others ≡ number 0 us places
       → (k : ℕ) → uses k ≡ true → slice_get (picked ranges places) k ≡ slice_get (picked ranges others) k
   same-used us places others a w v l e k is = elim (cases_lt k (length places)) [
     | inl near ↦ let u = a.all k near is in
@@ -88,7 +89,8 @@ module _ {V : Type 0} (s : Conjuncts V) (uses : ℕ → ℕ → Bool) (ranges : 
     known-so (Some t) u h e = h.truths places u w due e
 
     -- a truth that is kept is one on each row that agrees in what is used
-    pub kept-so : FollowUsed s uses → c < s.number → (kept : Truth) → s.says c (picked ranges places) kept → (o p : Option Table) → MayKeep places kept o p → IfSome o (IsTableOf s uses ranges c) → IfSome p (IsTableOf s uses ranges c)
+    pub kept-so : FollowUsed s uses → c < s.number → (kept : Truth) → s.says c (picked ranges places) kept → (o p : Option Table) → MayKeep places kept o p
+        → IfSome o (IsTableOf s uses ranges c) → IfSome p (IsTableOf s uses ranges c)
     kept-so follow near kept says None None k h = tt
     kept-so follow near kept says None (Some new) k h = absurd k
     kept-so follow near kept says (Some old) None k h = absurd k

@@ -26,7 +26,8 @@ module _ (e : Environment) (cs : List Comp) where
   pub are_due : (ps : List ResolvedTree) → CanBegin e cs ps → AreDueWithin (property e ps) (length cs)
   are_due ps h = due_each ps h.predicates
 
-  each_asked : (ps : List ResolvedTree) → AllByRecursion (λ t. unless_ended e.numbers (offending e.globals t) ≡ []) ps → ((c : ℕ) → c < length ps → due_of (slice_get ps c) ≤ length cs) → AllByRecursion (CanAsk e (length cs)) ps
+  each_asked : (ps : List ResolvedTree) → AllByRecursion (λ t. unless_ended e.numbers (offending e.globals t) ≡ []) ps
+      → ((c : ℕ) → c < length ps → due_of (slice_get ps c) ≤ length cs) → AllByRecursion (CanAsk e (length cs)) ps
   each_asked [] f d = tt
   each_asked (p ∷ ps) f d = (record { finite = f.0; due = d zero (omega arith) }, each_asked ps f.1 (λ c l. d (suc c) (omega arith)))
 

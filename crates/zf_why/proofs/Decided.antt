@@ -36,7 +36,16 @@ module _ (e : Environment) (a : Schema) (held : List (Option Value)) (ranges : L
   pub event_of : HasRow e a.comps held a.conjuncts → (ev : Event Value) × IsEvent value_order (property e a.conjuncts) ranges None ev
   event_of h = elim (true_or_out e h.row a.conjuncts h.allowed) [
     | inl all ↦ (record { row = h.row; truth = True }, record { within = row_in e a.comps held ranges h.row are h.within; later = tt; truth_of = all; not_false = λ q. cc })
-    | inr out ↦ (record { row = h.row; truth = Out }, record { within = row_in e a.comps held ranges h.row are h.within; later = tt; truth_of = (said e h.row a.conjuncts h.allowed, out); not_false = λ q. cc })
+    | inr out ↦ (
+      record { row = h.row; truth = Out },
+      record {
+        within = row_in e a.comps held ranges h.row are h.within;
+        later = tt;
+        truth_of
+            = (said e h.row a.conjuncts h.allowed, out);
+        not_false = λ q. cc;
+      },
+    )
   ]
 
   -- the row of an event allows all
@@ -74,6 +83,7 @@ module _ (e : Environment) (a : Schema) (held : List (Option Value)) (g : Goal) 
 
 -- what a search finds decides it
 pub found : (e : Environment) (a : Schema) (held : List (Option Value)) (g : Goal) (b : Stage Value) {E : Type 0} (r : Result Bool E) → Begins e a (portion None held) g b
-    → IfOk r (λ f. (e : Environment) (a : Schema) (held : List (Option Value)) → Begins e a (portion None held) g b → Decides e a.comps held a.conjuncts f) → IfOk r (Decides e a.comps held a.conjuncts)
+    → IfOk r (λ f. (e : Environment) (a : Schema) (held : List (Option Value)) → Begins e a (portion None held) g b → Decides e a.comps held a.conjuncts f)
+    → IfOk r (Decides e a.comps held a.conjuncts)
 found e a held g b (Ok f) begun h = h e a held begun
 found e a held g b (Err x) begun h = tt

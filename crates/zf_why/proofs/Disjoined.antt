@@ -148,30 +148,35 @@ module _ (e : Environment) (cs : List Comp) (given : List ResolvedTree) (l : ℕ
   pub left_begins : CanBegin e cs (given ++ one_holds l ts us ∷ []) → CanBegin e cs (given ++ ts)
   left_begins h = record {
     ranges = h.ranges;
-    predicates = beside (CanAsk e (length cs)) given (one_holds l ts us ∷ []) ts (λ k. each_joined e (length cs) l ts (left_asked e (length cs) l (Connective Or) (joined l ts) (joined l us) k.0)) h.predicates;
+    predicates = beside (CanAsk e (length cs)) given (one_holds l ts us ∷ []) ts
+        (λ k. each_joined e (length cs) l ts (left_asked e (length cs) l (Connective Or) (joined l ts) (joined l us) k.0)) h.predicates;
   }
 
   pub right_begins : CanBegin e cs (given ++ one_holds l ts us ∷ []) → CanBegin e cs (given ++ us)
   right_begins h = record {
     ranges = h.ranges;
-    predicates = beside (CanAsk e (length cs)) given (one_holds l ts us ∷ []) us (λ k. each_joined e (length cs) l us (right_asked e (length cs) l (Connective Or) (joined l ts) (joined l us) k.0)) h.predicates;
+    predicates = beside (CanAsk e (length cs)) given (one_holds l ts us ∷ []) us
+        (λ k. each_joined e (length cs) l us (right_asked e (length cs) l (Connective Or) (joined l ts) (joined l us) k.0)) h.predicates;
   }
 
 -- ---- what a search over a side needs
 
-module _ (e : Environment) (cs : List Comp) (held : List (Option Value)) (given : List ResolvedTree) (l : ℕ) (left right : List Batch) (ps : Option (List ℕ)) (whole : Conjunct) (is : whole ≡ conjunct.Either l left right ps) where
+module _ (e : Environment) (cs : List Comp) (held : List (Option Value)) (given : List ResolvedTree) (l : ℕ) (left right : List Batch) (ps : Option (List ℕ))
+    (whole : Conjunct) (is : whole ≡ conjunct.Either l left right ps) where
   -- the conjuncts of a side
   abbrev pub side : List Batch → List ResolvedTree
   side bs = map (moved (numbering ps)) (all_of (map batch_of bs))
 
-  pub left_needs : (ts : List ResolvedTree) → ts ≡ side left → CanBegin e cs (given ++ conjunct_of whole ∷ []) → RuleOut e cs held (given ++ conjunct_of whole ∷ []) → CanBegin e cs (given ++ ts) × RuleOut e cs held (given ++ ts)
+  pub left_needs : (ts : List ResolvedTree) → ts ≡ side left → CanBegin e cs (given ++ conjunct_of whole ∷ [])
+      → RuleOut e cs held (given ++ conjunct_of whole ∷ []) → CanBegin e cs (given ++ ts) × RuleOut e cs held (given ++ ts)
   left_needs ts same begins none =
       let seen = either_seen l left right ps whole ts (side right) is same refl in (
         left_begins e cs given l ts (side right) (subst (λ (p : ResolvedTree). CanBegin e cs (given ++ p ∷ [])) seen begins),
         left_ruled_out e cs held given l ts (side right) (subst (λ (p : ResolvedTree). RuleOut e cs held (given ++ p ∷ [])) seen none),
       )
 
-  pub right_needs : (us : List ResolvedTree) → us ≡ side right → CanBegin e cs (given ++ conjunct_of whole ∷ []) → RuleOut e cs held (given ++ conjunct_of whole ∷ []) → CanBegin e cs (given ++ us) × RuleOut e cs held (given ++ us)
+  pub right_needs : (us : List ResolvedTree) → us ≡ side right → CanBegin e cs (given ++ conjunct_of whole ∷ [])
+      → RuleOut e cs held (given ++ conjunct_of whole ∷ []) → CanBegin e cs (given ++ us) × RuleOut e cs held (given ++ us)
   right_needs us same begins none =
       let seen = either_seen l left right ps whole (side left) us is refl same in (
         right_begins e cs given l (side left) us (subst (λ (p : ResolvedTree). CanBegin e cs (given ++ p ∷ [])) seen begins),

@@ -28,7 +28,8 @@ pub no_value : (e : Environment) (c : Comp) (held : List (Option Value)) → Rul
 no_value e c held none v is = none (record { row = v ∷ []; within = (is, tt); allowed = tt })
 
 -- whether a component has a value, from whether there is a row of it alone
-pub value_decided : (e : Environment) (cs : List Comp) (held : List (Option Value)) (i : ℕ) (c : Comp) (from : List (Option Value)) {E : Type 0} (r : Result Bool E) → slice_get cs i ≡ Some c → from ≡ drop i held
+pub value_decided : (e : Environment) (cs : List Comp) (held : List (Option Value)) (i : ℕ) (c : Comp) (from : List (Option Value)) {E : Type 0}
+    (r : Result Bool E) → slice_get cs i ≡ Some c → from ≡ drop i held
     → IfOk r (Decides e (c ∷ []) from []) → IfOk r (λ has. IfSome (slice_get cs i) (λ d. OneOf (HasValue e held i d) (HasNoValue e held i d) has))
 value_decided e cs held i c from (Err x) at is h = tt
 value_decided e cs held i c from (Ok true) at is h = rw at (let v = value_of e c from h in (v.0, subst (λ k. IsInRange e c (first_held k) v.0) is v.1))

@@ -68,6 +68,7 @@ pub lines_chosen : (cs : List Conjunct) (m : List Bool) → chosen_of (lines_of 
 lines_chosen cs m = sym (seen_chosen term_line (map conjunct_of cs) m)
 
 module _ (e : Environment) (cs : List Comp) (held : List (Option Value)) (given ps : List ResolvedTree) where
-  pub blamed_by : {E : Type 0} (r : Result (Vec ℕ Global) E) (core chosen : List Bool) → IsCore e cs held given ps core → chosen ≡ core → IfOk r (λ lines. lines.items ≡ map term_line (chosen_of ps chosen)) → IfOk r (λ lines. AreBlamed e cs held given ps lines.items)
+  pub blamed_by : {E : Type 0} (r : Result (Vec ℕ Global) E) (core chosen : List Bool) → IsCore e cs held given ps core → chosen ≡ core
+      → IfOk r (λ lines. lines.items ≡ map term_line (chosen_of ps chosen)) → IfOk r (λ lines. AreBlamed e cs held given ps lines.items)
   blamed_by (Ok lines) core chosen is same h = (core, is, h ∙ ap (λ (m : List Bool). map term_line (chosen_of ps m)) same)
   blamed_by (Err x) core chosen is same h = tt

@@ -58,7 +58,8 @@ module _ (e : Environment) (held : List (Option Value)) (other : Value) where
   everywhere rs t o is here row has = subst (λ X. X) (same_outcome (in_row e (filled other held)) row rs t (agree held (filled other held) row (has_held other held) has (onto rs t) is) o) here
 
   -- the operands of a predicate whose names are held
-  pub of_held : (p : ResolvedTree) (o : Option Operands) → are_held held (references p) ≡ true → AreOutcomesIn (in_row e (filled other held)) (operands_of p) o → AreOutcomes e held true (operands_of p) o
+  pub of_held : (p : ResolvedTree) (o : Option Operands) → are_held held (references p) ≡ true → AreOutcomesIn (in_row e (filled other held)) (operands_of p) o
+      → AreOutcomes e held true (operands_of p) o
   of_held (bracket l t) o is h = of_held t o is h
   of_held (chain l t no_links) o is h = h
   of_held (chain l t (link r u no_links)) None is h = h
@@ -74,7 +75,8 @@ module _ (e : Environment) (held : List (Option Value)) (other : Value) where
   of_held (binary l op a b) o is h = h
   of_held (quantified l q rs c t) o is h = h
 
-  pub held_told : {E : Type 0} (p : ResolvedTree) (r : Result (Option Operands) E) → are_held held (references p) ≡ true → IfOk r (AreOutcomesIn (in_row e (filled other held)) (operands_of p)) → IfOk r (AreOperandsOf e held p)
+  pub held_told : {E : Type 0} (p : ResolvedTree) (r : Result (Option Operands) E) → are_held held (references p) ≡ true
+      → IfOk r (AreOutcomesIn (in_row e (filled other held)) (operands_of p)) → IfOk r (AreOperandsOf e held p)
   held_told p (Ok o) is h = subst (λ (b : Bool). AreOutcomes e held b (operands_of p) o) (sym is) (of_held p o is h)
   held_told p (Err x) is h = tt
 
@@ -87,7 +89,8 @@ other_told e held p is = subst (λ (b : Bool). AreOutcomes e held b (operands_of
 pub no_details : (e : Environment) (held : List (Option Value)) (details : Bool) (p : ResolvedTree) → details ≡ false → AreOperands e held details p None
 no_details e held details p is = subst (λ (b : Bool). AreOperands e held b p None) (sym is) refl
 
-pub with_details : {E : Type 0} (e : Environment) (held : List (Option Value)) (details : Bool) (p q : ResolvedTree) (r : Result (Option Operands) E) → details ≡ true → q ≡ p → IfOk r (AreOperandsOf e held q) → IfOk r (AreOperands e held details p)
+pub with_details : {E : Type 0} (e : Environment) (held : List (Option Value)) (details : Bool) (p q : ResolvedTree) (r : Result (Option Operands) E)
+    → details ≡ true → q ≡ p → IfOk r (AreOperandsOf e held q) → IfOk r (AreOperands e held details p)
 with_details e held details p q r is same h = subst (λ (b : Bool). IfOk r (AreOperands e held b p)) (sym is) (subst (λ (t : ResolvedTree). IfOk r (AreOperandsOf e held t)) same h)
 
 -- ---- chains

@@ -73,7 +73,8 @@ module _ (held : List (Option Value)) where
 
   -- what is found of a term, as what its names say
   pub found_of : (t : ResolvedTree) (found : Bool) → flag found ≡ max 0 (lacks held t) → not found ≡ are_held held (references t)
-  found_of t found is = let whole : max 0 (lacks held t) ≡ flag (not (are_held held (references t))) = sym (of_term [] t) ∙ all_names (references t) in one_flag found (are_held held (references t)) (is ∙ whole)
+  found_of t found is = let whole : max 0 (lacks held t) ≡ flag (not (are_held held (references t))) = sym (of_term [] t)
+      ∙ all_names (references t) in one_flag found (are_held held (references t)) (is ∙ whole)
 
   none_found : (b : Bool) → flag (not b) ≡ 0 → b ≡ true
   none_found true is = refl

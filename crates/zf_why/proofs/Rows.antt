@@ -11,7 +11,8 @@ contained [] v m = absurd m
 contained (x ∷ xs) v (inl e) = subst (λ z. Contains (z ∷ xs) v) (sym e) (Contains-head v xs)
 contained (x ∷ xs) v (inr later) = Contains-later x xs v (contained xs v later)
 
-pub row_of : (e : Environment) (cs : List Comp) (held : List (Option Value)) (ranges : List (List Value)) (row : List Value) → AreRanges e cs held ranges → walk.IsRowOf ranges row → IsRowOf e cs held row
+pub row_of : (e : Environment) (cs : List Comp) (held : List (Option Value)) (ranges : List (List Value)) (row : List Value) → AreRanges e cs held ranges
+    → walk.IsRowOf ranges row → IsRowOf e cs held row
 row_of e [] held [] [] r w = tt
 row_of e [] held [] (v ∷ row) r w = absurd w
 row_of e [] held (xs ∷ ranges) row r w = absurd r
@@ -19,7 +20,8 @@ row_of e (c ∷ cs) held [] row r w = absurd r
 row_of e (c ∷ cs) held (xs ∷ ranges) [] r w = absurd w
 row_of e (c ∷ cs) held (xs ∷ ranges) (v ∷ row) (r, rs) (w, ws) = ((r.members v).0 (member_of xs v w), row_of e cs (later_held held) ranges row rs ws)
 
-pub row_in : (e : Environment) (cs : List Comp) (held : List (Option Value)) (ranges : List (List Value)) (row : List Value) → AreRanges e cs held ranges → IsRowOf e cs held row → walk.IsRowOf ranges row
+pub row_in : (e : Environment) (cs : List Comp) (held : List (Option Value)) (ranges : List (List Value)) (row : List Value) → AreRanges e cs held ranges
+    → IsRowOf e cs held row → walk.IsRowOf ranges row
 row_in e [] held [] [] r w = tt
 row_in e [] held [] (v ∷ row) r w = absurd w
 row_in e [] held (xs ∷ ranges) row r w = absurd r

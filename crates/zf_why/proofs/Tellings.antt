@@ -55,7 +55,8 @@ module _ (R : ℕ → ResolvedTree → Told → Type 0) (ps : List ResolvedTree)
 -- ---- a conjunct beside the others
 
 module _ {A : Type 0} (P : A → Type 0) where
-  put_back : (ps : List A) (m : List Bool) (i : ℕ) (p : A) → slice_get ps i ≡ Some p → IsChosen m i → AllByRecursion P (chosen_of ps (slice_set m i false) ++ p ∷ []) → AllByRecursion P (chosen_of ps m)
+  put_back : (ps : List A) (m : List Bool) (i : ℕ) (p : A) → slice_get ps i ≡ Some p → IsChosen m i
+      → AllByRecursion P (chosen_of ps (slice_set m i false) ++ p ∷ []) → AllByRecursion P (chosen_of ps m)
   put_back [] m i p at chosen h = absurd (cc)
   put_back (q ∷ ps) [] i p at chosen h = tt
   put_back (q ∷ ps) (b ∷ m) zero p at chosen h =
@@ -74,7 +75,8 @@ module _ {A : Type 0} (P : A → Type 0) where
 
 module _ (e : Environment) (cs : List Comp) (held : List (Option Value)) (ps : List ResolvedTree) where
   -- what rules out everything together does so with one of them last
-  pub ruled_out_beside : (m : List Bool) (i : ℕ) (p : ResolvedTree) → slice_get ps i ≡ Some p → IsChosen m i → RuleOut e cs held (chosen_of ps m) → RuleOut e cs held (chosen_of ps (slice_set m i false) ++ p ∷ [])
+  pub ruled_out_beside : (m : List Bool) (i : ℕ) (p : ResolvedTree) → slice_get ps i ≡ Some p → IsChosen m i → RuleOut e cs held (chosen_of ps m)
+      → RuleOut e cs held (chosen_of ps (slice_set m i false) ++ p ∷ [])
   ruled_out_beside m i p at chosen none h = none (record { row = h.row; within = h.within; allowed = put_back (IsAllowed e h.row) ps m i p at chosen h.allowed })
 
   pub begins_beside : (m : List Bool) (i : ℕ) (p : ResolvedTree) → slice_get ps i ≡ Some p → CanBegin e cs ps → CanBegin e cs (chosen_of ps m ++ p ∷ [])
@@ -126,5 +128,6 @@ module _ (e : Environment) (cs : List Comp) (held : List (Option Value)) (given 
   pub member_told : (i : ℕ) (t : Resolved) (ps : Option (List ℕ)) → whole ≡ conjunct.Member i t ps → AreSidesOf e cs held given p (is_disjunction whole) None
   member_told i t ps is = subst (λ (b : Bool). AreSidesOf e cs held given p b None) (sym (ap is_disjunction is ∙ of_member i t ps)) tt
 
-  pub either_told : (l : ℕ) (left right : List Batch) (ps : Option (List ℕ)) (sides : Sides) → whole ≡ conjunct.Either l left right ps → HasSides e cs held given p sides → AreSidesOf e cs held given p (is_disjunction whole) (Some sides)
+  pub either_told : (l : ℕ) (left right : List Batch) (ps : Option (List ℕ)) (sides : Sides) → whole ≡ conjunct.Either l left right ps
+      → HasSides e cs held given p sides → AreSidesOf e cs held given p (is_disjunction whole) (Some sides)
   either_told l left right ps sides is h = subst (λ (b : Bool). AreSidesOf e cs held given p b (Some sides)) (sym (ap is_disjunction is ∙ of_either l left right ps)) h

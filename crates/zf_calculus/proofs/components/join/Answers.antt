@@ -10,7 +10,8 @@ gain-requires c = named_below c.as_slice-2.result.now c.as_slice.result.now c.ar
 
 pub returns-in_ok-gain-in-Some-clause-ok : goal.returns-in_ok-gain-in-Some-clause-ok
 returns-in_ok-gain-in-Some-clause-ok c =
-    joined_known c.args.component c.as_slice-2.result.now c.as_slice.result.now c.args.components.now c.gain.new.components c.in-Some.place c.as_slice-2.ensures c.as_slice.ensures c.in-Some.ensures c.in_ok-gain-in-Some.ensures
+    joined_known c.args.component c.as_slice-2.result.now c.as_slice.result.now c.args.components.now c.gain.new.components c.in-Some.place
+    c.as_slice-2.ensures c.as_slice.ensures c.in-Some.ensures c.in_ok-gain-in-Some.ensures
 
 pub returns-in_ok-gain-in-Some-clause-room : goal.returns-in_ok-gain-in-Some-clause-room
 returns-in_ok-gain-in-Some-clause-room c =
@@ -23,7 +24,8 @@ returns-in_ok-gain-in-Some-clause-place c =
 
 pub returns-in_ok-add_new-in-None-clause-ok : goal.returns-in_ok-add_new-in-None-clause-ok
 returns-in_ok-add_new-in-None-clause-ok c =
-    joined_new c.args.component c.as_slice-2.result.now c.as_slice.result.now c.args.components.now c.add_new.new.components c.as_slice-2.ensures c.as_slice.ensures c.in-None.ensures c.in_ok-add_new-in-None.ensures.ok
+    joined_new c.args.component c.as_slice-2.result.now c.as_slice.result.now c.args.components.now c.add_new.new.components c.as_slice-2.ensures
+    c.as_slice.ensures c.in-None.ensures c.in_ok-add_new-in-None.ensures.ok
 
 pub returns-in_ok-add_new-in-None-clause-place : goal.returns-in_ok-add_new-in-None-clause-place
 returns-in_ok-add_new-in-None-clause-place c =
@@ -37,7 +39,8 @@ returns-in_ok-add_new-in-None-clause-room c =
 pub returns-in_err-add_new-in-None-clause-err : goal.returns-in_err-add_new-in-None-clause-err
 returns-in_err-add_new-in-None-clause-err c =
     let l = length_new c.args.component c.as_slice-2.result.now c.as_slice.result.now c.args.components.now c.as_slice-2.ensures c.as_slice.ensures c.in-None.ensures in
-    let step : (k : Offence) → (k ≡ too_large limit.Components) × (64 ≤ length c.args.components.now) → (k ≡ too_large limit.Components) × (length (with_comp (map comp_of c.args.components.now) (comp_of c.args.component)) ≤ 64 → ⊥) =
+    let step : (k : Offence) → (k ≡ too_large limit.Components) × (64 ≤ length c.args.components.now) → (k ≡ too_large limit.Components)
+    × (length (with_comp (map comp_of c.args.components.now) (comp_of c.args.component)) ≤ 64 → ⊥) =
     λ k h. (h.0, λ w. omega (arith, h.1)) in
     let fact = weaker _ _ _ step c.in_err-add_new-in-None.ensures.err in
     search rules

@@ -14,7 +14,10 @@ returns c =
     ∙ ap (λ (es : List Component). memberships 0 (map comp_of es)) c.as_slice.ensures
     in
     let made : all_of (map batch_of c.push_batches.new.batches) ≡ whole =
-    constraints_made ps c.push_all_memberships.new.made c.args.flat.now.conjuncts c.in_ok-new.field-0 c.as_slice-2.result.now (memberships 0 (map comp_of components)) (all_of (map batch_of c.in_ok-batches.batches)) (all_of (map batch_of c.push_batch.new.batches)) (all_of (map batch_of c.push_batches.new.batches))
-    listed c.in_ok-new.ensures (ap all_of c.as_slice-2.ensures ∙ c.in_ok-pieces.ensures) (ap (λ (bs : List Batch). all_of (map batch_of bs)) c.in_ok-batches.ensures) c.in_ok-push_batch.ensures c.in_ok-push_batches.ensures
+    constraints_made ps c.push_all_memberships.new.made c.args.flat.now.conjuncts c.in_ok-new.field-0 c.as_slice-2.result.now
+    (memberships 0 (map comp_of components)) (all_of (map batch_of c.in_ok-batches.batches)) (all_of (map batch_of c.push_batch.new.batches))
+    (all_of (map batch_of c.push_batches.new.batches))
+    listed c.in_ok-new.ensures (ap all_of c.as_slice-2.ensures ∙ c.in_ok-pieces.ensures)
+    (ap (λ (bs : List Batch). all_of (map batch_of bs)) c.in_ok-batches.ensures) c.in_ok-push_batch.ensures c.in_ok-push_batches.ensures
     in
     IfOk-weaker c.new-2.result (λ bs. bs ≡ c.push_batches.new.batches) (λ bs. all_of (map batch_of bs) ≡ whole) (λ bs e. ap (λ (ds : List Batch). all_of (map batch_of ds)) e ∙ made) c.new-2.ensures

@@ -13,4 +13,5 @@ returns c =
     ∙ ap (λ (cs : List Component). moved (new_place (map comp_of c.args.right.now.components) (map comp_of cs)) t) c.as_slice-2.ensures
     in
     ap (λ (ts : List ResolvedTree). spec.schema_with all ts)
-    (sides_seen c.args.line all (schema_of c.args.left.now) (schema_of c.args.right.now) c.either.result c.in_ok-conjuncts.conjuncts c.in_ok-of_left.of_left c.in_ok-of_right.of_right c.in_ok-places.places c.in_ok-conjuncts.ensures c.either.ensures c.in_ok-of_left.ensures c.in_ok-of_right.ensures places)
+    (sides_seen c.args.line all (schema_of c.args.left.now) (schema_of c.args.right.now) c.either.result c.in_ok-conjuncts.conjuncts c.in_ok-of_left.of_left
+    c.in_ok-of_right.of_right c.in_ok-places.places c.in_ok-conjuncts.ensures c.either.ensures c.in_ok-of_left.ensures c.in_ok-of_right.ensures places)

@@ -4,7 +4,8 @@ use Rattle.zf_calculus.proofs.disjunction.push_membership.Goals as goal
 
 pub returns-in-Plain : goal.returns-in-Plain
 returns-in-Plain c =
-    on_ok_weaker c.push.result (pushed c.args.place c.args.domain.now c.in-Plain.set c.member.result c.args.made.now c.push.new.self c.in-Plain.is (c.member.ensures ∙ ap (is_member c.args.place) (ap resolved_of c.share.ensures))) c.push.ensures.ok
+    on_ok_weaker c.push.result (pushed c.args.place c.args.domain.now c.in-Plain.set c.member.result c.args.made.now c.push.new.self c.in-Plain.is
+    (c.member.ensures ∙ ap (is_member c.args.place) (ap resolved_of c.share.ensures))) c.push.ensures.ok
 
 pub returns-in-Carrier : goal.returns-in-Carrier
 returns-in-Carrier c = none_of_carrier c.args.place c.args.domain.now _ c.args.made.now c.in-Carrier.is

@@ -12,7 +12,8 @@ pub returns-in_err-take_equalities-clause-err : goal.returns-in_err-take_equalit
 returns-in_err-take_equalities-clause-err c =
     let a = schema_of c.args.schema.now in
     let m = schema_of c.in_ok-growing.growing.flat in
-    let made = xi_made c.args.line a m c.in_ok-growing.places c.as_slice.result.now c.in_ok-growing.ensures.ok.0 (c.as_slice.ensures ∙ c.get.ensures) c.in_ok-growing.ensures.places c.in_ok-growing.ensures.each in
+    let made = xi_made c.args.line a m c.in_ok-growing.places c.as_slice.result.now c.in_ok-growing.ensures.ok.0
+    (c.as_slice.ensures ∙ c.get.ensures) c.in_ok-growing.ensures.places c.in_ok-growing.ensures.each in
     let fact = weaker _ _ _ (stops_xi c.args.line a m (equalities c.args.line 0 c.as_slice.result.now) made c.in_ok-growing.ensures.agree) c.in_err-take_equalities.ensures.err in
     search rules
 
@@ -20,5 +21,6 @@ pub returns-clause-ok : goal.returns-clause-ok
 returns-clause-ok c =
     let a = schema_of c.args.schema.now in
     let m = schema_of c.in_ok-growing.growing.flat in
-    let made = c.in_ok-take_equalities.ensures.ok ∙ xi_made c.args.line a m c.in_ok-growing.places c.as_slice.result.now c.in_ok-growing.ensures.ok.0 (c.as_slice.ensures ∙ c.get.ensures) c.in_ok-growing.ensures.places c.in_ok-growing.ensures.each in
+    let made = c.in_ok-take_equalities.ensures.ok ∙ xi_made c.args.line a m c.in_ok-growing.places c.as_slice.result.now c.in_ok-growing.ensures.ok.0
+    (c.as_slice.ensures ∙ c.get.ensures) c.in_ok-growing.ensures.places c.in_ok-growing.ensures.each in
     (made, subst IsWithin made c.in_ok-take_equalities.ensures.growing.within)

@@ -13,10 +13,17 @@ returns-in-DisplayVersion-clause-asked g c =
 
 pub returns-in-Some-clause-asked : goal.returns-in-Some-clause-asked
 returns-in-Some-clause-asked g c =
-    answered (map g.S.AsStr.text c.args.words.now) _ _ _ (are_matches _ (map g.S.AsStr.text c.args.words.now) c.in-Ok.matches _ _ c.in_ok-command.ensures.0 c.in-Ok.ensures.matches c.in-Ok.ensures.kinds c.in-Some.ensures.name c.in-Some.ensures.rows) c.work_in.ensures.asked
+    answered (map g.S.AsStr.text c.args.words.now) _ _ _ (are_matches _ (map g.S.AsStr.text c.args.words.now) c.in-Ok.matches _ _ c.in_ok-command.ensures.0
+    c.in-Ok.ensures.matches c.in-Ok.ensures.kinds c.in-Some.ensures.name c.in-Some.ensures.rows) c.work_in.ensures.asked
 
 pub returns-in-Some-clause-refused : goal.returns-in-Some-clause-refused
-returns-in-Some-clause-refused g c = λ e. inr (_, _, are_matches _ (map g.S.AsStr.text c.args.words.now) c.in-Ok.matches _ _ c.in_ok-command.ensures.0 c.in-Ok.ensures.matches c.in-Ok.ensures.kinds c.in-Some.ensures.name c.in-Some.ensures.rows, c.work_in.ensures.refused e)
+returns-in-Some-clause-refused g c = λ e. inr (
+  _,
+  _,
+  are_matches _ (map g.S.AsStr.text c.args.words.now) c.in-Ok.matches _ _ c.in_ok-command.ensures.0
+      c.in-Ok.ensures.matches c.in-Ok.ensures.kinds c.in-Some.ensures.name c.in-Some.ensures.rows,
+  c.work_in.ensures.refused e,
+)
 
 pub returns : goal.returns
 returns g c = record {

@@ -22,11 +22,14 @@ returns-in-Ok-clause-shows g c =
     let s = c.args.subject.now in
     let is = c.requires.subject in
     shown r c.args.inquiry.report.file.now source (schema_in s) (counted_goal c.in-Ok.found.walk) c.in-Ok.found.walk.stage _ (environment_in s) (portion (option_copied c.args.after) s.held.now)
-    (searched_all r source s is c.requires.all (option_copied c.args.after) c.requires.named c.in-Ok.ensures.begins.begins.none_out) c.in-Ok.ensures.begins.begins c.requires.all (worded r source s is) true _ _ _ (sym c.requires.counted) c.show_with_tests.ensures.ok c.show_with_tests.ensures.err
+    (searched_all r source s is c.requires.all (option_copied c.args.after) c.requires.named c.in-Ok.ensures.begins.begins.none_out)
+    c.in-Ok.ensures.begins.begins c.requires.all (worded r source s is) true _ _ _
+    (sym c.requires.counted) c.show_with_tests.ensures.ok c.show_with_tests.ensures.err
 
 pub refuse-requires-clause-answers : goal.refuse-requires-clause-answers
 refuse-requires-clause-answers g c =
     let s = c.args.subject.now in
     let is = c.requires.subject in
     out_answers c.args.inquiry.request.now c.args.inquiry.report.file.now c.args.inquiry.report.source.now (environment_in s).globals (schema_in s) (environment_in s) is.asked
-    (schema_in s).comps (option_copied c.args.after) s.held.now (all_shown c.args.inquiry.request.now (environment_in s) (schema_in s).comps c.requires.all) c.requires.named is.held c.in-Err.stop c.in-Err.ensures.stop
+    (schema_in s).comps (option_copied c.args.after) s.held.now (all_shown c.args.inquiry.request.now (environment_in s) (schema_in s).comps c.requires.all)
+    c.requires.named is.held c.in-Err.stop c.in-Err.ensures.stop

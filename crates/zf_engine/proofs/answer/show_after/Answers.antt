@@ -21,12 +21,15 @@ returns-in-Ok-clause-shows g c =
     let source = c.args.inquiry.report.source.now in
     let s = c.args.subject.now in
     let is = c.requires.subject in
-    shown r c.args.inquiry.report.file.now source (schema_in s) (planted_goal c.in-Ok.found.names c.in-Ok.found.search) c.in-Ok.found.search.stage _ (environment_in s) (portion (option_copied c.args.after) s.held.now)
-    (searched_all r source s is c.requires.all (option_copied c.args.after) c.requires.named c.in-Ok.ensures.begins.none_out) c.in-Ok.ensures.begins c.requires.all (worded r source s is) false _ _ _ (search rules) c.show.ensures.ok c.show.ensures.err
+    shown r c.args.inquiry.report.file.now source (schema_in s) (planted_goal c.in-Ok.found.names c.in-Ok.found.search) c.in-Ok.found.search.stage _
+    (environment_in s) (portion (option_copied c.args.after) s.held.now)
+    (searched_all r source s is c.requires.all (option_copied c.args.after) c.requires.named c.in-Ok.ensures.begins.none_out) c.in-Ok.ensures.begins
+    c.requires.all (worded r source s is) false _ _ _ (search rules) c.show.ensures.ok c.show.ensures.err
 
 pub refuse-requires-clause-answers : goal.refuse-requires-clause-answers
 refuse-requires-clause-answers g c =
     let s = c.args.subject.now in
     let is = c.requires.subject in
     out_answers c.args.inquiry.request.now c.args.inquiry.report.file.now c.args.inquiry.report.source.now (environment_in s).globals (schema_in s) (environment_in s) is.asked
-    (schema_in s).comps (option_copied c.args.after) s.held.now (all_shown c.args.inquiry.request.now (environment_in s) (schema_in s).comps c.requires.all) c.requires.named is.held c.in-Err.stop c.in-Err.ensures.stop
+    (schema_in s).comps (option_copied c.args.after) s.held.now (all_shown c.args.inquiry.request.now (environment_in s) (schema_in s).comps c.requires.all)
+    c.requires.named is.held c.in-Err.stop c.in-Err.ensures.stop

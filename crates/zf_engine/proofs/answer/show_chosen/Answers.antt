@@ -25,7 +25,8 @@ returns-in-Ok-clause-shows g c =
     let places = c.args.chosen.now.places.items in
     let named = subst (λ cs. IsNamedRow e cs r.after after) by.3 c.requires.named in
     parts_shown r c.args.inquiry.report.file.now source (schema_in s) (planted_goal c.in-Ok.found.names c.in-Ok.found.search) c.in-Ok.found.search.stage _ e (portion None s.held.now)
-    (searched_some r source s is names places after by.1 by.2 named c.in-Ok.ensures.begins.none_out) c.in-Ok.ensures.begins names places after by.1 by.2 named (part_worded r source s is places c.args.chosen.now by.3) _ _ _
+    (searched_some r source s is names places after by.1 by.2 named c.in-Ok.ensures.begins.none_out) c.in-Ok.ensures.begins names places after by.1 by.2 named
+    (part_worded r source s is places c.args.chosen.now by.3) _ _ _
     (rw c.deref.ensures.value at c.show_parts.ensures.ok) (rw c.deref.ensures.value at c.show_parts.ensures.err)
 
 pub refuse-requires-clause-answers : goal.refuse-requires-clause-answers

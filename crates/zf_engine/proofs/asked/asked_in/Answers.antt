@@ -20,7 +20,8 @@ returns-in_err-env-clause-stop c =
     let r = c.args.request.now in
     let g = globals_of c.args.globals.now in
     weaker_err _ (λ s. IfAnswered s (TellsMisfit r.details g (stated g r.setting))) (AnswersOver g r c.args.report.file.now)
-    (λ stop told source checks. misfit_answers r c.args.report.file.now source _ _ (has_schema r c.args.report.file.now source _ _ checks c.in_ok-schema.ensures.named) c.in_ok-numbers.ensures.small stop told) (search rules)
+    (λ stop told source checks. misfit_answers r c.args.report.file.now source _ _
+    (has_schema r c.args.report.file.now source _ _ checks c.in_ok-schema.ensures.named) c.in_ok-numbers.ensures.small stop told) (search rules)
 
 pub returns-in_err-check_finite-clause-stop : goal.returns-in_err-check_finite-clause-stop
 returns-in_err-check_finite-clause-stop c =
@@ -30,7 +31,8 @@ returns-in_err-check_finite-clause-stop c =
     let a = schema_of c.in_ok-schema.schema.now in
     weaker_err _ (λ s. IfAnswered s (TellsInfinite e.numbers e.globals a c.args.report.details file)) (AnswersOver (globals_of c.args.globals.now) r file)
     (λ stop told source checks. infinite_answers r file source _ _ (has_schema r file source _ _ checks c.in_ok-schema.ensures.named) c.in_ok-numbers.ensures.small c.in_ok-env.ensures.complete stop
-    (infinite_here r file source (globals_of c.args.globals.now) a e c.in_ok-env.ensures.is stop (subst (λ d. IfAnswered stop (TellsInfinite e.numbers e.globals a d file)) c.requires told))) (search rules)
+    (infinite_here r file source (globals_of c.args.globals.now) a e c.in_ok-env.ensures.is stop
+    (subst (λ d. IfAnswered stop (TellsInfinite e.numbers e.globals a d file)) c.requires told))) (search rules)
 
 pub returns-clause-asked : goal.returns-clause-asked
 returns-clause-asked c = λ source checks.

@@ -21,7 +21,8 @@ returns-in_err-after-clause-stop c =
     let comps = (schema_of c.args.flat.now).comps in
     let r = c.args.inquiry.request.now in
     let lines = (schema_of c.shown-lines.result.now).comps in
-    weaker_err _ (λ s. AreClear c.args.elements.now e.sizes → IfAnswered s (TellsNoRow e lines r.after)) (λ s. AreClear c.args.elements.now e.sizes → HaveClearNames comps → IfAnswered s (TellsMisnamed e comps r))
+    weaker_err _ (λ s. AreClear c.args.elements.now e.sizes → IfAnswered s (TellsNoRow e lines r.after)) (λ s. AreClear c.args.elements.now e.sizes
+    → HaveClearNames comps → IfAnswered s (TellsMisnamed e comps r))
     (λ stop told clear names. weaker stop (λ text status t. inr (lines, (are_shown_as comps r.only _ lines c.in_ok-chosen.ensures.chosen c.shown-lines.ensures), inl t)) (told clear)) (search rules)
 
 pub returns-in_err-held-clause-stop : goal.returns-in_err-held-clause-stop
@@ -30,11 +31,19 @@ returns-in_err-held-clause-stop c =
     let comps = (schema_of c.args.flat.now).comps in
     let r = c.args.inquiry.request.now in
     let lines = (schema_of c.shown-lines.result.now).comps in
-    weaker_err _ (λ s. AreClear c.args.elements.now e.sizes → HaveClearNames comps → IfAnswered s (TellsNoValues e comps r.held)) (λ s. AreClear c.args.elements.now e.sizes → HaveClearNames comps → IfAnswered s (TellsMisnamed e comps r))
-    (λ stop told clear names. weaker stop (λ text status t. inr (lines, (are_shown_as comps r.only _ lines c.in_ok-chosen.ensures.chosen c.shown-lines.ensures), inr (_, c.in_ok-after.ensures.named, t))) (told clear names)) (search rules)
+    weaker_err _ (λ s. AreClear c.args.elements.now e.sizes → HaveClearNames comps
+    → IfAnswered s (TellsNoValues e comps r.held)) (λ s. AreClear c.args.elements.now e.sizes → HaveClearNames comps
+    → IfAnswered s (TellsMisnamed e comps r))
+    (λ stop told clear names. weaker stop (λ text status t. inr (
+      lines,
+      (are_shown_as comps r.only _ lines c.in_ok-chosen.ensures.chosen
+          c.shown-lines.ensures),
+      inr (_, c.in_ok-after.ensures.named, t),
+    )) (told clear names)) (search rules)
 
 pub returns-clause-named : goal.returns-clause-named
 returns-clause-named c = record {
   chosen = c.in_ok-chosen.ensures.chosen;
-  after = subst (λ cs. IsNamedRow (environment_of c.args.env.now) cs c.args.inquiry.request.now.after (option_map (λ (v : Vec Value Global). v.items) c.in_ok-after.after)) c.shown-lines.ensures c.in_ok-after.ensures.named;
+  after = subst (λ cs. IsNamedRow (environment_of c.args.env.now) cs c.args.inquiry.request.now.after
+      (option_map (λ (v : Vec Value Global). v.items) c.in_ok-after.after)) c.shown-lines.ensures c.in_ok-after.ensures.named;
 }

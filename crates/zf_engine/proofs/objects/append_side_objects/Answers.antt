@@ -19,5 +19,6 @@ pub returns : goal.returns
 returns c =
     let i = c.loop-place.place in
     sym (append-nil c.loop-place.text.items)
-    ∙ sym (ap (λ l. c.loop-place.text.items ++ l) (ap (λ l. goes_on i (map (source_object c.args.source.now) l)) (drop-end i c.args.lines.now (omega (arith, c.loop-place-test.false))) ∙ goes_on-nil i))
+    ∙ sym (ap (λ l. c.loop-place.text.items ++ l) (ap (λ l. goes_on i (map (source_object c.args.source.now) l))
+    (drop-end i c.args.lines.now (omega (arith, c.loop-place-test.false))) ∙ goes_on-nil i))
     ∙ c.loop-place.invariant

@@ -15,7 +15,14 @@ returns-then-contains-clause-stop c =
     let same = trim_ascii_end_is _ _ c.trim_ascii_end-trimmed.ensures.value ∙ ap without_end (trim_ascii_start_is _ _ c.trim_ascii_start.ensures.value) in
     let place = c.in-Some.place in
     let among = is_among c.args.places.now.items place (sym (rw c.deref.ensures.value at c.contains.ensures.value) ∙ c.if-contains.true) in
-    weaker c.not_components-then-contains.result (λ text status t. (inr (place, component_at (map comp_of c.args.components.now) c.args.name.now _ same place _ c.in-Some.ensures, among), t)) c.not_components-then-contains.ensures
+    weaker c.not_components-then-contains.result (λ text status t. (
+      inr (
+        place,
+        component_at (map comp_of c.args.components.now) c.args.name.now _ same place _ c.in-Some.ensures,
+        among,
+      ),
+      t,
+    )) c.not_components-then-contains.ensures
 
 pub returns-clause-added : goal.returns-clause-added
 returns-clause-added c =

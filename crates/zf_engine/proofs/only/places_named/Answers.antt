@@ -31,7 +31,8 @@ loop-name-preserved c =
     let l = c.loop-name in
     let less = length-drop (length l.name.now + 1) l.rest.now in
     let is = ap length c.back-rest.ensures in (
-      one_more (map comp_of c.args.components.now) c.args.text.now l.rest.now l.name.now c.back-rest.result.now l.places.items c.add_place.new.places.items l.invariant.0 l.invariant.1 c.loop-name-test.true c.back-rest.ensures c.in_ok-add_place.ensures.added,
+      one_more (map comp_of c.args.components.now) c.args.text.now l.rest.now l.name.now c.back-rest.result.now l.places.items c.add_place.new.places.items
+          l.invariant.0 l.invariant.1 c.loop-name-test.true c.back-rest.ensures c.in_ok-add_place.ensures.added,
       c.name_before-name-in-loop-name.ensures,
       (let within = l.invariant.2 in omega (arith, less, is, within)),
     )
@@ -39,4 +40,5 @@ loop-name-preserved c =
 pub returns-clause-named : goal.returns-clause-named
 returns-clause-named c =
     let l = c.loop-name in
-    all_read (map comp_of c.args.components.now) c.args.text.now l.rest.now l.name.now l.places.items c.add_place-2.new.places.items l.invariant.0 l.invariant.1 (omega (arith, c.loop-name-test.false)) c.in_ok-add_place-2.ensures.added
+    all_read (map comp_of c.args.components.now) c.args.text.now l.rest.now l.name.now l.places.items c.add_place-2.new.places.items l.invariant.0
+    l.invariant.1 (omega (arith, c.loop-name-test.false)) c.in_ok-add_place-2.ensures.added

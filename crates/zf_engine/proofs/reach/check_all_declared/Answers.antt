@@ -26,7 +26,8 @@ pub returns-in_err-check_declared_among-clause-stop : goal.returns-in_err-check_
 returns-in_err-check_declared_among-clause-stop c =
     let e = environment_of c.args.env.now in
     let p = schemas_of c.args.schemas.now in
-    weaker_err _ (λ s. IfAnswered s (λ text status. FirstFails (λ (n : Named). IsNoneOut e n.schema.comps) (λ n. TellsOut e n.schema.comps text status) (map named_of c.deref.result.now))) (λ s. IfAnswered s (HasOut e (schemas_of c.args.schemas.now)))
+    weaker_err _ (λ s. IfAnswered s (λ text status. FirstFails (λ (n : Named). IsNoneOut e n.schema.comps) (λ n. TellsOut e n.schema.comps text status)
+    (map named_of c.deref.result.now))) (λ s. IfAnswered s (HasOut e (schemas_of c.args.schemas.now)))
     (λ stop told. weaker stop (λ text status t. inr (
       c.in_ok-check_declared.ensures.ok,
       inr (
@@ -41,7 +42,9 @@ returns-clause-ok c =
     let e = environment_of c.args.env.now in
     let p = schemas_of c.args.schemas.now in
     let sought = listed named_of c.args.schemas.now.sought c.as_slice.result.now c.as_slice.ensures in
-    all_on_ok (λ (n : Named). IsNoneOut e n.schema.comps) p.state p.init p.operations (option_to_list p.sought) c.check_declared_among-2.result c.in_ok-check_declared.ensures.ok c.in_ok-check_declared-2.ensures.ok (rw c.deref.ensures.value at c.in_ok-check_declared_among.ensures.ok)
+    all_on_ok (λ (n : Named). IsNoneOut e n.schema.comps) p.state p.init p.operations
+    (option_to_list p.sought) c.check_declared_among-2.result c.in_ok-check_declared.ensures.ok c.in_ok-check_declared-2.ensures.ok
+    (rw c.deref.ensures.value at c.in_ok-check_declared_among.ensures.ok)
     (subst (λ ns. OnOk c.check_declared_among-2.result (AllByRecursion (λ (n : Named). IsNoneOut e n.schema.comps) ns)) sought c.check_declared_among-2.ensures.ok)
 
 pub returns-clause-stop : goal.returns-clause-stop
@@ -50,7 +53,15 @@ returns-clause-stop c =
     let p = schemas_of c.args.schemas.now in
     let sought = listed named_of c.args.schemas.now.sought c.as_slice.result.now c.as_slice.ensures in
     let passed : AllByRecursion (λ (n : Named). IsNoneOut e n.schema.comps) p.operations = rw c.deref.ensures.value at c.in_ok-check_declared_among.ensures.ok in
-    weaker_err _ (λ s. IfAnswered s (λ text status. FirstFails (λ (n : Named). IsNoneOut e n.schema.comps) (λ n. TellsOut e n.schema.comps text status) (map named_of c.as_slice.result.now))) (λ s. IfAnswered s (HasOut e (schemas_of c.args.schemas.now)))
+    weaker_err _ (λ s. IfAnswered s (λ text status. FirstFails (λ (n : Named). IsNoneOut e n.schema.comps) (λ n. TellsOut e n.schema.comps text status)
+    (map named_of c.as_slice.result.now))) (λ s. IfAnswered s (HasOut e (schemas_of c.args.schemas.now)))
     (λ stop told. weaker stop (λ text status t.
-    inr (c.in_ok-check_declared.ensures.ok, inr (c.in_ok-check_declared-2.ensures.ok, fails_behind (λ (n : Named). IsNoneOut e n.schema.comps) (λ n. TellsOut e n.schema.comps text status) p.operations (option_to_list p.sought) passed (subst (λ ns. FirstFails (λ (n : Named). IsNoneOut e n.schema.comps) (λ n. TellsOut e n.schema.comps text status) ns) sought t)))) told)
+    inr (
+      c.in_ok-check_declared.ensures.ok,
+      inr (
+        c.in_ok-check_declared-2.ensures.ok,
+        fails_behind (λ (n : Named). IsNoneOut e n.schema.comps) (λ n. TellsOut e n.schema.comps text status) p.operations (option_to_list p.sought) passed
+            (subst (λ ns. FirstFails (λ (n : Named). IsNoneOut e n.schema.comps) (λ n. TellsOut e n.schema.comps text status) ns) sought t),
+      ),
+    )) told)
     c.check_declared_among-2.ensures.stop

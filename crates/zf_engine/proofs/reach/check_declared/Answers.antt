@@ -23,7 +23,8 @@ returns-clause-ok c =
     let e = environment_of c.args.env.now in
     let comps = map comp_of c.args.schema.now.components in
     elim c.match-ranges.branch [
-      | in-Ok w ↦ subst (λ (r : Result (Unit {0}) Stop). OnOk r (IsNoneOut e comps)) (sym w.result-is) (subst (λ (ds : List Component). IsNoneOut e (map comp_of ds)) c.as_slice.ensures w.in-Ok.ensures.is.1)
+      | in-Ok w ↦ subst (λ (r : Result (Unit {0}) Stop). OnOk r (IsNoneOut e comps)) (sym w.result-is)
+          (subst (λ (ds : List Component). IsNoneOut e (map comp_of ds)) c.as_slice.ensures w.in-Ok.ensures.is.1)
       | in-Err w ↦ subst (λ (r : Result (Unit {0}) Stop). OnOk r (IsNoneOut e comps)) (sym w.result-is) tt
     ]
 
@@ -33,5 +34,6 @@ returns-clause-stop c =
     let a = schema_of c.args.schema.now in
     elim c.match-ranges.branch [
       | in-Ok w ↦ subst (λ (r : Result (Unit {0}) Stop). IfErr r (λ s. IfAnswered s (TellsOut e a.comps))) (sym w.result-is) tt
-      | in-Err w ↦ subst (λ (r : Result (Unit {0}) Stop). IfErr r (λ s. IfAnswered s (TellsOut e a.comps))) (sym w.result-is) (w.not_begun.ensures e (subst (λ (ds : List Component). Refuses e (map comp_of ds) w.in-Err.fault) c.as_slice.ensures w.in-Err.ensures.refused))
+      | in-Err w ↦ subst (λ (r : Result (Unit {0}) Stop). IfErr r (λ s. IfAnswered s (TellsOut e a.comps))) (sym w.result-is)
+          (w.not_begun.ensures e (subst (λ (ds : List Component). Refuses e (map comp_of ds) w.in-Err.fault) c.as_slice.ensures w.in-Err.ensures.refused))
     ]

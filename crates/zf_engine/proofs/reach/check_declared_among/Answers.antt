@@ -18,14 +18,16 @@ pub check_declared-requires : goal.check_declared-requires
 check_declared-requires c =
     let e = environment_of c.args.env.now in
     let xs = c.args.schemas.now in
-    (subst (AllByRecursion (λ (n : Named). IsFinite e.numbers e.globals n.schema)) (mapped_ahead named_of xs c.loop-named.named-index c.named-item.result c.named-item.is c.loop-named-test.true) c.loop-named.invariant.1).0
+    (subst (AllByRecursion (λ (n : Named). IsFinite e.numbers e.globals n.schema))
+    (mapped_ahead named_of xs c.loop-named.named-index c.named-item.result c.named-item.is c.loop-named-test.true) c.loop-named.invariant.1).0
 
 pub loop-named-preserved : goal.loop-named-preserved
 loop-named-preserved c =
     let e = environment_of c.args.env.now in
     let xs = c.args.schemas.now in
     let ahead = mapped_ahead named_of xs c.loop-named.named-index c.named-item.result c.named-item.is c.loop-named-test.true in (
-      passed (λ (n : Named). IsNoneOut e n.schema.comps) (λ (b : List ℕ × Status) n. TellsOut e n.schema.comps b.0 b.1) (map named_of xs) _ _ _ ahead c.loop-named.invariant.0 c.in_ok-check_declared.ensures.ok,
+      passed (λ (n : Named). IsNoneOut e n.schema.comps) (λ (b : List ℕ × Status) n. TellsOut e n.schema.comps b.0 b.1)
+          (map named_of xs) _ _ _ ahead c.loop-named.invariant.0 c.in_ok-check_declared.ensures.ok,
       (subst (AllByRecursion (λ (n : Named). IsFinite e.numbers e.globals n.schema)) ahead c.loop-named.invariant.1).1,
     )
 

@@ -6,7 +6,8 @@ use Rattle.zf_engine.proofs.Parts.{stops_err}
 use Rattle.zf_engine.proofs.reach.reach_schemas.Goals as goal
 
 pub explore_schemas-requires-clause-searchable : goal.explore_schemas-requires-clause-searchable
-explore_schemas-requires-clause-searchable g c = can_search c.args.task.exploration.now c.args.task.report.source.now (schemas_of c.args.schemas.now) (environment_of c.args.env.now) c.requires.searchable
+explore_schemas-requires-clause-searchable g c = can_search c.args.task.exploration.now c.args.task.report.source.now (schemas_of c.args.schemas.now)
+    (environment_of c.args.env.now) c.requires.searchable
 
 pub seek_schemas-requires-clause-searchable : goal.seek_schemas-requires-clause-searchable
 seek_schemas-requires-clause-searchable g c = can_search c.args.task.exploration.now c.args.task.report.source.now (schemas_of c.args.schemas.now) (environment_of c.args.env.now) c.requires.searchable
@@ -30,9 +31,11 @@ returns-in_err-finding-in-Some-clause-reaches g c =
 pub returns-in-None-clause-reaches : goal.returns-in-None-clause-reaches
 returns-in-None-clause-reaches g c =
     explored_whole c.args.task.exploration.now c.args.task.report.file.now c.args.task.report.source.now (schemas_of c.args.schemas.now) (environment_of c.args.env.now) c.requires.searchable _
-    (c.deref.ensures.value ∙ c.in_ok-elements.ensures ∙ ap spellings c.globals.ensures) _ c.form_of.ensures _ c.states_limit-limit.ensures.is _ _ c.in-None.is c.in_ok-ending-in-None.ending _ c.ending_status.ensures c.in_ok-ending-in-None.ensures.ok
+    (c.deref.ensures.value ∙ c.in_ok-elements.ensures ∙ ap spellings c.globals.ensures) _ c.form_of.ensures _ c.states_limit-limit.ensures.is _ _ c.in-None.is
+    c.in_ok-ending-in-None.ending _ c.ending_status.ensures c.in_ok-ending-in-None.ensures.ok
 
 pub returns-clause-reaches : goal.returns-clause-reaches
 returns-clause-reaches g c =
     sought_whole c.args.task.exploration.now c.args.task.report.file.now c.args.task.report.source.now (schemas_of c.args.schemas.now) (environment_of c.args.env.now) c.requires.searchable _
-    (c.deref.ensures.value ∙ c.in_ok-elements.ensures ∙ ap spellings c.globals.ensures) _ c.form_of.ensures _ c.states_limit-limit.ensures.is _ _ _ c.in-Some.is c.in_ok-finding-in-Some.finding _ c.finding_status.ensures c.in_ok-finding-in-Some.ensures.ok
+    (c.deref.ensures.value ∙ c.in_ok-elements.ensures ∙ ap spellings c.globals.ensures) _ c.form_of.ensures _ c.states_limit-limit.ensures.is _ _ _
+    c.in-Some.is c.in_ok-finding-in-Some.finding _ c.finding_status.ensures c.in_ok-finding-in-Some.ensures.ok

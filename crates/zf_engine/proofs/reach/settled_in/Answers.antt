@@ -28,7 +28,8 @@ returns-in_err-numbers-clause-stop c =
     let file = c.args.task.report.file.now in
     let source = c.args.task.report.source.now in
     weaker_err _ (λ s. IfAnswered s (TellsNumbers (numbers_of x.setting))) (AnswersExploration x file source)
-    (has_large_numbers x file source (globals_of c.args.globals.now) c.requires.checks (schemas_of c.in_ok-schemas.schemas) c.in_ok-schemas.ensures.named c.in_ok-check_shape.ensures.shape) (search rules)
+    (has_large_numbers x file source (globals_of c.args.globals.now) c.requires.checks
+    (schemas_of c.in_ok-schemas.schemas) c.in_ok-schemas.ensures.named c.in_ok-check_shape.ensures.shape) (search rules)
 
 pub returns-in_err-env-clause-stop : goal.returns-in_err-env-clause-stop
 returns-in_err-env-clause-stop c =
@@ -48,7 +49,8 @@ returns-in_err-check_all_finite-clause-stop c =
     let p = schemas_of c.in_ok-schemas.schemas in
     let e = environment_of c.in_ok-env.env in
     weaker_err _ (λ s. IfAnswered s (HasInfinite x file e.numbers e.globals p)) (AnswersExploration x file source)
-    (has_infinite x file source g c.requires.checks p c.in_ok-schemas.ensures.named c.in_ok-check_shape.ensures.shape c.in_ok-numbers.ensures.small c.in_ok-env.ensures.complete e c.in_ok-env.ensures.is) (search rules)
+    (has_infinite x file source g c.requires.checks p c.in_ok-schemas.ensures.named c.in_ok-check_shape.ensures.shape c.in_ok-numbers.ensures.small
+    c.in_ok-env.ensures.complete e c.in_ok-env.ensures.is) (search rules)
 
 pub returns-in_err-check_all_declared-clause-stop : goal.returns-in_err-check_all_declared-clause-stop
 returns-in_err-check_all_declared-clause-stop c =
@@ -59,10 +61,12 @@ returns-in_err-check_all_declared-clause-stop c =
     let p = schemas_of c.in_ok-schemas.schemas in
     let e = environment_of c.in_ok-env.env in
     weaker_err _ (λ s. IfAnswered s (HasOut e p)) (AnswersExploration x file source)
-    (has_out x file source g c.requires.checks p c.in_ok-schemas.ensures.named c.in_ok-check_shape.ensures.shape c.in_ok-numbers.ensures.small c.in_ok-env.ensures.complete e c.in_ok-env.ensures.is c.in_ok-check_all_finite.ensures.ok) (search rules)
+    (has_out x file source g c.requires.checks p c.in_ok-schemas.ensures.named c.in_ok-check_shape.ensures.shape c.in_ok-numbers.ensures.small
+    c.in_ok-env.ensures.complete e c.in_ok-env.ensures.is c.in_ok-check_all_finite.ensures.ok) (search rules)
 
 pub returns-clause-searchable : goal.returns-clause-searchable
 returns-clause-searchable c =
     let x = c.args.task.exploration.now in
     searchable x c.args.task.report.file.now c.args.task.report.source.now (globals_of c.args.globals.now) c.requires.checks (schemas_of c.in_ok-schemas.schemas) c.in_ok-schemas.ensures.named
-    c.in_ok-check_shape.ensures.shape c.in_ok-numbers.ensures.small c.in_ok-env.ensures.complete (environment_of c.in_ok-env.env) c.in_ok-env.ensures.is c.in_ok-check_all_finite.ensures.ok c.in_ok-check_all_declared.ensures.ok
+    c.in_ok-check_shape.ensures.shape c.in_ok-numbers.ensures.small c.in_ok-env.ensures.complete
+    (environment_of c.in_ok-env.env) c.in_ok-env.ensures.is c.in_ok-check_all_finite.ensures.ok c.in_ok-check_all_declared.ensures.ok

@@ -11,7 +11,8 @@ use Rattle.zf_engine.proofs.reasons.empty_lines.Goals as goal
 
 pub loop-place-init : goal.loop-place-init
 loop-place-init c =
-    subst (AreToldTo (λ (x : Component). empty_line c.args.style.now.format c.args.report.file.now (comp_of x)) c.args.components.now c.args.chosen.now 0) (sym c.new-lines.ensures.items) (none_told _ _ _)
+    subst (AreToldTo (λ (x : Component). empty_line c.args.style.now.format c.args.report.file.now (comp_of x)) c.args.components.now c.args.chosen.now 0)
+    (sym c.new-lines.ensures.items) (none_told _ _ _)
 
 pub loop-place-preserved : goal.loop-place-preserved
 loop-place-preserved c =

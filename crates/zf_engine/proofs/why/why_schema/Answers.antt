@@ -17,7 +17,8 @@ returns-in_err-held-clause-stop c =
     let clear = clear_of r source a e c.requires.asked elements (c.deref-2.ensures.value ∙ c.in_ok-elements.ensures ∙ ap spellings c.globals.ensures) in
     let names = names_of r source a e c.requires.asked in
     weaker_err _ (λ s. AreClear elements e.sizes → HaveClearNames a.comps → IfAnswered s (TellsNoValues e a.comps r.held)) (AnswersRequest r file source)
-    (λ stop told. no_values_answers r file source e.globals a e c.requires.asked a.comps None (all_shown r e a.comps c.requires.plain.1) (none_named r e a c.requires.plain) stop (told clear names)) (search rules)
+    (λ stop told. no_values_answers r file source e.globals a e c.requires.asked a.comps None (all_shown r e a.comps c.requires.plain.1)
+    (none_named r e a c.requires.plain) stop (told clear names)) (search rules)
 
 pub why_held-requires : goal.why_held-requires
 why_held-requires c =
@@ -35,7 +36,8 @@ held_of c = subst (AreHeld (environment_of c.args.env.now) (schema_of c.args.sch
 
 pub returns-clause-answer : goal.returns-clause-answer
 returns-clause-answer c =
-    why_found c.args.inquiry.request.now c.args.inquiry.report.file.now c.args.inquiry.report.source.now (schema_of c.args.schema.now) (environment_of c.args.env.now) c.deref-3.result.now c.requires.plain c.requires.asked (held_of c)
+    why_found c.args.inquiry.request.now c.args.inquiry.report.file.now c.args.inquiry.report.source.now (schema_of c.args.schema.now)
+    (environment_of c.args.env.now) c.deref-3.result.now c.requires.plain c.requires.asked (held_of c)
     _ c.args.inquiry.report.details c.requires.details c.why_held.ensures.none_out c.why_held.ensures.told
 
 pub returns-clause-stop : goal.returns-clause-stop

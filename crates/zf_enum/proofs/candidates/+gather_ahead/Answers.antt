@@ -35,7 +35,8 @@ gather_ahead-requires t c =
     let column = range-is c.args.ranges.now c.len-component.result c.index-ranges-component.result near c.index-ranges-component.is in
     let count : c.len.result ≡ length (get_or c.args.ranges.now c.len-component.result []) = omega (arith, c.len.ensures, v.ok.0, ap length c.range.view_is, ap length column) in
     let there : p < length (get_or c.args.ranges.now c.len-component.result []) = omega (arith, count, c.loop-place-test.true, c.tried-end.ensures.within) in
-    let pushed : c.push.new.self.items ≡ c.args.places.now.items ++ c.loop-place.place ∷ [] = c.in_ok-push.ensures.items ∙ ap (λ (ps : List ℕ). ps ++ c.loop-place.place ∷ []) c.loop-place.invariant.same in
+    let pushed : c.push.new.self.items ≡ c.args.places.now.items ++ c.loop-place.place ∷ [] = c.in_ok-push.ensures.items
+    ∙ ap (λ (ps : List ℕ). ps ++ c.loop-place.place ∷ []) c.loop-place.invariant.same in
     let longer : length c.push.new.self.items ≡ length c.args.places.now.items + 1 = ap length pushed ∙ length-append places (p ∷ []) in (
       omega (arith, c.decreases, longer, long, c.if-due-component.false),
       (
@@ -71,6 +72,7 @@ returns-clause-candidates t c = λ found.
     let column = range-is c.args.ranges.now c.len-component.result c.index-ranges-component.result near c.index-ranges-component.is in
     let first : c.len.result ≡ length (get_or c.args.ranges.now c.len-component.result []) = omega (arith, c.len.ensures, v.ok.0, ap length c.range.view_is, ap length column) in
     let count : c.len.result ≡ length (get_or c.args.ranges.now (length c.args.places.now.items) []) = first ∙ ap (λ (n : ℕ). length (get_or c.args.ranges.now n [])) long in
-    all_tried c.args.tie (environment_of c.args.env.now) side ranges (get_or c.args.ranges.now c.args.next []) places c.loop-place.gathered.items c.tried-end.result c.requires.within (omega (arith, long, near))
+    all_tried c.args.tie (environment_of c.args.env.now) side ranges (get_or c.args.ranges.now c.args.next []) places c.loop-place.gathered.items
+    c.tried-end.result c.requires.within (omega (arith, long, near))
     (λ u. c.tried-end.ensures.all (subst (λ (n : ℕ). uses side n ≡ true) (sym long) u) ∙ count) (λ h. c.tried-end.ensures.some (omega (arith, h, count)))
     (λ j l. c.loop-place.invariant.tried j (omega (arith, l, c.loop-place-test.false)))

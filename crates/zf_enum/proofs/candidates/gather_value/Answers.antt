@@ -3,7 +3,8 @@ use Rattle.zf_enum.proofs.Trying.{one_candidate}
 use Rattle.zf_enum.proofs.candidates.gather_value.Goals as goal
 
 pub gather_outcome-requires : goal.gather_outcome-requires
-gather_outcome-requires c = subst (λ (r : List Value). AllPairs (λ v w. value_order v w ≡ Less) r) (sym c.index-ranges-next.is) (c.requires.ascending c.args.next c.index-ranges-next.result c.requires.next)
+gather_outcome-requires c = subst (λ (r : List Value). AllPairs (λ v w. value_order v w ≡ Less) r) (sym c.index-ranges-next.is)
+    (c.requires.ascending c.args.next c.index-ranges-next.result c.requires.next)
 
 pub returns : goal.returns
 returns c =
@@ -18,5 +19,6 @@ returns c =
     let long = length-picked c.args.ranges.now c.args.places.now c.requires.within in record {
       stay = c.gather_outcome.ensures.stay;
       candidates = IfOk-weaker c.gather_outcome.result _ _
-          (λ found h u. one_candidate c.args.tie e t ranges (get_or c.args.ranges.now c.args.next []) front xs o (omega (arith, long, c.requires.due)) here (subst (λ (r : List Value). IsKept c.args.tie o r xs) (sym range) (h u))) c.gather_outcome.ensures.kept;
+          (λ found h u. one_candidate c.args.tie e t ranges (get_or c.args.ranges.now c.args.next []) front xs o (omega (arith, long, c.requires.due)) here
+          (subst (λ (r : List Value). IsKept c.args.tie o r xs) (sym range) (h u))) c.gather_outcome.ensures.kept;
     }

@@ -7,7 +7,8 @@ invariant-last_of_terms-loop-term l =
 
 abbrev pub invariant-last_of_links-loop-link : goal.invariant-last_of_links-loop-link
 invariant-last_of_links-loop-link l =
-    max (place_after l.fn.found) (links_need l.bound (links (map resolved_link_of l.further))) ≡ max (place_after l.last) (links_need l.bound (links (map resolved_link_of (drop l.link-index l.link-items))))
+    max (place_after l.fn.found) (links_need l.bound (links (map resolved_link_of l.further)))
+    ≡ max (place_after l.last) (links_need l.bound (links (map resolved_link_of (drop l.link-index l.link-items))))
 
 abbrev pub invariant-last_of_ranges-loop-range : goal.invariant-last_of_ranges-loop-range
 invariant-last_of_ranges-loop-range l =

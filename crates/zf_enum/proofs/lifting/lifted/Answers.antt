@@ -7,13 +7,15 @@ use Rattle.zf_enum.proofs.lifting.lifted.Goals as goal
 pub returns-in-None : goal.returns-in-None
 returns-in-None c =
     let e = environment_of c.args.env.now in
-    subst (λ (ts : List Resolved). AreLifted e e (map resolved_of ts) (map resolved_of c.args.conjuncts.items)) (sym c.in_ok-conjuncts-in-None.ensures) (unchanged e (map resolved_of c.args.conjuncts.items))
+    subst (λ (ts : List Resolved). AreLifted e e (map resolved_of ts) (map resolved_of c.args.conjuncts.items)) (sym c.in_ok-conjuncts-in-None.ensures)
+    (unchanged e (map resolved_of c.args.conjuncts.items))
 
 pub dues-requires-in-Some : goal.dues-requires-in-Some
 dues-requires-in-Some c =
     let e = environment_of c.args.env.now in
     let l = c.in-Some.lifted in
-    let found = subst (λ (o : Option Lifted). IfSome o (λ l. AreLifted (environment_of l.env.now) e (map resolved_of l.terms.items) (map resolved_of c.as_slice.result.now))) c.in-Some.is c.in_ok-lift.ensures in
+    let found = subst (λ (o : Option Lifted). IfSome o (λ l. AreLifted (environment_of l.env.now) e (map resolved_of l.terms.items)
+    (map resolved_of c.as_slice.result.now))) c.in-Some.is c.in_ok-lift.ensures in
     let each = subst (λ (ts : List Resolved). AreLifted (environment_of l.env.now) e (map resolved_of l.terms.items) (map resolved_of ts)) c.as_slice.ensures.value found in
     subst (λ (ts : List Resolved). (k : ℕ) → due_of (slice_get (map resolved_of ts) k) < 2 ^ 64) (sym c.deref-in-Some.ensures.value)
     (λ k. omega (arith, dues_at (environment_of l.env.now) e (map resolved_of l.terms.items) (map resolved_of c.args.conjuncts.items) each.each k, c.requires.small k))
@@ -22,7 +24,8 @@ pub narrowing-requires-in-Some : goal.narrowing-requires-in-Some
 narrowing-requires-in-Some c =
     let e = environment_of c.args.env.now in
     let l = c.in-Some.lifted in
-    let found = subst (λ (o : Option Lifted). IfSome o (λ l. AreLifted (environment_of l.env.now) e (map resolved_of l.terms.items) (map resolved_of c.as_slice.result.now))) c.in-Some.is c.in_ok-lift.ensures in
+    let found = subst (λ (o : Option Lifted). IfSome o (λ l. AreLifted (environment_of l.env.now) e (map resolved_of l.terms.items)
+    (map resolved_of c.as_slice.result.now))) c.in-Some.is c.in_ok-lift.ensures in
     let each = subst (λ (ts : List Resolved). AreLifted (environment_of l.env.now) e (map resolved_of l.terms.items) (map resolved_of ts)) c.as_slice.ensures.value found in
     λ k. omega (arith, dues_at (environment_of l.env.now) e (map resolved_of l.terms.items) (map resolved_of c.args.conjuncts.items) each.each k, c.requires.small k)
 
@@ -30,8 +33,14 @@ pub invariant_of-property-in-Some : goal.invariant_of-property-in-Some
 invariant_of-property-in-Some c =
     let e = environment_of c.args.env.now in
     let l = c.in-Some.lifted in
-    let found = subst (λ (o : Option Lifted). IfSome o (λ l. AreLifted (environment_of l.env.now) e (map resolved_of l.terms.items) (map resolved_of c.as_slice.result.now))) c.in-Some.is c.in_ok-lift.ensures in
+    let found = subst (λ (o : Option Lifted). IfSome o (λ l. AreLifted (environment_of l.env.now) e (map resolved_of l.terms.items)
+    (map resolved_of c.as_slice.result.now))) c.in-Some.is c.in_ok-lift.ensures in
     let each = subst (λ (ts : List Resolved). AreLifted (environment_of l.env.now) e (map resolved_of l.terms.items) (map resolved_of ts)) c.as_slice.ensures.value found in record {
       needed = c.in_ok-dues-in-Some.ensures ∙ ap (λ (ts : List Resolved). map due (map resolved_of ts)) (c.deref-in-Some.ensures.value ∙ sym c.in_ok-conjuncts-in-Some.ensures);
-      small = subst (λ (ts : List Resolved). (k : ℕ) → due_of (slice_get (map resolved_of ts) k) < 2 ^ 64) (sym c.in_ok-conjuncts-in-Some.ensures) (λ k. omega (arith, dues_at (environment_of l.env.now) e (map resolved_of l.terms.items) (map resolved_of c.args.conjuncts.items) each.each k, c.requires.small k));
+      small = subst (λ (ts : List Resolved). (k : ℕ) → due_of (slice_get (map resolved_of ts) k) < 2 ^ 64) (sym c.in_ok-conjuncts-in-Some.ensures)
+          (λ k. omega (
+            arith,
+            dues_at (environment_of l.env.now) e (map resolved_of l.terms.items) (map resolved_of c.args.conjuncts.items) each.each k,
+            c.requires.small k,
+          ));
     }

@@ -21,7 +21,8 @@ returns-in_ok-right-in-And t c =
     let one = c.plant-in-And.new in
     let two = c.plant-in-And-2.new in
     IfOk-weaker c.and.result _ _
-    (λ place r. plants_and c.args.leaves.now.items one.leaves.items two.leaves.items c.args.forest.now one.forest two.forest _ (resolved_of c.args.term.now) (resolved_of first) (resolved_of second) i.field-0
+    (λ place r. plants_and c.args.leaves.now.items one.leaves.items two.leaves.items c.args.forest.now one.forest two.forest _ (resolved_of c.args.term.now)
+    (resolved_of first) (resolved_of second) i.field-0
     c.in_ok-left-in-And.left c.in_ok-right-in-And.right place
     (binary_seen c.args.term.now i.field-0 i.op c.in-Connective.connective And i.left i.right first second i.is c.in-Connective.is c.in-And.is c.get-in-And.ensures c.get-in-And-2.ensures)
     c.in_ok-left-in-And.ensures c.in_ok-right-in-And.ensures r) c.and.ensures.ok
@@ -34,7 +35,8 @@ returns-in_ok-right-in-Or t c =
     let one = c.plant-in-Or.new in
     let two = c.plant-in-Or-2.new in
     IfOk-weaker c.or.result _ _
-    (λ place r. plants_or c.args.leaves.now.items one.leaves.items two.leaves.items c.args.forest.now one.forest two.forest _ (resolved_of c.args.term.now) (resolved_of first) (resolved_of second) i.field-0
+    (λ place r. plants_or c.args.leaves.now.items one.leaves.items two.leaves.items c.args.forest.now one.forest two.forest _ (resolved_of c.args.term.now)
+    (resolved_of first) (resolved_of second) i.field-0
     c.in_ok-left-in-Or.left c.in_ok-right-in-Or.right place
     (binary_seen c.args.term.now i.field-0 i.op c.in-Connective.connective Or i.left i.right first second i.is c.in-Connective.is c.in-Or.is c.get-in-Or.ensures c.get-in-Or-2.ensures)
     c.in_ok-left-in-Or.ensures c.in_ok-right-in-Or.ensures r) c.or.ensures.ok
@@ -50,7 +52,9 @@ returns-in_ok-right-in-Implies t c =
     let negative = plants_not c.args.leaves.now.items one.leaves.items c.args.forest.now one.forest turned (unary i.field-0 Not (resolved_of first)) (resolved_of first) i.field-0
     c.in_ok-left-in-Implies.left c.in_ok-left-in-Implies-2.left refl c.in_ok-left-in-Implies.ensures c.in_ok-left-in-Implies-2.ensures.ok in
     IfOk-weaker c.or-in-Implies.result _ _
-    (λ place r. plants_implies c.args.leaves.now.items one.leaves.items two.leaves.items c.args.forest.now turned two.forest _ (resolved_of c.args.term.now) (resolved_of first) (resolved_of second) i.field-0
+    (λ place r. plants_implies c.args.leaves.now.items one.leaves.items two.leaves.items c.args.forest.now turned two.forest _ (resolved_of c.args.term.now)
+    (resolved_of first) (resolved_of second) i.field-0
     c.in_ok-left-in-Implies-2.left c.in_ok-right-in-Implies.right place
-    (binary_seen c.args.term.now i.field-0 i.op c.in-Connective.connective Implies i.left i.right first second i.is c.in-Connective.is c.in-Implies.is c.get-in-Implies.ensures c.get-in-Implies-2.ensures)
+    (binary_seen c.args.term.now i.field-0 i.op c.in-Connective.connective Implies i.left i.right first second i.is c.in-Connective.is c.in-Implies.is
+    c.get-in-Implies.ensures c.get-in-Implies-2.ensures)
     negative c.in_ok-right-in-Implies.ensures r) c.or-in-Implies.ensures.ok

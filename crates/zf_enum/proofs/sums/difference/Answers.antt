@@ -6,5 +6,6 @@ use Rattle.zf_enum.proofs.sums.difference.Goals as goal
 pub returns : goal.returns
 returns c =
     IfOk-weaker c.minus.result _ _
-    (λ s h. difference_span (environment_of c.args.env.now) c.args.ranges.now c.args.places.now (resolved_of c.args.left.now) (resolved_of c.args.right.now) c.in_ok-left.left c.in_ok-right.right s h.1 c.in_ok-left.ensures c.in_ok-right.ensures)
+    (λ s h. difference_span (environment_of c.args.env.now) c.args.ranges.now c.args.places.now (resolved_of c.args.left.now)
+    (resolved_of c.args.right.now) c.in_ok-left.left c.in_ok-right.right s h.1 c.in_ok-left.ensures c.in_ok-right.ensures)
     c.minus.ensures

@@ -12,10 +12,12 @@ returns-in-Ok c =
     let places = c.args.places.now in
     let found = c.gather_possible.new.gathered.items in
     let s = c.in-Ok.span in
-    let is = relation_seen c.args.term.now i.field-0 i.first c.get.result.now i.links c.as_slice.result.now k.result i.is c.as_slice.ensures c.get.ensures (omega (arith, c.in-len1.len_at_least)) (omega (arith, c.in-len1.len_below)) k.is in
+    let is = relation_seen c.args.term.now i.field-0 i.first c.get.result.now i.links c.as_slice.result.now k.result i.is c.as_slice.ensures c.get.ensures
+    (omega (arith, c.in-len1.len_at_least)) (omega (arith, c.in-len1.len_below)) k.is in
     let column = range-is ranges (length places) c.index-ranges-next.result c.requires.deeper c.index-ranges-next.is in record {
       stay = c.gather_possible.ensures.stay;
       leaves = IfOk-weaker c.gather_possible.result _ _
-          (λ b h u ts leaf at. balanced (environment_of c.args.env.now) ts leaf i.field-0 (resolved_of c.get.result.now) (resolved_of k.result.right) k.result.relation s ranges places found (at ∙ ap Some is) c.in-Ok.ensures
+          (λ b h u ts leaf at. balanced (environment_of c.args.env.now) ts leaf i.field-0 (resolved_of c.get.result.now)
+          (resolved_of k.result.right) k.result.relation s ranges places found (at ∙ ap Some is) c.in-Ok.ensures
           (subst (λ (range : List Value). AreRuledOut k.result.relation s range found) (sym column) (h u))) c.gather_possible.ensures.ruled_out;
     }

@@ -14,8 +14,10 @@ loop-place-preserved c =
     let x = c.index.result.now in
     let stay = c.gather_if_possible.ensures.stay in
     let same : c.args.range.now ≡ c.range.inside.values.items = (cc) in
-    let at = subst (λ (xs : List Value). x ≡ get_or xs place x) (sym same) c.index.ensures in
-    (stays_on c.args.gathered.now.items old new c.loop-place.invariant.0 stay, ruled_next c.args.relation c.args.span c.args.range.now place x old new at stay c.loop-place.invariant.1 c.in_ok-gather_if_possible.ensures.kept)
+    let at = subst (λ (xs : List Value). x ≡ get_or xs place x) (sym same) c.index.ensures in (
+      stays_on c.args.gathered.now.items old new c.loop-place.invariant.0 stay,
+      ruled_next c.args.relation c.args.span c.args.range.now place x old new at stay c.loop-place.invariant.1 c.in_ok-gather_if_possible.ensures.kept,
+    )
 
 pub returns : goal.returns
 returns c =

@@ -10,5 +10,6 @@ returns c =
     let front = picked c.args.ranges.now c.args.places.now in
     let here = subst (λ (vs : List Value). HasOutcome (in_row e vs) t c.in_ok-outcome.outcome) c.new-row.ensures c.in_ok-outcome.ensures in
     IfOk-weaker c.span_of_outcome.result _ _
-    (λ s h. value_span e c.args.ranges.now c.args.places.now t s h.0 c.requires.within (c.needs_first.ensures c.if-not-needs_first.false) (subst (λ (o : Outcome). HasOutcome (in_row e front) t o) h.1 here) h.2)
+    (λ s h. value_span e c.args.ranges.now c.args.places.now t s h.0 c.requires.within (c.needs_first.ensures c.if-not-needs_first.false)
+    (subst (λ (o : Outcome). HasOutcome (in_row e front) t o) h.1 here) h.2)
     c.span_of_outcome.ensures

@@ -16,6 +16,8 @@ returns c = λ w m.
     let last = subst (λ (n : ℕ). c.index-2.result.now ≡ get_or xs (n - 1) c.index-2.result.now) count c.index-2.ensures in
     let f : FitsSigned w32 c.in-Some.low = search rules in
     let g : FitsSigned w32 c.in-Some-small.high = search rules in
-    let r = over xs w c.index.result.now c.index-2.result.now c.in-Some.low c.in-Some-small.high (subst (λ (ys : List Value). AllPairs (λ a b. value_order a b ≡ Less) ys) same c.requires) some c.index.ensures last c.in-Some.ensures c.in-Some-small.ensures
+    let r = over xs w c.index.result.now c.index-2.result.now c.in-Some.low c.in-Some-small.high
+    (subst (λ (ys : List Value). AllPairs (λ a b. value_order a b ≡ Less) ys) same c.requires) some c.index.ensures last c.in-Some.ensures
+    c.in-Some-small.ensures
     (subst (λ (ys : List Value). Contains ys w) same m) in
     (r.0, r.1, λ u. let z = zero-*ℤ u in (omega (arith, ints, z, r.2, f), omega (arith, ints, z, r.3, g)))

@@ -10,7 +10,8 @@ offending_after-returns-in-Member t c = in_member (globals_of c.args.globals.now
 
 pub offending_after-returns-in-Either : goal.offending_after-returns-in-Either
 offending_after-returns-in-Either t c =
-    in_either (globals_of c.args.globals.now) _ _ _ _ _ _ _ _ _ _ c.in-Either.is c.get-in-Either.ensures c.get-in-Either-2.ensures c.side_offending_after-offender.ensures c.side_offending_after.ensures
+    in_either (globals_of c.args.globals.now) _ _ _ _ _ _ _ _ _ _ c.in-Either.is c.get-in-Either.ensures c.get-in-Either-2.ensures
+    c.side_offending_after-offender.ensures c.side_offending_after.ensures
 
 pub side_offending_after-loop-batch-preserved : goal.side_offending_after-loop-batch-preserved
 side_offending_after-loop-batch-preserved t c =

@@ -13,4 +13,5 @@ pub ranges_offending-loop-range-preserved : goal.ranges_offending-loop-range-pre
 ranges_offending-loop-range-preserved t c = ranges_step _ _ _ _ _ _ _ c.range-item.is c.loop-range-test.true c.loop-range.invariant c.offending_after-offender.ensures
 
 pub links_after-loop-place-preserved : goal.links_after-loop-place-preserved
-links_after-loop-place-preserved t c = links_step _ _ _ _ _ _ _ _ c.index-all-place.is c.loop-place-test.true (c.is_empty-is_last.ensures ∙ ends_at c.as_slice-all.result.now (c.loop-place.place + 1)) c.loop-place.invariant c.right_after-offender.ensures
+links_after-loop-place-preserved t c = links_step _ _ _ _ _ _ _ _ c.index-all-place.is c.loop-place-test.true
+    (c.is_empty-is_last.ensures ∙ ends_at c.as_slice-all.result.now (c.loop-place.place + 1)) c.loop-place.invariant c.right_after-offender.ensures

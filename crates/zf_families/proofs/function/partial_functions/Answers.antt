@@ -6,12 +6,26 @@ pub set_of_sets-requires : goal.set_of_sets-requires
 set_of_sets-requires c =
     let h = subst IsAscending c.members.ensures.is c.members.ensures.ascending in
     let k = subst IsAscending c.members-2.ensures.is c.members-2.ensures.ascending in
-    let rows : c.in_ok-rows.rows.items ≡ partial_rows (members c.args.a.now) (members c.args.b.now) = cc (c.in_ok-rows.ensures, c.in_ok-layers.ensures, c.as_slice.ensures.value, c.members.ensures.is, c.members-2.ensures.is) in
+    let rows : c.in_ok-rows.rows.items ≡ partial_rows (members c.args.a.now) (members c.args.b.now) = cc (
+      c.in_ok-rows.ensures,
+      c.in_ok-layers.ensures,
+      c.as_slice.ensures.value,
+      c.members.ensures.is,
+      c.members-2.ensures.is,
+    ) in
     partial_functions_sets (members c.args.a.now) (members c.args.b.now) h k c.in_ok-rows.rows.items rows
 
 pub returns : goal.returns
 returns c =
     let h = subst IsAscending c.members.ensures.is c.members.ensures.ascending in
     let k = subst IsAscending c.members-2.ensures.is c.members-2.ensures.ascending in
-    let rows : c.in_ok-rows.rows.items ≡ partial_rows (members c.args.a.now) (members c.args.b.now) = cc (c.in_ok-rows.ensures, c.in_ok-layers.ensures, c.as_slice.ensures.value, c.members.ensures.is, c.members-2.ensures.is) in
-    partial_functions_built (members c.args.a.now) (members c.args.b.now) h k (iff_false c.are_partial_functions_out.ensures.out c.if-are_partial_functions_out.false) c.in_ok-rows.rows.items rows c.set_of_sets.result c.set_of_sets.ensures
+    let rows : c.in_ok-rows.rows.items ≡ partial_rows (members c.args.a.now) (members c.args.b.now) = cc (
+      c.in_ok-rows.ensures,
+      c.in_ok-layers.ensures,
+      c.as_slice.ensures.value,
+      c.members.ensures.is,
+      c.members-2.ensures.is,
+    ) in
+    partial_functions_built (members c.args.a.now) (members c.args.b.now) h k
+    (iff_false c.are_partial_functions_out.ensures.out c.if-are_partial_functions_out.false) c.in_ok-rows.rows.items rows c.set_of_sets.result
+    c.set_of_sets.ensures

@@ -14,4 +14,6 @@ returns c =
     let h = subst IsAscending c.members.ensures.is c.members.ensures.ascending in
     let k = subst IsAscending c.members-2.ensures.is c.members-2.ensures.ascending in
     let rows : c.in_ok-rows.rows.items ≡ total_rows (members c.args.a.now) (members c.args.b.now) = cc (c.in_ok-rows.ensures, c.members.ensures.is, c.members-2.ensures.is) in
-    total_functions_built (members c.args.a.now) (members c.args.b.now) h k (iff_false c.are_total_functions_out.ensures.out c.if-are_total_functions_out.false) c.in_ok-rows.rows.items rows c.set_of_sets.result c.set_of_sets.ensures
+    total_functions_built (members c.args.a.now) (members c.args.b.now) h k
+    (iff_false c.are_total_functions_out.ensures.out c.if-are_total_functions_out.false) c.in_ok-rows.rows.items rows c.set_of_sets.result
+    c.set_of_sets.ensures

@@ -4,7 +4,8 @@ use Rattle.zf_families.proofs.injection.is_partial_injection.Goals as goal
 
 pub returns-in-Some : goal.returns-in-Some
 unfolding IsPartialInjection
-returns-in-Some c = injection_at (members c.args.a.now) (members c.args.b.now) c.in-Some.r.now c.args.v.now c.is_injection.result c.in-Some.ensures.is c.in-Some.ensures.ascending c.is_injection.ensures
+returns-in-Some c = injection_at (members c.args.a.now) (members c.args.b.now) c.in-Some.r.now c.args.v.now c.is_injection.result c.in-Some.ensures.is
+    c.in-Some.ensures.ascending c.is_injection.ensures
 
 pub returns-in-None : goal.returns-in-None
 unfolding IsPartialInjection

@@ -6,14 +6,16 @@ pub returns-then-is_graph : goal.returns-then-is_graph
 unfolding IsTotalInjection
 returns-then-is_graph c =
     rw (← c.members.ensures.is)
-    (total_injection_at c.members.result.now (members c.args.b.now) c.in-Some.r.now c.args.v.now c.are_seconds_apart.result c.members.ensures.ascending c.in-Some.ensures.is c.in-Some.ensures.ascending (c.is_graph.ensures.0 c.if-is_graph.true)
+    (total_injection_at c.members.result.now (members c.args.b.now) c.in-Some.r.now c.args.v.now c.are_seconds_apart.result c.members.ensures.ascending
+    c.in-Some.ensures.is c.in-Some.ensures.ascending (c.is_graph.ensures.0 c.if-is_graph.true)
     c.are_seconds_apart.ensures)
 
 pub returns-else-is_graph : goal.returns-else-is_graph
 unfolding IsTotalInjection
 returns-else-is_graph c =
     rw (← c.members.ensures.is)
-    (no_total_injection c.members.result.now (members c.args.b.now) c.in-Some.r.now c.args.v.now c.is_graph.result c.members.ensures.ascending c.in-Some.ensures.is c.in-Some.ensures.ascending c.is_graph.ensures c.if-is_graph.false)
+    (no_total_injection c.members.result.now (members c.args.b.now) c.in-Some.r.now c.args.v.now c.is_graph.result c.members.ensures.ascending
+    c.in-Some.ensures.is c.in-Some.ensures.ascending c.is_graph.ensures c.if-is_graph.false)
 
 pub returns-in-None : goal.returns-in-None
 unfolding IsTotalInjection

@@ -14,4 +14,6 @@ returns c =
     let h = subst IsAscending c.members.ensures.is c.members.ensures.ascending in
     let k = subst IsAscending c.members-2.ensures.is c.members-2.ensures.ascending in
     let rows : c.in_ok-rows.rows.items ≡ partial_injection_rows (members c.args.a.now) (members c.args.b.now) = cc (c.in_ok-rows.ensures, c.members.ensures.is, c.members-2.ensures.is) in
-    partial_injections_built (members c.args.a.now) (members c.args.b.now) h k (iff_false c.are_partial_injections_out.ensures.out c.if-are_partial_injections_out.false) c.in_ok-rows.rows.items rows c.set_of_sets.result c.set_of_sets.ensures
+    partial_injections_built (members c.args.a.now) (members c.args.b.now) h k
+    (iff_false c.are_partial_injections_out.ensures.out c.if-are_partial_injections_out.false) c.in_ok-rows.rows.items rows c.set_of_sets.result
+    c.set_of_sets.ensures

@@ -6,7 +6,8 @@ use Rattle.zf_format.proofs.messages.objects_of.Goals as goal
 pub loop-rest-init : goal.loop-rest-init
 loop-rest-init c =
     let some : 0 < length c.args.text.now = search rules in
-    rw c.behind_line-rest.ensures (begun c.args.file.now c.args.text.now c.push.new.self.items c.append_message.new.text.items some (c.in_ok-push.ensures.items ∙ ap (λ t. t ++ 123 ∷ []) c.new-objects.ensures.items)
+    rw c.behind_line-rest.ensures (begun c.args.file.now c.args.text.now c.push.new.self.items c.append_message.new.text.items some
+    (c.in_ok-push.ensures.items ∙ ap (λ t. t ++ 123 ∷ []) c.new-objects.ensures.items)
     (c.in_ok-append_message.ensures ∙ ap (λ l. c.push.new.self.items ++ message_members c.args.file.now l) c.first_line.ensures))
 
 pub loop-rest-preserved : goal.loop-rest-preserved

@@ -12,7 +12,9 @@ pub loop-term-preserved : goal.loop-term-preserved
 loop-term-preserved c =
     let l = c.loop-term in let x = c.in_ok-found in (
       further _ _ _ l.invariant.0 x.ensures.grows,
-      λ h. one_more resolved_of (IsLift true (environment_of l.own) (environment_of c.args.base.now)) (IsLift true (environment_of c.lifted.new.own) (environment_of c.args.base.now)) l.all.items c.args.terms.now c.push.new.self.items l.term-index c.term-item.result x.found.part c.term-item.is c.loop-term-test.true c.in_ok-push.ensures.items
+      λ h. one_more resolved_of (IsLift true (environment_of l.own) (environment_of c.args.base.now))
+          (IsLift true (environment_of c.lifted.new.own) (environment_of c.args.base.now)) l.all.items c.args.terms.now c.push.new.self.items l.term-index
+          c.term-item.result x.found.part c.term-item.is c.loop-term-test.true c.in_ok-push.ensures.items
           (λ y z. lift_later true _ _ _ y z x.ensures.grows) (l.invariant.1 h) (x.ensures.same (further _ _ _ h l.invariant.0)),
     )
 

@@ -15,7 +15,9 @@ returns-in_err-append_last-clause-err g c =
 
 pub returns-in_err-write_text-clause-err : goal.returns-in_err-write_text-clause-err
 returns-in_err-write_text-clause-err g c =
-    let is = c.in_ok-append_last.ensures ∙ ap (λ (l : List ℕ). l ++ last_text (row_wording c.args.style.now.format c.args.style.now.elements.now (schema_of c.args.flat.now).comps) c.in_ok-ending.ending (g.S.Row.values c.write_lines.new.search)) c.new-line.ensures.items in
+    let is = c.in_ok-append_last.ensures ∙ ap (λ (l : List ℕ). l ++ last_text
+    (row_wording c.args.style.now.format c.args.style.now.elements.now (schema_of c.args.flat.now).comps) c.in_ok-ending.ending
+    (g.S.Row.values c.write_lines.new.search)) c.new-line.ensures.items in
     always_on_err _ (inr (
       _,
       _,
@@ -25,6 +27,8 @@ returns-in_err-write_text-clause-err g c =
 
 pub returns-clause-ok : goal.returns-clause-ok
 returns-clause-ok g c =
-    let is = c.in_ok-append_last.ensures ∙ ap (λ (l : List ℕ). l ++ last_text (row_wording c.args.style.now.format c.args.style.now.elements.now (schema_of c.args.flat.now).comps) c.in_ok-ending.ending (g.S.Row.values c.write_lines.new.search)) c.new-line.ensures.items in
+    let is = c.in_ok-append_last.ensures ∙ ap (λ (l : List ℕ). l ++ last_text
+    (row_wording c.args.style.now.format c.args.style.now.elements.now (schema_of c.args.flat.now).comps) c.in_ok-ending.ending
+    (g.S.Row.values c.write_lines.new.search)) c.new-line.ensures.items in
     let whole = untold_text _ _ _ _ _ _ _ _ _ _ c.in_ok-ending.ensures.ok c.append_last.new.line.items (g.met.S.Search.given c.write_lines.new.search) is in
     (_, (rw (sym c.status.ensures) at whole), Appends-trans _ _ _ _ _ c.in_ok-ending.ensures.ok.written (rw c.deref.ensures.value at c.in_ok-write_text.ensures.ok))

@@ -25,19 +25,22 @@ write_row-requires-clause-unfailed g c = c.lines.invariant.1
 
 pub write_row-requires-clause-columns : goal.write_row-requires-clause-columns
 write_row-requires-clause-columns g c =
-    subst (λ ranges. AreColumns c.args.style.now.format c.args.style.now.elements.now (schema_of c.args.flat.now).comps ranges c.lines.columns.items) (sym c.advance.ensures.ranges.ranges) c.lines.invariant.2
+    subst (λ ranges. AreColumns c.args.style.now.format c.args.style.now.elements.now (schema_of c.args.flat.now).comps ranges c.lines.columns.items)
+    (sym c.advance.ensures.ranges.ranges) c.lines.invariant.2
 
 pub returns-in_err-write_row-in-Holds-clause-err :
     goal.returns-in_err-write_row-in-Holds-clause-err
 returns-in_err-write_row-in-Holds-clause-err g c =
-    always_on_err _ (stops_in_line _ _ _ _ _ c.requires.start _ _ _ _ _ c.lines.invariant.0 (g.S.Search.stage c.advance.new.self) _ (g.met.S.Search.given c.advance.new.self) (rw c.in-Holds.is at c.in_ok-advance.ensures.answer) _ c.in_err-write_row-in-Holds.ensures.err)
+    always_on_err _ (stops_in_line _ _ _ _ _ c.requires.start _ _ _ _ _ c.lines.invariant.0 (g.S.Search.stage c.advance.new.self) _
+    (g.met.S.Search.given c.advance.new.self) (rw c.in-Holds.is at c.in_ok-advance.ensures.answer) _ c.in_err-write_row-in-Holds.ensures.err)
 
 pub one_less-left-requires : goal.one_less-left-requires
 one_less-left-requires g c = c.lines.invariant.0.some
 
 pub returns-then-is_spent-clause-ok : goal.returns-then-is_spent-clause-ok
 returns-then-is_spent-clause-ok g c =
-    ends_at_limit _ _ _ _ _ c.requires.start _ _ _ _ _ c.lines.invariant.0 _ _ (g.met.S.Search.given c.advance.new.self) (rw c.in-Holds.is at c.in_ok-advance.ensures.answer) _ _ c.one_less-left.ensures
+    ends_at_limit _ _ _ _ _ c.requires.start _ _ _ _ _ c.lines.invariant.0 _ _ (g.met.S.Search.given c.advance.new.self)
+    (rw c.in-Holds.is at c.in_ok-advance.ensures.answer) _ _ c.one_less-left.ensures
     c.in_ok-write_row-in-Holds.ensures.ok c.requires.limited (search rules)
 
 pub returns-then-is_spent-clause-same : goal.returns-then-is_spent-clause-same

@@ -16,7 +16,8 @@ returns-in_err-system-clause-err g c = always_on_err _ (inl (Appends-nil _))
 pub explore_flat-requires-clause-searchable : goal.explore_flat-requires-clause-searchable
 explore_flat-requires-clause-searchable g c =
     let e = environment_of c.args.specification.now.env.now in
-    can_search_all e c.args.specification.now.elements.now c.args.specification.now.form (schemas_of c.args.specification.now.schemas.now) (system_of e schema_of c.in_ok-system.system) (c.in_ok-system.ensures e) c.requires.searchable
+    can_search_all e c.args.specification.now.elements.now c.args.specification.now.form (schemas_of c.args.specification.now.schemas.now)
+    (system_of e schema_of c.in_ok-system.system) (c.in_ok-system.ensures e) c.requires.searchable
 
 pub returns-clause-ok : goal.returns-clause-ok
 returns-clause-ok g c =

@@ -15,7 +15,8 @@ loop-operation-preserved c =
     let i = c.loop-operation.operation-index in
     let make = λ (o : Named). operation_in (before_of c.args.states) (named_of o).name (named_of o).schema in
     subst (λ ys. map (operation_of schema_of) ys ≡ map make (take (i + 1) xs)) (sym c.in_ok-push.ensures.items)
-    (mapped_push (operation_of schema_of) make xs i c.operation-item.result c.loop-operation.operations.items c.in_ok-made.made c.operation-item.is c.loop-operation-test.true c.loop-operation.invariant c.in_ok-made.ensures)
+    (mapped_push (operation_of schema_of) make xs i c.operation-item.result c.loop-operation.operations.items c.in_ok-made.made c.operation-item.is
+    c.loop-operation-test.true c.loop-operation.invariant c.in_ok-made.ensures)
 
 pub returns : goal.returns
 returns c =

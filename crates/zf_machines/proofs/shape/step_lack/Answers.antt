@@ -13,7 +13,8 @@ pub loop-operation-preserved : goal.loop-operation-preserved
 loop-operation-preserved c =
     let state = before_of c.args.states in
     let xs = c.args.operations.now in
-    passed (CanStep state) (LacksIt state) (map named_of xs) _ _ _ (mapped_ahead named_of xs c.loop-operation.operation-index c.operation-item.result c.operation-item.is c.loop-operation-test.true) c.loop-operation.invariant
+    passed (CanStep state) (LacksIt state) (map named_of xs) _ _ _ (mapped_ahead named_of xs c.loop-operation.operation-index c.operation-item.result
+    c.operation-item.is c.loop-operation-test.true) c.loop-operation.invariant
     c.in_default.ensures
 
 pub returns-in-Some : goal.returns-in-Some
@@ -21,10 +22,12 @@ returns-in-Some c =
     let state = before_of c.args.states in
     let xs = c.args.operations.now in
     let names : List ℕ × List ℕ = (c.operation-item.result.name.now, c.in-Some.component.now) in
-    failed (CanStep state) (LacksIt state) (map named_of xs) _ _ _ (mapped_ahead named_of xs c.loop-operation.operation-index c.operation-item.result c.operation-item.is c.loop-operation-test.true) c.loop-operation.invariant
+    failed (CanStep state) (LacksIt state) (map named_of xs) _ _ _ (mapped_ahead named_of xs c.loop-operation.operation-index c.operation-item.result
+    c.operation-item.is c.loop-operation-test.true) c.loop-operation.invariant
     names (refl, c.in-Some.ensures)
 
 pub returns : goal.returns
 returns c =
     let state = before_of c.args.states in
-    all_passed (CanStep state) (LacksIt state) (map named_of c.args.operations.now) _ (mapped_end named_of c.args.operations.now c.loop-operation.operation-index c.loop-operation-test.false) c.loop-operation.invariant
+    all_passed (CanStep state) (LacksIt state) (map named_of c.args.operations.now) _
+    (mapped_end named_of c.args.operations.now c.loop-operation.operation-index c.loop-operation-test.false) c.loop-operation.invariant

@@ -13,7 +13,8 @@ loop-place-preserved c =
       globals = c.loop-place.invariant.globals;
       sizes = c.loop-place.invariant.sizes;
       numbers = c.loop-place.invariant.numbers;
-      outcomes = subst (λ (os : List Outcome). let e : Environment = record { globals = old.globals; sizes = old.sizes; outcomes = os; numbers = old.numbers } in AreWorkedOutTo (c.loop-place.place + 1) e) (sym c.in_ok-push.ensures.items) one;
+      outcomes = subst (λ (os : List Outcome). let e : Environment = record { globals = old.globals; sizes = old.sizes; outcomes = os; numbers = old.numbers }
+          in AreWorkedOutTo (c.loop-place.place + 1) e) (sym c.in_ok-push.ensures.items) one;
     }
 
 pub returns-clause-outcomes : goal.returns-clause-outcomes

@@ -9,7 +9,9 @@ use Rattle.zf_meaning.proofs.evaluate.+meaning.Given as goal
 abbrev pub invariant-binders::built_over-walk : goal.invariant-binders::built_over-walk
 invariant-binders::built_over-walk g l =
     (done : List (List Value)) × WalksOver (NeutralIn l.term (scope_of l.env (g.R.Row.values l.row) l.locals)) l.rows (seen l.locals) (spread l.sets) done
-    × ((n : ℕ) (rs : List Range) (p e : Option Resolved) → l.term ≡ form.Builder n rs p e → HasBuilt (FilterIn (scope_of l.env (g.R.Row.values l.row) l.locals) (part_of p)) (TermIn (scope_of l.env (g.R.Row.values l.row) l.locals) (part_of e)) done l.built.items)
+    × ((n : ℕ) (rs : List Range) (p e : Option Resolved) → l.term ≡ form.Builder n rs p e
+    → HasBuilt (FilterIn (scope_of l.env (g.R.Row.values l.row) l.locals) (part_of p))
+    (TermIn (scope_of l.env (g.R.Row.values l.row) l.locals) (part_of e)) done l.built.items)
 
 abbrev pub decreases-binders::built_over-walk : goal.decreases-binders::built_over-walk
 decreases-binders::built_over-walk g l = length (ahead l.rows)
@@ -17,7 +19,8 @@ decreases-binders::built_over-walk g l = length (ahead l.rows)
 abbrev pub invariant-binders::over_rows-walk : goal.invariant-binders::over_rows-walk
 invariant-binders::over_rows-walk g l =
     (done : List (List Value)) × WalksOver (NeutralIn l.term (scope_of l.env (g.R.Row.values l.row) l.locals)) l.rows (seen l.locals) (spread l.sets) done
-    × ((q : Quantifier) (n : ℕ) (rs : List Range) (p : Option Resolved) (e : Resolved) → l.term ≡ form.Quantified q n rs p e → IsTallied (ToldIn (scope_of l.env (g.R.Row.values l.row) l.locals) q (part_of p) (resolved_of e)) done l.tally)
+    × ((q : Quantifier) (n : ℕ) (rs : List Range) (p : Option Resolved) (e : Resolved) → l.term ≡ form.Quantified q n rs p e
+    → IsTallied (ToldIn (scope_of l.env (g.R.Row.values l.row) l.locals) q (part_of p) (resolved_of e)) done l.tally)
 
 abbrev pub decreases-binders::over_rows-walk : goal.decreases-binders::over_rows-walk
 decreases-binders::over_rows-walk g l = length (ahead l.rows)

@@ -46,7 +46,8 @@ last_below-returns-in-Listed t c =
 pub last_below-returns-in-Builder : goal.last_below-returns-in-Builder
 last_below-returns-in-Builder t c =
     let i = c.in-Builder in
-    of_builder c.args.bound c.args.found c.last_of_ranges-last.result c.last_of_part.result c.last_of_part-in-Builder.result c.args.term.now i.field-0 i.variables i.filter i.term i.is c.last_of_ranges-last.ensures c.last_of_part.ensures c.last_of_part-in-Builder.ensures
+    of_builder c.args.bound c.args.found c.last_of_ranges-last.result c.last_of_part.result c.last_of_part-in-Builder.result c.args.term.now i.field-0
+    i.variables i.filter i.term i.is c.last_of_ranges-last.ensures c.last_of_part.ensures c.last_of_part-in-Builder.ensures
 
 pub last_below-returns-in-Unary : goal.last_below-returns-in-Unary
 last_below-returns-in-Unary t c =
@@ -56,17 +57,22 @@ last_below-returns-in-Unary t c =
 pub last_below-returns-in-Binary : goal.last_below-returns-in-Binary
 last_below-returns-in-Binary t c =
     let i = c.in-Binary in
-    of_binary c.args.bound c.args.found c.last_below-in-Binary.result c.last_below-in-Binary-2.result c.args.term.now i.field-0 i.field-1 i.left i.right c.get-in-Binary-2.result.now c.get-in-Binary.result.now i.is c.get-in-Binary-2.ensures c.get-in-Binary.ensures c.last_below-in-Binary.ensures c.last_below-in-Binary-2.ensures
+    of_binary c.args.bound c.args.found c.last_below-in-Binary.result c.last_below-in-Binary-2.result c.args.term.now i.field-0 i.field-1 i.left i.right
+    c.get-in-Binary-2.result.now c.get-in-Binary.result.now i.is c.get-in-Binary-2.ensures c.get-in-Binary.ensures c.last_below-in-Binary.ensures
+    c.last_below-in-Binary-2.ensures
 
 pub last_below-returns-in-Chain : goal.last_below-returns-in-Chain
 last_below-returns-in-Chain t c =
     let i = c.in-Chain in
-    of_chain c.args.bound c.args.found c.last_below-in-Chain.result c.last_of_links.result c.args.term.now i.field-0 i.first c.get-in-Chain.result.now i.further i.is c.get-in-Chain.ensures c.last_below-in-Chain.ensures c.last_of_links.ensures
+    of_chain c.args.bound c.args.found c.last_below-in-Chain.result c.last_of_links.result c.args.term.now i.field-0 i.first c.get-in-Chain.result.now
+    i.further i.is c.get-in-Chain.ensures c.last_below-in-Chain.ensures c.last_of_links.ensures
 
 pub last_below-returns-in-Quantified : goal.last_below-returns-in-Quantified
 last_below-returns-in-Quantified t c =
     let i = c.in-Quantified in
-    of_quantified c.args.bound c.args.found c.last_of_ranges-last-in-Quantified.result c.last_of_part-in-Quantified.result c.last_below-in-Quantified.result c.args.term.now i.field-0 i.field-1 i.variables i.constraint i.body c.get-in-Quantified.result.now i.is c.get-in-Quantified.ensures c.last_of_ranges-last-in-Quantified.ensures c.last_of_part-in-Quantified.ensures c.last_below-in-Quantified.ensures
+    of_quantified c.args.bound c.args.found c.last_of_ranges-last-in-Quantified.result c.last_of_part-in-Quantified.result c.last_below-in-Quantified.result
+    c.args.term.now i.field-0 i.field-1 i.variables i.constraint i.body c.get-in-Quantified.result.now i.is c.get-in-Quantified.ensures
+    c.last_of_ranges-last-in-Quantified.ensures c.last_of_part-in-Quantified.ensures c.last_below-in-Quantified.ensures
 
 pub last_of_terms-loop-term-init : goal.last_of_terms-loop-term-init
 last_of_terms-loop-term-init t c =
@@ -103,7 +109,8 @@ last_of_part-returns-in-None t c =
 
 pub last_of_part-returns-in-Some : goal.last_of_part-returns-in-Some
 last_of_part-returns-in-Some t c =
-    subst (λ m. c.last_below.result ≡ max c.args.found (part_need c.args.bound (part_of m))) (sym c.in-Some.is ∙ c.get.ensures) (subst (λ x. c.last_below.result ≡ max c.args.found (need c.args.bound (resolved_of x))) c.get-in-Some.ensures c.last_below.ensures)
+    subst (λ m. c.last_below.result ≡ max c.args.found (part_need c.args.bound (part_of m))) (sym c.in-Some.is ∙ c.get.ensures)
+    (subst (λ x. c.last_below.result ≡ max c.args.found (need c.args.bound (resolved_of x))) c.get-in-Some.ensures c.last_below.ensures)
 
 pub last_below-returns-then-found-bound : goal.last_below-returns-then-found-bound
 last_below-returns-then-found-bound t c =

@@ -12,5 +12,6 @@ loop-place-preserved c =
       next = refl;
       from = omega (arith, i.from, i.next);
       inside = c.loop-place-test.true;
-      others = other-more c.args.list.now c.args.from c.loop-place.before c.loop-place.place c.index-list-place.result c.args.wanted.now i.next c.loop-place-test.true c.index-list-place.is (iff_false c.equals.ensures c.if-equals.false) i.others;
+      others = other-more c.args.list.now c.args.from c.loop-place.before c.loop-place.place c.index-list-place.result c.args.wanted.now i.next
+          c.loop-place-test.true c.index-list-place.is (iff_false c.equals.ensures c.if-equals.false) i.others;
     }

@@ -16,4 +16,5 @@ value_at-requires c =
     omega (arith, h, ap length e)
 
 pub loop-i-preserved : goal.loop-i-preserved
-loop-i-preserved c = bind-more c.args.lists.now c.args.places.now c.loop-i.i c.index-lists-i.result c.value_at.result _ _ _ c.requires c.loop-i-test.true c.index-lists-i.is c.value_at.ensures c.loop-i.invariant c.in_ok-push.ensures.items
+loop-i-preserved c = bind-more c.args.lists.now c.args.places.now c.loop-i.i c.index-lists-i.result c.value_at.result _ _ _ c.requires c.loop-i-test.true
+    c.index-lists-i.is c.value_at.ensures c.loop-i.invariant c.in_ok-push.ensures.items

@@ -12,4 +12,5 @@ pub returns-in-Others-clause-skips : goal.returns-in-Others-clause-skips
 returns-in-Others-clause-skips c =
     let lists = seen c.args.lists.now in
     let places = c.args.places.now in
-    subst (λ p. Skips p (picked lists places) (rows_after lists places) (rows_after lists (take c.go_on_at.result c.go_on_at.new.places))) (ap (Others c.in-Others.place) c.get.ensures ∙ sym c.in-Others.is) c.go_on_at.ensures.skips
+    subst (λ p. Skips p (picked lists places) (rows_after lists places) (rows_after lists (take c.go_on_at.result c.go_on_at.new.places)))
+    (ap (Others c.in-Others.place) c.get.ensures ∙ sym c.in-Others.is) c.go_on_at.ensures.skips

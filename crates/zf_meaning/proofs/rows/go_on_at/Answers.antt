@@ -35,4 +35,6 @@ returns-clause-skips c =
     let e = seen-at c.args.lists.now c.args.place c.index-lists-place.result [] l c.index-lists-place.is in
     let next : suc c.args.place ≡ c.args.place + 1 = omega arith in
     subst (λ n. Skips (Others place wanted) (picked lists places) (rows_after lists places) (rows_after lists (take n (set places place to)))) next
-    (others-skips lists places place to wanted [] c.requires c.if-place-places.false c.before_wanted.ensures.from (omega (arith, c.before_wanted.ensures.place, ap length e)) (subst (λ xs. AreOthers xs (get_or places place 0) to wanted) (sym e) c.before_wanted.ensures.others))
+    (others-skips lists places place to wanted [] c.requires c.if-place-places.false c.before_wanted.ensures.from
+    (omega (arith, c.before_wanted.ensures.place, ap length e)) (subst (λ xs. AreOthers xs (get_or places place 0) to wanted)
+    (sym e) c.before_wanted.ensures.others))

@@ -10,5 +10,6 @@ returns g c = truth-in-row c.args.env.now (g.R.Row.values c.args.row.now) c.no_v
 pub returns-in-Some : goal.returns-in-Some
 returns-in-Some g c =
     let row = g.R.Row.values c.args.row.now in
-    let told = at-some (λ u. IsTruth (scope_of c.args.env.now row c.no_variables-none.result.now) (resolved_of c.args.term.now) u) c.compared_in.result c.in-Some.told c.in-Some.is c.compared_in.ensures in
+    let told = at-some (λ u. IsTruth (scope_of c.args.env.now row c.no_variables-none.result.now) (resolved_of c.args.term.now) u) c.compared_in.result
+    c.in-Some.told c.in-Some.is c.compared_in.ensures in
     truth-in-row c.args.env.now row c.no_variables-none.result.now (resolved_of c.args.term.now) (Ok c.in-Some.told) c.no_variables-none.ensures told

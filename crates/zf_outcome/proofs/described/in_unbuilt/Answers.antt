@@ -19,7 +19,8 @@ returns-in-Undefined c =
 
 pub returns-in-Is : goal.returns-in-Is
 returns-in-Is c =
-    let told = value-unbuilt c.args.set.now c.args.relation c.get.result.now c.has.result c.requires.relation c.requires.unbuilt (not_out _ _ c.is_out.ensures.within c.if-is_out.false) c.has.ensures in
+    let told = value-unbuilt c.args.set.now c.args.relation c.get.result.now c.has.result c.requires.relation c.requires.unbuilt
+    (not_out _ _ c.is_out.ensures.within c.if-is_out.false) c.has.ensures in
     subst (λ x. IsTruthIn (IsDescribed c.args.set.now) c.args.relation x c.told.result) (ap outcome.Is c.get.ensures ∙ sym (ap found_outcome c.in-Is.is))
     (subst (IsTruthIn (IsDescribed c.args.set.now) c.args.relation (outcome.Is c.get.result.now)) (sym c.told.ensures) told)
 

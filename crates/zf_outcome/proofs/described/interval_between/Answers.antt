@@ -12,4 +12,5 @@ pub returns : goal.returns
 returns c =
     let f : FitsSigned w64 c.in-Some.from = search rules in
     let g : FitsSigned w64 c.in-Some-number.to = search rules in
-    both-numbers (number_of c.args.v.now) (number_of c.args.w.now) c.in-Some.from c.in-Some-number.to _ _ (sym c.in-Some.is ∙ c.number.ensures) (sym c.in-Some-number.is ∙ c.number-2.ensures) (same _ f) (same _ g)
+    both-numbers (number_of c.args.v.now) (number_of c.args.w.now) c.in-Some.from c.in-Some-number.to _ _ (sym c.in-Some.is ∙ c.number.ensures)
+    (sym c.in-Some-number.is ∙ c.number-2.ensures) (same _ f) (same _ g)

@@ -8,7 +8,8 @@ use Rattle.zf_parts.proofs.collecting.collect.Given as goal
 
 abbrev pub invariant-bindings : goal.invariant-bindings
 invariant-bindings g l =
-    Standing l.parts.places.now (option_copied l.parts.after) (schema_of l.parts.flat.now) (g.S.Search.goal l.initial.search) (g.S.Search.stage l.initial.search) (g.S.Search.goal l.search) (g.S.Search.stage l.search) l.collected.entries
+    Standing l.parts.places.now (option_copied l.parts.after) (schema_of l.parts.flat.now) (g.S.Search.goal l.initial.search)
+    (g.S.Search.stage l.initial.search) (g.S.Search.goal l.search) (g.S.Search.stage l.search) l.collected.entries
 
 abbrev pub decreases-bindings : goal.decreases-bindings
 decreases-bindings g l = ahead_count value_order (g.S.Search.stage l.search).ranges (g.S.Search.stage l.search).ahead

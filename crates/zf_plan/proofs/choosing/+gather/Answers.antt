@@ -18,7 +18,8 @@ returns-in-Some-False-clause-narrows g t c =
     let xs = c.gather-in-Some-False.new.gathered.items in
     let settled : IsSettled l left row False = search rules in
     if-ok c.gather-in-Some-False.result (λ found. IsTrue found → Narrows l right ranges row range xs) (λ found. IsTrue found → Narrows l (tree_at made c.args.part) ranges row range xs)
-    (λ found h u. narrows-as l ranges row range (either left right) (tree_at made c.args.part) xs c.in-Or.ensures.tree (narrows-either l ranges row range left right xs xs (λ i m. m) (narrows-false l ranges row range left xs settled) (h u)))
+    (λ found h u. narrows-as l ranges row range (either left right) (tree_at made c.args.part) xs c.in-Or.ensures.tree
+    (narrows-either l ranges row range left right xs xs (λ i m. m) (narrows-false l ranges row range left xs settled) (h u)))
     c.gather-in-Some-False.ensures.narrows
 
 pub returns-after-known-3-clause-narrows : goal.returns-after-known-3-clause-narrows
@@ -33,5 +34,6 @@ returns-after-known-3-clause-narrows g t c =
     let xs = c.gather-in-Or.new.gathered.items in
     let ys = c.gather-in-Or-2.new.gathered.items in
     if-ok c.gather-in-Or-2.result (λ found. IsTrue found → Narrows l right ranges row range ys) (λ found. IsTrue found → Narrows l (tree_at made c.args.part) ranges row range ys)
-    (λ found h u. narrows-as l ranges row range (either left right) (tree_at made c.args.part) ys c.in-Or.ensures.tree (narrows-either l ranges row range left right xs ys c.gather-in-Or-2.ensures.stay (c.in_ok-first-in-Or.ensures.narrows c.if-not-first.false) (h u)))
+    (λ found h u. narrows-as l ranges row range (either left right) (tree_at made c.args.part) ys c.in-Or.ensures.tree
+    (narrows-either l ranges row range left right xs ys c.gather-in-Or-2.ensures.stay (c.in_ok-first-in-Or.ensures.narrows c.if-not-first.false) (h u)))
     c.gather-in-Or-2.ensures.narrows

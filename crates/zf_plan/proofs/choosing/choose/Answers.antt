@@ -14,7 +14,9 @@ returns-in-Some-clause-choice g c =
     let left = c.gather_first.new.gathered.items in
     let within : i < length conjuncts = subst (λ found. IfSome found (λ j. j < length conjuncts)) c.in-Some.is c.in_ok-found.ensures.within in
     let narrows : Narrows l (tree_at trees (get_or conjuncts i 0)) ranges (picked ranges places) (get_or ranges (length places) []) left =
-    subst (λ found. IfSome found (λ j. Narrows l (tree_at trees (get_or conjuncts j 0)) ranges (picked ranges places) (get_or ranges (length places) []) left)) c.in-Some.is c.in_ok-found.ensures.narrows in
+    subst (λ found. IfSome found (λ j. Narrows l (tree_at trees (get_or conjuncts j 0)) ranges (picked ranges places) (get_or ranges (length places) []) left))
+    c.in-Some.is c.in_ok-found.ensures.narrows in
     let conjunct : get_or conjuncts i 0 < length trees = c.requires.conjuncts i within in
-    stays-narrowed l trees ranges (length places) (get_or c.args.by.now.lasts.now i 0) places (g.J.Judge.is_used c.args.problem.now.judge.now) (g.met.J.Judge.follow_used c.args.problem.now.judge.now) c.requires.sound.due c.requires.within refl
+    stays-narrowed l trees ranges (length places) (get_or c.args.by.now.lasts.now i 0) places (g.J.Judge.is_used c.args.problem.now.judge.now)
+    (g.met.J.Judge.follow_used c.args.problem.now.judge.now) c.requires.sound.due c.requires.within refl
     (get_or conjuncts i 0) conjunct (c.requires.sound.leaves (get_or conjuncts i 0) (leaf 0) conjunct) (lasts.each i (omega (arith, lasts.all, within))).1 left narrows

@@ -5,7 +5,8 @@ pub returns-then-found-clause-narrows : goal.returns-then-found-clause-narrows
 returns-then-found-clause-narrows g c =
     let ranges = c.args.problem.now.ranges.now in
     let places = c.args.places.now in
-    subst (λ tree. Narrows (g.J.Judge.conjuncts c.args.problem.now.judge.now) tree ranges (picked ranges places) (get_or ranges (length places) []) c.gather.new.gathered.items) c.root-root.ensures.tree
+    subst (λ tree. Narrows (g.J.Judge.conjuncts c.args.problem.now.judge.now) tree ranges (picked ranges places)
+    (get_or ranges (length places) []) c.gather.new.gathered.items) c.root-root.ensures.tree
     (c.in_ok-found.ensures.narrows c.if-found.true)
 
 pub returns-in_err-found-clause-none : goal.returns-in_err-found-clause-none

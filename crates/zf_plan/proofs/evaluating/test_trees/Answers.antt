@@ -31,7 +31,8 @@ loop-i-preserved g c =
       c.in_default.not-False,
       (λ e. absurd (omega arith)),
       subst (IsSoFar l trees row (IsFirst l trees k c.args.conjuncts.now (i + 1))) (sym c.join-all.ensures)
-          (first-next l trees k row long c.args.conjuncts.now i conjunct c.loop-i.all c.in_ok-known.known refl (c.requires.conjuncts i c.loop-i-test.true) (c.requires.touched i c.loop-i-test.true) before.2 before.4 known),
+          (first-next l trees k row long c.args.conjuncts.now i conjunct c.loop-i.all c.in_ok-known.known refl (c.requires.conjuncts i c.loop-i-test.true)
+          (c.requires.touched i c.loop-i-test.true) before.2 before.4 known),
     )
 
 pub returns-in-False-clause-so_far : goal.returns-in-False-clause-so_far
@@ -45,7 +46,8 @@ returns-in-False-clause-so_far g c =
     let conjunct = get_or c.args.conjuncts.now i 0 in
     let before = c.loop-i.invariant in
     let known : IsKnown l (tree_at trees conjunct) row c.in_ok-known.known = subst (λ tree. IsKnown l tree row c.in_ok-known.known) c.root-root.ensures.tree c.in_ok-known.ensures.known in
-    let next = first-next l trees k row long c.args.conjuncts.now i conjunct c.loop-i.all c.in_ok-known.known refl (c.requires.conjuncts i c.loop-i-test.true) (c.requires.touched i c.loop-i-test.true) before.2 before.4 known in
+    let next = first-next l trees k row long c.args.conjuncts.now i conjunct c.loop-i.all c.in_ok-known.known refl (c.requires.conjuncts i c.loop-i-test.true)
+    (c.requires.touched i c.loop-i-test.true) before.2 before.4 known in
     subst (IsSoFar l trees row (IsAmong l trees k c.args.conjuncts.now)) (sym c.in-False.is)
     (so-false l trees (IsFirst l trees k c.args.conjuncts.now (i + 1)) (IsAmong l trees k c.args.conjuncts.now) row
     (subst (IsSoFar l trees row (IsFirst l trees k c.args.conjuncts.now (i + 1))) (sym c.join-all.ensures ∙ c.in-False.is) next))

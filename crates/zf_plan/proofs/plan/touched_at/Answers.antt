@@ -14,7 +14,9 @@ loop-conjunct-preserved g c =
     let so : touches_inside l c.args.due (tree_at trees n) ≡ c.is_touched_inside.result = ap (touches_inside l c.args.due) (sym c.root.ensures.tree) ∙ sym c.is_touched_inside.ensures in
     elim c.if-is_touched_inside.branch [
       | then-is_touched_inside+in_ok-push w ↦
-          subst (AreTouched l trees c.args.due (n + 1)) (sym (ap (λ (v : Vec ℕ Global). v.items) w.numbers-is ∙ w.in_ok-push.ensures.items)) (touched_push l trees c.args.due n numbers c.loop-conjunct.invariant (so ∙ w.if-is_touched_inside.true))
+          subst (AreTouched l trees c.args.due (n + 1)) (sym (ap (λ (v : Vec ℕ Global). v.items) w.numbers-is ∙ w.in_ok-push.ensures.items))
+          (touched_push l trees c.args.due n numbers c.loop-conjunct.invariant (so ∙ w.if-is_touched_inside.true))
       | else-is_touched_inside w ↦
-          subst (AreTouched l trees c.args.due (n + 1)) (sym (ap (λ (v : Vec ℕ Global). v.items) w.numbers-is)) (touched_skip l trees c.args.due n numbers c.loop-conjunct.invariant (so ∙ w.if-is_touched_inside.false))
+          subst (AreTouched l trees c.args.due (n + 1)) (sym (ap (λ (v : Vec ℕ Global). v.items) w.numbers-is))
+          (touched_skip l trees c.args.due n numbers c.loop-conjunct.invariant (so ∙ w.if-is_touched_inside.false))
     ]

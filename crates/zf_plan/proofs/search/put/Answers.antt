@@ -12,5 +12,8 @@ returns-in-None g c =
 
 pub returns-in-Some : goal.returns-in-Some
 returns-in-Some g c =
-    let old = c.args.ranges.now.items in
-    (λ others. ap (λ o. take c.args.place old ++ exchanged (drop c.args.place old) (o ∷ others)) c.in-Some.is ∙ takes old c.in-Some.range others c.args.place c.requires, length-set old c.args.place c.in-Some.range)
+    let old = c.args.ranges.now.items in (
+      λ others. ap (λ o. take c.args.place old ++ exchanged (drop c.args.place old) (o ∷ others)) c.in-Some.is
+          ∙ takes old c.in-Some.range others c.args.place c.requires,
+      length-set old c.args.place c.in-Some.range,
+    )

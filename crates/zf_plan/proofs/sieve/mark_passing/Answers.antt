@@ -9,7 +9,8 @@ loop-place-init g c = record {
   same = search rules;
   remembers = c.requires.remembers;
   tests = refl;
-  passes = subst (AreSifted (g.J.Judge.conjuncts c.args.problem.now.judge.now) (trees_of c.args.problem.now.forest.now) c.args.problem.now.ranges.now c.args.conjuncts.now c.args.places.now 0) (sym c.clear.ensures.items)
+  passes = subst (AreSifted (g.J.Judge.conjuncts c.args.problem.now.judge.now)
+      (trees_of c.args.problem.now.forest.now) c.args.problem.now.ranges.now c.args.conjuncts.now c.args.places.now 0) (sym c.clear.ensures.items)
       (sifted-none (g.J.Judge.conjuncts c.args.problem.now.judge.now) (trees_of c.args.problem.now.forest.now) c.args.problem.now.ranges.now c.args.conjuncts.now c.args.places.now);
 }
 
@@ -33,7 +34,8 @@ is_one_false-requires-clause-remembers g c =
     let places = c.args.places.now in
     let place = c.loop-place.place in
     let longer : c.deref.result.now ≡ places ++ place ∷ [] = c.deref.ensures.value ∙ c.in_ok-push.ensures.items ∙ ap (λ (js : List ℕ). js ++ place ∷ []) c.loop-place.invariant.same in
-    subst (λ (js : List ℕ). Remembers l uses ranges js c.forget.new.self) (sym longer) (remembers-longer l uses ranges places place c.loop-place.memo c.forget.new.self c.loop-place.invariant.remembers c.forget.ensures)
+    subst (λ (js : List ℕ). Remembers l uses ranges js c.forget.new.self) (sym longer)
+    (remembers-longer l uses ranges places place c.loop-place.memo c.forget.new.self c.loop-place.invariant.remembers c.forget.ensures)
 
 pub returns-in_err-is_false-clause-remembers : goal.returns-in_err-is_false-clause-remembers
 returns-in_err-is_false-clause-remembers g c =
@@ -69,7 +71,8 @@ loop-place-preserved g c =
     let longer : c.deref.result.now ≡ places ++ place ∷ [] = c.deref.ensures.value ∙ pushed in
     record {
       same = c.truncate.ensures.items ∙ ap (take (length places)) pushed ∙ take-append_seam places (place ∷ []);
-      remembers = remembers-shorter l uses ranges places place c.is_one_false.new.memo (subst (λ (js : List ℕ). Remembers l uses ranges js c.is_one_false.new.memo) longer c.in_ok-is_false.ensures.remembers);
+      remembers = remembers-shorter l uses ranges places place c.is_one_false.new.memo
+          (subst (λ (js : List ℕ). Remembers l uses ranges js c.is_one_false.new.memo) longer c.in_ok-is_false.ensures.remembers);
       tests = c.in_ok-is_false.ensures.same ∙ c.forget.ensures.tests ∙ now.tests;
       passes = subst (AreSifted l trees ranges conjuncts places (place + 1)) (sym c.in_ok-push-2.ensures.items)
           (sifted-more l trees ranges conjuncts places place c.loop-place.passes.items _ now.passes
@@ -83,5 +86,14 @@ returns-clause-sifted g c =
     let k = length places in
     let v = c.range.inside.values in
     let column = range-is ranges k c.index-ranges-next.result c.requires.deeper c.index-ranges-next.is in
-    let all : c.loop-place.place ≡ length (get_or ranges k []) = omega (arith, c.loop-place-test.false, c.loop-place.auto.place-end, c.len-place-end.ensures, v.ok.0, ap length c.range.view_is, ap length column) in
-    subst (λ n. AreSifted (g.J.Judge.conjuncts c.args.problem.now.judge.now) (trees_of c.args.problem.now.forest.now) ranges c.args.conjuncts.now places n c.loop-place.passes.items) all c.loop-place.invariant.passes
+    let all : c.loop-place.place ≡ length (get_or ranges k []) = omega (
+      arith,
+      c.loop-place-test.false,
+      c.loop-place.auto.place-end,
+      c.len-place-end.ensures,
+      v.ok.0,
+      ap length c.range.view_is,
+      ap length column,
+    ) in
+    subst (λ n. AreSifted (g.J.Judge.conjuncts c.args.problem.now.judge.now)
+    (trees_of c.args.problem.now.forest.now) ranges c.args.conjuncts.now places n c.loop-place.passes.items) all c.loop-place.invariant.passes

@@ -9,7 +9,9 @@ returns-in-Some-clause-gives g c =
     let now = c.loop-answer.invariant in
     let here = now.0 in
     gives-on given c.args.place.now c.loop-answer.place c.step_on.new.place c.in-Some.answer (SameAhead-from given c.args.place.now c.loop-answer.place st.at here.at now.1)
-    (subst (λ found. Goes g.V.Ord.cmp (planted (g.J.Judge.conjuncts c.args.problem.now.judge.now) (trees_of c.args.problem.now.forest.now)) c.args.problem.now.ranges.now (option_copied c.args.problem.now.after) c.loop-answer.place found c.step_on.new.place) c.in-Some.is c.in_ok-answer.ensures.goes)
+    (subst (λ found. Goes g.V.Ord.cmp (planted (g.J.Judge.conjuncts c.args.problem.now.judge.now) (trees_of c.args.problem.now.forest.now))
+    c.args.problem.now.ranges.now (option_copied c.args.problem.now.after) c.loop-answer.place found c.step_on.new.place) c.in-Some.is
+    c.in_ok-answer.ensures.goes)
 
 pub returns-in-Some-clause-counts : goal.returns-in-Some-clause-counts
 returns-in-Some-clause-counts g c = λ plain h. c.in_ok-answer.ensures.counts plain (c.loop-answer.invariant.4 plain h)

@@ -34,7 +34,8 @@ sift-requires-clause-lasts g c =
     let all = c.requires.sound.plan.sifting in
     let inside : k < length lists = omega (arith, lasts.all, c.requires.deeper) in
     let there : k < length sifting = omega (arith, all.all, c.requires.deeper) in
-    let conjuncts : get_or sifting k [] ≡ c.deref.result.now = get_or_default sifting k [] c.index-sifting.result.now there ∙ sym c.index-sifting.ensures ∙ sym c.sifting.view_is ∙ sym c.deref.ensures.value in
+    let conjuncts : get_or sifting k [] ≡ c.deref.result.now = get_or_default sifting k [] c.index-sifting.result.now there ∙ sym c.index-sifting.ensures
+    ∙ sym c.sifting.view_is ∙ sym c.deref.ensures.value in
     let list : get_or lists k [] ≡ c.deref-2.result.now =
     get_or_default lists k [] c.index-sifting_lasts.result.now inside ∙ sym c.index-sifting_lasts.ensures ∙ sym c.sifting_lasts.view_is ∙ sym c.deref-2.ensures.value in
     let uses = g.J.Judge.is_used c.args.problem.now.judge.now in

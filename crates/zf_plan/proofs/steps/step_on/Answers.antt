@@ -39,7 +39,8 @@ returns-then-not-place-clause-goes g c =
     let moved = retreats-stand given uses p c.retreat.new.place c.args.memo.now c.args.choices.now (p.depth - 1) c.requires.stands c.if-not-place.true (omega arith) c.retreat.ensures.lands
     c.retreat.new.memo (subst (λ n. Forgets n c.args.memo.now c.retreat.new.memo) (omega arith) c.retreat.ensures.forgets) in
     let at = c.requires.stands.at in
-    let jumped = jumps given uses c.retreat.new.place c.retreat.new.memo c.args.choices.now (p.depth - 1) moved (omega (arith, at.shallow)) c.args.problem.now.plan.now.is_plain c.jump.new.place c.jump.ensures in
+    let jumped = jumps given uses c.retreat.new.place c.retreat.new.memo c.args.choices.now (p.depth - 1) moved
+    (omega (arith, at.shallow)) c.args.problem.now.plan.now.is_plain c.jump.new.place c.jump.ensures in
     record { same = λ e ev. h.same e ev ∙ jumped.keeps e ev; smaller = let a = h.smaller in let b = jumped.fewer in omega arith }
 
 pub returns-then-not-place-clause-stands : goal.returns-then-not-place-clause-stands
@@ -54,7 +55,8 @@ returns-then-not-place-clause-stands g c =
     let moved = retreats-stand given uses p c.retreat.new.place c.args.memo.now c.args.choices.now (p.depth - 1) c.requires.stands c.if-not-place.true (omega arith) c.retreat.ensures.lands
     c.retreat.new.memo (subst (λ n. Forgets n c.args.memo.now c.retreat.new.memo) (omega arith) c.retreat.ensures.forgets) in
     let at = c.requires.stands.at in
-    let jumped = jumps given uses c.retreat.new.place c.retreat.new.memo c.args.choices.now (p.depth - 1) moved (omega (arith, at.shallow)) c.args.problem.now.plan.now.is_plain c.jump.new.place c.jump.ensures in
+    let jumped = jumps given uses c.retreat.new.place c.retreat.new.memo c.args.choices.now (p.depth - 1) moved
+    (omega (arith, at.shallow)) c.args.problem.now.plan.now.is_plain c.jump.new.place c.jump.ensures in
     jumped.stands
 
 pub returns-then-not-place-clause-counts : goal.returns-then-not-place-clause-counts
@@ -101,7 +103,8 @@ enter-requires-clause-kept g c =
     let st = c.requires.stands in
     let choices = c.args.choices.now in
     let near : p.depth < length choices = omega (arith, st.all_choices, c.if-depth-problem.true) in
-    subst (λ w. IsKept (g.J.Judge.conjuncts c.args.problem.now.judge.now) (trees_of c.args.problem.now.forest.now) c.args.problem.now.ranges.now p.marks.stamps.items (bound p) p.depth w (mark_at p.marks p.depth))
+    subst (λ w. IsKept (g.J.Judge.conjuncts c.args.problem.now.judge.now)
+    (trees_of c.args.problem.now.forest.now) c.args.problem.now.ranges.now p.marks.stamps.items (bound p) p.depth w (mark_at p.marks p.depth))
     (get_or_default choices p.depth None c.index-choices-depth.result near) (st.kept p.depth c.if-depth-problem.true)
 
 pub returns-in_err-enter-clause-stands : goal.returns-in_err-enter-clause-stands
@@ -150,7 +153,8 @@ returns-in-False-clause-goes g c =
     let finds : Finds g.V.Ord.cmp l trees (length ranges) after (path ranges p) truth =
     c.in_ok-truth.ensures.finds in
     let is = passed-is g.V.Ord.cmp ranges after c.args.problem.now.plan.now.blames.items p q c.pass.ensures in
-    passes given p q c.requires.stands.at c.if-not-place.false (ap (λ (w : Place). w.fresh) is) (ap (λ (w : Place). w.places.items) is) (ap (λ (w : Place). w.depth) is) (finds-hopeless given (path ranges p) truth c.in-False.is finds)
+    passes given p q c.requires.stands.at c.if-not-place.false (ap (λ (w : Place). w.fresh) is) (ap (λ (w : Place). w.places.items) is)
+    (ap (λ (w : Place). w.depth) is) (finds-hopeless given (path ranges p) truth c.in-False.is finds)
 
 pub returns-in-False-clause-stands : goal.returns-in-False-clause-stands
 returns-in-False-clause-stands g c =
@@ -179,7 +183,8 @@ returns-in-False-clause-counts g c = λ plain h.
     let here = counted-here basis p p.places.items refl c.if-not-place.false c.args.choices.now c.args.memo.now.tests c.test.new.memo.tests h in
     let found : CountsFound g.V.Ord.cmp l ranges after (path ranges p) c.in_ok-truth.truth c.test.new.memo.tests =
     c.in_ok-truth.ensures.counts plain h.unseen here in
-    subst (λ w. IsCounted g.V.Ord.cmp l ranges after w c.test.new.memo.tests c.args.choices.now) (sym (passed-is g.V.Ord.cmp ranges after c.args.problem.now.plan.now.blames.items p c.pass.new.place c.pass.ensures)) (record {
+    subst (λ w. IsCounted g.V.Ord.cmp l ranges after w c.test.new.memo.tests c.args.choices.now)
+    (sym (passed-is g.V.Ord.cmp ranges after c.args.problem.now.plan.now.blames.items p c.pass.new.place c.pass.ensures)) (record {
       counts = found-false basis (path ranges p) c.in_ok-truth.truth c.test.new.memo.tests c.in-False.is found;
       whole = h.whole;
       unseen = h.unseen;
@@ -236,11 +241,15 @@ returns-then-depth-problem-clause-goes g c =
     let seen-here : AreSeen l trees ranges (bound p) c.see.result =
     subst (λ (q : Place). AreSeen l trees ranges (take p.depth q.places.items) c.see.result) marked.is seen-there in
     let seen = seen-all l trees ranges p c.see.result at.all_seen c.if-depth-problem.true seen-here st.seen in
-    let kept = kept-chosen l trees ranges p.marks marks (bound p) choices p.depth choice (omega (arith, st.all_choices, c.if-depth-problem.true)) marked.stamps marked.others st.kept c.enter.ensures.kept in
+    let kept = kept-chosen l trees ranges p.marks marks (bound p) choices p.depth choice
+    (omega (arith, st.all_choices, c.if-depth-problem.true)) marked.stamps marked.others st.kept c.enter.ensures.kept in
     let stood = descends-stand given now c.descend.new.place choices choice now-at st.all_choices st.chosen chosen c.if-not-place.false c.if-depth-problem.true lands
     uses c.enter.new.memo c.descend.new.memo remembers kept forgets found seen
-    (λ j low. subst (IsBlamed l trees ranges p.places.items j (get_or p.places.items j 0) (get_or choices j None)) (sym (marked.others j (λ e. absurd (omega arith)))) (st.blamed j low)) c.in_ok-enter.ensures.blamed in
-    let jumped = jumps given uses c.descend.new.place c.descend.new.memo (set choices p.depth choice) p.depth stood c.if-depth-problem.true c.args.problem.now.plan.now.is_plain c.jump-then-depth-problem.new.place c.jump-then-depth-problem.ensures in
+    (λ j low. subst (IsBlamed l trees ranges p.places.items j (get_or p.places.items j 0) (get_or choices j None))
+    (sym (marked.others j (λ e. absurd (omega arith)))) (st.blamed j low)) c.in_ok-enter.ensures.blamed in
+    let jumped = jumps given uses c.descend.new.place c.descend.new.memo
+    (set choices p.depth choice) p.depth stood c.if-depth-problem.true c.args.problem.now.plan.now.is_plain c.jump-then-depth-problem.new.place
+    c.jump-then-depth-problem.ensures in
     let h = descends given now c.descend.new.place choices choice now-at st.all_choices st.chosen chosen c.if-not-place.false c.if-depth-problem.true lands in
     record { same = λ e ev. h.same e ev ∙ jumped.keeps e ev; smaller = let a = h.smaller in let b = jumped.fewer in omega arith }
 
@@ -295,11 +304,15 @@ returns-then-depth-problem-clause-stands g c =
     let seen-here : AreSeen l trees ranges (bound p) c.see.result =
     subst (λ (q : Place). AreSeen l trees ranges (take p.depth q.places.items) c.see.result) marked.is seen-there in
     let seen = seen-all l trees ranges p c.see.result at.all_seen c.if-depth-problem.true seen-here st.seen in
-    let kept = kept-chosen l trees ranges p.marks marks (bound p) choices p.depth choice (omega (arith, st.all_choices, c.if-depth-problem.true)) marked.stamps marked.others st.kept c.enter.ensures.kept in
+    let kept = kept-chosen l trees ranges p.marks marks (bound p) choices p.depth choice
+    (omega (arith, st.all_choices, c.if-depth-problem.true)) marked.stamps marked.others st.kept c.enter.ensures.kept in
     let stood = descends-stand given now c.descend.new.place choices choice now-at st.all_choices st.chosen chosen c.if-not-place.false c.if-depth-problem.true lands
     uses c.enter.new.memo c.descend.new.memo remembers kept forgets found seen
-    (λ j low. subst (IsBlamed l trees ranges p.places.items j (get_or p.places.items j 0) (get_or choices j None)) (sym (marked.others j (λ e. absurd (omega arith)))) (st.blamed j low)) c.in_ok-enter.ensures.blamed in
-    let jumped = jumps given uses c.descend.new.place c.descend.new.memo (set choices p.depth choice) p.depth stood c.if-depth-problem.true c.args.problem.now.plan.now.is_plain c.jump-then-depth-problem.new.place c.jump-then-depth-problem.ensures in
+    (λ j low. subst (IsBlamed l trees ranges p.places.items j (get_or p.places.items j 0) (get_or choices j None))
+    (sym (marked.others j (λ e. absurd (omega arith)))) (st.blamed j low)) c.in_ok-enter.ensures.blamed in
+    let jumped = jumps given uses c.descend.new.place c.descend.new.memo
+    (set choices p.depth choice) p.depth stood c.if-depth-problem.true c.args.problem.now.plan.now.is_plain c.jump-then-depth-problem.new.place
+    c.jump-then-depth-problem.ensures in
     jumped.stands
 
 pub returns-then-depth-problem-clause-counts : goal.returns-then-depth-problem-clause-counts
@@ -336,10 +349,16 @@ returns-then-depth-problem-clause-counts g c = λ plain h.
     let tests = c.descend.new.memo.tests in
     let none = c.in_ok-enter.ensures.all plain (was-none choices p.depth c.index-choices-depth.result (omega (arith, st.all_choices, c.if-depth-problem.true)) (h.whole p.depth)) in
     let there = subst (Counts g.V.Ord.cmp l ranges after (path ranges p) below_it) (sym (c.descend.ensures.forgets.tests ∙ c.in_ok-enter.ensures.same)) below in
-    let old : IsCounted g.V.Ord.cmp l ranges after now c.args.memo.now.tests choices = record { counts = h.counts; whole = h.whole; unseen = unseen-all p c.see.result (length ranges) at.all_seen c.if-depth-problem.true (c.see.ensures.plain plain) h.unseen } in
+    let old : IsCounted g.V.Ord.cmp l ranges after now c.args.memo.now.tests choices = record {
+      counts = h.counts;
+      whole = h.whole;
+      unseen = unseen-all p c.see.result (length ranges) at.all_seen c.if-depth-problem.true
+          (c.see.ensures.plain plain) h.unseen;
+    } in
     let counted = counted-descends basis now c.descend.new.place now-at c.requires.sound.ascending choices c.args.memo.now.tests tests old c.if-depth-problem.true st.all_choices choice none there
     lands in
-    jumps-counted g.V.Ord.cmp l ranges after c.args.problem.now.plan.now.is_plain c.descend.new.place c.jump-then-depth-problem.new.place tests (set choices p.depth choice) plain.plain c.jump-then-depth-problem.ensures counted
+    jumps-counted g.V.Ord.cmp l ranges after c.args.problem.now.plan.now.is_plain c.descend.new.place c.jump-then-depth-problem.new.place tests
+    (set choices p.depth choice) plain.plain c.jump-then-depth-problem.ensures counted
 
 pub returns-in-True-clause-goes : goal.returns-in-True-clause-goes
 returns-in-True-clause-goes g c =

@@ -3,4 +3,5 @@ use Rattle.zf_ranges.proofs.bounding.lightest_bounding.Given as goal
 
 abbrev pub invariant-loop-place : goal.invariant-loop-place
 invariant-loop-place l =
-    one_bounds (environment_of l.env).numbers (environment_of l.env).globals (sets_of (map set_of l.domains)) ≡ true → BoundsAt (environment_of l.env).numbers (environment_of l.env).globals l.domains l.best
+    one_bounds (environment_of l.env).numbers (environment_of l.env).globals (sets_of (map set_of l.domains)) ≡ true
+    → BoundsAt (environment_of l.env).numbers (environment_of l.env).globals l.domains l.best

@@ -10,7 +10,8 @@ loop-place-init c = held_none_yet (environment_of c.args.env.now) (map comp_of c
 
 pub held_range-requires-clause-bounded : goal.held_range-requires-clause-bounded
 held_range-requires-clause-bounded c =
-    all_at (λ d. IsTrue (one_bounds (environment_of c.args.env.now).numbers (environment_of c.args.env.now).globals (sets_of d.sets))) (map comp_of c.args.components.now) c.loop-place.place (comp_of c.index-components-place.result)
+    all_at (λ d. IsTrue (one_bounds (environment_of c.args.env.now).numbers (environment_of c.args.env.now).globals (sets_of d.sets)))
+    (map comp_of c.args.components.now) c.loop-place.place (comp_of c.index-components-place.result)
     (comp_at c.args.components.now c.loop-place.place c.index-components-place.result c.index-components-place.is c.loop-place-test.true) c.requires.bounded
 
 pub held_range-requires-clause-not_out : goal.held_range-requires-clause-not_out

@@ -8,7 +8,8 @@ loop-place-init c = none_yet (environment_of c.args.env.now) (map comp_of c.args
 
 pub range_at-requires : goal.range_at-requires
 range_at-requires c =
-    all_at (λ d. IsTrue (one_bounds (environment_of c.args.env.now).numbers (environment_of c.args.env.now).globals (sets_of d.sets))) (map comp_of c.args.components.now) c.loop-place.place (comp_of c.index-components-place.result)
+    all_at (λ d. IsTrue (one_bounds (environment_of c.args.env.now).numbers (environment_of c.args.env.now).globals (sets_of d.sets)))
+    (map comp_of c.args.components.now) c.loop-place.place (comp_of c.index-components-place.result)
     (comp_at c.args.components.now c.loop-place.place c.index-components-place.result c.index-components-place.is c.loop-place-test.true) c.requires
 
 pub loop-place-preserved : goal.loop-place-preserved
@@ -25,7 +26,8 @@ loop-place-preserved c =
 
 pub returns-in_err-range-clause-refused : goal.returns-in_err-range-clause-refused
 returns-in_err-range-clause-refused c =
-    refused (environment_of c.args.env.now) (map comp_of c.args.components.now) c.loop-place.place (comp_of c.index-components-place.result) c.in_err-range.field-0.0 c.from_residual-in_err-range.result c.from_residual-in_err-range.ensures.1
+    refused (environment_of c.args.env.now) (map comp_of c.args.components.now) c.loop-place.place
+    (comp_of c.index-components-place.result) c.in_err-range.field-0.0 c.from_residual-in_err-range.result c.from_residual-in_err-range.ensures.1
     (comp_at c.args.components.now c.loop-place.place c.index-components-place.result c.index-components-place.is c.loop-place-test.true) c.loop-place.invariant.1 c.in_err-range.ensures.refused
 
 pub returns : goal.returns

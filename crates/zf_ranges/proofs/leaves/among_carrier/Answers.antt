@@ -13,7 +13,8 @@ returns-clause-is c =
     let t = type_of c.args.ztype.now in
     let o = c.in_ok-carrier_of in
     IfOk-weaker c.members_among.result _ _
-    (λ xs h. filtered_by_carrier e t c.of-carrier.result c.args.values.now xs.items (sym c.has_endless.ensures ∙ c.if-has_endless.false) (one_described (IsCarrier e t) o.field-0 c.of-carrier.result o.ensures c.of-carrier.ensures) h)
+    (λ xs h. filtered_by_carrier e t c.of-carrier.result c.args.values.now xs.items (sym c.has_endless.ensures ∙ c.if-has_endless.false)
+    (one_described (IsCarrier e t) o.field-0 c.of-carrier.result o.ensures c.of-carrier.ensures) h)
     c.members_among.ensures.is
 
 pub returns-clause-out : goal.returns-clause-out
@@ -21,4 +22,5 @@ returns-clause-out c =
     let e = environment_of c.args.env.now in
     let t = type_of c.args.ztype.now in
     let o = c.in_ok-carrier_of in
-    told c.members_among.result _ _ (described_carrier_is_out e t c.of-carrier.result (sym c.has_endless.ensures ∙ c.if-has_endless.false) (one_described (IsCarrier e t) o.field-0 c.of-carrier.result o.ensures c.of-carrier.ensures)) c.members_among.ensures.out
+    told c.members_among.result _ _ (described_carrier_is_out e t c.of-carrier.result (sym c.has_endless.ensures ∙ c.if-has_endless.false)
+    (one_described (IsCarrier e t) o.field-0 c.of-carrier.result o.ensures c.of-carrier.ensures)) c.members_among.ensures.out

@@ -13,7 +13,8 @@ pub returns-clause-is : goal.returns-clause-is
 returns-clause-is c =
     let none = sym c.infinite_in.ensures ∙ no_infinite c.infinite_in.result c.in_default.not-Some in
     let is : Describes (HasOutcome (globally (environment_of c.args.env.now)) (resolved_of c.args.set.now)) c.in_ok-described.described = search rules in
-    IfOk-weaker c.members_among.result _ _ (λ xs h. filtered_by_plain (environment_of c.args.env.now) (resolved_of c.args.set.now) c.in_ok-described.described c.args.values.now xs.items none is h) c.members_among.ensures.is
+    IfOk-weaker c.members_among.result _ _ (λ xs h. filtered_by_plain (environment_of c.args.env.now)
+    (resolved_of c.args.set.now) c.in_ok-described.described c.args.values.now xs.items none is h) c.members_among.ensures.is
 
 pub returns-clause-out : goal.returns-clause-out
 returns-clause-out c =

@@ -6,11 +6,13 @@ use Rattle.zf_ranges.proofs.leaves.of_plain.Goals as goal
 
 pub returns-clause-is : goal.returns-clause-is
 returns-clause-is c b =
-    IfOk-weaker c.members_of.result _ _ (λ xs listed. all_of_plain (environment_of c.args.env.now) (resolved_of c.args.set.now) c.in_ok-outcome.outcome xs.items b c.in_ok-outcome.ensures listed) c.members_of.ensures.is
+    IfOk-weaker c.members_of.result _ _ (λ xs listed. all_of_plain (environment_of c.args.env.now)
+    (resolved_of c.args.set.now) c.in_ok-outcome.outcome xs.items b c.in_ok-outcome.ensures listed) c.members_of.ensures.is
 
 pub returns-clause-out : goal.returns-clause-out
 returns-clause-out c b =
-    told c.members_of.result _ _ (plain_is_out (environment_of c.args.env.now) (resolved_of c.args.set.now) c.in_ok-outcome.outcome (bounding (environment_of c.args.env.now) (resolved_of c.args.set.now) b) c.in_ok-outcome.ensures) c.members_of.ensures.out
+    told c.members_of.result _ _ (plain_is_out (environment_of c.args.env.now) (resolved_of c.args.set.now) c.in_ok-outcome.outcome
+    (bounding (environment_of c.args.env.now) (resolved_of c.args.set.now) b) c.in_ok-outcome.ensures) c.members_of.ensures.out
 
 pub returns-clause-ascending : goal.returns-clause-ascending
 returns-clause-ascending c = IfOk-weaker c.members_of.result _ _ (λ xs listed. lists_set _ xs.items listed.lists) c.members_of.ensures.is

@@ -30,18 +30,27 @@ pub range-returns-clause-is : goal.range-returns-clause-is
 range-returns-clause-is t c b =
     let e = environment_of c.args.env.now in
     let at = c.in_ok-place.ensures b in
-    all_of_each e c.args.domains.now c.in_ok-place.place c.index-domains-place.result c.in_ok-found.found.items c.in_ok-found-2.found.items c.in_ok-found-3.found.items c.index-domains-place.is at.within
+    all_of_each e c.args.domains.now c.in_ok-place.place c.index-domains-place.result c.in_ok-found.found.items c.in_ok-found-2.found.items
+    c.in_ok-found-3.found.items c.index-domains-place.is at.within
     (c.in_ok-found.ensures.is (at.bounds c.index-domains-place.result c.index-domains-place.is)) c.in_ok-found-2.ensures.is
-    (subst (λ (ds : List Domain). NarrowsAll e (sets_of (map set_of ds)) c.in_ok-found-2.found.items c.in_ok-found-3.found.items) (rest c.args.domains.now c.in_ok-place.place) c.in_ok-found-3.ensures.is)
+    (subst (λ (ds : List Domain). NarrowsAll e (sets_of (map set_of ds)) c.in_ok-found-2.found.items c.in_ok-found-3.found.items)
+    (rest c.args.domains.now c.in_ok-place.place) c.in_ok-found-3.ensures.is)
 
 pub values-returns-in_ok-merged-in-Either-clause-is : goal.values-returns-in_ok-merged-in-Either-clause-is
 values-returns-in_ok-merged-in-Either-clause-is t c b =
     let e = environment_of c.args.env.now in
     let both = sides_bound (environment_of c.args.env.now).numbers (environment_of c.args.env.now).globals c.args.domain.now c.in-Either.left c.in-Either.right c.in-Either.is b in
-    let left = subst (λ (ds : List Domain). IsAllOfEach e (sets_of (map set_of ds)) c.in_ok-left-in-Either.left.items) (c.as_slice.ensures ∙ c.get-in-Either.ensures) (c.in_ok-left-in-Either.ensures.is (subst (λ (ds : List Domain). spec.one_bounds (environment_of c.args.env.now).numbers (environment_of c.args.env.now).globals (sets_of (map set_of ds)) ≡ true) (sym (c.as_slice.ensures ∙ c.get-in-Either.ensures)) both.0)) in
-    let right = subst (λ (ds : List Domain). IsAllOfEach e (sets_of (map set_of ds)) c.in_ok-right-in-Either.right.items) (c.as_slice-in-Either.ensures ∙ c.get-in-Either-2.ensures) (c.in_ok-right-in-Either.ensures.is (subst (λ (ds : List Domain). spec.one_bounds (environment_of c.args.env.now).numbers (environment_of c.args.env.now).globals (sets_of (map set_of ds)) ≡ true) (sym (c.as_slice-in-Either.ensures ∙ c.get-in-Either-2.ensures)) both.1)) in
+    let left = subst (λ (ds : List Domain). IsAllOfEach e (sets_of (map set_of ds)) c.in_ok-left-in-Either.left.items)
+    (c.as_slice.ensures ∙ c.get-in-Either.ensures) (c.in_ok-left-in-Either.ensures.is
+    (subst (λ (ds : List Domain). spec.one_bounds (environment_of c.args.env.now).numbers (environment_of c.args.env.now).globals (sets_of (map set_of ds))
+    ≡ true) (sym (c.as_slice.ensures ∙ c.get-in-Either.ensures)) both.0)) in
+    let right = subst (λ (ds : List Domain). IsAllOfEach e (sets_of (map set_of ds)) c.in_ok-right-in-Either.right.items)
+    (c.as_slice-in-Either.ensures ∙ c.get-in-Either-2.ensures) (c.in_ok-right-in-Either.ensures.is
+    (subst (λ (ds : List Domain). spec.one_bounds (environment_of c.args.env.now).numbers (environment_of c.args.env.now).globals (sets_of (map set_of ds))
+    ≡ true) (sym (c.as_slice-in-Either.ensures ∙ c.get-in-Either-2.ensures)) both.1)) in
     subst (λ (d : DeclaredSet). IsAllOf e d c.in_ok-merged-in-Either.field-0.items) (sym (ap set_of c.in-Either.is ∙ of-Either c.in-Either.left c.in-Either.right))
-    (all_of_sides e (sets_of (map set_of c.in-Either.left)) (sets_of (map set_of c.in-Either.right)) c.in_ok-left-in-Either.left.items c.in_ok-right-in-Either.right.items c.in_ok-merged-in-Either.field-0.items left right c.in_ok-merged-in-Either.ensures)
+    (all_of_sides e (sets_of (map set_of c.in-Either.left)) (sets_of (map set_of c.in-Either.right)) c.in_ok-left-in-Either.left.items
+    c.in_ok-right-in-Either.right.items c.in_ok-merged-in-Either.field-0.items left right c.in_ok-merged-in-Either.ensures)
 
 pub range-returns-then-place-domains-clause-ascending : goal.range-returns-then-place-domains-clause-ascending
 range-returns-then-place-domains-clause-ascending t c = subst IsAscending (sym c.new.ensures.items) tt

@@ -18,7 +18,8 @@ returns-in-Regular-clause-ok g c =
     let b = some_at c.args.run.now.met.keys c.args.run.now.place c.requires.1.1.1.1.1.1.1.0 in
     let a = (rw c.in-Regular.is at c.in_ok-begin_turn.ensures.begins) b.0 b.1 in
     let same = c.in_ok-begin_turn.ensures.same in
-    opened _ _ _ _ (g.M.Machine.HasPassed c.args.machine.now) _ _ _ _ _ b.0 a.0 false c.requires.1.1.1.1.1.1.0 b.1 a.1.0 a.1.1 a.2 (Appends-nil _) _ _ _ _ (ap (λ m. m.keys) same.0) same.1 same.2 c.in_ok-begin_turn.ensures.stuck
+    opened _ _ _ _ (g.M.Machine.HasPassed c.args.machine.now) _ _ _ _ _ b.0 a.0 false c.requires.1.1.1.1.1.1.0 b.1 a.1.0 a.1.1 a.2 (Appends-nil _) _ _ _ _
+    (ap (λ m. m.keys) same.0) same.1 same.2 c.in_ok-begin_turn.ensures.stuck
 
 pub returns-in_err-write_stray-in-Stray-clause-err :
     goal.returns-in_err-write_stray-in-Stray-clause-err

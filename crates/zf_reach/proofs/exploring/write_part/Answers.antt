@@ -15,7 +15,8 @@ pub returns-in_err-write_text-in-Edge-clause-err :
 returns-in_err-write_text-in-Edge-clause-err g c =
     let t = c.edges.invariant.0 in
     let a = (rw c.in-Edge.is at c.in_ok-label.ensures.answer) t.node t.now t.stands in
-    always_on_err _ (stops_at_edge _ _ _ _ _ _ _ _ _ _ t (edge c.in-Edge.label c.in-Edge.to) a.1 _ _ (c.deref.ensures.value ∙ c.in_ok-full-in-Edge.ensures.text) c.in_err-write_text-in-Edge.ensures.err)
+    always_on_err _ (stops_at_edge _ _ _ _ _ _ _ _ _ _ t (edge c.in-Edge.label c.in-Edge.to) a.1 _ _
+    (c.deref.ensures.value ∙ c.in_ok-full-in-Edge.ensures.text) c.in_err-write_text-in-Edge.ensures.err)
 
 pub returns-then-full-clause-ok : goal.returns-then-full-clause-ok
 returns-then-full-clause-ok g c =
@@ -29,7 +30,8 @@ edges-preserved g c =
     let t = c.edges.invariant.0 in
     let a = (rw c.in-Edge.is at c.in_ok-label.ensures.answer) t.node t.now t.stands in
     let same = c.in_ok-full-in-Edge.ensures.same in (
-      parts_go_on _ _ _ _ _ _ _ _ _ _ t (edge c.in-Edge.label c.in-Edge.to) a.1 _ (g.M.Machine.Stands c.args.machine.now c.pass.new.run.cursor) (rw same.0 a.0) (rw c.if-full.false at c.in_ok-full-in-Edge.ensures.full)
+      parts_go_on _ _ _ _ _ _ _ _ _ _ t (edge c.in-Edge.label c.in-Edge.to) a.1 _ (g.M.Machine.Stands c.args.machine.now c.pass.new.run.cursor) (rw same.0 a.0)
+          (rw c.if-full.false at c.in_ok-full-in-Edge.ensures.full)
           _ (c.deref.ensures.value ∙ c.in_ok-full-in-Edge.ensures.text) c.in_ok-write_text-in-Edge.ensures.ok _ _ _ _ c.in_ok-full-in-Edge.ensures.met same.1 c.in_ok-full-in-Edge.ensures.edges same.2,
       ap (λ u. g.M.Machine.part u) same.0 ∙ c.in_ok-label.ensures.part ∙ c.edges.invariant.1,
       same.1 ∙ c.edges.invariant.2,

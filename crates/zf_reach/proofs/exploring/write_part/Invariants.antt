@@ -3,7 +3,8 @@ use Rattle.zf_reach.proofs.exploring.write_part.Given as goal
 
 abbrev pub invariant-edges : goal.invariant-edges
 invariant-edges g l =
-    InParts (g.M.Machine.explored l.machine) (g.M.Machine.words l.machine) l.fn.limit (g.M.Machine.Stands l.machine l.run.cursor) g.origin (g.W.Write.contents (device_of l.writer)) l.run.met.keys l.run.place l.run.edges l.run.stuck
+    InParts (g.M.Machine.explored l.machine) (g.M.Machine.words l.machine) l.fn.limit (g.M.Machine.Stands l.machine l.run.cursor) g.origin
+    (g.W.Write.contents (device_of l.writer)) l.run.met.keys l.run.place l.run.edges l.run.stuck
     × (g.M.Machine.part l.run.cursor ≡ g.M.Machine.part l.initial.run.cursor)
     × (l.run.place ≡ l.initial.run.place)
     × (failures_of l.writer ≡ 0)

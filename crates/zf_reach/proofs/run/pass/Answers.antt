@@ -5,7 +5,8 @@ use Rattle.zf_reach.proofs.run.pass.Goals as goal
 pub returns-then-is_new-clause-text : goal.returns-then-is_new-clause-text
 returns-then-is_new-clause-text g c =
     ap (λ v. v.items) c.count.ensures.same.3
-    ∙ text_after (g.M.Machine.words c.args.machine.now) _ _ (g.met.M.Machine.same_nodes c.args.machine.now) _ _ _ _ _ c.in_ok-number.ensures.added c.in_ok-number.ensures.index c.in_ok-number.ensures.keys c.args.run.now.place c.args.label.now _ c.in_ok-lay_out.ensures.text
+    ∙ text_after (g.M.Machine.words c.args.machine.now) _ _ (g.met.M.Machine.same_nodes c.args.machine.now) _ _ _ _ _ c.in_ok-number.ensures.added
+    c.in_ok-number.ensures.index c.in_ok-number.ensures.keys c.args.run.now.place c.args.label.now _ c.in_ok-lay_out.ensures.text
 
 pub returns-then-is_new-clause-full : goal.returns-then-is_new-clause-full
 returns-then-is_new-clause-full g c =
@@ -14,4 +15,5 @@ returns-then-is_new-clause-full g c =
 pub returns-else-is_new-clause-text : goal.returns-else-is_new-clause-text
 returns-else-is_new-clause-text g c =
     ap (λ v. v.items) c.count.ensures.same.3
-    ∙ text_after (g.M.Machine.words c.args.machine.now) _ _ (g.met.M.Machine.same_nodes c.args.machine.now) _ _ _ _ _ c.in_ok-number.ensures.added c.in_ok-number.ensures.index c.in_ok-number.ensures.keys c.args.run.now.place c.args.label.now _ c.in_ok-lay_out.ensures.text
+    ∙ text_after (g.M.Machine.words c.args.machine.now) _ _ (g.met.M.Machine.same_nodes c.args.machine.now) _ _ _ _ _ c.in_ok-number.ensures.added
+    c.in_ok-number.ensures.index c.in_ok-number.ensures.keys c.args.run.now.place c.args.label.now _ c.in_ok-lay_out.ensures.text

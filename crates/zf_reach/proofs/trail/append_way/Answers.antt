@@ -23,8 +23,13 @@ append_step-requires-clause-met g c =
 
 pub steps-preserved : goal.steps-preserved
 steps-preserved g c =
-    let l = chain_last _ _ _ _ _ _ c.in-Some.ensures.items c.steps.invariant.1 in
-    (c.in-Some.number, l.chain, way_further (g.M.Machine.explored c.args.machine.now) (g.M.Machine.words c.args.machine.now) _ _ c.in-Some.number c.steps.invariant.0 l.arrival l.some l.kept l.from _ _ _ c.steps.invariant.2 c.in_ok-append_step.ensures)
+    let l = chain_last _ _ _ _ _ _ c.in-Some.ensures.items c.steps.invariant.1 in (
+      c.in-Some.number,
+      l.chain,
+      way_further (g.M.Machine.explored c.args.machine.now)
+          (g.M.Machine.words c.args.machine.now) _ _ c.in-Some.number c.steps.invariant.0 l.arrival l.some l.kept l.from _ _ _ c.steps.invariant.2
+          c.in_ok-append_step.ensures,
+    )
 
 pub returns : goal.returns
 returns g c = λ met item shown at.

@@ -10,7 +10,8 @@ next_box-requires c = let h = c.loop-border.invariant c.requires.0 c.requires.1 
 
 pub loop-border-preserved : goal.loop-border-preserved
 loop-border-preserved c = λ tokens up.
-    one_further c.args.source.now c.loop-border.border tokens (c.loop-border.invariant tokens up) c.next_box.new.border (map (token_at c.args.source.now) c.next_box.new.symbols.items) c.in_ok-next_box.ensures.one c.in_ok-next_box.ensures.cut
+    one_further c.args.source.now c.loop-border.border tokens (c.loop-border.invariant tokens up) c.next_box.new.border
+    (map (token_at c.args.source.now) c.next_box.new.symbols.items) c.in_ok-next_box.ensures.one c.in_ok-next_box.ensures.cut
 
 pub returns-clause-cut : goal.returns-clause-cut
 returns-clause-cut c = λ tokens up. all_further c.args.source.now c.loop-border.border tokens (c.loop-border.invariant tokens up) c.loop-border-test.false

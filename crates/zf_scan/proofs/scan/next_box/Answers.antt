@@ -15,7 +15,8 @@ pub loop-start-preserved-then-is_blank : goal.loop-start-preserved-then-is_blank
 loop-start-preserved-then-is_blank c =
     let some : 0 < length (drop c.loop-start.start c.args.source.now) = omega (arith, length-drop c.loop-start.start c.args.source.now, c.loop-start-test.true) in
     record {
-      before = λ tokens up. blank_read _ _ _ _ _ (c.loop-start.invariant.before tokens up) c.after-rest.result.now c.after-rest.ensures some (c.is_blank.ensures c.if-is_blank.true) c.ends_line-line.result c.ends_line-line.ensures.value;
+      before = λ tokens up. blank_read _ _ _ _ _ (c.loop-start.invariant.before tokens up) c.after-rest.result.now c.after-rest.ensures some
+          (c.is_blank.ensures c.if-is_blank.true) c.ends_line-line.result c.ends_line-line.ensures.value;
       part = c.loop-start.invariant.part;
       short = c.loop-start.invariant.short;
       within = omega (arith, c.loop-start-test.true);
@@ -23,7 +24,8 @@ loop-start-preserved-then-is_blank c =
     }
 
 stands_plain : (c : In-Plain) → StandsAt c.loop-start.place (drop c.loop-start.start c.args.source.now) (told (drop c.loop-start.start c.args.source.now) c.piece_at-sight.result)
-stands_plain c = plain_stands c.loop-start.place (drop c.loop-start.start c.args.source.now) c.after-rest.result.now c.piece_at-sight.result c.after-rest.ensures c.piece_at-sight.ensures (omega (arith, length-drop c.loop-start.start c.args.source.now, c.loop-start-test.true)) c.in-Plain.is
+stands_plain c = plain_stands c.loop-start.place (drop c.loop-start.start c.args.source.now) c.after-rest.result.now c.piece_at-sight.result
+    c.after-rest.ensures c.piece_at-sight.ensures (omega (arith, length-drop c.loop-start.start c.args.source.now, c.loop-start-test.true)) c.in-Plain.is
 
 pub front-requires : goal.front-requires
 front-requires c = omega (arith, (stands_plain c).within, ap length c.after-rest.ensures)
@@ -31,17 +33,28 @@ front-requires c = omega (arith, (stands_plain c).within, ap length c.after-rest
 pub overflow_add-line-in-Plain : goal.overflow_add-line-in-Plain
 overflow_add-line-in-Plain c =
     let a = stands_plain (goal.at.overflow_add-line-in-Plain c).In-Plain in
-    omega (arith, a.within, length-drop c.loop-start.start c.args.source.now, c.loop-start.invariant.short, line_le _ _ _ _ _ (c.loop-start.invariant.before c.requires.0 c.requires.1), c.newlines-line.ensures.few, ap length c.front.ensures, length-take-le c.piece_at-sight.result.len c.after-rest.result.now (omega (arith, a.within, ap length c.after-rest.ensures)))
+    omega (
+      arith,
+      a.within,
+      length-drop c.loop-start.start c.args.source.now,
+      c.loop-start.invariant.short,
+      line_le _ _ _ _ _ (c.loop-start.invariant.before c.requires.0 c.requires.1),
+      c.newlines-line.ensures.few,
+      ap length c.front.ensures,
+      length-take-le c.piece_at-sight.result.len c.after-rest.result.now (omega (arith, a.within, ap length c.after-rest.ensures)),
+    )
 
 pub overflow_add-start-in-Symbol : goal.overflow_add-start-in-Symbol
 overflow_add-start-in-Symbol c =
     let s = drop c.loop-start.start c.args.source.now in
-    let a = symbol_stands c.loop-start.place s c.after-rest.result.now c.piece_at-sight.result c.in-Symbol.next c.after-rest.ensures c.piece_at-sight.ensures (omega (arith, length-drop c.loop-start.start c.args.source.now, c.loop-start-test.true)) c.in-Symbol.is in
+    let a = symbol_stands c.loop-start.place s c.after-rest.result.now c.piece_at-sight.result c.in-Symbol.next c.after-rest.ensures c.piece_at-sight.ensures
+    (omega (arith, length-drop c.loop-start.start c.args.source.now, c.loop-start-test.true)) c.in-Symbol.is in
     omega (arith, a.within, length-drop c.loop-start.start c.args.source.now, c.loop-start.invariant.short)
 
 stands_symbol : (c : Then-ends_box) → StandsAt c.loop-start.place (drop c.loop-start.start c.args.source.now) (told (drop c.loop-start.start c.args.source.now) c.piece_at-sight.result)
 stands_symbol c =
-    symbol_stands c.loop-start.place (drop c.loop-start.start c.args.source.now) c.after-rest.result.now c.piece_at-sight.result c.in-Symbol.next c.after-rest.ensures c.piece_at-sight.ensures (omega (arith, length-drop c.loop-start.start c.args.source.now, c.loop-start-test.true)) c.in-Symbol.is
+    symbol_stands c.loop-start.place (drop c.loop-start.start c.args.source.now) c.after-rest.result.now c.piece_at-sight.result c.in-Symbol.next
+    c.after-rest.ensures c.piece_at-sight.ensures (omega (arith, length-drop c.loop-start.start c.args.source.now, c.loop-start-test.true)) c.in-Symbol.is
 
 -- a symbol outside of a box begins one
 opens : (c : Then-ends_box) → (p : Placed) → p.next ≡ c.in-Symbol.next → c.loop-start.place ≡ places.Outside → begins_box (token_at c.args.source.now p).kind ≡ true
@@ -62,7 +75,9 @@ returns-then-ends_box-clause-cut c = λ tokens up.
     let source = c.args.source.now in
     let some : 0 < length (drop c.loop-start.start source) = omega (arith, length-drop c.loop-start.start source, c.loop-start-test.true) in
     record {
-      before = symbol_read _ _ _ _ tokens c.loop-start.symbols.items (c.loop-start.invariant.before tokens up) c.after-rest.result.now c.piece_at-sight.result c.in-Symbol.next c.after-rest.ensures c.piece_at-sight.ensures some c.in-Symbol.is c.push.new.self.items c.in_ok-push-in-Symbol.ensures.items places.Outside
+      before = symbol_read _ _ _ _ tokens c.loop-start.symbols.items (c.loop-start.invariant.before tokens up) c.after-rest.result.now c.piece_at-sight.result
+          c.in-Symbol.next c.after-rest.ensures c.piece_at-sight.ensures some c.in-Symbol.is c.push.new.self.items c.in_ok-push-in-Symbol.ensures.items
+          places.Outside
           (λ amount text. ended_outside c.loop-start.place c.loop-start.line (kind_of c.in-Symbol.next amount text) (sym (c.ends_box.ensures amount text) ∙ c.if-ends_box.true));
       short = c.loop-start.invariant.short;
       within = omega (arith, (stands_symbol c).within, length-drop c.loop-start.start source);
@@ -71,9 +86,19 @@ returns-then-ends_box-clause-cut c = λ tokens up.
 pub returns-then-ends_box-clause-one : goal.returns-then-ends_box-clause-one
 returns-then-ends_box-clause-one c =
     let source = c.args.source.now in
-    let p : Placed = record { next = c.in-Symbol.next; line = c.loop-start.line; start = c.loop-start.start; stop = c.loop-start.start + c.piece_at-sight.result.len; amount = c.piece_at-sight.result.amount } in
-    let pushed : map (token_at source) c.push.new.self.items ≡ map (token_at source) c.loop-start.symbols.items ++ token_at source p ∷ [] = ap (map (token_at source)) c.in_ok-push-in-Symbol.ensures.items ∙ map-append (token_at source) c.loop-start.symbols.items (p ∷ []) in
-    inr (subst IsBox (sym pushed) (closed c.loop-start.place (map (token_at source) c.loop-start.symbols.items) (token_at source p) (opens c p refl) (sym (c.ends_box.ensures _ _) ∙ c.if-ends_box.true) c.loop-start.invariant.part))
+    let p : Placed = record {
+      next = c.in-Symbol.next;
+      line = c.loop-start.line;
+      start = c.loop-start.start;
+      stop = c.loop-start.start +
+          c.piece_at-sight.result.len;
+      amount = c.piece_at-sight.result.amount;
+    } in
+    let pushed : map (token_at source) c.push.new.self.items ≡ map (token_at source) c.loop-start.symbols.items
+    ++ token_at source p ∷ [] = ap (map (token_at source)) c.in_ok-push-in-Symbol.ensures.items
+    ∙ map-append (token_at source) c.loop-start.symbols.items (p ∷ []) in
+    inr (subst IsBox (sym pushed) (closed c.loop-start.place (map (token_at source) c.loop-start.symbols.items) (token_at source p) (opens c p refl)
+    (sym (c.ends_box.ensures _ _) ∙ c.if-ends_box.true) c.loop-start.invariant.part))
 
 pub returns-then-ends_box-clause-further : goal.returns-then-ends_box-clause-further
 returns-then-ends_box-clause-further c = λ some. omega (arith, (stands_symbol c).some, c.loop-start.invariant.further)
@@ -85,7 +110,8 @@ returns-in-Refused-clause-fault c =
     let some : 0 < length s = omega (arith, length-drop c.loop-start.start c.args.source.now) in
     let n = seen_at c.loop-start.place s c.after-rest.result.now f c.after-rest.ensures c.piece_at-sight.ensures some in
     let is : piece_of f.sight f.amount (take f.len s) ≡ Refused c.in-Refused.kind = ap (λ sight. piece_of sight f.amount (take f.len s)) c.in-Refused.is in
-    inr (stuck _ _ _ _ _ (c.loop-start.invariant.before c.requires.0 c.requires.1) c.loop-start.invariant.short c.fault_at.result c.in-Refused.kind c.fault_at.ensures.kind c.fault_at.ensures.line (refused c.loop-start.place _ (told s f) n c.in-Refused.kind is some))
+    inr (stuck _ _ _ _ _ (c.loop-start.invariant.before c.requires.0 c.requires.1) c.loop-start.invariant.short c.fault_at.result c.in-Refused.kind
+    c.fault_at.ensures.kind c.fault_at.ensures.line (refused c.loop-start.place _ (told s f) n c.in-Refused.kind is some))
 
 stands : (c : Joined-sight) → StandsAt c.loop-start.place (drop c.loop-start.start c.args.source.now) (told (drop c.loop-start.start c.args.source.now) c.piece_at-sight.result)
 stands c =
@@ -93,7 +119,8 @@ stands c =
     let some : 0 < length s = omega (arith, length-drop c.loop-start.start c.args.source.now, c.loop-start-test.true) in
     elim c.match-sight.branch [
       | in-Plain w ↦ plain_stands c.loop-start.place s c.after-rest.result.now c.piece_at-sight.result c.after-rest.ensures c.piece_at-sight.ensures some w.in-Plain.is
-      | in-Symbol+in_ok-push-in-Symbol+else-ends_box w ↦ symbol_stands c.loop-start.place s c.after-rest.result.now c.piece_at-sight.result w.in-Symbol.next c.after-rest.ensures c.piece_at-sight.ensures some w.in-Symbol.is
+      | in-Symbol+in_ok-push-in-Symbol+else-ends_box w ↦ symbol_stands c.loop-start.place s c.after-rest.result.now c.piece_at-sight.result w.in-Symbol.next
+          c.after-rest.ensures c.piece_at-sight.ensures some w.in-Symbol.is
     ]
 
 pub overflow_add-start-in-loop-start : goal.overflow_add-start-in-loop-start
@@ -113,14 +140,19 @@ loop-start-preserved c =
     record {
       before = λ tokens up. elim c.match-sight.branch [
         | in-Plain w ↦
-            moved _ _ _ _ _ (plain_read _ _ _ _ _ (c.loop-start.invariant.before tokens up) rest f c.after-rest.ensures c.piece_at-sight.ensures some w.in-Plain.is w.newlines-line.result (w.newlines-line.ensures.value ∙ ap newlines w.front.ensures)) _ _ _
+            moved _ _ _ _ _ (plain_read _ _ _ _ _ (c.loop-start.invariant.before tokens up) rest f c.after-rest.ensures c.piece_at-sight.ensures some
+            w.in-Plain.is w.newlines-line.result (w.newlines-line.ensures.value ∙ ap newlines w.front.ensures)) _ _ _
             (sym w.line-is) (sym w.place-is) (ap (λ v. tokens ++ map (token_at source) v.items) (sym w.symbols-is))
         | in-Symbol+in_ok-push-in-Symbol+else-ends_box w ↦
-            moved _ _ _ _ _ (symbol_read _ _ _ _ tokens c.loop-start.symbols.items (c.loop-start.invariant.before tokens up) rest f w.in-Symbol.next c.after-rest.ensures c.piece_at-sight.ensures some w.in-Symbol.is c.match-sight.symbols.items (ap (λ v. v.items) w.symbols-is ∙ w.in_ok-push-in-Symbol.ensures.items) w.behind-place.result w.behind-place.ensures) _ _ _
+            moved _ _ _ _ _ (symbol_read _ _ _ _ tokens c.loop-start.symbols.items
+            (c.loop-start.invariant.before tokens up) rest f w.in-Symbol.next c.after-rest.ensures c.piece_at-sight.ensures some w.in-Symbol.is
+            c.match-sight.symbols.items (ap (λ v. v.items) w.symbols-is ∙ w.in_ok-push-in-Symbol.ensures.items) w.behind-place.result
+            w.behind-place.ensures) _ _ _
             (sym w.line-is) (sym w.place-is) refl
       ];
       part = elim c.match-sight.branch [
-        | in-Plain w ↦ subst (λ place. IsPart place (map (token_at source) c.match-sight.symbols.items)) (sym w.place-is) (subst (λ v. IsPart c.loop-start.place (map (token_at source) v.items)) (sym w.symbols-is) c.loop-start.invariant.part)
+        | in-Plain w ↦ subst (λ place. IsPart place (map (token_at source) c.match-sight.symbols.items)) (sym w.place-is)
+            (subst (λ v. IsPart c.loop-start.place (map (token_at source) v.items)) (sym w.symbols-is) c.loop-start.invariant.part)
         | in-Symbol+in_ok-push-in-Symbol+else-ends_box w ↦
             let p : Placed = record { next = w.in-Symbol.next; line = c.loop-start.line; start = at; stop = at + f.len; amount = f.amount } in
             let pushed : map (token_at source) c.match-sight.symbols.items ≡ map (token_at source) c.loop-start.symbols.items ++ token_at source p ∷ [] =
@@ -129,7 +161,8 @@ loop-start-preserved c =
             let piece : piece_of f.sight f.amount (take f.len s) ≡ Symbol (kind_of w.in-Symbol.next f.amount (take f.len s)) = ap (λ sight. piece_of sight f.amount (take f.len s)) w.in-Symbol.is in
             let opening : c.loop-start.place ≡ places.Outside → begins_box (token_at source p).kind ≡ true =
             λ out. begins_same w.in-Symbol.next f.amount f.amount (between at (at + f.len) source) (take f.len s) ∙ begins_there c.loop-start.place s (told s f) _ a piece out in
-            grown c.loop-start.place c.loop-start.line (map (token_at source) c.loop-start.symbols.items) (token_at source p) opening (sym (w.ends_box.ensures f.amount (between at (at + f.len) source)) ∙ w.if-ends_box.false) c.loop-start.invariant.part
+            grown c.loop-start.place c.loop-start.line (map (token_at source) c.loop-start.symbols.items) (token_at source p) opening
+            (sym (w.ends_box.ensures f.amount (between at (at + f.len) source)) ∙ w.if-ends_box.false) c.loop-start.invariant.part
             c.match-sight.place (map (token_at source) c.match-sight.symbols.items) (w.place-is ∙ w.behind-place.ensures f.amount (between at (at + f.len) source)) pushed
       ];
       short = c.loop-start.invariant.short;
@@ -139,5 +172,7 @@ loop-start-preserved c =
 
 pub returns-in_default : goal.returns-in_default
 returns-in_default c =
-    let s = stuck _ _ _ _ _ (c.loop-start.invariant.before c.requires.0 c.requires.1) c.loop-start.invariant.short c.fault_at-in_default.result _ c.fault_at-in_default.ensures.kind c.fault_at-in_default.ensures.line (ended c.args.source.now c.loop-start.start c.loop-start.place c.loop-start-test.false c.in_default.not-Outside) in
+    let s = stuck _ _ _ _ _ (c.loop-start.invariant.before c.requires.0 c.requires.1) c.loop-start.invariant.short c.fault_at-in_default.result _
+    c.fault_at-in_default.ensures.kind c.fault_at-in_default.ensures.line
+    (ended c.args.source.now c.loop-start.start c.loop-start.place c.loop-start-test.false c.in_default.not-Outside) in
     record { cut = tt; one = tt; further = tt; fault = inr s }

@@ -7,4 +7,5 @@ returns-in-Err-clause-wrong c =
     let a = schema_of c.args.left.flat in
     let b = schema_of c.args.right.flat in
     let l = c.args.line in
-    refused_by c.in-Err.stop l c.refusal.result (Stops (OneClashes a.comps b.comps) (Agree a.comps b.comps) (conjoined a b)) (CantConjoin l a b) (λ k h. (refl, h)) c.refusal.ensures c.in-Err.ensures.err
+    refused_by c.in-Err.stop l c.refusal.result (Stops (OneClashes a.comps b.comps) (Agree a.comps b.comps) (conjoined a b)) (CantConjoin l a b)
+    (λ k h. (refl, h)) c.refusal.ensures c.in-Err.ensures.err

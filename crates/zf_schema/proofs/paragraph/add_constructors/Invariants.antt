@@ -4,8 +4,10 @@ use Rattle.zf_schema.proofs.paragraph.add_constructors.Given as goal
 
 abbrev pub invariant-loop-place : goal.invariant-loop-place
 invariant-loop-place l = record {
-  constructs : (h : List Defined) → Constructs (globals_of l.globals) l.number (spelling l.of_type) l.place (drop l.place l.names) h → Constructs (globals_of l.initial.globals) l.number (spelling l.of_type) 0 l.names h;
-  offends : (kind : Offence) (line : ℕ) → OffendsConstructors (globals_of l.globals) l.number (spelling l.of_type) l.place (drop l.place l.names) kind line → OffendsConstructors (globals_of l.initial.globals) l.number (spelling l.of_type) 0 l.names kind line;
+  constructs : (h : List Defined) → Constructs (globals_of l.globals) l.number (spelling l.of_type) l.place (drop l.place l.names) h
+      → Constructs (globals_of l.initial.globals) l.number (spelling l.of_type) 0 l.names h;
+  offends : (kind : Offence) (line : ℕ) → OffendsConstructors (globals_of l.globals) l.number (spelling l.of_type) l.place (drop l.place l.names) kind line
+      → OffendsConstructors (globals_of l.initial.globals) l.number (spelling l.of_type) 0 l.names kind line;
   room : length (globals_of l.initial.globals) ≤ length (globals_of l.globals);
   begun : Begins (globals_of l.initial.globals) (globals_of l.globals);
 }

@@ -7,5 +7,7 @@ pub returns-then-not-is_new-clause-fault : goal.returns-then-not-is_new-clause-f
 returns-then-not-is_new-clause-fault c =
     let g = globals_of c.args.globals.now in
     let n = c.args.name.now in
-    let taken : IsNew g n → ⊥ = λ e. true≢false (sym (c.is_new.ensures.1 (subst (λ x. first_named (λ d. d.name) x g ≡ None) (sym (c.as_slice.ensures ∙ c.spelled-spelled.ensures)) e)) ∙ c.if-not-is_new.true) in
-    told c.refused.result (already_defined c.spelled-spelled.result) c.name.inside.line (IsTaken g n) c.refused.ensures (ap already_defined c.spelled-spelled.ensures, ap (λ m. m.line) c.name.view_is, taken)
+    let taken : IsNew g n → ⊥ = λ e. true≢false (sym (c.is_new.ensures.1
+    (subst (λ x. first_named (λ d. d.name) x g ≡ None) (sym (c.as_slice.ensures ∙ c.spelled-spelled.ensures)) e)) ∙ c.if-not-is_new.true) in
+    told c.refused.result (already_defined c.spelled-spelled.result) c.name.inside.line (IsTaken g n) c.refused.ensures
+    (ap already_defined c.spelled-spelled.ensures, ap (λ m. m.line) c.name.view_is, taken)

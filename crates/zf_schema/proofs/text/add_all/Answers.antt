@@ -10,8 +10,10 @@ loop-name-preserved c =
     let d = plain (resolved_of c.args.set.now) in
     record {
       growing = c.in_ok-add.ensures.growing;
-      adds = λ out r. c.loop-name.invariant.adds out (at_step (λ ns. AddsAll a ns t d out) c.args.names.now c.loop-name.name-index c.name-item.result c.name-item.is c.loop-name-test.true (b, c.in_ok-add.ensures.ok, r));
-      offends = λ k m o. c.loop-name.invariant.offends k m (at_step (λ ns. OffendsNames a ns t d k m) c.args.names.now c.loop-name.name-index c.name-item.result c.name-item.is c.loop-name-test.true (inr (b, c.in_ok-add.ensures.ok, o)));
+      adds = λ out r. c.loop-name.invariant.adds out (at_step (λ ns. AddsAll a ns t d out) c.args.names.now c.loop-name.name-index c.name-item.result
+          c.name-item.is c.loop-name-test.true (b, c.in_ok-add.ensures.ok, r));
+      offends = λ k m o. c.loop-name.invariant.offends k m (at_step (λ ns. OffendsNames a ns t d k m) c.args.names.now c.loop-name.name-index
+          c.name-item.result c.name-item.is c.loop-name-test.true (inr (b, c.in_ok-add.ensures.ok, o)));
     }
 
 pub returns-in_err-add-clause-wrong : goal.returns-in_err-add-clause-wrong

@@ -9,8 +9,10 @@ loop-decl-preserved c =
     let b = schema_of c.declare.new.growing.flat in
     record {
       growing = c.in_ok-declare.ensures.growing;
-      declares = λ out r. c.loop-decl.invariant.declares out (at_step (λ ds. Declares g a (map decl_of ds) out) c.args.decls.now c.loop-decl.decl-index c.decl-item.result c.decl-item.is c.loop-decl-test.true (b, c.in_ok-declare.ensures.ok, r));
-      offends = λ k m o. c.loop-decl.invariant.offends k m (at_step (λ ds. OffendsDecls g a (map decl_of ds) k m) c.args.decls.now c.loop-decl.decl-index c.decl-item.result c.decl-item.is c.loop-decl-test.true (later_declares g a _ b _ k m c.in_ok-declare.ensures.ok o));
+      declares = λ out r. c.loop-decl.invariant.declares out (at_step (λ ds. Declares g a (map decl_of ds) out) c.args.decls.now c.loop-decl.decl-index
+          c.decl-item.result c.decl-item.is c.loop-decl-test.true (b, c.in_ok-declare.ensures.ok, r));
+      offends = λ k m o. c.loop-decl.invariant.offends k m (at_step (λ ds. OffendsDecls g a (map decl_of ds) k m) c.args.decls.now c.loop-decl.decl-index
+          c.decl-item.result c.decl-item.is c.loop-decl-test.true (later_declares g a _ b _ k m c.in_ok-declare.ensures.ok o));
     }
 
 pub returns-in_err-declare-clause-wrong : goal.returns-in_err-declare-clause-wrong
@@ -18,7 +20,8 @@ returns-in_err-declare-clause-wrong c =
     let g = globals_of c.args.globals.now in
     let a = schema_of c.loop-decl.growing.flat in
     let step : (k : Offence) (m : ℕ) → CantDeclare g a (decl_of c.decl-item.result) k m → OffendsDecls g (schema_of c.args.growing.now.flat) (map decl_of c.args.decls.now) k m =
-    λ k m o. c.loop-decl.invariant.offends k m (at_step (λ ds. OffendsDecls g a (map decl_of ds) k m) c.args.decls.now c.loop-decl.decl-index c.decl-item.result c.decl-item.is c.loop-decl-test.true (first_declares g a _ _ k m o)) in
+    λ k m o. c.loop-decl.invariant.offends k m (at_step (λ ds. OffendsDecls g a (map decl_of ds) k m) c.args.decls.now c.loop-decl.decl-index
+    c.decl-item.result c.decl-item.is c.loop-decl-test.true (first_declares g a _ _ k m o)) in
     let fact = if_fault _ _ _ step c.in_err-declare.ensures.wrong in
     search rules
 

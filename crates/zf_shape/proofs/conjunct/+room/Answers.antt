@@ -16,15 +16,25 @@ room_after-returns-in-Term t c = same_left _ _ _ _ (nodes_term _ _ _ c.in-Term.i
 
 pub room_after-returns-in_ok-checked_sub-in-Member : goal.room_after-returns-in_ok-checked_sub-in-Member
 room_after-returns-in_ok-checked_sub-in-Member t c =
-    left_by_more _ _ _ 2 c.in_ok-checked_sub-in-Member.field-0 c.args.room (nodes_member _ _ _ _ c.in-Member.is ∙ ap (λ u. nodes (resolved_of u) + 2) (sym c.get-in-Member.ensures)) (omega (arith, c.in_ok-checked_sub-in-Member.ensures)) c.room_after-in-Member.ensures
+    left_by_more _ _ _ 2 c.in_ok-checked_sub-in-Member.field-0 c.args.room
+    (nodes_member _ _ _ _ c.in-Member.is ∙ ap (λ u. nodes (resolved_of u) + 2) (sym c.get-in-Member.ensures))
+    (omega (arith, c.in_ok-checked_sub-in-Member.ensures)) c.room_after-in-Member.ensures
 
 pub room_after-returns-in_ok-behind_left-in-Either : goal.room_after-returns-in_ok-behind_left-in-Either
 room_after-returns-in_ok-behind_left-in-Either t c =
-    left_by_two _ _ _ _ c.in_ok-checked_sub-in-Either.field-0 c.in_ok-behind_left-in-Either.behind_left c.args.room (nodes_sides _ _ _ _ _ _ _ c.in-Either.is c.get-in-Either.ensures c.get-in-Either-2.ensures) (omega (arith, c.in_ok-checked_sub-in-Either.ensures)) c.in_ok-behind_left-in-Either.ensures c.room_after_joined-in-Either.ensures
+    left_by_two _ _ _ _ c.in_ok-checked_sub-in-Either.field-0 c.in_ok-behind_left-in-Either.behind_left c.args.room
+    (nodes_sides _ _ _ _ _ _ _ c.in-Either.is c.get-in-Either.ensures c.get-in-Either-2.ensures)
+    (omega (arith, c.in_ok-checked_sub-in-Either.ensures)) c.in_ok-behind_left-in-Either.ensures c.room_after_joined-in-Either.ensures
 
 pub room_after-returns-in_err-behind_left-in-Either : goal.room_after-returns-in_err-behind_left-in-Either
 room_after-returns-in_err-behind_left-in-Either t c =
-    none_left _ _ _ c.from_residual-in_err-behind_left-in-Either.ensures (omega (arith, nodes_sides _ _ _ _ c.in-Either.right _ _ c.in-Either.is c.get-in-Either.ensures refl, c.in_ok-checked_sub-in-Either.ensures, c.in_err-behind_left-in-Either.ensures))
+    none_left _ _ _ c.from_residual-in_err-behind_left-in-Either.ensures
+    (omega (
+      arith,
+      nodes_sides _ _ _ _ c.in-Either.right _ _ c.in-Either.is c.get-in-Either.ensures refl,
+      c.in_ok-checked_sub-in-Either.ensures,
+      c.in_err-behind_left-in-Either.ensures,
+    ))
 
 pub room_after_joined-returns-in_err-rest : goal.room_after_joined-returns-in_err-rest
 room_after_joined-returns-in_err-rest t c =

@@ -17,11 +17,13 @@ room_after-returns-in_err-left-in-Builder t c =
 
 pub room_after-returns-in_err-room_after_part-in-Builder : goal.room_after-returns-in_err-room_after_part-in-Builder
 room_after-returns-in_err-room_after_part-in-Builder t c =
-    none_left _ _ _ c.from_residual-in_err-room_after_part-in-Builder.ensures (omega (arith, of_builder _ _ _ _ _ c.in-Builder.is, c.in-Some.ensures, c.in_ok-left-in-Builder.ensures, c.in_err-room_after_part-in-Builder.ensures))
+    none_left _ _ _ c.from_residual-in_err-room_after_part-in-Builder.ensures
+    (omega (arith, of_builder _ _ _ _ _ c.in-Builder.is, c.in-Some.ensures, c.in_ok-left-in-Builder.ensures, c.in_err-room_after_part-in-Builder.ensures))
 
 pub room_after-returns-in_ok-room_after_part-in-Builder : goal.room_after-returns-in_ok-room_after_part-in-Builder
 room_after-returns-in_ok-room_after_part-in-Builder t c =
-    last_of_three _ _ _ _ _ _ _ _ _ (of_builder _ _ _ _ _ c.in-Builder.is) (omega (arith, c.in-Some.ensures)) c.in_ok-left-in-Builder.ensures c.in_ok-room_after_part-in-Builder.ensures c.room_after_part-in-Builder.ensures
+    last_of_three _ _ _ _ _ _ _ _ _ (of_builder _ _ _ _ _ c.in-Builder.is)
+    (omega (arith, c.in-Some.ensures)) c.in_ok-left-in-Builder.ensures c.in_ok-room_after_part-in-Builder.ensures c.room_after_part-in-Builder.ensures
 
 pub room_after-returns-in_err-left-in-Quantified : goal.room_after-returns-in_err-left-in-Quantified
 room_after-returns-in_err-left-in-Quantified t c =
@@ -29,4 +31,11 @@ room_after-returns-in_err-left-in-Quantified t c =
 
 pub room_after-returns-in_err-room_after_part-in-Quantified : goal.room_after-returns-in_err-room_after_part-in-Quantified
 room_after-returns-in_err-room_after_part-in-Quantified t c =
-    none_left _ _ _ c.from_residual-in_err-room_after_part-in-Quantified.ensures (omega (arith, of_quantified _ _ _ _ _ _ _ c.in-Quantified.is c.get-in-Quantified.ensures, c.in-Some.ensures, c.in_ok-left-in-Quantified.ensures, c.in_err-room_after_part-in-Quantified.ensures))
+    none_left _ _ _ c.from_residual-in_err-room_after_part-in-Quantified.ensures
+    (omega (
+      arith,
+      of_quantified _ _ _ _ _ _ _ c.in-Quantified.is c.get-in-Quantified.ensures,
+      c.in-Some.ensures,
+      c.in_ok-left-in-Quantified.ensures,
+      c.in_err-room_after_part-in-Quantified.ensures,
+    ))

@@ -35,7 +35,8 @@ is_within-returns-then-not-are_ranges_within t c =
 
 pub is_within-returns-then-is_part_within : goal.is_within-returns-then-is_part_within
 is_within-returns-then-is_part_within t c =
-    last_decides _ _ _ _ _ _ _ _ _ (is_builder _ _ _ _ _ c.in-Builder.is) c.in-Some.ensures c.are_ranges_within.ensures c.if-not-are_ranges_within.false c.is_part_within.ensures c.if-is_part_within.true c.is_part_within-then-is_part_within.ensures
+    last_decides _ _ _ _ _ _ _ _ _ (is_builder _ _ _ _ _ c.in-Builder.is) c.in-Some.ensures c.are_ranges_within.ensures c.if-not-are_ranges_within.false
+    c.is_part_within.ensures c.if-is_part_within.true c.is_part_within-then-is_part_within.ensures
 
 pub is_within-returns-then-not-are_ranges_within-2 : goal.is_within-returns-then-not-are_ranges_within-2
 is_within-returns-then-not-are_ranges_within-2 t c =
@@ -43,4 +44,6 @@ is_within-returns-then-not-are_ranges_within-2 t c =
 
 pub is_within-returns-then-is_part_within-2 : goal.is_within-returns-then-is_part_within-2
 is_within-returns-then-is_part_within-2 t c =
-    last_decides _ _ _ _ _ _ _ _ _ (is_quantified _ _ _ _ _ _ _ c.in-Quantified.is c.get-then-is_part_within-2.ensures) c.in-Some.ensures c.are_ranges_within-in-Quantified.ensures c.if-not-are_ranges_within-2.false c.is_part_within-in-Quantified.ensures c.if-is_part_within-2.true c.is_within-then-is_part_within-2.ensures
+    last_decides _ _ _ _ _ _ _ _ _ (is_quantified _ _ _ _ _ _ _ c.in-Quantified.is c.get-then-is_part_within-2.ensures) c.in-Some.ensures
+    c.are_ranges_within-in-Quantified.ensures c.if-not-are_ranges_within-2.false c.is_part_within-in-Quantified.ensures c.if-is_part_within-2.true
+    c.is_within-then-is_part_within-2.ensures

@@ -25,7 +25,8 @@ explore_all-requires-clause-fits g c =
 
 pub returns-clause-ok : goal.returns-clause-ok
 returns-clause-ok g c =
-    subst (λ e. IfOk c.explore_all.result (λ ending. (at text : List ℕ) × IsWritten (explored_in (system_of e schema_of c.args.system.now)) (words (system_of e schema_of c.args.system.now)) c.args.limit (ending_of ending at) text
+    subst (λ e. IfOk c.explore_all.result (λ ending. (at text : List ℕ) × IsWritten (explored_in (system_of e schema_of c.args.system.now))
+    (words (system_of e schema_of c.args.system.now)) c.args.limit (ending_of ending at) text
     × Appends (g.W.Write.contents (device_of c.args.writer.now)) (g.W.Write.contents (device_of c.explore_all.new.writer)) text)) c.in_ok-cursor.ensures.of_state.environment c.explore_all.ensures.ok
 
 pub returns-clause-err : goal.returns-clause-err

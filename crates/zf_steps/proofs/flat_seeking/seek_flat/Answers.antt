@@ -25,10 +25,14 @@ seek_all-requires-clause-fits g c =
 
 pub returns-clause-ok : goal.returns-clause-ok
 returns-clause-ok g c =
-    subst (λ e. IfOk c.seek_all.result (λ finding. (at text : List ℕ) × IsSearched (explored_in (system_of e schema_of c.args.system.now)) (sought_in (system_of e schema_of c.args.system.now)) (words (system_of e schema_of c.args.system.now)) (verdict (system_of e schema_of c.args.system.now)) c.args.limit (result_of finding at) text
+    subst (λ e. IfOk c.seek_all.result (λ finding. (at text : List ℕ) × IsSearched (explored_in (system_of e schema_of c.args.system.now))
+    (sought_in (system_of e schema_of c.args.system.now)) (words (system_of e schema_of c.args.system.now))
+    (verdict (system_of e schema_of c.args.system.now)) c.args.limit (result_of finding at) text
     × Appends (g.W.Write.contents (device_of c.args.writer.now)) (g.W.Write.contents (device_of c.seek_all.new.writer)) text)) c.in_ok-cursor.ensures.of_state.environment c.seek_all.ensures.ok
 
 pub returns-clause-err : goal.returns-clause-err
 returns-clause-err g c =
-    subst (λ e. OnErr c.seek_all.result (StopsSearch (explored_in (system_of e schema_of c.args.system.now)) (sought_in (system_of e schema_of c.args.system.now)) (words (system_of e schema_of c.args.system.now)) (verdict (system_of e schema_of c.args.system.now)) c.args.limit
+    subst (λ e. OnErr c.seek_all.result (StopsSearch (explored_in (system_of e schema_of c.args.system.now))
+    (sought_in (system_of e schema_of c.args.system.now)) (words (system_of e schema_of c.args.system.now))
+    (verdict (system_of e schema_of c.args.system.now)) c.args.limit
     (g.W.Write.contents (device_of c.args.writer.now)) (g.W.Write.contents (device_of c.seek_all.new.writer)))) c.in_ok-cursor.ensures.of_state.environment c.seek_all.ensures.err

@@ -12,6 +12,7 @@ returns-in-Some c =
     let name = c.args.name.now in
     let a = schema_of c.args.schema.now in
     let component = c.in-Some.field-0.now in
-    let lacks = subst (λ ws. Lacks a.comps ws component) c.requires.states (subst (λ ks. Lacks (map comp_of ks) (map comp_of c.args.states.after.now) component) c.as_slice.ensures c.in-Some.ensures) in
+    let lacks = subst (λ ws. Lacks a.comps ws component) c.requires.states
+    (subst (λ ks. Lacks (map comp_of ks) (map comp_of c.args.states.after.now) component) c.as_slice.ensures c.in-Some.ensures) in
     if_ok c.init_of-in-Some.result (λ o. operation_of schema_of o ≡ init_in cs name a) (λ o. IsInit cs name a (operation_of schema_of o))
     (λ o is. init_plain cs name component a (operation_of schema_of o) lacks c.requires.has is) c.init_of-in-Some.ensures

@@ -18,4 +18,5 @@ returns c =
     (c.in_ok-places_of.ensures ∙ filter_mapped (λ (x : Comp). place_of (map comp_of comps) x.name) comp_of c.args.states.after.now
     ∙ ap (λ ws. places_of (map comp_of comps) ws) c.requires ∙ ap (λ ks. places_of (map comp_of ks) (with_strokes cs)) whole)
     others
-    (c.in_ok-label.ensures ∙ ap (comps_at (map comp_of comps)) (c.deref.ensures.value ∙ others) ∙ ap (λ ks. comps_at (map comp_of ks) (others_from cs 0 (map comp_of c.args.schema.now.components))) whole)
+    (c.in_ok-label.ensures ∙ ap (comps_at (map comp_of comps)) (c.deref.ensures.value ∙ others)
+    ∙ ap (λ ks. comps_at (map comp_of ks) (others_from cs 0 (map comp_of c.args.schema.now.components))) whole)

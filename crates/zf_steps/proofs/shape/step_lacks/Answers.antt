@@ -19,6 +19,7 @@ returns-in-None c =
     let whole = c.as_slice-components.ensures in
     let has = subst (λ ks. HasAll (map comp_of ks) cs) whole c.in-None.ensures in
     let told = subst (λ ws. MatchOption c.lacking-in-None.result (HasAll a.comps ws) (λ name. Lacks a.comps ws name.now)) c.requires
-    (subst (λ ks. MatchOption c.lacking-in-None.result (HasAll (map comp_of ks) (map comp_of c.args.states.after.now)) (λ name. Lacks (map comp_of ks) (map comp_of c.args.states.after.now) name.now)) whole c.lacking-in-None.ensures) in
+    (subst (λ ks. MatchOption c.lacking-in-None.result (HasAll (map comp_of ks) (map comp_of c.args.states.after.now))
+    (λ name. Lacks (map comp_of ks) (map comp_of c.args.states.after.now) name.now)) whole c.lacking-in-None.ensures) in
     match_option c.lacking-in-None.result (HasAll a.comps (with_strokes cs)) (HasAll a.comps (both cs)) (λ name. Lacks a.comps (with_strokes cs) name.now) (λ name. LacksStep cs a name.now)
     (λ all. has_both a.comps cs (with_strokes cs) has all) (λ name lacks. lacks_behind a.comps cs (with_strokes cs) name.now has lacks) told

@@ -11,4 +11,5 @@ returns-then-eq c =
 pub loop-place-preserved : goal.loop-place-preserved
 loop-place-preserved c =
     let same = (slice_eq-Decides Decides-eqb _ _ c.eq.result c.eq.ensures).1 in
-    none_so_far c.args.word.now c.args.names.now c.loop-place.place c.index-names-place.result c.index-names-place.is (omega arith) (λ h. never_both c.eq.result (same (c.as_slice.ensures ∙ h)) c.if-eq.false) c.loop-place.invariant
+    none_so_far c.args.word.now c.args.names.now c.loop-place.place c.index-names-place.result c.index-names-place.is (omega arith)
+    (λ h. never_both c.eq.result (same (c.as_slice.ensures ∙ h)) c.if-eq.false) c.loop-place.invariant

@@ -2,7 +2,8 @@ use Rattle.zf_texts.proofs.SpelledTypes.{not_numbered, not_dotted, numbered_by}
 use Rattle.zf_texts.proofs.elements.numbered.Goals as goal
 
 pub returns-in-Some-behind : goal.returns-in-Some-behind
-returns-in-Some-behind c = numbered_by c.counted.result c.args.word.now c.args.name.now c.in-Some.rest.now c.in-Some-behind.digits.now c.args.count c.in-Some.ensures c.in-Some-behind.ensures c.counted.ensures
+returns-in-Some-behind c = numbered_by c.counted.result c.args.word.now c.args.name.now c.in-Some.rest.now c.in-Some-behind.digits.now c.args.count
+    c.in-Some.ensures c.in-Some-behind.ensures c.counted.ensures
 
 pub returns-in-None-behind : goal.returns-in-None-behind
 returns-in-None-behind c = λ i l q. not_dotted c.args.word.now c.args.name.now c.in-Some.rest.now i c.in-None-behind.ensures c.in-Some.ensures q

@@ -7,7 +7,8 @@ returns-in_default-clause-refused c = untyped c.args.spellings.now (environment_
 
 pub returns-in-Some-place_among-clause-read : goal.returns-in-Some-place_among-clause-read
 returns-in-Some-place_among-clause-read c =
-    element_at c.args.spellings.now (environment_of c.args.env.now) c.args.name.now c.args.text.now c.args.place c.word_at-word.result.now c.in-Some.number c.in-Some.count c.in-Some-place_among.index c.in-Some.spelling.now
+    element_at c.args.spellings.now (environment_of c.args.env.now) c.args.name.now c.args.text.now c.args.place c.word_at-word.result.now c.in-Some.number
+    c.in-Some.count c.in-Some-place_among.index c.in-Some.spelling.now
     c.in-Some.ensures c.in-Some-place_among.ensures.0 c.in-Some-place_among.ensures.1 c.word_at-word.ensures
 
 pub returns-in-None-clause-refused : goal.returns-in-None-clause-refused

@@ -9,7 +9,8 @@ returns-in-None-get c =
 
 pub returns-in-None : goal.returns-in-None
 returns-in-None c =
-    subst (HasNoElements c.args.spellings.now (environment_of c.args.env.now)) c.in-Ok.ensures.1 (unsized c.args.spellings.now (environment_of c.args.env.now) c.in-Ok.number (sym c.size.ensures ∙ c.in-None.is))
+    subst (HasNoElements c.args.spellings.now (environment_of c.args.env.now)) c.in-Ok.ensures.1
+    (unsized c.args.spellings.now (environment_of c.args.env.now) c.in-Ok.number (sym c.size.ensures ∙ c.in-None.is))
 
 pub returns-in-Err : goal.returns-in-Err
 returns-in-Err c = too_large c.args.spellings.now (environment_of c.args.env.now) c.args.number (omega (arith, c.in-Err.ensures))

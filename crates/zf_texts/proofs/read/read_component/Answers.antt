@@ -11,10 +11,12 @@ returns-in_err-behind_name-clause-refused c =
 
 pub returns-then-not-stands-clause-refused : goal.returns-then-not-stands-clause-refused
 returns-then-not-stands-clause-refused c =
-    unequal c.args.spellings.now (environment_of c.args.env.now) (comp_of c.args.component.now) c.as_slice.result.now _ _ c.as_slice.ensures c.in_ok-behind_name.ensures.read.stands c.if-not-stands.ensures
+    unequal c.args.spellings.now (environment_of c.args.env.now) (comp_of c.args.component.now) c.as_slice.result.now _ _ c.as_slice.ensures
+    c.in_ok-behind_name.ensures.read.stands c.if-not-stands.ensures
 
 pub returns-clause-refused : goal.returns-clause-refused
 returns-clause-refused c =
     answered c.read_value.result _ _
-    (unvalued c.args.spellings.now (environment_of c.args.env.now) (comp_of c.args.component.now) c.as_slice.result.now _ _ _ c.as_slice.ensures c.in_ok-behind_name.ensures.read.stands c.if-not-stands.ensures.stands)
+    (unvalued c.args.spellings.now (environment_of c.args.env.now) (comp_of c.args.component.now) c.as_slice.result.now _ _ _ c.as_slice.ensures
+    c.in_ok-behind_name.ensures.read.stands c.if-not-stands.ensures.stands)
     c.read_value.ensures.refused

@@ -5,7 +5,8 @@ use Rattle.zf_texts.proofs.read.read_number.Goals as goal
 pub returns-in-Some-clause-read : goal.returns-in-Some-clause-read
 returns-in-Some-clause-read c =
     let told = c.in-Some.ensures in
-    number_at c.args.spellings.now (environment_of c.args.env.now) c.args.text.now c.args.place c.word_at-word.result.now c.in-Some.number _ (same c.in-Some.number told.0) told.0 told.1 c.word_at-word.ensures
+    number_at c.args.spellings.now (environment_of c.args.env.now) c.args.text.now c.args.place c.word_at-word.result.now c.in-Some.number _
+    (same c.in-Some.number told.0) told.0 told.1 c.word_at-word.ensures
 
 pub returns-in-None-clause-refused : goal.returns-in-None-clause-refused
 returns-in-None-clause-refused c = no_number c.args.spellings.now (environment_of c.args.env.now) c.args.text.now c.args.place c.word_at-word.result.now c.word_at-word.ensures c.in-None.ensures

@@ -12,7 +12,9 @@ pub returns-else-eq : goal.returns-else-eq
 returns-else-eq c = λ n fits e.
     let same = slice_eq-Decides Decides-eqb _ _ c.eq.result c.eq.ensures in
     signed_other c.in-Ok.text.now c.parse.result c.in-Ok-parse.number c.in-Ok-parse.is c.parse.ensures.value.0
-    (λ h. let t = same.1 (c.as_bytes.ensures.value ∙ c.format.ensures.text ∙ printed_same c.in-Ok.text.now c.parse.result c.in-Ok-parse.number c.in-Ok-parse.is c.parse.ensures.value.0 ∙ h ∙ c.in-Ok.ensures.cases.0) in let f = c.if-eq.false in never_both c.eq.result t f) n fits (c.in-Ok.ensures.cases.0 ∙ e)
+    (λ h. let t = same.1 (c.as_bytes.ensures.value ∙ c.format.ensures.text
+    ∙ printed_same c.in-Ok.text.now c.parse.result c.in-Ok-parse.number c.in-Ok-parse.is c.parse.ensures.value.0 ∙ h ∙ c.in-Ok.ensures.cases.0) in let f
+    = c.if-eq.false in never_both c.eq.result t f) n fits (c.in-Ok.ensures.cases.0 ∙ e)
 
 pub returns-then-eq : goal.returns-then-eq
 returns-then-eq c =

@@ -24,8 +24,10 @@ loop-name-preserved c =
           ∙ ap (λ w. old ++ w ∷ variables rest u) is
           ∙ ap (λ xs. old ++ variables xs u) (sym ahead)
           ∙ c.loop-name.invariant.adds;
-      apart = λ ns h. c.loop-name.invariant.apart ns (subst (λ xs. AreNew old (xs ++ ns)) (sym ahead) (one_new old (variable_of v) n (rest ++ ns) named free (subst (λ vs. AreNew vs (rest ++ ns)) more h)));
-      repeated = λ ns k m h. c.loop-name.invariant.repeated ns k m (subst (λ xs. AreRepeated old (xs ++ ns) k m) (sym ahead) (inr (one_repeated old (variable_of v) n (rest ++ ns) k m named (subst (λ vs. AreRepeated vs (rest ++ ns) k m) more h))));
+      apart = λ ns h. c.loop-name.invariant.apart ns (subst (λ xs. AreNew old (xs ++ ns)) (sym ahead)
+          (one_new old (variable_of v) n (rest ++ ns) named free (subst (λ vs. AreNew vs (rest ++ ns)) more h)));
+      repeated = λ ns k m h. c.loop-name.invariant.repeated ns k m (subst (λ xs. AreRepeated old (xs ++ ns) k m) (sym ahead)
+          (inr (one_repeated old (variable_of v) n (rest ++ ns) k m named (subst (λ vs. AreRepeated vs (rest ++ ns) k m) more h))));
     }
 
 pub returns-clause-ok : goal.returns-clause-ok
@@ -48,4 +50,5 @@ returns-then-is_bound-clause-repeated c =
     let bound : IsBound (spelling n) old = subst (λ x. IsBound x old) named found in
     let o = local_twice c.spelled.result in
     told c.refused.result o c.name.inside.line (λ k m. (ns : List Name) → AreRepeated (map variable_of c.args.variables.now) (c.args.names.now ++ ns) k m) c.refused.ensures
-    (λ ns. c.loop-name.invariant.repeated ns o c.name.inside.line (subst (λ xs. AreRepeated old (xs ++ ns) o c.name.inside.line) (sym ahead) (inl (bound, ap local_twice c.spelled.ensures, ap (λ m. m.line) c.name.view_is))))
+    (λ ns. c.loop-name.invariant.repeated ns o c.name.inside.line (subst (λ xs. AreRepeated old (xs ++ ns) o c.name.inside.line) (sym ahead)
+    (inl (bound, ap local_twice c.spelled.ensures, ap (λ m. m.line) c.name.view_is))))

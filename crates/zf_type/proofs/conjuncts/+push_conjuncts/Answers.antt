@@ -27,8 +27,11 @@ returns-in_ok-push_conjuncts-in-Binary-clause-ok t c =
     let b = tree_of c.in-Binary.right in
     let is = ap tree_of c.in-Binary.is ∙ seen.of-Binary c.in-Binary.field-0 c.in-Binary.op c.in-Binary.left c.in-Binary.right in
     let first = c.in_ok-push_conjuncts-in-Binary.ensures.ok ∙ ap (λ w. map resolved_of c.args.conjuncts.now ++ conjuncts (resolved s (tree_of w))) c.get-then-is_and.ensures in
-    let here = ap (λ y. conjuncts (resolved y (tree_of c.get-then-is_and-2.result.now))) c.in_ok-push_conjuncts-in-Binary.ensures.scope ∙ ap (λ w. conjuncts (resolved s (tree_of w))) c.get-then-is_and-2.ensures in
-    let second = subst (λ ts. OnOk c.push_conjuncts-then-is_and-2.result (map resolved_of c.push_conjuncts-then-is_and-2.new.conjuncts ≡ map resolved_of c.push_conjuncts-then-is_and.new.conjuncts ++ ts)) here c.push_conjuncts-then-is_and-2.ensures.ok in
+    let here = ap (λ y. conjuncts (resolved y (tree_of c.get-then-is_and-2.result.now))) c.in_ok-push_conjuncts-in-Binary.ensures.scope
+    ∙ ap (λ w. conjuncts (resolved s (tree_of w))) c.get-then-is_and-2.ensures in
+    let second = subst (λ ts. OnOk c.push_conjuncts-then-is_and-2.result
+    (map resolved_of c.push_conjuncts-then-is_and-2.new.conjuncts ≡ map resolved_of c.push_conjuncts-then-is_and.new.conjuncts ++ ts)) here
+    c.push_conjuncts-then-is_and-2.ensures.ok in
     both_pushed c.push_conjuncts-then-is_and-2.result _ _ _ _ _ _ first second (of_both s c.in-Binary.field-0 c.in-Binary.op a b (tree_of c.args.term.now) is (sym c.is_and.ensures ∙ c.if-is_and.true))
 
 pub returns-else-is_and-clause-ok : goal.returns-else-is_and-clause-ok
@@ -36,4 +39,5 @@ returns-else-is_and-clause-ok t c =
     let s = scope_of c.args.scope.now in
     let is = ap tree_of c.in-Binary.is ∙ seen.of-Binary c.in-Binary.field-0 c.in-Binary.op c.in-Binary.left c.in-Binary.right in
     subst (λ ts. OnOk c.push_whole-else-is_and.result (map resolved_of c.push_whole-else-is_and.new.conjuncts ≡ map resolved_of c.args.conjuncts.now ++ ts))
-    (sym (of_neither s c.in-Binary.field-0 c.in-Binary.op (tree_of c.in-Binary.left) (tree_of c.in-Binary.right) (tree_of c.args.term.now) is (sym c.is_and.ensures ∙ c.if-is_and.false))) c.push_whole-else-is_and.ensures.ok
+    (sym (of_neither s c.in-Binary.field-0 c.in-Binary.op (tree_of c.in-Binary.left) (tree_of c.in-Binary.right) (tree_of c.args.term.now) is
+    (sym c.is_and.ensures ∙ c.if-is_and.false))) c.push_whole-else-is_and.ensures.ok

@@ -20,7 +20,8 @@ use Rattle.zf_type.proofs.judge.+judging.Goals as goal
 
 pub judge_term-returns-in-Err-clause-judged : goal.judge_term-returns-in-Err-clause-judged
 judge_term-returns-in-Err-clause-judged t c =
-    still_judged (scope_of c.args.scope.now) c.args.need (tree_of c.args.term.now) c.in-Err.refusal c.quoting.result c.quoting.ensures (subst (Judges (scope_of c.args.scope.now) c.args.need (tree_of c.args.term.now)) c.in-Err.is c.judge_form.ensures.judged)
+    still_judged (scope_of c.args.scope.now) c.args.need (tree_of c.args.term.now) c.in-Err.refusal c.quoting.result c.quoting.ensures
+    (subst (Judges (scope_of c.args.scope.now) c.args.need (tree_of c.args.term.now)) c.in-Err.is c.judge_form.ensures.judged)
 
 -- ---- one part
 
@@ -28,11 +29,13 @@ pub empty_set-returns-in_err-term-clause-judged : goal.empty_set-returns-in_err-
 empty_set-returns-in_err-term-clause-judged t c =
     let s = scope_of c.args.scope.now in
     let e = tree_of c.args.of.now in
-    from_part s s need.Set c.args.place.need e (tree.empty_set c.args.place.line e) c.in_err-term.field-0.0 c.from_residual.result (λ k m h. inl h) c.in_err-term.ensures.judged c.from_residual.ensures.0 c.from_residual.ensures.1
+    from_part s s need.Set c.args.place.need e (tree.empty_set c.args.place.line e) c.in_err-term.field-0.0 c.from_residual.result
+    (λ k m h. inl h) c.in_err-term.ensures.judged c.from_residual.ensures.0 c.from_residual.ensures.1
 
 pub empty_set-returns-in_err-new-clause-judged : goal.empty_set-returns-in_err-new-clause-judged
 empty_set-returns-in_err-new-clause-judged t c =
-    from_memory (scope_of c.args.scope.now) c.args.place.need (tree.empty_set c.args.place.line (tree_of c.args.of.now)) c.from_residual-in_err-new.result c.from_residual-in_err-new.ensures.0 c.from_residual-in_err-new.ensures.1
+    from_memory (scope_of c.args.scope.now) c.args.place.need (tree.empty_set c.args.place.line (tree_of c.args.of.now)) c.from_residual-in_err-new.result
+    c.from_residual-in_err-new.ensures.0 c.from_residual-in_err-new.ensures.1
 
 pub empty_set-returns-clause-judged : goal.empty_set-returns-clause-judged
 empty_set-returns-clause-judged t c =
@@ -48,11 +51,13 @@ bracket-returns-in_err-term-clause-judged t c =
     let s = scope_of c.args.scope.now in
     let n = c.args.place.need in
     let e = tree_of c.args.inner.now in
-    from_part s s n n e (tree.bracket c.args.place.line e) c.in_err-term.field-0.0 c.from_residual.result (λ k m h. inl h) c.in_err-term.ensures.judged c.from_residual.ensures.0 c.from_residual.ensures.1
+    from_part s s n n e (tree.bracket c.args.place.line e) c.in_err-term.field-0.0 c.from_residual.result
+    (λ k m h. inl h) c.in_err-term.ensures.judged c.from_residual.ensures.0 c.from_residual.ensures.1
 
 pub bracket-returns-in_err-new-clause-judged : goal.bracket-returns-in_err-new-clause-judged
 bracket-returns-in_err-new-clause-judged t c =
-    from_memory (scope_of c.args.scope.now) c.args.place.need (tree.bracket c.args.place.line (tree_of c.args.inner.now)) c.from_residual-in_err-new.result c.from_residual-in_err-new.ensures.0 c.from_residual-in_err-new.ensures.1
+    from_memory (scope_of c.args.scope.now) c.args.place.need (tree.bracket c.args.place.line (tree_of c.args.inner.now)) c.from_residual-in_err-new.result
+    c.from_residual-in_err-new.ensures.0 c.from_residual-in_err-new.ensures.1
 
 pub bracket-returns-clause-judged : goal.bracket-returns-clause-judged
 bracket-returns-clause-judged t c =
@@ -106,7 +111,9 @@ operands::binary-returns-in_err-of_right-clause-judged t c =
     let b = tree_of c.args.right.now in
     let x = c.in_err-of_right.field-0.0 in
     from_part s s n c.args.place.need b (tree.binary c.args.place.line c.args.op (tree_of c.args.left.now) b) x c.from_residual-in_err-of_right.result (λ k m o. inr (inl o))
-    (judged_as s _ n _ c.args.right.now _ (Err x) c.in_ok-of_left.ensures.scope (c.right_need.ensures ∙ ap right_need c.rule-rule.ensures) refl c.in_err-of_right.ensures.judged) c.from_residual-in_err-of_right.ensures.0 c.from_residual-in_err-of_right.ensures.1
+    (judged_as s _ n _ c.args.right.now _ (Err x) c.in_ok-of_left.ensures.scope
+    (c.right_need.ensures ∙ ap right_need c.rule-rule.ensures) refl c.in_err-of_right.ensures.judged) c.from_residual-in_err-of_right.ensures.0
+    c.from_residual-in_err-of_right.ensures.1
 
 pub operands::binary-with_operands-requires-clause-left : goal.operands::binary-with_operands-requires-clause-left
 operands::binary-with_operands-requires-clause-left t c =
@@ -132,7 +139,8 @@ operands::binary-returns-clause-judged t c =
     let j = c.in_ok-of_right.of_right in
     c.with_operands.ensures s a b
     (judged_of s (left_need (rule_of c.args.op)) a i (subst (λ n. Judges s n a (Ok i)) (c.left_need.ensures ∙ ap left_need c.rule-rule.ensures) c.in_ok-of_left.ensures.judged))
-    (judged_of s (right_need (rule_of c.args.op)) b j (judged_as s _ (right_need (rule_of c.args.op)) _ c.args.right.now _ (Ok j) c.in_ok-of_left.ensures.scope (c.right_need.ensures ∙ ap right_need c.rule-rule.ensures) refl c.in_ok-of_right.ensures.judged))
+    (judged_of s (right_need (rule_of c.args.op)) b j (judged_as s _ (right_need (rule_of c.args.op)) _ c.args.right.now _ (Ok j) c.in_ok-of_left.ensures.scope
+    (c.right_need.ensures ∙ ap right_need c.rule-rule.ensures) refl c.in_ok-of_right.ensures.judged))
     c.line.ensures
 
 -- ---- members
@@ -183,10 +191,12 @@ lists::judge_all-loop-member-preserved t c =
       same = c.in_ok-term.ensures.scope ∙ c.loop-member.invariant.same;
       told = λ us are.
           subst (λ vs. AreMembers form s (trees (map tree_of all)) (types vs)) (sym (pushed type_of c.loop-member.types c.push.new.self u us c.in_ok-push.ensures.ok))
-          (c.loop-member.invariant.told (type_of u ∷ us) (at_step (λ rs. AreMembers form s (trees (map tree_of rs)) (types (type_of u ∷ us))) all i r c.member-item.is (omega arith) (type_of u, types us, is, are, refl)));
+          (c.loop-member.invariant.told (type_of u ∷ us) (at_step (λ rs. AreMembers form s (trees (map tree_of rs)) (types (type_of u ∷ us))) all i r
+          c.member-item.is (omega arith) (type_of u, types us, is, are, refl)));
       kept = λ ts h.
           ap kept_views.terms (pushed resolved_of c.loop-member.resolved c.push-in-loop-member.new.self j.term ts c.in_ok-push-2.ensures.ok)
-          ∙ c.loop-member.invariant.kept (resolved_of j.term ∷ ts) (at_step (λ rs. kept_views.terms (resolved_of j.term ∷ ts) ≡ resolved_all s (trees (map tree_of rs))) all i r c.member-item.is (omega arith)
+          ∙ c.loop-member.invariant.kept (resolved_of j.term ∷ ts) (at_step
+          (λ rs. kept_views.terms (resolved_of j.term ∷ ts) ≡ resolved_all s (trees (map tree_of rs))) all i r c.member-item.is (omega arith)
           (ap (λ x. kept.term x (kept_views.terms ts)) judged.term ∙ ap (kept.term (resolved s e)) h));
       offends = λ k m o. c.loop-member.invariant.offends k m (at_step (λ rs. OneOffends s (member_need form) (trees (map tree_of rs)) k m) all i r c.member-item.is (omega arith) (inr o));
     }
@@ -215,7 +225,8 @@ lists::judge_all-returns-in_err-term-clause-wrong t c =
     let judged = judged_as s _ n _ r _ (Err x) c.loop-member.invariant.same c.member_need.ensures c.get.ensures c.in_err-term.ensures.judged in
     let step : (k : Offence) (m : ℕ) → Offends s n e k m → P k m =
     λ k m o. c.loop-member.invariant.offends k m (at_step (λ rs. OneOffends s n (trees (map tree_of rs)) k m) all c.loop-member.member-index r c.member-item.is (omega arith) (inl o)) in
-    fault_from x P c.from_residual-in_err-term.result (if_fault x (λ k m. Offends s n e k m) P step (fault_of s n e x judged)) c.from_residual-in_err-term.ensures.0 c.from_residual-in_err-term.ensures.1
+    fault_from x P c.from_residual-in_err-term.result (if_fault x (λ k m. Offends s n e k m) P step (fault_of s n e x judged))
+    c.from_residual-in_err-term.ensures.0 c.from_residual-in_err-term.ensures.1
 
 pub lists::judge_all-member_type-requires : goal.lists::judge_all-member_type-requires
 lists::judge_all-member_type-requires t c =
@@ -246,15 +257,18 @@ chains::judge_links-loop-link-preserved t c =
     let j = c.in_ok-term.field-0 in
     let x = sort_of c.loop-link.left.sort in
     let y = sort_of j.sort in
-    let judged = judged_of s (right_need rule) e j (judged_as s _ (right_need rule) _ k.right _ (Ok j) c.loop-link.invariant.same (c.right_need.ensures ∙ ap right_need c.relation_rule-rule.ensures) refl c.in_ok-term.ensures.judged) in
+    let judged = judged_of s (right_need rule) e j (judged_as s _ (right_need rule) _ k.right _ (Ok j) c.loop-link.invariant.same
+    (c.right_need.ensures ∙ ap right_need c.relation_rule-rule.ensures) refl c.in_ok-term.ensures.judged) in
     let made = c.in_ok-relate.ensures.ok in
     let taken : Takes rule x y predicate = compares k.relation x y made.0 (subst (λ r. Takes r x y made.0) c.relation_rule-rule.ensures made.1) in
     record {
       same = c.in_ok-term.ensures.scope ∙ c.loop-link.invariant.same;
       linked = λ h. c.loop-link.invariant.linked (link_ahead (λ l. LinksAreTyped s x l) all i k c.link-item.is (omega arith) (y, judged.is_of, taken, h));
       kept = λ ks h.
-          ap kept_views.links (pushed resolved_link_of c.loop-link.resolved c.push.new.self (kept_seen.new_link k.relation j.term) ks c.in_ok-push.ensures.ok ∙ ap (λ p. map resolved_link_of c.loop-link.resolved ++ p ∷ ks) (kept_seen.of-link k.relation j.term))
-          ∙ c.loop-link.invariant.kept ((k.relation, resolved_of j.term) ∷ ks) (link_ahead (λ l. kept.link k.relation (resolved_of j.term) (kept_views.links ks) ≡ resolved_links s l) all i k c.link-item.is (omega arith)
+          ap kept_views.links (pushed resolved_link_of c.loop-link.resolved c.push.new.self (kept_seen.new_link k.relation j.term) ks c.in_ok-push.ensures.ok
+          ∙ ap (λ p. map resolved_link_of c.loop-link.resolved ++ p ∷ ks) (kept_seen.of-link k.relation j.term))
+          ∙ c.loop-link.invariant.kept ((k.relation, resolved_of j.term) ∷ ks)
+          (link_ahead (λ l. kept.link k.relation (resolved_of j.term) (kept_views.links ks) ≡ resolved_links s l) all i k c.link-item.is (omega arith)
           (ap (λ x. kept.link k.relation x (kept_views.links ks)) judged.term ∙ ap (kept.link k.relation (resolved s e)) h));
       offends = λ a h l.
           let b = c.loop-link.invariant.offends a h l in (
@@ -289,7 +303,8 @@ chains::judge_links-returns-in_err-term-clause-wrong t c = λ a h l.
     let judged = judged_as s _ n _ k.right _ (Err x) c.loop-link.invariant.same (c.right_need.ensures ∙ ap right_need c.relation_rule-rule.ensures) refl c.in_err-term.ensures.judged in
     let step : (f : Offence) (m : ℕ) → Offends s n e f m → P f m =
     λ f m o. b.3 f m (link_ahead (λ q. LinksOffend s b.0 q f m) all c.loop-link.link-index k c.link-item.is (omega arith) (inr (inl o))) in
-    fault_from x P c.from_residual-in_err-term.result (if_fault x (λ f m. Offends s n e f m) P step (fault_of s n e x judged)) c.from_residual-in_err-term.ensures.0 c.from_residual-in_err-term.ensures.1
+    fault_from x P c.from_residual-in_err-term.result (if_fault x (λ f m. Offends s n e f m) P step (fault_of s n e x judged))
+    c.from_residual-in_err-term.ensures.0 c.from_residual-in_err-term.ensures.1
 
 pub chains::judge_links-returns-in_err-check_left-clause-wrong : goal.chains::judge_links-returns-in_err-check_left-clause-wrong
 chains::judge_links-returns-in_err-check_left-clause-wrong t c = λ a h l.
@@ -306,7 +321,8 @@ chains::judge_links-returns-in_err-check_left-clause-wrong t c = λ a h l.
     let step : (f : Offence) (m : ℕ) → Q f m → P f m =
     λ f m o. b.3 f m (link_ahead (λ q. LinksOffend s b.0 q f m) all c.loop-link.link-index k c.link-item.is (omega arith)
     (inl (z, b.1, (λ meets. o.0 (subst (λ q. Meets q z) (sym is) meets)), o.1 ∙ ap (λ q. fault.misplaced q z) is, o.2 ∙ b.2))) in
-    fault_from x P c.from_residual-in_err-check_left.result (if_fault x Q P step c.in_err-check_left.ensures.wrong) c.from_residual-in_err-check_left.ensures.0 c.from_residual-in_err-check_left.ensures.1
+    fault_from x P c.from_residual-in_err-check_left.result (if_fault x Q P step c.in_err-check_left.ensures.wrong) c.from_residual-in_err-check_left.ensures.0
+    c.from_residual-in_err-check_left.ensures.1
 
 pub chains::judge_links-relate-requires-clause-right : goal.chains::judge_links-relate-requires-clause-right
 chains::judge_links-relate-requires-clause-right t c =
@@ -329,13 +345,24 @@ chains::judge_links-returns-in_err-relate-clause-wrong t c = λ a h l.
     let x = c.in_err-relate.field-0.0 in
     let P : Offence → ℕ → Type 0 = λ f m. LinksOffend s a (tree_views.links (map tree_views.link_of all)) f m in
     let b = c.loop-link.invariant.offends a h l in
-    let judged = judged_of s (right_need rule) e j (judged_as s _ (right_need rule) _ k.right _ (Ok j) c.loop-link.invariant.same (c.right_need.ensures ∙ ap right_need c.relation_rule-rule.ensures) refl c.in_ok-term.ensures.judged) in
+    let judged = judged_of s (right_need rule) e j (judged_as s _ (right_need rule) _ k.right _ (Ok j) c.loop-link.invariant.same
+    (c.right_need.ensures ∙ ap right_need c.relation_rule-rule.ensures) refl c.in_ok-term.ensures.judged) in
     let meets : Meets (left_need rule) y = subst (λ n. Meets n y) (c.left_need.ensures ∙ ap left_need c.relation_rule-rule.ensures) c.in_ok-check_left.ensures.ok in
     let line : c.line-line.result ≡ tree.line_of e = c.line-line.ensures ∙ ap (λ y. tree.line_of (tree_of y)) c.get.ensures in
     let Q : Offence → ℕ → Type 0 = λ f m. ((q : Sort) → Takes c.relation_rule-rule.result y z q → ⊥) × Disagreement c.relation_rule-rule.result y z f × (m ≡ c.line-line.result) in
     let step : (f : Offence) (m : ℕ) → Q f m → P f m =
     λ f m o. b.3 f m (link_ahead (λ q. LinksOffend s b.0 q f m) all c.loop-link.link-index k c.link-item.is (omega arith)
-    (inr (inr (inl (y, z, b.1, judged.is_of, meets, judged.met, (λ q takes. o.0 q (subst (λ r. Takes r y z q) (sym c.relation_rule-rule.ensures) takes)), subst (λ r. Disagreement r y z f) c.relation_rule-rule.ensures o.1, o.2 ∙ line))))) in
+    (inr (inr (inl (
+      y,
+      z,
+      b.1,
+      judged.is_of,
+      meets,
+      judged.met,
+      (λ q takes. o.0 q (subst (λ r. Takes r y z q) (sym c.relation_rule-rule.ensures) takes)),
+      subst (λ r. Disagreement r y z f) c.relation_rule-rule.ensures o.1,
+      o.2 ∙ line,
+    ))))) in
     fault_from x P c.from_residual-in_err-relate.result (if_fault x Q P step c.in_err-relate.ensures.wrong) c.from_residual-in_err-relate.ensures.0 c.from_residual-in_err-relate.ensures.1
 
 pub chains::chain-returns-in_err-term-clause-judged : goal.chains::chain-returns-in_err-term-clause-judged
@@ -346,7 +373,8 @@ chains::chain-returns-in_err-term-clause-judged t c =
     let x = c.in_err-term.field-0.0 in
     let is = ap tree_of c.in-Chain.is ∙ seen.of-Chain c.in-Chain.line c.in-Chain.first c.in-Chain.links ∙ ap (λ r. tree.chain c.in-Chain.line (tree_of r) ks) (sym c.get.ensures) in
     subst (λ d. Judges s c.args.need d c.from_residual.result) (sym is)
-    (from_part s s need.Expression c.args.need e (tree.chain c.in-Chain.line e ks) x c.from_residual.result (λ k m o. inl o) c.in_err-term.ensures.judged c.from_residual.ensures.0 c.from_residual.ensures.1)
+    (from_part s s need.Expression c.args.need e (tree.chain c.in-Chain.line e ks) x c.from_residual.result
+    (λ k m o. inl o) c.in_err-term.ensures.judged c.from_residual.ensures.0 c.from_residual.ensures.1)
 
 pub chains::chain-returns-in_err-links-clause-judged : goal.chains::chain-returns-in_err-links-clause-judged
 chains::chain-returns-in_err-links-clause-judged t c =
@@ -365,7 +393,8 @@ chains::chain-returns-in_err-links-clause-judged t c =
     let here = subst (λ y. IfFault x (λ k m. LinksOffend y e (tree_views.links (map tree_views.link_of c.as_slice.result.now)) k m)) c.in_ok-term.ensures.scope fault in
     subst (λ d. Judges s n d c.from_residual-in_err-links.result) (sym is)
     (from_fault s n (tree.chain l e ks) x c.from_residual-in_err-links.result
-    (if_fault x (λ k m. LinksOffend s e ks k m) (λ k m. Offends s n (tree.chain l e ks) k m) (λ k m o. inr (inl o)) (subst (λ ys. IfFault x (λ k m. LinksOffend s e (tree_views.links (map tree_views.link_of ys)) k m)) c.as_slice.ensures here))
+    (if_fault x (λ k m. LinksOffend s e ks k m) (λ k m. Offends s n (tree.chain l e ks) k m) (λ k m o. inr (inl o))
+    (subst (λ ys. IfFault x (λ k m. LinksOffend s e (tree_views.links (map tree_views.link_of ys)) k m)) c.as_slice.ensures here))
     c.from_residual-in_err-links.ensures.0 c.from_residual-in_err-links.ensures.1)
 
 pub chains::chain-returns-in_err-first-clause-judged : goal.chains::chain-returns-in_err-first-clause-judged
@@ -374,7 +403,8 @@ chains::chain-returns-in_err-first-clause-judged t c =
 
 pub chains::chain-returns-in_err-further-clause-judged : goal.chains::chain-returns-in_err-further-clause-judged
 chains::chain-returns-in_err-further-clause-judged t c =
-    from_memory (scope_of c.args.scope.now) c.args.need (tree_of c.args.term.now) c.from_residual-in_err-further.result c.from_residual-in_err-further.ensures.0 c.from_residual-in_err-further.ensures.1
+    from_memory (scope_of c.args.scope.now) c.args.need (tree_of c.args.term.now) c.from_residual-in_err-further.result
+    c.from_residual-in_err-further.ensures.0 c.from_residual-in_err-further.ensures.1
 
 pub chains::chain-returns-clause-judged : goal.chains::chain-returns-clause-judged
 chains::chain-returns-clause-judged t c =
@@ -388,7 +418,8 @@ chains::chain-returns-clause-judged t c =
     let linked = subst (λ ys. LinksAreTyped s (sort_of j.sort) (tree_views.links (map tree_views.link_of ys))) c.as_slice.ensures
     (subst (λ y. LinksAreTyped y (sort_of j.sort) (tree_views.links (map tree_views.link_of c.as_slice.result.now))) c.in_ok-term.ensures.scope c.in_ok-links.ensures.ok) in
     let further : kept_views.links (map resolved_link_of c.in_ok-links.links) ≡ resolved_links s ks =
-    c.in_ok-links.ensures.resolved ∙ ap (λ y. resolved_links y (tree_views.links (map tree_views.link_of c.as_slice.result.now))) c.in_ok-term.ensures.scope ∙ ap (λ ys. resolved_links s (tree_views.links (map tree_views.link_of ys))) c.as_slice.ensures in
+    c.in_ok-links.ensures.resolved ∙ ap (λ y. resolved_links y (tree_views.links (map tree_views.link_of c.as_slice.result.now))) c.in_ok-term.ensures.scope
+    ∙ ap (λ ys. resolved_links s (tree_views.links (map tree_views.link_of ys))) c.as_slice.ensures in
     subst (λ d. Judges s c.args.need d c.placed.result) (sym is)
     (c.placed.ensures s (tree.chain l e ks)
     (judged.met.0, subst (λ z. IsOf s e z) judged.met.1 judged.is_of, subst (λ z. LinksAreTyped s z ks) judged.met.1 linked, refl)
@@ -409,7 +440,9 @@ binders::judge_part-returns-in_err-judged-in-Some-clause-judged t c =
     let s = scope_of c.args.scope.now in
     let x = c.in_err-judged-in-Some.field-0.0 in
     subst (λ o. JudgesPart s c.args.need (part_of o) c.from_residual.result) (sym c.in-Some.is ∙ c.get.ensures)
-    (part_from s c.args.need (tree_of c.in-Some.term) x c.from_residual.result (subst (λ y. Judges s c.args.need y (Err x)) (ap tree_of c.get-in-Some.ensures) c.in_err-judged-in-Some.ensures.judged) c.from_residual.ensures.0 c.from_residual.ensures.1)
+    (part_from s c.args.need (tree_of c.in-Some.term) x c.from_residual.result
+    (subst (λ y. Judges s c.args.need y (Err x)) (ap tree_of c.get-in-Some.ensures) c.in_err-judged-in-Some.ensures.judged) c.from_residual.ensures.0
+    c.from_residual.ensures.1)
 
 pub binders::judge_part-returns-in_ok-judged-in-Some-clause-judged : goal.binders::judge_part-returns-in_ok-judged-in-Some-clause-judged
 binders::judge_part-returns-in_ok-judged-in-Some-clause-judged t c =
@@ -427,7 +460,9 @@ binders::declare-returns-clause-ok t c =
 
 pub binders::declare-returns-in_err-variables-clause-wrong : goal.binders::declare-returns-in_err-variables-clause-wrong
 binders::declare-returns-in_err-variables-clause-wrong t c =
-    fault_from c.in_err-variables.field-0.0 (λ k m. DeclarationsOffend (scope_of c.args.scope.now) (tree_views.var_decls (map tree_views.var_decl_of c.args.decls.now)) k m) c.from_residual.result c.in_err-variables.ensures.wrong c.from_residual.ensures.0 c.from_residual.ensures.1
+    fault_from c.in_err-variables.field-0.0 (λ k m. DeclarationsOffend (scope_of c.args.scope.now)
+    (tree_views.var_decls (map tree_views.var_decl_of c.args.decls.now)) k m) c.from_residual.result c.in_err-variables.ensures.wrong
+    c.from_residual.ensures.0 c.from_residual.ensures.1
 
 pub binders::judge_sets-loop-decl-init : goal.binders::judge_sets-loop-decl-init
 binders::judge_sets-loop-decl-init t c =
@@ -462,14 +497,23 @@ binders::judge_sets-loop-decl-preserved t c =
       same = c.in_ok-term.ensures.scope ∙ c.loop-decl.invariant.same;
       declares = λ vs h.
           subst (λ ws. Declare s (tree_views.var_decls (map tree_views.var_decl_of all)) ws) (sym (ap (λ ws. ws ++ vs) more ∙ append_assoc old here vs))
-          (c.loop-decl.invariant.declares (here ++ vs) (decl_ahead (λ ds. Declare s ds (here ++ vs)) all i d c.decl-item.is (omega arith) (u, vs, subst (λ z. IsOf s e z) added.1 judged.is_of, h, refl)));
+          (c.loop-decl.invariant.declares (here ++ vs) (decl_ahead (λ ds. Declare s ds (here ++ vs)) all i d c.decl-item.is (omega arith) (
+            u,
+            vs,
+            subst (λ z. IsOf s e z) added.1 judged.is_of,
+            h,
+            refl,
+          )));
       apart = λ h. c.loop-decl.invariant.apart (decl_ahead (λ ds. AreNew old (declared ds)) all i d c.decl-item.is (omega arith)
           (subst (λ ns. AreNew old (ns ++ declared rest)) c.as_slice.ensures (c.in_ok-declare_names.ensures.apart (declared rest) h)));
       repeated = λ k m h. c.loop-decl.invariant.repeated k m (decl_ahead (λ ds. AreRepeated old (declared ds) k m) all i d c.decl-item.is (omega arith)
           (subst (λ ns. AreRepeated old (ns ++ declared rest) k m) c.as_slice.ensures (c.in_ok-declare_names.ensures.later (declared rest) k m h)));
       kept = λ rs h.
-          ap kept_views.ranges (pushed range_of c.loop-decl.ranges c.push.new.self new rs c.in_ok-push.ensures.ok ∙ ap (λ p. map range_of c.loop-decl.ranges ++ p ∷ rs) (kept_seen.of-range c.len.result j.term ∙ ap (λ n. (n, resolved_of j.term)) c.len.ensures))
-          ∙ c.loop-decl.invariant.kept ((length d.names, resolved_of j.term) ∷ rs) (decl_ahead (λ ds. kept.range (length d.names) (resolved_of j.term) (kept_views.ranges rs) ≡ resolved_ranges s ds) all i d c.decl-item.is (omega arith)
+          ap kept_views.ranges (pushed range_of c.loop-decl.ranges c.push.new.self new rs c.in_ok-push.ensures.ok
+          ∙ ap (λ p. map range_of c.loop-decl.ranges ++ p ∷ rs) (kept_seen.of-range c.len.result j.term ∙ ap (λ n. (n, resolved_of j.term)) c.len.ensures))
+          ∙ c.loop-decl.invariant.kept ((length d.names, resolved_of j.term) ∷ rs)
+          (decl_ahead (λ ds. kept.range (length d.names) (resolved_of j.term) (kept_views.ranges rs) ≡ resolved_ranges s ds) all i d c.decl-item.is
+          (omega arith)
           (ap (λ x. kept.range (length d.names) x (kept_views.ranges rs)) judged.term ∙ ap (kept.range (length d.names) (resolved s e)) h));
       offends = λ k m o. c.loop-decl.invariant.offends k m (decl_ahead (λ ds. SetsOffend s ds k m) all i d c.decl-item.is (omega arith) (inr o));
     }
@@ -489,7 +533,8 @@ pub binders::judge_sets-returns-clause-ranges : goal.binders::judge_sets-returns
 binders::judge_sets-returns-clause-ranges t c =
     let s = scope_of c.args.scope.now in
     ap kept_views.ranges (sym (append-nil (map range_of c.loop-decl.ranges)))
-    ∙ c.loop-decl.invariant.kept [] (at_end (λ ds. kept.no_ranges ≡ resolved_ranges s (tree_views.var_decls (map tree_views.var_decl_of ds))) c.args.decls.now c.loop-decl.decl-index (omega arith) refl)
+    ∙ c.loop-decl.invariant.kept [] (at_end (λ ds. kept.no_ranges ≡ resolved_ranges s (tree_views.var_decls (map tree_views.var_decl_of ds))) c.args.decls.now
+    c.loop-decl.decl-index (omega arith) refl)
 
 pub binders::judge_sets-returns-in_err-term-clause-wrong : goal.binders::judge_sets-returns-in_err-term-clause-wrong
 binders::judge_sets-returns-in_err-term-clause-wrong t c =
@@ -502,7 +547,8 @@ binders::judge_sets-returns-in_err-term-clause-wrong t c =
     let judged = judged_as s _ need.Set need.Set d.set _ (Err x) c.loop-decl.invariant.same refl refl c.in_err-term.ensures.judged in
     let step : (k : Offence) (m : ℕ) → Offends s need.Set e k m → P k m =
     λ k m o. inr (c.loop-decl.invariant.offends k m (decl_ahead (λ ds. SetsOffend s ds k m) all c.loop-decl.decl-index d c.decl-item.is (omega arith) (inl o))) in
-    fault_from x P c.from_residual-in_err-term.result (if_fault x (λ k m. Offends s need.Set e k m) P step (fault_of s need.Set e x judged)) c.from_residual-in_err-term.ensures.0 c.from_residual-in_err-term.ensures.1
+    fault_from x P c.from_residual-in_err-term.result (if_fault x (λ k m. Offends s need.Set e k m) P step (fault_of s need.Set e x judged))
+    c.from_residual-in_err-term.ensures.0 c.from_residual-in_err-term.ensures.1
 
 pub binders::judge_sets-returns-in_err-declare_names-clause-wrong : goal.binders::judge_sets-returns-in_err-declare_names-clause-wrong
 binders::judge_sets-returns-in_err-declare_names-clause-wrong t c =
@@ -516,9 +562,11 @@ binders::judge_sets-returns-in_err-declare_names-clause-wrong t c =
     let P : Offence → ℕ → Type 0 = λ k m. DeclarationsOffend s (tree_views.var_decls (map tree_views.var_decl_of all)) k m in
     let Q : Offence → ℕ → Type 0 = λ k m. (ns : List Name) → AreRepeated old (c.as_slice.result.now ++ ns) k m in
     let step : (k : Offence) (m : ℕ) → Q k m → P k m =
-    λ k m o. inl (some_repeated (declared (tree_views.var_decls (map tree_views.var_decl_of all))) k m (c.loop-decl.invariant.repeated k m (decl_ahead (λ ds. AreRepeated old (declared ds) k m) all i d c.decl-item.is (omega arith)
+    λ k m o. inl (some_repeated (declared (tree_views.var_decls (map tree_views.var_decl_of all))) k m
+    (c.loop-decl.invariant.repeated k m (decl_ahead (λ ds. AreRepeated old (declared ds) k m) all i d c.decl-item.is (omega arith)
     (subst (λ ns. AreRepeated old (ns ++ rest) k m) c.as_slice.ensures (o rest))))) in
-    fault_from x P c.from_residual-in_err-declare_names.result (if_fault x Q P step c.in_err-declare_names.ensures.repeated) c.from_residual-in_err-declare_names.ensures.0 c.from_residual-in_err-declare_names.ensures.1
+    fault_from x P c.from_residual-in_err-declare_names.result (if_fault x Q P step c.in_err-declare_names.ensures.repeated)
+    c.from_residual-in_err-declare_names.ensures.0 c.from_residual-in_err-declare_names.ensures.1
 
 pub binders::judge_sets-declare_names-requires : goal.binders::judge_sets-declare_names-requires
 binders::judge_sets-declare_names-requires t c =
@@ -539,7 +587,8 @@ binders::quantified-returns-in_err-ranges-clause-judged t c =
     let e = tree_of c.in-Quantified.body in
     let ds = tree_views.var_decls (map tree_views.var_decl_of c.as_slice.result.now) in
     let x = c.in_err-ranges.field-0.0 in
-    let is = ap tree_of c.in-Quantified.is ∙ seen.of-Quantified l q c.in-Quantified.decls c.in-Quantified.constraint c.in-Quantified.body ∙ ap (λ xs. tree.quantified l q (tree_views.var_decls (map tree_views.var_decl_of xs)) p e) (sym c.as_slice.ensures) in
+    let is = ap tree_of c.in-Quantified.is ∙ seen.of-Quantified l q c.in-Quantified.decls c.in-Quantified.constraint c.in-Quantified.body
+    ∙ ap (λ xs. tree.quantified l q (tree_views.var_decls (map tree_views.var_decl_of xs)) p e) (sym c.as_slice.ensures) in
     subst (λ d. Judges s n d c.from_residual.result) (sym is)
     (from_fault s n (tree.quantified l q ds p e) x c.from_residual.result
     (if_fault x (λ k m. DeclarationsOffend s ds k m) (λ k m. Offends s n (tree.quantified l q ds p e) k m) (λ k m o. ⊎_elim (λ a. inl a) (λ b. inr (inl b)) o) c.in_err-ranges.ensures.wrong)
@@ -555,7 +604,8 @@ binders::quantified-returns-clause-judged t c =
     let ds = tree_views.var_decls (map tree_views.var_decl_of c.as_slice.result.now) in
     let bound = c.in_ok-ranges.ensures.ok in
     let is = ap tree_of c.in-Quantified.is ∙ seen.of-Quantified l q c.in-Quantified.decls c.in-Quantified.constraint c.in-Quantified.body
-    ∙ ap (λ xs. tree.quantified l q (tree_views.var_decls (map tree_views.var_decl_of xs)) p (tree_of c.in-Quantified.body)) (sym c.as_slice.ensures) ∙ ap (λ y. tree.quantified l q ds p (tree_of y)) (sym c.get.ensures) in
+    ∙ ap (λ xs. tree.quantified l q (tree_views.var_decls (map tree_views.var_decl_of xs)) p (tree_of c.in-Quantified.body)) (sym c.as_slice.ensures)
+    ∙ ap (λ y. tree.quantified l q ds p (tree_of y)) (sym c.get.ensures) in
     subst (λ d. Judges s c.args.need d c.with_body.result) (sym is)
     (c.with_body.ensures s ds bound.0 p e bound.1 c.in_ok-ranges.ensures.ranges
     (subst (λ z. JudgesPart z need.Predicate p c.judge_part-constraint.result) bound.2 c.judge_part-constraint.ensures.judged)
@@ -575,7 +625,8 @@ binders::builder-returns-in_err-ranges-clause-judged t c =
     let e = part_of c.in-Builder.member in
     let ds = tree_views.var_decls (map tree_views.var_decl_of c.as_slice.result.now) in
     let x = c.in_err-ranges.field-0.0 in
-    let is = ap tree_of c.in-Builder.is ∙ seen.of-Builder l c.in-Builder.decls c.in-Builder.filter c.in-Builder.member ∙ ap (λ xs. tree.builder l (tree_views.var_decls (map tree_views.var_decl_of xs)) p e) (sym c.as_slice.ensures) in
+    let is = ap tree_of c.in-Builder.is ∙ seen.of-Builder l c.in-Builder.decls c.in-Builder.filter c.in-Builder.member
+    ∙ ap (λ xs. tree.builder l (tree_views.var_decls (map tree_views.var_decl_of xs)) p e) (sym c.as_slice.ensures) in
     subst (λ d. Judges s n d c.from_residual.result) (sym is)
     (from_fault s n (tree.builder l ds p e) x c.from_residual.result
     (if_fault x (λ k m. DeclarationsOffend s ds k m) (λ k m. Offends s n (tree.builder l ds p e) k m) (λ k m o. ⊎_elim (λ a. inl a) (λ b. inr (inl b)) o) c.in_err-ranges.ensures.wrong)
@@ -590,7 +641,8 @@ binders::builder-returns-clause-judged t c =
     let ds = tree_views.var_decls (map tree_views.var_decl_of c.as_slice.result.now) in
     let bound = c.in_ok-ranges.ensures.ok in
     let inside = c.judge_part-filter.ensures.scope ∙ bound.2 in
-    let is = ap tree_of c.in-Builder.is ∙ seen.of-Builder l c.in-Builder.decls c.in-Builder.filter c.in-Builder.member ∙ ap (λ xs. tree.builder l (tree_views.var_decls (map tree_views.var_decl_of xs)) p e) (sym c.as_slice.ensures) in
+    let is = ap tree_of c.in-Builder.is ∙ seen.of-Builder l c.in-Builder.decls c.in-Builder.filter c.in-Builder.member
+    ∙ ap (λ xs. tree.builder l (tree_views.var_decls (map tree_views.var_decl_of xs)) p e) (sym c.as_slice.ensures) in
     subst (λ d. Judges s c.args.need d c.built.result) (sym is)
     (c.built.ensures s ds bound.0 p e bound.1 c.in_ok-ranges.ensures.ranges
     (subst (λ z. JudgesPart z need.Predicate p c.judge_part-filter.result) bound.2 c.judge_part-filter.ensures.judged)

@@ -4,7 +4,8 @@ use Rattle.zf_type.proofs.scope.is_bound.Goals as goal
 
 pub returns-in-Some : goal.returns-in-Some
 returns-in-Some c = (
-  λ t. some_bound c.args.name.now (map variable_of c.args.locals.now) (c.in-Some.field-0.0, variable_of c.in-Some.field-0.1.now) (sym (ap (found_as (λ v. variable_of v.now)) c.in-Some.is) ∙ c.find.ensures),
+  λ t. some_bound c.args.name.now (map variable_of c.args.locals.now) (c.in-Some.field-0.0, variable_of c.in-Some.field-0.1.now)
+      (sym (ap (found_as (λ v. variable_of v.now)) c.in-Some.is) ∙ c.find.ensures),
   λ b. refl,
 )
 

@@ -12,7 +12,8 @@ loop-byte-init c = record {
 pub loop-byte-preserved : goal.loop-byte-preserved
 loop-byte-preserved c = record {
   small = mod_below (c.loop-byte.bucket * 31 + c.from.result) 4096 (omega arith);
-  ahead = ap (bucket_from c.loop-byte.bucket) (ap (λ x. x ∷ drop (c.loop-byte.byte-index + 1) c.args.name.now) c.from.ensures ∙ sym (at_drop_more (λ z. z) c.args.name.now c.loop-byte.byte-index 0 c.loop-byte-test.true)) ∙ c.loop-byte.invariant.ahead;
+  ahead = ap (bucket_from c.loop-byte.bucket) (ap (λ x. x ∷ drop (c.loop-byte.byte-index + 1) c.args.name.now) c.from.ensures
+      ∙ sym (at_drop_more (λ z. z) c.args.name.now c.loop-byte.byte-index 0 c.loop-byte-test.true)) ∙ c.loop-byte.invariant.ahead;
 }
 
 pub returns-clause-is : goal.returns-clause-is

@@ -13,7 +13,8 @@ returns-then-not-is_remainder c =
     let e = same c.wrapping_rem-r.result f in
     let b = same c.args.b c.ranges.b in
     let g : FitsSigned w64 (to_z w64 (of_z w64 c.wrapping_rem-r.result) +ℤ to_z w64 (of_z w64 c.args.b)) = search rules in
-    modulus_up c.args.a c.args.b c.wrapping_rem-r.result _ (same _ g ∙ both_same (λ (x y : ℤ). x +ℤ y) _ _ f c.ranges.b) (c.wrapping_rem-r.ensures ∙ both_same int_rem _ _ c.ranges.a c.ranges.b) (not_zero _ c.if-b-eq0.false)
+    modulus_up c.args.a c.args.b c.wrapping_rem-r.result _ (same _ g ∙ both_same (λ (x y : ℤ). x +ℤ y) _ _ f c.ranges.b)
+    (c.wrapping_rem-r.ensures ∙ both_same int_rem _ _ c.ranges.a c.ranges.b) (not_zero _ c.if-b-eq0.false)
     (λ h. let t = c.is_remainder.ensures.1 (remainder_same _ _ _ _ (sym b) (sym e) h) in let n = c.if-not-is_remainder.true in (cc)) c.ranges.b
 
 pub returns : goal.returns

@@ -10,9 +10,12 @@ pub loop-z-preserved : goal.loop-z-preserved
 loop-z-preserved c =
     elim c.match-of.branch [
       | in-Some+in_ok-copy+in_ok-push w ↦
-          step_push _ _ c.loop-z.z-index _ _ _ _ _ _ c.z-item.is c.loop-z-test.true c.loop-z.invariant c.of.ensures w.in-Some.is w.in_ok-copy.ensures (ap (λ v. v.items) w.out-is ∙ w.in_ok-push.ensures.items)
+          step_push _ _ c.loop-z.z-index _ _ _ _ _ _ c.z-item.is c.loop-z-test.true c.loop-z.invariant c.of.ensures w.in-Some.is w.in_ok-copy.ensures
+          (ap (λ v. v.items) w.out-is ∙ w.in_ok-push.ensures.items)
       | in_default w ↦
-          step_pass _ _ c.loop-z.z-index _ _ _ c.z-item.is c.loop-z-test.true (subst (λ (v : Vec Value Global). IsGathered (IsPartOf c.args.part) (take c.loop-z.z-index c.args.values.now) v.items) (sym w.out-is) c.loop-z.invariant) c.of.ensures w.in_default.is
+          step_pass _ _ c.loop-z.z-index _ _ _ c.z-item.is c.loop-z-test.true
+          (subst (λ (v : Vec Value Global). IsGathered (IsPartOf c.args.part) (take c.loop-z.z-index c.args.values.now) v.items)
+          (sym w.out-is) c.loop-z.invariant) c.of.ensures w.in_default.is
     ]
 
 pub returns : goal.returns

@@ -11,7 +11,8 @@ pub loop-z-preserved : goal.loop-z-preserved
 loop-z-preserved c =
     elim c.match-pair.branch [
       | in-Some+else-is_some w ↦
-          subst (IsOnly _) (sym w.found-is) (only_first _ c.loop-z.z-index _ _ w.in-Some.y _ c.z-item.is c.loop-z-test.true w.in-Some.ensures.is (sym w.is_some.ensures ∙ w.if-is_some.false) c.loop-z.invariant)
+          subst (IsOnly _) (sym w.found-is) (only_first _ c.loop-z.z-index _ _ w.in-Some.y _ c.z-item.is c.loop-z-test.true w.in-Some.ensures.is
+          (sym w.is_some.ensures ∙ w.if-is_some.false) c.loop-z.invariant)
       | in_default w ↦
           subst (IsOnly _) (sym w.found-is) (only_pass _ c.loop-z.z-index _ _ c.z-item.is c.loop-z-test.true w.in_default.ensures.none c.loop-z.invariant)
     ]

@@ -19,9 +19,12 @@ loop-z-preserved c =
     elim c.match-pair.branch [
       | in-Some+in_ok-pair_all+in_ok-is_too_many+else-branch w ↦
           let more = composed_more _ _ c.loop-z.z-index _ _ _ _ _ _ c.z-item.is c.loop-z-test.true w.in-Some.ensures.is w.related.ensures w.in_ok-pair_all.ensures c.loop-z.invariant in
-          subst (λ (v : Vec Value Global). IsGathered (Composes (members c.args.q.now)) (take (c.loop-z.z-index + 1) c.members-z-items.result.now) v.items) (sym w.values-is) (gathered_same _ _ _ _ w.in_ok-is_too_many.ensures.members more)
+          subst (λ (v : Vec Value Global). IsGathered (Composes (members c.args.q.now)) (take (c.loop-z.z-index + 1) c.members-z-items.result.now) v.items)
+          (sym w.values-is) (gathered_same _ _ _ _ w.in_ok-is_too_many.ensures.members more)
       | in_default w ↦
-          composed_pass _ _ c.loop-z.z-index _ _ c.z-item.is c.loop-z-test.true w.in_default.ensures.none (subst (λ (v : Vec Value Global). IsGathered (Composes (members c.args.q.now)) (take c.loop-z.z-index c.members-z-items.result.now) v.items) (sym w.values-is) c.loop-z.invariant)
+          composed_pass _ _ c.loop-z.z-index _ _ c.z-item.is c.loop-z-test.true w.in_default.ensures.none
+          (subst (λ (v : Vec Value Global). IsGathered (Composes (members c.args.q.now)) (take c.loop-z.z-index c.members-z-items.result.now) v.items)
+          (sym w.values-is) c.loop-z.invariant)
     ]
 
 pub returns : goal.returns

@@ -11,9 +11,12 @@ pub loop-z-preserved : goal.loop-z-preserved
 loop-z-preserved c =
     elim c.match-pair.branch [
       | in-Some+in_ok-pair_of+in_ok-push w ↦
-          turned_more _ c.loop-z.z-index _ _ _ _ _ _ c.z-item.is c.loop-z-test.true c.loop-z.invariant w.in-Some.ensures.is w.in_ok-pair_of.ensures (ap (λ (v : Vec Value Global). v.items) w.values-is ∙ w.in_ok-push.ensures.items)
+          turned_more _ c.loop-z.z-index _ _ _ _ _ _ c.z-item.is c.loop-z-test.true c.loop-z.invariant w.in-Some.ensures.is w.in_ok-pair_of.ensures
+          (ap (λ (v : Vec Value Global). v.items) w.values-is ∙ w.in_ok-push.ensures.items)
       | in_default w ↦
-          turned_pass _ c.loop-z.z-index _ _ c.z-item.is c.loop-z-test.true (subst (λ (v : Vec Value Global). IsGathered IsTurned (take c.loop-z.z-index c.members-z-items.result.now) v.items) (sym w.values-is) c.loop-z.invariant) w.in_default.ensures.none
+          turned_pass _ c.loop-z.z-index _ _ c.z-item.is c.loop-z-test.true
+          (subst (λ (v : Vec Value Global). IsGathered IsTurned (take c.loop-z.z-index c.members-z-items.result.now) v.items)
+          (sym w.values-is) c.loop-z.invariant) w.in_default.ensures.none
     ]
 
 pub returns : goal.returns

@@ -4,8 +4,10 @@ use Rattle.zf_value.proofs.relation.stretch.Goals as goal
 
 pub returns : goal.returns
 returns c =
-    let start = IsPartitionPoint-from_clause (λ z. is_lt (place_beside c.args.x.now z)) _ _ c.partition_point-start.ensures.partitioned (parted_before c.args.x.now c.args.r.now c.requires) (λ a r q k. search rules) in
-    let end = IsPartitionPoint-from_clause (λ z. is_le (place_beside c.args.x.now z)) _ _ c.partition_point-end.ensures.partitioned (parted_behind c.args.x.now c.args.r.now c.requires) (λ a r q k. search rules) in
+    let start = IsPartitionPoint-from_clause (λ z. is_lt (place_beside c.args.x.now z)) _ _ c.partition_point-start.ensures.partitioned
+    (parted_before c.args.x.now c.args.r.now c.requires) (λ a r q k. search rules) in
+    let end = IsPartitionPoint-from_clause (λ z. is_le (place_beside c.args.x.now z)) _ _ c.partition_point-end.ensures.partitioned
+    (parted_behind c.args.x.now c.args.r.now c.requires) (λ a r q k. search rules) in
     record {
       order = in_order _ _ _ _ start end c.partition_point-start.ensures.bound;
       bound = c.partition_point-end.ensures.bound;

@@ -27,7 +27,9 @@ loop-place-preserved c =
     subst (λ (m : List Bool). AreAlone (environment_of s.env.now) cs s.held.now (take (c.loop-place.place + 1) ps) m) (sym c.in_ok-push.ensures.items)
     (one_picked _ _ ps c.loop-place.place (conjunct_of x) (not c.in_ok-allowed.allowed) c.loop-place.alone.items
     (seen_at conjunct_of c.args.conjuncts.now c.loop-place.place x c.index-conjuncts-place.is c.loop-place-test.true)
-    (turned (RuleOut (environment_of s.env.now) cs s.held.now (conjunct_of x ∷ [])) (HasRow (environment_of s.env.now) cs s.held.now (conjunct_of x ∷ [])) _ c.in_ok-allowed.ensures) c.loop-place.invariant)
+    (turned (RuleOut (environment_of s.env.now) cs s.held.now (conjunct_of x ∷ []))
+    (HasRow (environment_of s.env.now) cs s.held.now (conjunct_of x ∷ [])) _ c.in_ok-allowed.ensures) c.loop-place.invariant)
 
 pub returns : goal.returns
-returns c = picked_all _ _ (map conjunct_of c.args.conjuncts.now) c.loop-place.place c.loop-place.alone.items (omega (arith, length-map c.args.conjuncts.now conjunct_of, c.loop-place-test.false)) c.loop-place.invariant
+returns c = picked_all _ _ (map conjunct_of c.args.conjuncts.now) c.loop-place.place c.loop-place.alone.items
+    (omega (arith, length-map c.args.conjuncts.now conjunct_of, c.loop-place-test.false)) c.loop-place.invariant

@@ -20,4 +20,5 @@ loop-place-preserved c =
     (omega (arith, length-map s.components.now comp_of, c.loop-place-test.true)) c.in_ok-has_value.ensures c.loop-place.invariant)
 
 pub returns : goal.returns
-returns c = picked_all _ _ (map comp_of c.args.setting.now.components.now) c.loop-place.place c.loop-place.empty.items (omega (arith, length-map c.args.setting.now.components.now comp_of, c.loop-place-test.false)) c.loop-place.invariant
+returns c = picked_all _ _ (map comp_of c.args.setting.now.components.now) c.loop-place.place c.loop-place.empty.items
+    (omega (arith, length-map c.args.setting.now.components.now comp_of, c.loop-place-test.false)) c.loop-place.invariant

@@ -59,8 +59,10 @@ told_alone-requires c =
     }
 
 -- what is told, of the conjuncts of the schema
-told_of_all : (e : Environment) (held : List (Option Value)) (details : Bool) (beside : List ResolvedTree → List Bool → ℕ → List ResolvedTree) (ds cs : List Comp) (ys xs : List Conjunct) (m n : List Bool) (told : List Told) → ds ≡ cs → ys ≡ xs → m ≡ n
-    → AreTold e ds held details (beside (map conjunct_of ys) m) (disjunction_at ys) (map conjunct_of ys) m told → AreTold e cs held details (beside (map conjunct_of xs) n) (disjunction_at xs) (map conjunct_of xs) n told
+told_of_all : (e : Environment) (held : List (Option Value)) (details : Bool) (beside : List ResolvedTree → List Bool → ℕ
+    → List ResolvedTree) (ds cs : List Comp) (ys xs : List Conjunct) (m n : List Bool) (told : List Told) → ds ≡ cs → ys ≡ xs → m ≡ n
+    → AreTold e ds held details (beside (map conjunct_of ys) m) (disjunction_at ys) (map conjunct_of ys) m told
+    → AreTold e cs held details (beside (map conjunct_of xs) n) (disjunction_at xs) (map conjunct_of xs) n told
 told_of_all e held details beside ds cs ys xs m n told p q r h =
     subst (λ (k : List Bool). AreTold e cs held details (beside (map conjunct_of xs) k) (disjunction_at xs) (map conjunct_of xs) k told) r
     (subst (λ (zs : List Conjunct). AreTold e cs held details (beside (map conjunct_of zs) m) (disjunction_at zs) (map conjunct_of zs) m told) q
@@ -77,10 +79,12 @@ returns-then-has_one-2 c =
       c.in_ok-alone.alone.items,
       (
         some_row e cs held (all_left (HasNoValue e held) (HasValue e held) cs c.in_ok-empty.empty.items empty none),
-        of_equal (λ (ds : List Comp) (qs : List ResolvedTree). AreAlone e ds held qs c.in_ok-alone.alone.items) components (ap (map conjunct_of) (c.as_slice-2.ensures ∙ c.in_ok-all.ensures)) c.in_ok-alone.ensures,
+        of_equal (λ (ds : List Comp) (qs : List ResolvedTree). AreAlone e ds held qs c.in_ok-alone.alone.items) components
+            (ap (map conjunct_of) (c.as_slice-2.ensures ∙ c.in_ok-all.ensures)) c.in_ok-alone.ensures,
         subst HasChosen c.deref-2.ensures.value c.if-has_one-2.ensures,
       ),
-      told_of_all e held c.args.question.now.details (λ ps m. nothing_beside) _ _ _ _ _ _ c.in_ok-each.each.items components (c.as_slice-then-has_one-2.ensures ∙ c.in_ok-all.ensures) c.deref-then-has_one-2.ensures.value c.in_ok-each.ensures,
+      told_of_all e held c.args.question.now.details (λ ps m. nothing_beside) _ _ _ _ _ _ c.in_ok-each.each.items components
+          (c.as_slice-then-has_one-2.ensures ∙ c.in_ok-all.ensures) c.deref-then-has_one-2.ensures.value c.in_ok-each.ensures,
     )
 
 pub told_together-requires : goal.told_together-requires
@@ -107,13 +111,16 @@ returns c =
     let components = ap (map comp_of) c.as_slice.ensures in
     let empty = subst (λ (ds : List Comp). AreEmpty e ds held c.in_ok-empty.empty.items) components c.in_ok-empty.ensures in
     let filled = subst (λ (m : List Bool). HasChosen m → ⊥) c.deref.ensures.value c.if-has_one.ensures in
-    let alone = of_equal (λ (ds : List Comp) (qs : List ResolvedTree). AreAlone e ds held qs c.in_ok-alone.alone.items) components (ap (map conjunct_of) (c.as_slice-2.ensures ∙ c.in_ok-all.ensures)) c.in_ok-alone.ensures in
+    let alone = of_equal (λ (ds : List Comp) (qs : List ResolvedTree). AreAlone e ds held qs c.in_ok-alone.alone.items) components
+    (ap (map conjunct_of) (c.as_slice-2.ensures ∙ c.in_ok-all.ensures)) c.in_ok-alone.ensures in
     let none = subst (λ (m : List Bool). HasChosen m → ⊥) c.deref-2.ensures.value c.if-has_one-2.ensures in (
       c.in_ok-core.core.items,
       (
         all_left (λ (i : ℕ) (p : ResolvedTree). RuleOut e cs held (p ∷ [])) (λ (i : ℕ) (p : ResolvedTree). HasRow e cs held (p ∷ [])) ps c.in_ok-alone.alone.items alone none,
-        of_equal (λ (ds : List Comp) (qs : List ResolvedTree). IsCore e ds held [] qs c.in_ok-core.core.items) components (ap (map conjunct_of) (c.as_slice-3.ensures ∙ c.in_ok-all.ensures)) c.in_ok-core.ensures,
+        of_equal (λ (ds : List Comp) (qs : List ResolvedTree). IsCore e ds held [] qs c.in_ok-core.core.items) components
+            (ap (map conjunct_of) (c.as_slice-3.ensures ∙ c.in_ok-all.ensures)) c.in_ok-core.ensures,
         some_row e cs held (all_left (HasNoValue e held) (HasValue e held) cs c.in_ok-empty.empty.items empty filled),
       ),
-      told_of_all e held c.args.question.now.details others_beside _ _ _ _ _ _ c.in_ok-told.told.items components (c.as_slice-4.ensures ∙ c.in_ok-all.ensures) c.deref-3.ensures.value c.in_ok-told.ensures,
+      told_of_all e held c.args.question.now.details others_beside _ _ _ _ _ _ c.in_ok-told.told.items components
+          (c.as_slice-4.ensures ∙ c.in_ok-all.ensures) c.deref-3.ensures.value c.in_ok-told.ensures,
     )

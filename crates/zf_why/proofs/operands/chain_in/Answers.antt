@@ -8,7 +8,8 @@ use Rattle.zf_why.proofs.operands.chain_in.Goals as goal
 
 pub returns-then-further-ne1 : goal.returns-then-further-ne1
 returns-then-further-ne1 g c =
-    subst (λ (pair : Option (ResolvedTree × ResolvedTree)). AreOutcomesIn (in_row (environment_of c.args.env.now) (g.R.Row.values c.args.row.now)) pair None) (sym (no_pair (resolved_of c.args.first.now) c.args.further.now c.if-further-ne1.true)) refl
+    subst (λ (pair : Option (ResolvedTree × ResolvedTree)). AreOutcomesIn (in_row (environment_of c.args.env.now) (g.R.Row.values c.args.row.now)) pair None)
+    (sym (no_pair (resolved_of c.args.first.now) c.args.further.now c.if-further-ne1.true)) refl
 
 pub returns : goal.returns
 returns g c =

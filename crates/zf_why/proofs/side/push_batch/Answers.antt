@@ -14,8 +14,10 @@ loop-conjunct-init c =
 
 pub loop-conjunct-preserved : goal.loop-conjunct-preserved
 loop-conjunct-preserved c =
-    one_placed (numbering c.args.places.now) (numbering c.args.batch.now.places) c.as_slice-conjunct-items.result.now c.loop-conjunct.conjunct-index c.conjunct-item.result c.in_ok-own.own c.in_ok-placed.placed _ _ _
+    one_placed (numbering c.args.places.now) (numbering c.args.batch.now.places) c.as_slice-conjunct-items.result.now c.loop-conjunct.conjunct-index
+    c.conjunct-item.result c.in_ok-own.own c.in_ok-placed.placed _ _ _
     c.conjunct-item.is c.loop-conjunct-test.true c.in_ok-own.ensures c.in_ok-placed.ensures c.in_ok-push.ensures.ok c.loop-conjunct.invariant
 
 pub returns : goal.returns
-returns c = none_placed (numbering c.args.places.now) (numbering c.args.batch.now.places) c.as_slice-conjunct-items.result.now c.loop-conjunct.conjunct-index _ _ (omega (arith, c.loop-conjunct-test.false)) c.loop-conjunct.invariant
+returns c = none_placed (numbering c.args.places.now) (numbering c.args.batch.now.places) c.as_slice-conjunct-items.result.now c.loop-conjunct.conjunct-index _
+    _ (omega (arith, c.loop-conjunct-test.false)) c.loop-conjunct.invariant

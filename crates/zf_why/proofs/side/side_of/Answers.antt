@@ -11,7 +11,8 @@ loop-batch-init c =
 
 pub loop-batch-preserved : goal.loop-batch-preserved
 loop-batch-preserved c =
-    one_batch (numbering c.args.places.now) c.as_slice-batch-items.result.now c.loop-batch.batch-index c.batch-item.result _ _ _ c.batch-item.is c.loop-batch-test.true c.in_ok-push_batch.ensures c.loop-batch.invariant
+    one_batch (numbering c.args.places.now) c.as_slice-batch-items.result.now c.loop-batch.batch-index c.batch-item.result _ _ _ c.batch-item.is
+    c.loop-batch-test.true c.in_ok-push_batch.ensures c.loop-batch.invariant
 
 pub returns : goal.returns
 returns c = no_batch (numbering c.args.places.now) c.as_slice-batch-items.result.now c.loop-batch.batch-index _ _ (omega (arith, c.loop-batch-test.false)) c.loop-batch.invariant

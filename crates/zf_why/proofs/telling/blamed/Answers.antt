@@ -9,5 +9,6 @@ chosen_lines-requires c = ap length c.deref.ensures.value ∙ c.in_ok-chosen.ens
 pub returns : goal.returns
 returns c =
     let s = c.args.setting.now in
-    blamed_by (environment_of s.env.now) (map comp_of s.components.now) s.held.now (map conjunct_of c.args.given.now) (map conjunct_of c.args.conjuncts.now) c.chosen_lines.result c.in_ok-chosen.chosen.items c.deref.result.now
+    blamed_by (environment_of s.env.now) (map comp_of s.components.now) s.held.now (map conjunct_of c.args.given.now)
+    (map conjunct_of c.args.conjuncts.now) c.chosen_lines.result c.in_ok-chosen.chosen.items c.deref.result.now
     c.in_ok-chosen.ensures c.deref.ensures.value c.chosen_lines.ensures

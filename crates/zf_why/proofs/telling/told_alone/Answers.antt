@@ -32,7 +32,8 @@ told_of-requires c =
     let at = seen_at conjunct_of xs i x c.index-conjuncts-place.is c.loop-place-test.true in
     record {
       begins = one_begins e cs (map conjunct_of xs) i (conjunct_of x) at c.requires.begins;
-      none = alone_ruled_out e cs s.held.now (map conjunct_of xs) m i (conjunct_of x) at (read_at m i _ _ (omega (arith, c.requires.alone.each, length-map xs conjunct_of, c.loop-place-test.true)) c.if-chosen-place.true) c.requires.alone;
+      none = alone_ruled_out e cs s.held.now (map conjunct_of xs) m i (conjunct_of x) at
+          (read_at m i _ _ (omega (arith, c.requires.alone.each, length-map xs conjunct_of, c.loop-place-test.true)) c.if-chosen-place.true) c.requires.alone;
     }
 
 pub loop-place-preserved : goal.loop-place-preserved

@@ -8,4 +8,6 @@ use Rattle.zf_why.proofs.telling.told_alone.Given as goal
 abbrev pub invariant-loop-place : goal.invariant-loop-place
 invariant-loop-place l =
     let ps = map conjunct_of l.conjuncts in
-    AreToldUpTo (λ (i : ℕ) (p : ResolvedTree) (t : Told). IsTold (environment_of l.setting.env.now) (map comp_of l.setting.components.now) l.setting.held.now l.setting.details (nothing_beside i) (disjunction_at l.conjuncts i) p t) ps l.chosen l.place l.told.items
+    AreToldUpTo (λ (i : ℕ) (p : ResolvedTree) (t : Told). IsTold (environment_of l.setting.env.now)
+    (map comp_of l.setting.components.now) l.setting.held.now l.setting.details (nothing_beside i) (disjunction_at l.conjuncts i) p t) ps l.chosen l.place
+    l.told.items

@@ -34,7 +34,8 @@ told_of-requires c =
     let seen = others_seen xs c.as_slice.result.now (slice_set m i false) (c.as_slice.ensures ∙ c.in_ok-others.ensures) in
     record {
       begins = subst (λ (qs : List ResolvedTree). CanBegin e cs (qs ++ conjunct_of x ∷ [])) (sym seen) (begins_beside e cs s.held.now ps (slice_set m i false) i (conjunct_of x) at c.requires.begins);
-      none = subst (λ (qs : List ResolvedTree). RuleOut e cs s.held.now (qs ++ conjunct_of x ∷ [])) (sym seen) (ruled_out_beside e cs s.held.now ps m i (conjunct_of x) at chosen c.requires.core.impossible);
+      none = subst (λ (qs : List ResolvedTree). RuleOut e cs s.held.now (qs ++ conjunct_of x ∷ [])) (sym seen)
+          (ruled_out_beside e cs s.held.now ps m i (conjunct_of x) at chosen c.requires.core.impossible);
     }
 
 pub loop-place-preserved : goal.loop-place-preserved
@@ -56,7 +57,8 @@ loop-place-preserved c =
           goes _ _ (seen _ _ w.told-is ∙ w.in_ok-push.ensures.items)
           (one_told R (map conjunct_of xs) m i (conjunct_of x) w.in_ok-one.one old (read_mapped conjunct_of xs i x at)
           (read_at m i _ _ (omega (arith, c.requires.core.each, length-map xs conjunct_of, c.loop-place-test.true)) w.if-chosen-place.true)
-          (told_at e cs s.held.now s.details xs i x (others_beside (map conjunct_of xs) m i) (map conjunct_of w.as_slice.result.now) w.in_ok-one.one at (others_seen xs w.as_slice.result.now (slice_set m i false) (w.as_slice.ensures ∙ w.in_ok-others.ensures)) w.in_ok-one.ensures)
+          (told_at e cs s.held.now s.details xs i x (others_beside (map conjunct_of xs) m i) (map conjunct_of w.as_slice.result.now) w.in_ok-one.one at
+          (others_seen xs w.as_slice.result.now (slice_set m i false) (w.as_slice.ensures ∙ w.in_ok-others.ensures)) w.in_ok-one.ensures)
           c.loop-place.invariant)
       | else-chosen-place w ↦
           let x = some_at xs i c.loop-place-test.true in
@@ -69,5 +71,6 @@ pub returns : goal.returns
 returns c =
     let s = c.args.setting.now in
     let xs = c.args.conjuncts.now in
-    let R = (λ (i : ℕ) (p : ResolvedTree) (t : Told). IsTold (environment_of s.env.now) (map comp_of s.components.now) s.held.now s.details (others_beside (map conjunct_of xs) c.args.chosen.now i) (disjunction_at xs i) p t) in
+    let R = (λ (i : ℕ) (p : ResolvedTree) (t : Told). IsTold (environment_of s.env.now) (map comp_of s.components.now) s.held.now s.details
+    (others_beside (map conjunct_of xs) c.args.chosen.now i) (disjunction_at xs i) p t) in
     all_told R (map conjunct_of xs) c.args.chosen.now c.loop-place.place c.loop-place.told.items (omega (arith, length-map xs conjunct_of, c.loop-place-test.false)) c.loop-place.invariant

@@ -22,5 +22,14 @@ returns c =
     let b = c.args.other.now in
     let sets : c.in-Some.sets_left + (4096 - b.sets_left) ≡ a.sets_left = omega (arith, c.in-Some.ensures) in
     let nodes : c.in-Some-checked_sub.nodes_left + (65536 - b.nodes_left) ≡ a.nodes_left = omega (arith, c.in-Some-checked_sub.ensures) in
-    let few : length (schema_of a.flat).conjuncts + length (schema_of b.flat).conjuncts ≤ 4096 = omega (arith, length-map a.flat.conjuncts conjunct_of, length-map b.flat.conjuncts conjunct_of, c.if-len-gt-CONJUNCTS_MAX.false) in
-    record { ok = left_beside (schema_of a.flat) (schema_of b.flat) a.sets_left a.nodes_left b.sets_left b.nodes_left c.in-Some.sets_left c.in-Some-checked_sub.nodes_left c.requires.before c.requires.further sets nodes few; passed = tt }
+    let few : length (schema_of a.flat).conjuncts + length (schema_of b.flat).conjuncts ≤ 4096 = omega (
+      arith,
+      length-map a.flat.conjuncts conjunct_of,
+      length-map b.flat.conjuncts conjunct_of,
+      c.if-len-gt-CONJUNCTS_MAX.false,
+    ) in
+    record {
+      ok = left_beside (schema_of a.flat) (schema_of b.flat) a.sets_left a.nodes_left b.sets_left b.nodes_left c.in-Some.sets_left
+          c.in-Some-checked_sub.nodes_left c.requires.before c.requires.further sets nodes few;
+      passed = tt;
+    }

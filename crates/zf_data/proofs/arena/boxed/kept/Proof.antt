@@ -80,10 +80,12 @@ kept_spec {M} 𝓤 𝓛 𝓜 𝓡 wired X A L LA g d dx dd allocates glue glued 
     enter ! 𝓣.C 𝓣.Λ fn (w ∷ []) Post $ alloc_all ! (λ l. pass_all ! refl (typed, tt) $ sets ! (of_opd ! (get ! refl)) refl typed $
     -- [the box; the tokens]
     nothing ! $ move ! (1 ∷ 0 ∷ []) $ fjoin ! $ move ! (1 ∷ 0 ∷ []) $ join ! $
-    nothing ! $ use0 𝓛 (raw (fact 𝓤 InA)) (fact_i 𝓤 InA (emp 𝓤) in_a) $ join ! $ use0 𝓛 (raw (fact 𝓤 InX)) (fact_i 𝓤 InX (emp 𝓤) in_x) $ join ! $ move ! (1 ∷ 0 ∷ []) $ join ! $ use1 𝓛 (raw (Into.pre y)) (id⊢ 𝓤 _) $
+    nothing ! $ use0 𝓛 (raw (fact 𝓤 InA)) (fact_i 𝓤 InA (emp 𝓤) in_a) $ join ! $ use0 𝓛 (raw (fact 𝓤 InX)) (fact_i 𝓤 InX (emp 𝓤) in_x) $ join ! $ move !
+    (1 ∷ 0 ∷ []) $ join ! $ use1 𝓛 (raw (Into.pre y)) (id⊢ 𝓤 _) $
     calls_at ! fm Into into_known y (and_then ! (get ! refl) (no_more !)) (λ u.
     let Ended = into_raw.ended X A g d dd dx in
-    use1 𝓛 (later (some (λ (p : Ptr). (tokens ⊛ ‵ (RawPtr.own_val p (u ∷ []))) ⊛ some (λ (ls : Lasts Ended κs (v, tt)). ‵ (lasts Ended κs (v, tt) ls) ⊛ ‵ (box_owns (token E.al a) R p x))))) (id⊢ 𝓤 _) $
+    use1 𝓛 (later (some (λ (p : Ptr). (tokens ⊛ ‵ (RawPtr.own_val p (u ∷ []))) ⊛ some
+    (λ (ls : Lasts Ended κs (v, tt)). ‵ (lasts Ended κs (v, tt) ls) ⊛ ‵ (box_owns (token E.al a) R p x))))) (id⊢ 𝓤 _) $
     await ! tt $ pick ! (λ p. split ! $ move ! (1 ∷ []) $ pick ! (λ _. split ! $ drop ! $
     in_a_block ! p (λ q. box_owns (token E.al a) R q x) (fst∗ 𝓤 (never 𝓤) (sem 𝓛 (token E.al a (bare (layout X)) null_ptr))) (λ b' o' e'.
     fsplit ! $ move ! (1 ∷ []) $ drop ! $ move ! (1 ∷ []) $ split ! $ move ! (1 ∷ []) $ feq_l ! (λ eu.
@@ -96,7 +98,9 @@ kept_spec {M} 𝓤 𝓛 𝓜 𝓡 wired X A L LA g d dx dd allocates glue glued 
     move ! (2 ∷ 0 ∷ []) $ join ! $ join ! $ use1 𝓛 (raw (From.pre y')) (id⊢ 𝓤 _) $
     calls_at_last ! fm From from_known y' (and_then ! (get ! refl) (and_then ! (get ! refl) (no_more !))) (λ u'.
     let Ended' = from_raw.ended X Nowhere allocator.ghosts allocator.dict undropped in
-    use1 𝓛 (later (some (λ (r : box.D N). (tokens ⊛ ‵ ((box.B N).own_val r (u' ∷ []))) ⊛ some (λ (ls : Lasts Ended' κs y'.0.3). ‵ (lasts Ended' κs y'.0.3 ls) ⊛ (raw (fact 𝓤 (r.value ≡ x)) ⊛ raw (fact 𝓤 (r.alloc ≡ record {}))))))) (id⊢ 𝓤 (From.post y' u')) $
+    use1 𝓛 (later (some (λ (r : box.D N). (tokens ⊛ ‵ ((box.B N).own_val r (u' ∷ []))) ⊛ some
+    (λ (ls : Lasts Ended' κs y'.0.3). ‵ (lasts Ended' κs y'.0.3 ls) ⊛ (raw (fact 𝓤 (r.value ≡ x)) ⊛ raw (fact 𝓤 (r.alloc ≡ record {})))))))
+    (id⊢ 𝓤 (From.post y' u')) $
     await ! tt $ pick ! (λ r. split ! $ move ! (1 ∷ []) $ pick ! (λ _. split3 ! $ drop ! $ move ! (1 ∷ []) $ drop ! $ heard ! (r.value ≡ x) (λ same. split ! $ move ! (1 ∷ []) $
     box_out N ! r (u' ∷ []) (λ b'' o'' hv' e'' us fits'. box_in N ! r b'' o'' r.value e'' refl $
     let w' : Val = box.word N hv' b'' o'' in let typed' = box.box_typed N hv' b'' o'' fits' in let is_word : u' ≡ w' = ap only us in let Ev = env fn.locals l in

@@ -37,7 +37,8 @@ returns-clause-begins c =
         ranges = subst (λ (rs : List (List Value)). AreRanges e s.comps c.args.held.now rs) (sym problem.1) all.0;
         named = problem.2;
         none_out = all.1;
-        ahead = ahead_of e s.conjuncts (map resolved_of c.plain.result) c.in_ok-ranges.ranges.items walk.stage.ranges (option_copied c.args.after) walk.stage.ahead conjuncts problem.1 c.in_ok-over.ensures.events;
+        ahead = ahead_of e s.conjuncts (map resolved_of c.plain.result) c.in_ok-ranges.ranges.items walk.stage.ranges
+            (option_copied c.args.after) walk.stage.ahead conjuncts problem.1 c.in_ok-over.ensures.events;
         first = c.in_ok-over.ensures.first.0;
       };
       conjuncts = these;

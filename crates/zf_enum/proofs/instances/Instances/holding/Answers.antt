@@ -43,7 +43,8 @@ returns c =
     let are = exchange_held e s.comps can.before held old.stage.ranges others can.of_components can.again are_held in
     let search = c.in_ok-search.search in
     let problem = c.in_ok-search.ensures.problem in
-    let ahead = all_ahead value_order (planted (judged old.judge) (trees_of old.forest)) (property e s.conjuncts) can.same (exchanged old.stage.ranges others) None search.stage.ahead c.in_ok-search.ensures.events in
+    let ahead = all_ahead value_order (planted (judged old.judge) (trees_of old.forest)) (property e s.conjuncts) can.same
+    (exchanged old.stage.ranges others) None search.stage.ahead c.in_ok-search.ensures.events in
     record {
       environment = ap (λ (j : Property). with_first c.args.self.names (environment_of j.env.now)) problem.0 ∙ can.environment;
       same = subst (λ (j : Property). SayTheSame (planted (judged j) (trees_of search.forest)) (property e s.conjuncts)) (sym problem.0)

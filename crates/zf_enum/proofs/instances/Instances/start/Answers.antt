@@ -37,7 +37,12 @@ start-requires-clause-due c =
     let p = c.in_ok-planting.planting in
     let are_planted = c.in_ok-planting.ensures in
     let named = c.in_ok-property.property in
-    λ k l. omega (arith, dues_at (environment_of named.env.now) e (map resolved_of named.conjuncts) (map resolved_of p.leaves.items) c.in_ok-property.ensures.each k, are_planted.needs (length rs) (needs_within e s.comps c.args.held.now rs s.conjuncts all.0 c.requires.due) k)
+    λ k l. omega (
+      arith,
+      dues_at (environment_of named.env.now) e (map resolved_of named.conjuncts)
+          (map resolved_of p.leaves.items) c.in_ok-property.ensures.each k,
+      are_planted.needs (length rs) (needs_within e s.comps c.args.held.now rs s.conjuncts all.0 c.requires.due) k,
+    )
 
 pub start-requires-clause-leaves : goal.start-requires-clause-leaves
 start-requires-clause-leaves c =

@@ -20,7 +20,9 @@ returns-then-is_tried-clause-leaves c =
     let ts = map resolved_of c.args.self.now.conjuncts in
     let at = at_place c.args.self.now.conjuncts c.args.leaf c.get-term.result.now c.get-term.ensures c.requires.leaf in
     IfOk-weaker c.gather_candidates.result _ _
-    (λ found h u. candidates_left (environment_of c.args.self.now.env.now) ts c.args.leaf (length c.args.places.now) (resolved_of c.get-term.result.now) (resolved_of c.in-Some.side.now) c.args.ranges.now c.args.places.now c.gather_candidates.new.gathered.items at refl c.in-Some.ensures c.requires.within (h u)) c.gather_candidates.ensures.candidates
+    (λ found h u. candidates_left (environment_of c.args.self.now.env.now) ts c.args.leaf (length c.args.places.now) (resolved_of c.get-term.result.now)
+    (resolved_of c.in-Some.side.now) c.args.ranges.now c.args.places.now c.gather_candidates.new.gathered.items at refl c.in-Some.ensures c.requires.within
+    (h u)) c.gather_candidates.ensures.candidates
 
 pub returns-then-balances-clause-leaves : goal.returns-then-balances-clause-leaves
 returns-then-balances-clause-leaves c =
@@ -40,4 +42,6 @@ returns-in-Some-spread-clause-leaves c =
     let at = at_place c.args.self.now.conjuncts c.args.leaf c.get-term.result.now c.get-term.ensures c.requires.leaf in
     let is = subst (λ (o : Option ResolvedTree). IfSome o (λ p. IsSpread p (length c.args.places.now) (resolved_of c.in-Some-spread.set.now))) at c.in-Some-spread.ensures in
     IfOk-weaker c.gather_spread.result _ _
-    (λ found h u. members_left (environment_of c.args.self.now.env.now) ts c.args.leaf (length c.args.places.now) (resolved_of c.get-term.result.now) (resolved_of c.in-Some-spread.set.now) c.args.ranges.now c.args.places.now c.gather_spread.new.gathered.items at refl is c.requires.within (h u)) c.gather_spread.ensures.candidates
+    (λ found h u. members_left (environment_of c.args.self.now.env.now) ts c.args.leaf (length c.args.places.now) (resolved_of c.get-term.result.now)
+    (resolved_of c.in-Some-spread.set.now) c.args.ranges.now c.args.places.now c.gather_spread.new.gathered.items at refl is c.requires.within (h u))
+    c.gather_spread.ensures.candidates

@@ -4,7 +4,8 @@ use Rattle.zf_enum.proofs.property.PropertyJudgeValue.due.Goals as goal
 
 pub index-requires : goal.index-requires
 index-requires c =
-    let l : c.args.conjunct < length c.args.self.now.dues.items = subst (λ n. c.args.conjunct < n) (sym (as_many c.args.self.now.dues.items (map resolved_of c.args.self.now.conjuncts) c.args.self.now.needed)) c.requires in
+    let l : c.args.conjunct < length c.args.self.now.dues.items = subst (λ n. c.args.conjunct < n)
+    (sym (as_many c.args.self.now.dues.items (map resolved_of c.args.self.now.conjuncts) c.args.self.now.needed)) c.requires in
     search (rules, l)
 
 pub returns : goal.returns

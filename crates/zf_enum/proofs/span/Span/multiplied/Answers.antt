@@ -14,9 +14,12 @@ returns-then-factor-lt0 c =
     (λ s h. (
       h.0,
       λ v n p. down_spans c.args.factor c.args.self s v n sign
-          (told c.checked_mul-times.result _ _ _ (c.args.factor *ℤ c.args.self.times) c.checked_mul-times.ensures h.1 (ap₂ (λ (i j : ℤ). i *ℤ j) (to_z-of_z w32 c.args.factor c.ranges.factor) (to_z-of_z w32 c.args.self.times (search rules))))
-          (told c.checked_mul-other.result _ _ _ (c.args.factor *ℤ c.args.self.high) c.checked_mul-other.ensures h.2 (ap₂ (λ (i j : ℤ). i *ℤ j) (to_z-of_z w32 c.args.factor c.ranges.factor) (to_z-of_z w32 c.args.self.high (search rules))))
-          (told c.checked_mul-one.result _ _ _ (c.args.factor *ℤ c.args.self.low) c.checked_mul-one.ensures h.3 (ap₂ (λ (i j : ℤ). i *ℤ j) (to_z-of_z w32 c.args.factor c.ranges.factor) (to_z-of_z w32 c.args.self.low (search rules))))
+          (told c.checked_mul-times.result _ _ _ (c.args.factor *ℤ c.args.self.times) c.checked_mul-times.ensures h.1
+          (ap₂ (λ (i j : ℤ). i *ℤ j) (to_z-of_z w32 c.args.factor c.ranges.factor) (to_z-of_z w32 c.args.self.times (search rules))))
+          (told c.checked_mul-other.result _ _ _ (c.args.factor *ℤ c.args.self.high) c.checked_mul-other.ensures h.2
+          (ap₂ (λ (i j : ℤ). i *ℤ j) (to_z-of_z w32 c.args.factor c.ranges.factor) (to_z-of_z w32 c.args.self.high (search rules))))
+          (told c.checked_mul-one.result _ _ _ (c.args.factor *ℤ c.args.self.low) c.checked_mul-one.ensures h.3
+          (ap₂ (λ (i j : ℤ). i *ℤ j) (to_z-of_z w32 c.args.factor c.ranges.factor) (to_z-of_z w32 c.args.self.low (search rules))))
           p,
     ))
     c.made.ensures
@@ -29,9 +32,12 @@ returns-else-factor-lt0 c =
     (λ s h. (
       h.0,
       λ v n p. up_spans c.args.factor c.args.self s v n sign
-          (told c.checked_mul-times.result _ _ _ (c.args.factor *ℤ c.args.self.times) c.checked_mul-times.ensures h.1 (ap₂ (λ (i j : ℤ). i *ℤ j) (to_z-of_z w32 c.args.factor c.ranges.factor) (to_z-of_z w32 c.args.self.times (search rules))))
-          (told c.checked_mul-one.result _ _ _ (c.args.factor *ℤ c.args.self.low) c.checked_mul-one.ensures h.2 (ap₂ (λ (i j : ℤ). i *ℤ j) (to_z-of_z w32 c.args.factor c.ranges.factor) (to_z-of_z w32 c.args.self.low (search rules))))
-          (told c.checked_mul-other.result _ _ _ (c.args.factor *ℤ c.args.self.high) c.checked_mul-other.ensures h.3 (ap₂ (λ (i j : ℤ). i *ℤ j) (to_z-of_z w32 c.args.factor c.ranges.factor) (to_z-of_z w32 c.args.self.high (search rules))))
+          (told c.checked_mul-times.result _ _ _ (c.args.factor *ℤ c.args.self.times) c.checked_mul-times.ensures h.1
+          (ap₂ (λ (i j : ℤ). i *ℤ j) (to_z-of_z w32 c.args.factor c.ranges.factor) (to_z-of_z w32 c.args.self.times (search rules))))
+          (told c.checked_mul-one.result _ _ _ (c.args.factor *ℤ c.args.self.low) c.checked_mul-one.ensures h.2
+          (ap₂ (λ (i j : ℤ). i *ℤ j) (to_z-of_z w32 c.args.factor c.ranges.factor) (to_z-of_z w32 c.args.self.low (search rules))))
+          (told c.checked_mul-other.result _ _ _ (c.args.factor *ℤ c.args.self.high) c.checked_mul-other.ensures h.3
+          (ap₂ (λ (i j : ℤ). i *ℤ j) (to_z-of_z w32 c.args.factor c.ranges.factor) (to_z-of_z w32 c.args.self.high (search rules))))
           p,
     ))
     c.made-else-factor-lt0.ensures

@@ -12,4 +12,5 @@ returns g c =
     let h : FitsSigned w64 c.in-Some-number_at.n = search rules in
     let told = written-both (λ x y. IsAtom (Is (Int x)) (Is (Int y)) (Holds k.result.relation) c.between_numbers.result) c.in-Some.m c.in-Some-number_at.n f h c.between_numbers.ensures in
     λ line. subst (λ ks. IsTruth scope (chain line (resolved_of c.args.first.now) (links (map resolved_link_of ks))) c.between_numbers.result) (sym one)
-    (compared-told scope line (resolved_of c.args.first.now) k.result c.in-Some.m c.in-Some-number_at.n c.between_numbers.result (c.is_comparison.ensures c.if-not-is_comparison.false) c.in-Some.ensures c.in-Some-number_at.ensures told)
+    (compared-told scope line (resolved_of c.args.first.now) k.result c.in-Some.m c.in-Some-number_at.n c.between_numbers.result
+    (c.is_comparison.ensures c.if-not-is_comparison.false) c.in-Some.ensures c.in-Some-number_at.ensures told)

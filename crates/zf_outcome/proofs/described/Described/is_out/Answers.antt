@@ -18,7 +18,8 @@ pub returns-in-Interval-clause-within : goal.returns-in-Interval-clause-within
 returns-in-Interval-clause-within c =
     let f : FitsSigned w64 c.in-Interval.from = search rules in
     let g : FitsSigned w64 c.in-Interval.to = search rules in
-    interval-within c.args.self.now c.in-Interval.from c.in-Interval.to c.is_interval_out.result c.in-Interval.is (written-both (λ x y. IsTrue c.is_interval_out.result ↔ IsInterval x y Out) c.in-Interval.from c.in-Interval.to f g c.is_interval_out.ensures)
+    interval-within c.args.self.now c.in-Interval.from c.in-Interval.to c.is_interval_out.result c.in-Interval.is
+    (written-both (λ x y. IsTrue c.is_interval_out.result ↔ IsInterval x y Out) c.in-Interval.from c.in-Interval.to f g c.is_interval_out.ensures)
 
 pub returns-in-Product-clause-within : goal.returns-in-Product-clause-within
 returns-in-Product-clause-within c =

@@ -16,4 +16,5 @@ returns-clause-tree c =
     let items = c.self.inside.nodes.items in
     let inside : c.args.place < length items = omega (arith, length-made c.args.self.now, ap (λ g. length g.nodes) c.self.view_is) in
     subst (λ g. tree_at (trees_made g) c.args.place ≡ tree_of (trees_made g) c.index.result.now) c.self.view_is
-    (made-at (record { nodes = items; roots = c.self.inside.roots.items }) c.args.place c.index.result.now c.self.invariant (slice_get_read items (length items) c.args.place c.index.result.now refl inside c.index.ensures))
+    (made-at (record { nodes = items; roots = c.self.inside.roots.items }) c.args.place c.index.result.now c.self.invariant
+    (slice_get_read items (length items) c.args.place c.index.result.now refl inside c.index.ensures))

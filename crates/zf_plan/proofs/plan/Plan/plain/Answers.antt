@@ -14,5 +14,7 @@ returns-clause-plan g c =
       lasts = lasts-none c.args.components narrowing none (g.J.Judge.is_used c.args.judge.now) trees c.in_ok-lasts.lasts.items c.in_ok-lasts.ensures.all c.in_ok-lasts.ensures.none;
       sifting = below-none c.args.components c.in_ok-sifting.sifting.items c.in_ok-sifting.ensures.none (length trees) c.in_ok-sifting.ensures.all;
       blames = c.in_ok-blames.ensures;
-      sifting_lasts = lasts-none c.args.components c.in_ok-sifting.sifting.items c.in_ok-sifting.ensures.none (g.J.Judge.is_used c.args.judge.now) trees c.in_ok-sifting_lasts.sifting_lasts.items c.in_ok-sifting_lasts.ensures.all c.in_ok-sifting_lasts.ensures.none;
+      sifting_lasts = lasts-none c.args.components c.in_ok-sifting.sifting.items c.in_ok-sifting.ensures.none
+          (g.J.Judge.is_used c.args.judge.now) trees c.in_ok-sifting_lasts.sifting_lasts.items c.in_ok-sifting_lasts.ensures.all
+          c.in_ok-sifting_lasts.ensures.none;
     }

@@ -14,8 +14,10 @@ returns-in_err-next_answer-clause-refused g c =
     let l = g.J.Judge.conjuncts w.judge in
     let st = c.self.invariant.stands in
     let given = setting-of g.met.V.Ord.total (g.met.J.Judge.one_truth w.judge) (g.met.J.Judge.kept w.judge) c.self.invariant.sound in
-    let here = subst (λ rs. Stands l (g.J.Judge.is_used w.judge) (trees_of w.forest) rs c.next_answer.new.place c.next_answer.new.memo c.next_answer.new.choices) c.deref.ensures.value c.in_err-next_answer.ensures.stands in
-    let same = subst (λ rs. KeepsEvents g.V.Ord.cmp (planted l (trees_of w.forest)) rs (option_copied w.after) w.place c.next_answer.new.place) c.deref.ensures.value c.in_err-next_answer.ensures.refused in
+    let here = subst (λ rs. Stands l (g.J.Judge.is_used w.judge) (trees_of w.forest) rs c.next_answer.new.place c.next_answer.new.memo
+    c.next_answer.new.choices) c.deref.ensures.value c.in_err-next_answer.ensures.stands in
+    let same = subst (λ rs. KeepsEvents g.V.Ord.cmp (planted l (trees_of w.forest)) rs (option_copied w.after) w.place c.next_answer.new.place)
+    c.deref.ensures.value c.in_err-next_answer.ensures.refused in
     rw (← c.self.view_is) (on_err c.from_residual.result _ (SameAhead-from given w.place c.next_answer.new.place st.at here.at same, refl))
 
 pub returns-in_err-next_answer-clause-ended : goal.returns-in_err-next_answer-clause-ended

@@ -13,7 +13,8 @@ over-requires-clause-sound g c =
     let sound = c.self.invariant.sound in
     let others = c.args.others.items in
     let many : length c.self.inside.ranges.items ≡ length c.with_others-ranges.result.items = sym (ap length c.with_others-ranges.ensures ∙ as_many c.self.inside.ranges.items others) in
-    let ascending : AreAscending g.V.Ord.cmp (exchanged c.self.inside.ranges.items others) = subst (λ (s : Progress g.row.V.Denot g.row.J.Denot). AreAscending g.V.Ord.cmp (exchanged s.stage.ranges others)) (sym c.self.view_is) c.requires.ascending in
+    let ascending : AreAscending g.V.Ord.cmp (exchanged c.self.inside.ranges.items others) = subst
+    (λ (s : Progress g.row.V.Denot g.row.J.Denot). AreAscending g.V.Ord.cmp (exchanged s.stage.ranges others)) (sym c.self.view_is) c.requires.ascending in
     record {
       ascending = subst (AreAscending g.V.Ord.cmp) (sym c.with_others-ranges.ensures) ascending;
       ties = sound.ties;

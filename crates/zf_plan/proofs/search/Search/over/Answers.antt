@@ -26,7 +26,9 @@ invariant_of-result g c =
       stands = stands-first l uses (trees_of c.args.forest) ranges p memo choices refl places found seen marks new (c.in_ok-choices.ensures.all ∙ (omega (arith, c.len-2.ensures, c.args.ranges.ok.0)));
       whole = λ e. absurd (false≢true e);
       plain = c.requires.plain;
-      counts = λ plain. counted-first (basis-of g.met.V.Ord.total (g.met.J.Judge.one_truth c.args.judge) (g.met.J.Judge.kept c.args.judge) c.requires.sound) p memo.tests choices refl (c.may_begin.ensures.plain plain) new.tests c.in_ok-choices.ensures.none (unseen-first c.in_ok-seen.seen.items (length ranges) nothing);
+      counts = λ plain. counted-first (basis-of g.met.V.Ord.total (g.met.J.Judge.one_truth c.args.judge) (g.met.J.Judge.kept c.args.judge) c.requires.sound) p
+          memo.tests choices refl (c.may_begin.ensures.plain plain) new.tests c.in_ok-choices.ensures.none
+          (unseen-first c.in_ok-seen.seen.items (length ranges) nothing);
     }
 
 pub returns-clause-events : goal.returns-clause-events

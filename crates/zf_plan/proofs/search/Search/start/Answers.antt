@@ -9,7 +9,8 @@ over-requires-clause-sound g c =
       named = c.requires.named;
       due = c.requires.due;
       leaves = c.requires.leaves;
-      plan = subst (λ rs. IsPlan (g.J.Judge.conjuncts c.args.judge) (g.J.Judge.is_used c.args.judge) (trees_of c.args.forest) (length rs) c.in_ok-plan.plan) c.deref.ensures.value c.in_ok-plan.ensures.plan;
+      plan = subst (λ rs. IsPlan (g.J.Judge.conjuncts c.args.judge) (g.J.Judge.is_used c.args.judge) (trees_of c.args.forest) (length rs) c.in_ok-plan.plan)
+          c.deref.ensures.value c.in_ok-plan.ensures.plan;
     }
 
 pub over-requires-clause-plain : goal.over-requires-clause-plain

@@ -24,7 +24,8 @@ returns-clause-answer g c =
 pub returns-clause-tests : goal.returns-clause-tests
 returns-clause-tests g c =
     let w = c.self.inside.search in
-    rw (← c.self.view_is) (under-ok c.advance.result w.counts (AreTests g.V.Ord.cmp (g.J.Judge.conjuncts w.judge) (counted c.advance.new.self) c.advance.new.self.stage.last) c.self.invariant.counts c.advance.ensures.tests)
+    rw (← c.self.view_is) (under-ok c.advance.result w.counts (AreTests g.V.Ord.cmp (g.J.Judge.conjuncts w.judge)
+    (counted c.advance.new.self) c.advance.new.self.stage.last) c.self.invariant.counts c.advance.ensures.tests)
 
 pub returns-clause-refused : goal.returns-clause-refused
 returns-clause-refused g c =

@@ -18,5 +18,8 @@ returns c = λ before l.
     ∙ ap (λ n. placed (next_of t.kind) n c.len.result c.amount.result) start
     ∙ ap (λ n. placed (next_of t.kind) (length text) n c.amount.result) stop
     ∙ ap (placed (next_of t.kind) (length text) (length (text ++ more))) c.amount.ensures in
-    let symbols_is : c.push.new.self.items ≡ symbols ++ placed (next_of t.kind) (length text) (length (text ++ more)) (amount t.kind) ∷ [] = c.in_ok-push.ensures.items ∙ ap (λ p. symbols ++ p ∷ []) placed_is in
-    subst (λ ps. IsLaid c.spell.new.text.items ps (before ++ t ∷ [])) (sym symbols_is) (subst (λ s. IsLaid s (symbols ++ placed (next_of t.kind) (length text) (length (text ++ more)) (amount t.kind) ∷ []) (before ++ t ∷ [])) (sym text_is) (added text symbols before t l))
+    let symbols_is : c.push.new.self.items ≡ symbols ++ placed (next_of t.kind) (length text) (length (text ++ more))
+    (amount t.kind) ∷ [] = c.in_ok-push.ensures.items ∙ ap (λ p. symbols ++ p ∷ []) placed_is in
+    subst (λ ps. IsLaid c.spell.new.text.items ps (before ++ t ∷ [])) (sym symbols_is)
+    (subst (λ s. IsLaid s (symbols ++ placed (next_of t.kind) (length text) (length (text ++ more)) (amount t.kind) ∷ []) (before ++ t ∷ [])) (sym text_is)
+    (added text symbols before t l))

@@ -11,4 +11,5 @@ returns-then-parts-ne2 c t u h = c.if-parts-ne2.true (ap length (c.as_slice-part
 
 pub returns : goal.returns
 returns c =
-    two_made c.args.self.now c.in-Product.parts c.as_slice-parts.result.now c.index-parts-0.result c.index-parts-1.result c.in-Product.is (c.as_slice-parts.ensures ∙ c.get.ensures) c.if-parts-ne2.false c.index-parts-0.is c.index-parts-1.is
+    two_made c.args.self.now c.in-Product.parts c.as_slice-parts.result.now c.index-parts-0.result c.index-parts-1.result c.in-Product.is
+    (c.as_slice-parts.ensures ∙ c.get.ensures) c.if-parts-ne2.false c.index-parts-0.is c.index-parts-1.is

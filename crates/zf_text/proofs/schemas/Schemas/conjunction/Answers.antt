@@ -16,7 +16,8 @@ pub returns-then-not-is_and-clause-value : goal.returns-then-not-is_and-clause-v
 unfolding joined
 returns-then-not-is_and-clause-value g c =
     let below = c.args.self.now.below in
-    let e = one_more (λ n. joined is_and (schema_part below (read_schema below)) (schema.Both) (below + 1) n c.loop-turn.left c.loop-turn.tokens) _ c.loop-turn._turn c.loop-turn-test.true c.loop-turn.invariant.same in
+    let e = one_more (λ n. joined is_and (schema_part below (read_schema below)) (schema.Both) (below + 1) n c.loop-turn.left c.loop-turn.tokens) _
+    c.loop-turn._turn c.loop-turn-test.true c.loop-turn.invariant.same in
     first_of (search rules, grind (arith, common_steps))
 
 pub returns-in_err-right-clause-value : goal.returns-in_err-right-clause-value
@@ -53,11 +54,13 @@ loop-turn-preserved g c =
     let y = c.in_ok-right.right in
     let read : operand (rest ts) ≡ Ok (y, c.part-in-loop-turn.new.tokens) = subst (λ us. operand us ≡ Ok (y, c.part-in-loop-turn.new.tokens)) c.skip.ensures c.in_ok-right.ensures.value in
     let low : max c.loop-turn.left.height y.height + 1 ≤ below + 1 = omega (arith, c.max-height.ensures, c.if-height-self.false) in
-    rw (c.max-height.ensures, c.in_ok-first.ensures, c.in_ok-second.ensures) (record { same = e ∙ goes_on is_and operand (schema.Both) (below + 1) _ c.loop-turn.left ts is y c.part-in-loop-turn.new.tokens read low; low = low })
+    rw (c.max-height.ensures, c.in_ok-first.ensures, c.in_ok-second.ensures)
+    (record { same = e ∙ goes_on is_and operand (schema.Both) (below + 1) _ c.loop-turn.left ts is y c.part-in-loop-turn.new.tokens read low; low = low })
 
 pub returns-clause-value : goal.returns-clause-value
 unfolding joined
 returns-clause-value g c =
     let below = c.args.self.now.below in
-    let e = no_more (λ n. joined is_and (schema_part below (read_schema below)) (schema.Both) (below + 1) n c.loop-turn.left c.loop-turn.tokens) _ c.loop-turn._turn c.loop-turn-test.false c.loop-turn.invariant.same in
+    let e = no_more (λ n. joined is_and (schema_part below (read_schema below)) (schema.Both) (below + 1) n c.loop-turn.left c.loop-turn.tokens) _
+    c.loop-turn._turn c.loop-turn-test.false c.loop-turn.invariant.same in
     first_of (search rules, grind (arith, common_steps))

@@ -27,5 +27,8 @@ invariant_of-self-2 c =
     let with = with_heads cs c.self.inside.heads.items heads c.self.invariant c.in_ok-make_heads.ensures.ok in
     let many : c.len.result ≡ length cs + 1 = omega (arith, c.len.ensures, c.push.new.self.ok, ap length c.in_ok-push.ensures.items, length-append cs (last ∷ [])) in
     let was : c.index-previous.result.now ≡ get_or heads b c.index-previous.result.now = c.index-previous.ensures in
-    let pushed = one_pushed cs heads c.args.variable c.index-previous.result.now c.len.result with.0 with.1 (subst (λ k. c.index-previous.result.now ≡ get_or heads k c.index-previous.result.now) at was) (subst (λ k. k < 4096) at c.bucket_of-bucket.ensures.small) many in
-    subst (λ k. IsIndexed c.push.new.self.items (slice_set heads k c.len.result)) (sym at) (subst (λ xs. IsIndexed xs (slice_set heads (bucket c.args.variable.name) c.len.result)) (sym c.in_ok-push.ensures.items) pushed)
+    let pushed = one_pushed cs heads c.args.variable c.index-previous.result.now c.len.result with.0 with.1
+    (subst (λ k. c.index-previous.result.now ≡ get_or heads k c.index-previous.result.now) at was)
+    (subst (λ k. k < 4096) at c.bucket_of-bucket.ensures.small) many in
+    subst (λ k. IsIndexed c.push.new.self.items (slice_set heads k c.len.result)) (sym at)
+    (subst (λ xs. IsIndexed xs (slice_set heads (bucket c.args.variable.name) c.len.result)) (sym c.in_ok-push.ensures.items) pushed)

@@ -41,7 +41,8 @@ returns-in_err-ranges c = λ s ds vs p e binds sets hp he hr.
 
 pub returns-in_err-condition : goal.returns-in_err-condition
 returns-in_err-condition c = λ s ds vs p e binds sets hp he hr.
-    from_memory s c.args.place.need (tree.builder c.args.place.line ds p e) c.from_residual-in_err-condition.result c.from_residual-in_err-condition.ensures.0 c.from_residual-in_err-condition.ensures.1
+    from_memory s c.args.place.need (tree.builder c.args.place.line ds p e) c.from_residual-in_err-condition.result c.from_residual-in_err-condition.ensures.0
+    c.from_residual-in_err-condition.ensures.1
 
 pub returns-in_err-term : goal.returns-in_err-term
 returns-in_err-term c = λ s ds vs p e binds sets hp he hr.
@@ -61,4 +62,5 @@ returns c = λ s ds vs p e binds sets hp he hr.
     c.made.ensures s (tree.builder l ds p e)
     (λ small. (vs, u, binds.0, binds.1, part_constrains inside p c.in_ok-filter.filter filter, builds, subst IsSmall set small, ap typed set))
     (λ large. inr (inr (inl (vs, binds, inr (inr (u, builds, (λ small. large (subst IsSmall (sym set) small)), refl, refl))))))
-    (builder_kept s ds vs binds.1 c.in_ok-ranges.ranges kept l p e c.in_ok-condition.condition c.in_ok-term.term (c.in_ok-condition.ensures inside need.Predicate p filter) (c.in_ok-term.ensures inside need.Expression e member)) refl
+    (builder_kept s ds vs binds.1 c.in_ok-ranges.ranges kept l p e c.in_ok-condition.condition c.in_ok-term.term
+    (c.in_ok-condition.ensures inside need.Predicate p filter) (c.in_ok-term.ensures inside need.Expression e member)) refl

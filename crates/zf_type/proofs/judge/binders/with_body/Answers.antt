@@ -25,15 +25,18 @@ returns-in_err-body c = λ s ds vs p e binds sets hp hb.
 
 pub returns-in_err-ranges : goal.returns-in_err-ranges
 returns-in_err-ranges c = λ s ds vs p e binds sets hp hb.
-    from_memory s c.args.place.need (tree.quantified c.args.place.line c.args.quantifier ds p e) c.from_residual-in_err-ranges.result c.from_residual-in_err-ranges.ensures.0 c.from_residual-in_err-ranges.ensures.1
+    from_memory s c.args.place.need (tree.quantified c.args.place.line c.args.quantifier ds p e) c.from_residual-in_err-ranges.result
+    c.from_residual-in_err-ranges.ensures.0 c.from_residual-in_err-ranges.ensures.1
 
 pub returns-in_err-condition : goal.returns-in_err-condition
 returns-in_err-condition c = λ s ds vs p e binds sets hp hb.
-    from_memory s c.args.place.need (tree.quantified c.args.place.line c.args.quantifier ds p e) c.from_residual-in_err-condition.result c.from_residual-in_err-condition.ensures.0 c.from_residual-in_err-condition.ensures.1
+    from_memory s c.args.place.need (tree.quantified c.args.place.line c.args.quantifier ds p e) c.from_residual-in_err-condition.result
+    c.from_residual-in_err-condition.ensures.0 c.from_residual-in_err-condition.ensures.1
 
 pub returns-in_err-predicate : goal.returns-in_err-predicate
 returns-in_err-predicate c = λ s ds vs p e binds sets hp hb.
-    from_memory s c.args.place.need (tree.quantified c.args.place.line c.args.quantifier ds p e) c.from_residual-in_err-predicate.result c.from_residual-in_err-predicate.ensures.0 c.from_residual-in_err-predicate.ensures.1
+    from_memory s c.args.place.need (tree.quantified c.args.place.line c.args.quantifier ds p e) c.from_residual-in_err-predicate.result
+    c.from_residual-in_err-predicate.ensures.0 c.from_residual-in_err-predicate.ensures.1
 
 pub returns : goal.returns
 returns c = λ s ds vs p e binds sets hp hb.
@@ -45,4 +48,5 @@ returns c = λ s ds vs p e binds sets hp hb.
     let kept = ap (λ rs. ranges (map range_of rs)) c.in_ok-ranges.ensures ∙ sets in
     c.placed.ensures s (tree.quantified l q ds p e)
     (vs, binds.0, binds.1, part_constrains inside p c.in_ok-constraint.constraint part, subst (λ z. IsOf inside e z) body.met body.is_of, refl)
-    (quantified_kept s ds vs binds.1 c.in_ok-ranges.ranges kept l q p e c.in_ok-condition.condition c.in_ok-predicate.predicate (c.in_ok-condition.ensures inside need.Predicate p part) (ap resolved_of c.in_ok-predicate.ensures ∙ body.term)) refl
+    (quantified_kept s ds vs binds.1 c.in_ok-ranges.ranges kept l q p e c.in_ok-condition.condition c.in_ok-predicate.predicate
+    (c.in_ok-condition.ensures inside need.Predicate p part) (ap resolved_of c.in_ok-predicate.ensures ∙ body.term)) refl

@@ -23,7 +23,8 @@ returns-in_err-ztype c = λ s h kept.
 
 pub returns-in_err-new : goal.returns-in_err-new
 returns-in_err-new c = λ s h kept.
-    from_memory s c.args.place.need (tree.listed c.args.place.line c.args.form (trees (map tree_of c.args.terms.now))) c.from_residual-in_err-new.result c.from_residual-in_err-new.ensures.0 c.from_residual-in_err-new.ensures.1
+    from_memory s c.args.place.need (tree.listed c.args.place.line c.args.form (trees (map tree_of c.args.terms.now))) c.from_residual-in_err-new.result
+    c.from_residual-in_err-new.ensures.0 c.from_residual-in_err-new.ensures.1
 
 pub returns : goal.returns
 returns c = λ s h kept.

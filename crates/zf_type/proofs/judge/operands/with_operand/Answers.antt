@@ -16,7 +16,8 @@ unreachable-requires c =
     takes_not_one c.args.op x c.in_ok-sort.field-0 c.in_default.is c.in_ok-sort.ensures some.0 some.1
 
 pub returns-in_err-new : goal.returns-in_err-new
-returns-in_err-new c = λ s e h. from_memory s c.args.place.need (tree.unary c.args.place.line c.args.op e) c.from_residual-in_err-new.result c.from_residual-in_err-new.ensures.0 c.from_residual-in_err-new.ensures.1
+returns-in_err-new c = λ s e h. from_memory s c.args.place.need (tree.unary c.args.place.line c.args.op e) c.from_residual-in_err-new.result
+    c.from_residual-in_err-new.ensures.0 c.from_residual-in_err-new.ensures.1
 
 pub returns : goal.returns
 returns c = λ s e h.

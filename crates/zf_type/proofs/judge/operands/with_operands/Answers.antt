@@ -23,10 +23,13 @@ returns-in_default c = λ s a b g h line.
     c.disagreeing.ensures)
 
 pub returns-in_err-left : goal.returns-in_err-left
-returns-in_err-left c = λ s a b g h line. from_memory s c.args.place.need (tree.binary c.args.place.line c.args.op a b) c.from_residual-in_err-left.result c.from_residual-in_err-left.ensures.0 c.from_residual-in_err-left.ensures.1
+returns-in_err-left c = λ s a b g h line. from_memory s c.args.place.need
+    (tree.binary c.args.place.line c.args.op a b) c.from_residual-in_err-left.result c.from_residual-in_err-left.ensures.0 c.from_residual-in_err-left.ensures.1
 
 pub returns-in_err-right : goal.returns-in_err-right
-returns-in_err-right c = λ s a b g h line. from_memory s c.args.place.need (tree.binary c.args.place.line c.args.op a b) c.from_residual-in_err-right.result c.from_residual-in_err-right.ensures.0 c.from_residual-in_err-right.ensures.1
+returns-in_err-right c = λ s a b g h line. from_memory s c.args.place.need
+    (tree.binary c.args.place.line c.args.op a b) c.from_residual-in_err-right.result c.from_residual-in_err-right.ensures.0
+    c.from_residual-in_err-right.ensures.1
 
 pub returns : goal.returns
 returns c = λ s a b g h line.

@@ -20,7 +20,8 @@ unfolding scope_of
 returns-in_ok-sort-in-Some-global_of c =
     let no_local = c.in_default.ensures in
     ap (λ z. Some (Global c.in-Some-global_of.place, z)) c.in_ok-sort-in-Some-global_of.ensures
-    ∙ sym (means_global (scope_of c.args.self.now) c.args.name.now c.in-Some-global_of.place (entry_of c.args.name.now c.in-Some-global_of.entry.now) no_local c.in_default-component_of.ensures c.in-Some-global_of.ensures)
+    ∙ sym (means_global (scope_of c.args.self.now) c.args.name.now c.in-Some-global_of.place
+    (entry_of c.args.name.now c.in-Some-global_of.entry.now) no_local c.in_default-component_of.ensures c.in-Some-global_of.ensures)
 
 pub returns-in-None : goal.returns-in-None
 unfolding scope_of

@@ -7,7 +7,8 @@ overflow_mul-number c =
     let us = c.args.self.now.used.items in
     let u = c.index-used.result.now in
     let small : c.loop-i.number * u.count + get_or c.args.places.now u.component 0 < combinations us =
-    front-small us c.args.places.now c.loop-i.number c.loop-i.i u c.index-used.ensures (omega (arith, c.loop-i-test.true, c.requires.count)) c.if-used-places.false c.requires.fits.used (c.loop-i.invariant 0) in
+    front-small us c.args.places.now c.loop-i.number c.loop-i.i u c.index-used.ensures
+    (omega (arith, c.loop-i-test.true, c.requires.count)) c.if-used-places.false c.requires.fits.used (c.loop-i.invariant 0) in
     omega (arith, small, c.requires.fits.few)
 
 pub overflow_add-number : goal.overflow_add-number
@@ -15,9 +16,11 @@ overflow_add-number c =
     let us = c.args.self.now.used.items in
     let u = c.index-used.result.now in
     let small : c.loop-i.number * u.count + get_or c.args.places.now u.component 0 < combinations us =
-    front-small us c.args.places.now c.loop-i.number c.loop-i.i u c.index-used.ensures (omega (arith, c.loop-i-test.true, c.requires.count)) c.if-used-places.false c.requires.fits.used (c.loop-i.invariant 0) in
+    front-small us c.args.places.now c.loop-i.number c.loop-i.i u c.index-used.ensures
+    (omega (arith, c.loop-i-test.true, c.requires.count)) c.if-used-places.false c.requires.fits.used (c.loop-i.invariant 0) in
     omega (arith, small, c.requires.fits.few)
 
 pub loop-i-preserved : goal.loop-i-preserved
 loop-i-preserved c = λ i.
-    front-next c.args.self.now.used.items c.args.places.now c.loop-i.number c.loop-i.i c.index-used.result.now c.index-used.ensures (omega (arith, c.loop-i-test.true, c.requires.count)) c.if-used-places.false i (c.loop-i.invariant i)
+    front-next c.args.self.now.used.items c.args.places.now c.loop-i.number c.loop-i.i c.index-used.result.now c.index-used.ensures
+    (omega (arith, c.loop-i-test.true, c.requires.count)) c.if-used-places.false i (c.loop-i.invariant i)

@@ -12,7 +12,8 @@ seen-requires g c =
     let places = c.args.places.now ++ 0 ∷ [] in
     let o = c.index.result.now in
     let due : s.due conjunct ≡ length places = omega (arith, c.requires.due, length-append c.args.places.now (0 ∷ [])) in
-    subst (λ t. IfSome t (Fits places)) c.in-Some.is (table-fits s uses ranges conjunct places c.requires.some due o (table-at s uses ranges s.number c.args.self.now.each.items c.requires.known conjunct o c.requires.conjunct c.index.ensures))
+    subst (λ t. IfSome t (Fits places)) c.in-Some.is (table-fits s uses ranges conjunct places c.requires.some due o
+    (table-at s uses ranges s.number c.args.self.now.each.items c.requires.known conjunct o c.requires.conjunct c.index.ensures))
 
 pub returns-in-Some : goal.returns-in-Some
 returns-in-Some g c = λ i t within seen.

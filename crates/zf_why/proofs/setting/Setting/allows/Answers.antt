@@ -16,4 +16,5 @@ pub returns : goal.returns
 returns c =
     let s = c.args.self.now in
     let is = c.in_ok-push_chosen.ensures ∙ ap (λ (ps : List Conjunct). ps ++ chosen_of c.args.conjuncts.now c.args.chosen.now) c.in_ok-part.ensures in
-    subst (λ (ps : List ResolvedTree). IfOk c.has_row.result (Decides (environment_of s.env.now) (map comp_of s.components.now) s.held.now ps)) (seen_both conjunct_of c.args.given.now c.args.conjuncts.now _ c.args.chosen.now is) c.has_row.ensures
+    subst (λ (ps : List ResolvedTree). IfOk c.has_row.result (Decides (environment_of s.env.now) (map comp_of s.components.now) s.held.now ps))
+    (seen_both conjunct_of c.args.given.now c.args.conjuncts.now _ c.args.chosen.now is) c.has_row.ensures

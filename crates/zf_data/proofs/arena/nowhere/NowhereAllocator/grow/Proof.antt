@@ -9,7 +9,13 @@ abbrev handle : Slot 2
 handle = RefOf (0 ∷ []) tt (plain (λ _. nowhere.the_row)) (λ _. tt)
 
 abbrev stayed : (X : RattleType) → Stays (f.ended X).signature.params (f.ended X).kept
-stayed X = (stay_dropped handle yes, (stay_dropped (plain (λ _. RawPtr)) yes, (stay_dropped (plain (λ _. usize)) yes, (stay_dropped (plain (λ _. usize)) yes, (stay_dropped (plain (λ _. usize)) yes, tt)))))
+stayed X = (
+  stay_dropped handle yes,
+  (
+    stay_dropped (plain (λ _. RawPtr)) yes,
+    (stay_dropped (plain (λ _. usize)) yes, (stay_dropped (plain (λ _. usize)) yes, (stay_dropped (plain (λ _. usize)) yes, tt))),
+  ),
+)
 
 pub grow_spec : {M : Type 1} → statement M
 grow_spec 𝓤 𝓛 𝓜 𝓡 wired X laws =
@@ -18,7 +24,8 @@ grow_spec 𝓤 𝓛 𝓜 𝓡 wired X laws =
     let number = Goes-dropped 𝓛 2 (plain (λ _. usize)) yes (λ κs x w. refl) in
     proved 𝓛 E hs c 𝓜 𝓡 (Goes-dropped 𝓛 2 handle yes (λ κs x w. refl), (Goes-dropped 𝓛 2 (plain (λ _. RawPtr)) yes (λ κs x w. refl), (number, (number, (number, tt)))))
     (f.Key.name inst) (inst_fn inst code.function) (code.unfolded 𝓤 𝓛.H 𝓜 𝓡 wired (X, tt))
-    (λ κs. (shr_vals, (rawptr_vals, (uint_vals w64, (uint_vals w64, (uint_vals w64, tt)))))) (λ κs. ((λ r vs s. s.0), (rawptr_Tells, (uint_Tells w64, (uint_Tells w64, (uint_Tells w64, tt)))))) (λ κs qs bounds a xs are.
+    (λ κs. (shr_vals, (rawptr_vals, (uint_vals w64, (uint_vals w64, (uint_vals w64, tt))))))
+    (λ κs. ((λ r vs s. s.0), (rawptr_Tells, (uint_Tells w64, (uint_Tells w64, (uint_Tells w64, tt)))))) (λ κs qs bounds a xs are.
     let len = a.1.1.0 in let old = a.1.1.1.0 in let new = a.1.1.1.1.0 in
     let y : W.Ghost = ((κs, qs, bounds, a, (shr_vals a.0, (rawptr_vals a.1.0, (uint_vals w64 len, (uint_vals w64 old, (uint_vals w64 new, tt)))))), xs) in
     let Lives : Type 0 = κs.1.0 ⊑ X.lives in
@@ -28,7 +35,13 @@ grow_spec 𝓤 𝓛 𝓜 𝓡 wired X laws =
     move ! (1 ∷ []) $ use1 𝓛 (raw (fact 𝓤 Lives) ⊛ raw (fact 𝓤 Sizes) ⊛ ‵ block) (id⊢ 𝓤 _) $ split ! $ heard ! Lives (λ _. split ! $ heard ! Sizes (λ _.
     -- [the block; the tokens with what the parameters own]
     move ! (1 ∷ []) $ split ! $ keep ! (0 ∷ 2 ∷ []) $
-    enter ! _ _ _ _ _ $ alloc_all ! (λ l. pass_all ! refl ((tt, tt), (Ptr-Good a.1.0, ((tt, record { fits = are.1.1.0.1 }), ((tt, record { fits = are.1.1.1.0.1 }), ((tt, record { fits = are.1.1.1.1.0.1 }), tt))))) $
+    enter ! _ _ _ _ _ $ alloc_all ! (λ l. pass_all ! refl (
+      (tt, tt),
+      (
+        Ptr-Good a.1.0,
+        ((tt, record { fits = are.1.1.0.1 }), ((tt, record { fits = are.1.1.1.0.1 }), ((tt, record { fits = are.1.1.1.1.0.1 }), tt))),
+      ),
+    ) $
     sets ! (agg ! (no_more !)) refl (tt, tt) $
     sets ! (agg ! (and_then ! (lit ! tt) (and_then ! (get ! refl) (no_more !)))) refl (Answer-typed false 0 0) $
     returns ! (look_at ! 0 refl) $ free_all ! refl $
