@@ -1,5 +1,5 @@
 -- A schema beside another: what is counted of both, and what is left.
-use Rattle.zf_calculus.proofs.Prelude.{◌++◌, ◌+◌, ◌-◌, ◌<◌, ◌∙◌, ◌∷◌, ◌≡◌, ◌≤◌, [], ap, arith, length, length-append, List, map, refl, ℕ, length-map, sum_by-append, sum_by-cons, AllByRecursion, sum_by, place_in, Comp, DeclaredSet, Schema, ResolvedTree, set_count, set_nodes, moved, nodes, AreAt, counted, HasLeft, IsLow, Keeps}
+use Rattle.zf_calculus.proofs.Prelude.{◌++◌, ◌+◌, ◌-◌, ◌<◌, ◌∙◌, ◌∷◌, ◌≡◌, ◌≤◌, [], ap, arith, length, length-append, List, map, refl, ℕ, length-map, sum_by-append, sum_by-cons, AllByRecursion, sum_by, place_in, Comp, DeclaredSet, Schema, ResolvedTree, set_count, set_nodes, moved, nodes, AreAt, counted, HasLeft, IsLow, KeepsTo}
 use Rattle.zf_term.specs.declared.fault.Limit.TheVariants as limit
 use Rattle.zf_term.proofs.Renumbered.{same_height, same_nodes}
 use Rattle.zf_calculus.specs.Calculus.{conjoined, new_place, schema_with, with_comp, with_comps}
@@ -54,13 +54,13 @@ left_beside a b s n t m u v h g e f l room =
       };
     }
 
-pub sets_beside : (a b : Schema) (s n t m : ℕ) → HasLeft a s n → HasLeft b t m → s < 4096 - t → Keeps limit.Sets (conjoined a b) → ⊥
+pub sets_beside : (a b : Schema) (s n t m : ℕ) → HasLeft a s n → HasLeft b t m → s < 4096 - t → KeepsTo limit.Sets (conjoined a b) → ⊥
 sets_beside a b s n t m h g e w = omega (arith, counted_both set_count a.comps b.comps, h.sets, g.sets, w)
 
-pub nodes_beside : (a b : Schema) (s n t m : ℕ) → HasLeft a s n → HasLeft b t m → n < 65536 - m → Keeps limit.Nodes (conjoined a b) → ⊥
+pub nodes_beside : (a b : Schema) (s n t m : ℕ) → HasLeft a s n → HasLeft b t m → n < 65536 - m → KeepsTo limit.Nodes (conjoined a b) → ⊥
 nodes_beside a b s n t m h g e w = omega (arith, counted_both set_nodes a.comps b.comps, both_nodes a b, h.nodes, g.nodes, w)
 
-pub conjuncts_beside : (a b : Schema) → 4096 < length a.conjuncts + length b.conjuncts → Keeps limit.Conjuncts (conjoined a b) → ⊥
+pub conjuncts_beside : (a b : Schema) → 4096 < length a.conjuncts + length b.conjuncts → KeepsTo limit.Conjuncts (conjoined a b) → ⊥
 conjuncts_beside a b e w = omega (arith, both_long a b, w)
 
 -- the components are joined, and the conjuncts follow them

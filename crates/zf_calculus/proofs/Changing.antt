@@ -1,5 +1,5 @@
 -- A schema beside its state after an operation.
-use Rattle.zf_calculus.proofs.Prelude.{◌∙◌, ◌≡◌, ap, inl, inr, length, List, map, subst, ℕ, place_in, Comp, comp_of, Schema, schema_of, ResolvedTree, Offence, Limit, Component, Flat, Agree, all_unchanged, conjoined, decorated, delta, new_place, prime, xi, constrained, equalities, IsTooLarge, Keeps, OneClashes, Stops}
+use Rattle.zf_calculus.proofs.Prelude.{◌∙◌, ◌≡◌, ap, inl, inr, length, List, map, subst, ℕ, place_in, Comp, comp_of, Schema, schema_of, ResolvedTree, Offence, Limit, Component, Flat, Agree, all_unchanged, conjoined, decorated, delta, new_place, prime, xi, constrained, equalities, IsTooLarge, KeepsTo, OneClashes, Stops}
 use Rattle.zf_calculus.proofs.Equalities.{same_equalities}
 use Rattle.zf_calculus.proofs.Monotony.{before_conjuncts, still_large}
 
@@ -15,7 +15,7 @@ stops_after a b d e f agree k h =
     let same : conjoined b d ≡ delta a = ap (λ (s : Schema). conjoined s d) e ∙ ap (conjoined a) f in
     inr (agree, subst (λ (s : Schema). IsTooLarge s k) same h)
 
-within_delta : (l : ℕ) (a : Schema) (m : Limit) → Keeps m (xi l a) → Keeps m (delta a)
+within_delta : (l : ℕ) (a : Schema) (m : Limit) → KeepsTo m (xi l a) → KeepsTo m (delta a)
 within_delta l a m w = before_conjuncts m (delta a).comps (delta a).conjuncts (all_unchanged l (decorated prime a).comps (delta a).comps 0 a.comps) w
 
 pub stops_change : (l : ℕ) (a : Schema) (k : Offence) → Stops (OneClashes a.comps (decorated prime a).comps) (Agree a.comps (decorated prime a).comps)

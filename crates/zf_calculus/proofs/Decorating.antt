@@ -1,5 +1,5 @@
 -- Strokes change no size, and are added to one component after another.
-use Rattle.zf_calculus.proofs.Prelude.{set, drop-set-lt, drop_all, get_or_default, length-map, take_all, take_more_set, sum_by-cons, sum_by, dropped, pushed, Comp, comp_of, DeclaredSet, Schema, set_count, set_nodes, Component, counted, HasLeft, IsWithin, Keeps, Limit}
+use Rattle.zf_calculus.proofs.Prelude.{set, drop-set-lt, drop_all, get_or_default, length-map, take_all, take_more_set, sum_by-cons, sum_by, dropped, pushed, Comp, comp_of, DeclaredSet, Schema, set_count, set_nodes, Component, counted, HasLeft, IsWithin, KeepsTo, Limit}
 use Rattle.zf_term.specs.declared.fault.Limit.TheVariants as limit
 use Rattle.std.proofs.Common.{◌≡◌, ℕ, ◌+◌, ◌<◌, ◌≤◌, Bool, true, ◌==◌, eqb-true, length, sym, List, [], ◌∷◌, ◌++◌, map, take, drop, get_or, refl, ap, ◌∙◌, subst, arith, append-nil}
 use Rattle.zf_calculus.specs.Calculus.{comp, schema_with, decorated}
@@ -29,7 +29,7 @@ within_decorated strokes a w =
       low = w.low;
     }
 
-pub keeps_undecorated : (l : Limit) (strokes : List ℕ) (a : Schema) → Keeps l (decorated strokes a) → Keeps l a
+pub keeps_undecorated : (l : Limit) (strokes : List ℕ) (a : Schema) → KeepsTo l (decorated strokes a) → KeepsTo l a
 keeps_undecorated limit.TypeNodes strokes a w = tt
 keeps_undecorated limit.Components strokes a w = omega (arith, length-map a.comps (stroked strokes), w)
 keeps_undecorated limit.Sets strokes a w = omega (arith, counts_same set_count strokes a.comps, w)

@@ -1,5 +1,5 @@
 -- The conjuncts of `\Xi`: what the program makes is what is wanted.
-use Rattle.zf_calculus.proofs.Prelude.{place_in, Equal, new_link, of-Chain, of-link, of-Name, dropped, Comp, Schema, chain, link, links, no_links, reference, resolved_link_of, resolved_of, ResolvedTree, Offence, Resolved, ResolvedLink, all_unchanged, new_place, unchanged, constrained, equalities, equality, IsTooLarge, Keeps}
+use Rattle.zf_calculus.proofs.Prelude.{place_in, Equal, new_link, of-Chain, of-link, of-Name, dropped, Comp, Schema, chain, link, links, no_links, reference, resolved_link_of, resolved_of, ResolvedTree, Offence, Resolved, ResolvedLink, all_unchanged, new_place, unchanged, constrained, equalities, equality, IsTooLarge, KeepsTo}
 use Rattle.std.proofs.Common.{◌≡◌, ℕ, zero, suc, ◌+◌, ◌<◌, List, [], ◌∷◌, ◌++◌, length, map, drop, get_or, refl, sym, ap, ◌∙◌, subst, arith, append_assoc}
 use Rattle.zf_reference.specs.declared.reference.Reference.TheVariants.{Component}
 use Rattle.zf_term.specs.declared.resolved.Resolved.TheVariants as v
@@ -39,9 +39,9 @@ pub stops_equalities : (a b : Schema) (l : ℕ) (ps : List ℕ) (i p : ℕ) (t :
 stops_equalities a b l ps i p t m e g whole k h = still_large (constrained a (t ∷ [])) (constrained b (equalities l 0 ps)) k
     (λ x w.
     let rest = equalities l (i + 1) (drop (i + 1) ps) in
-    let now : Keeps x (constrained a (equalities l i (drop i ps))) = subst (Keeps x) (sym whole) w in
-    let next : Keeps x (constrained a (equality l i p ∷ rest)) = subst (λ (qs : List ℕ). Keeps x (constrained a (equalities l i qs))) (dropped ps i p m e) now in
-    let parted : Keeps x (calculus.schema_with a.comps ((a.conjuncts ++ equality l i p ∷ []) ++ rest)) = subst
-    (λ (ts : List ResolvedTree). Keeps x (calculus.schema_with a.comps ts)) (sym (append_assoc a.conjuncts (equality l i p ∷ []) rest)) next in
-    let one : Keeps x (constrained a (equality l i p ∷ [])) = before_conjuncts x a.comps (a.conjuncts ++ equality l i p ∷ []) rest parted in
-    subst (λ (u : ResolvedTree). Keeps x (constrained a (u ∷ []))) (sym g) one) h
+    let now : KeepsTo x (constrained a (equalities l i (drop i ps))) = subst (KeepsTo x) (sym whole) w in
+    let next : KeepsTo x (constrained a (equality l i p ∷ rest)) = subst (λ (qs : List ℕ). KeepsTo x (constrained a (equalities l i qs))) (dropped ps i p m e) now in
+    let parted : KeepsTo x (calculus.schema_with a.comps ((a.conjuncts ++ equality l i p ∷ []) ++ rest)) = subst
+    (λ (ts : List ResolvedTree). KeepsTo x (calculus.schema_with a.comps ts)) (sym (append_assoc a.conjuncts (equality l i p ∷ []) rest)) next in
+    let one : KeepsTo x (constrained a (equality l i p ∷ [])) = before_conjuncts x a.comps (a.conjuncts ++ equality l i p ∷ []) rest parted in
+    subst (λ (u : ResolvedTree). KeepsTo x (constrained a (u ∷ []))) (sym g) one) h

@@ -1,18 +1,18 @@
 -- A schema that has grown is within a limit only if it was before.
-use Rattle.zf_calculus.proofs.Prelude.{◌++◌, ◌+◌, ◌<◌, ◌∷◌, ◌≡◌, ◌≤◌, [], arith, length, length-append, List, ℕ, sum_by-append, sum_by_push, AllByRecursion, sum_by, Comp, Schema, ResolvedTree, set_count, set_nodes, height, nodes, constrained, grown, HasLeft, schema_nodes, IsLow, IsTooLarge, Keeps, Limit, Offence}
+use Rattle.zf_calculus.proofs.Prelude.{◌++◌, ◌+◌, ◌<◌, ◌∷◌, ◌≡◌, ◌≤◌, [], arith, length, length-append, List, ℕ, sum_by-append, sum_by_push, AllByRecursion, sum_by, Comp, Schema, ResolvedTree, set_count, set_nodes, height, nodes, constrained, grown, HasLeft, schema_nodes, IsLow, IsTooLarge, KeepsTo, Limit, Offence}
 use Rattle.zf_term.specs.declared.fault.Limit.TheVariants as limit
 use Rattle.zf_calculus.specs.Calculus.{schema_with, with_comp}
 use Rattle.zf_calculus.proofs.Merging.{counts_more}
 
 -- what passes a limit passes it with more
-pub still_large : (a b : Schema) (o : Offence) → ((l : Limit) → Keeps l b → Keeps l a) → IsTooLarge a o → IsTooLarge b o
+pub still_large : (a b : Schema) (o : Offence) → ((l : Limit) → KeepsTo l b → KeepsTo l a) → IsTooLarge a o → IsTooLarge b o
 still_large a b o keep h = (h.0, h.1, λ w. h.2 (keep h.0 w))
 
 first_low : (ts us : List ResolvedTree) → AllByRecursion IsLow (ts ++ us) → AllByRecursion IsLow ts
 first_low [] us h = tt
 first_low (t ∷ ts) us h = (h.0, first_low ts us h.1)
 
-pub before_conjuncts : (l : Limit) (cs : List Comp) (ts us : List ResolvedTree) → Keeps l (schema_with cs (ts ++ us)) → Keeps l (schema_with cs ts)
+pub before_conjuncts : (l : Limit) (cs : List Comp) (ts us : List ResolvedTree) → KeepsTo l (schema_with cs (ts ++ us)) → KeepsTo l (schema_with cs ts)
 before_conjuncts limit.TypeNodes cs ts us w = tt
 before_conjuncts limit.Components cs ts us w = w
 before_conjuncts limit.Sets cs ts us w = w
@@ -40,10 +40,10 @@ left_grown a c s n t m h e f l =
       };
     }
 
-pub sets_passed : (a : Schema) (c : Comp) (s n : ℕ) → HasLeft a s n → s < sum_by set_count c.sets → Keeps limit.Sets (grown a c) → ⊥
+pub sets_passed : (a : Schema) (c : Comp) (s n : ℕ) → HasLeft a s n → s < sum_by set_count c.sets → KeepsTo limit.Sets (grown a c) → ⊥
 sets_passed a c s n h e w = omega (arith, counts_more set_count a.comps c, h.sets, w)
 
-pub nodes_passed : (a : Schema) (c : Comp) (s n : ℕ) → HasLeft a s n → n < sum_by set_nodes c.sets → Keeps limit.Nodes (grown a c) → ⊥
+pub nodes_passed : (a : Schema) (c : Comp) (s n : ℕ) → HasLeft a s n → n < sum_by set_nodes c.sets → KeepsTo limit.Nodes (grown a c) → ⊥
 nodes_passed a c s n h e w = omega (arith, counts_more set_nodes a.comps c, h.nodes, w)
 
 pub all_low : (ts us : List ResolvedTree) → AllByRecursion IsLow ts → AllByRecursion IsLow us → AllByRecursion IsLow (ts ++ us)
@@ -75,11 +75,11 @@ left_taken a t s n m h e l low =
       };
     }
 
-pub term_passed : (a : Schema) (t : ResolvedTree) (s n : ℕ) → HasLeft a s n → n < nodes t → Keeps limit.Nodes (constrained a (t ∷ [])) → ⊥
+pub term_passed : (a : Schema) (t : ResolvedTree) (s n : ℕ) → HasLeft a s n → n < nodes t → KeepsTo limit.Nodes (constrained a (t ∷ [])) → ⊥
 term_passed a t s n h e w = omega (arith, more_nodes a t, h.nodes, w)
 
-pub conjuncts_passed : (a : Schema) (t : ResolvedTree) → 4096 ≤ length a.conjuncts → Keeps limit.Conjuncts (constrained a (t ∷ [])) → ⊥
+pub conjuncts_passed : (a : Schema) (t : ResolvedTree) → 4096 ≤ length a.conjuncts → KeepsTo limit.Conjuncts (constrained a (t ∷ [])) → ⊥
 conjuncts_passed a t e w = omega (arith, length-append a.conjuncts (t ∷ []), w)
 
-pub height_passed : (a : Schema) (t : ResolvedTree) → (height t ≤ 256 → ⊥) → Keeps limit.Height (constrained a (t ∷ [])) → ⊥
+pub height_passed : (a : Schema) (t : ResolvedTree) → (height t ≤ 256 → ⊥) → KeepsTo limit.Height (constrained a (t ∷ [])) → ⊥
 height_passed a t e w = e (last_low a.conjuncts t w)

@@ -21,7 +21,7 @@ pub use Rattle.zf_term.specs.SchemaViews.{batch_of, comp_of, conjunct_of, schema
 pub use Rattle.zf_term.specs.Definitions.{Comp, DeclaredSet, is_member, one_holds, Schema, sets_of, sides}
 pub use Rattle.zf_term.specs.FoundViews.{found_as}
 pub use Rattle.zf_term.specs.FirstNamed.{later}
-pub use Rattle.zf_term.specs.Limits.{schema_nodes, AreFew, IsLow, IsTooLarge, IsWithin, Keeps}
+pub use Rattle.zf_term.specs.Limits.{schema_nodes, AreFew, IsLow, IsTooLarge, IsWithin, KeepsTo}
 pub use Rattle.zf_term.specs.LimitViews.{HasLeft}
 pub use Rattle.zf_term.specs.ResolvedTrees.{chain, link, no_links, reference, ResolvedTree}
 pub use Rattle.zf_term.specs.ResolvedViews.{links, resolved_link_of, resolved_of}
@@ -39,7 +39,7 @@ pub use Rattle.zf_term.specs.declared.resolved.Resolved.{Resolved}
 pub use Rattle.zf_term.specs.declared.resolved.ResolvedLink.{ResolvedLink}
 pub use Rattle.zf_term.specs.declared.ztype.ZType.{ZType}
 pub use Rattle.zf_shape.proofs.Heights.{below_nodes}
-pub use Rattle.zf_calculus.specs.Calculus.{Agree, Agrees, all_unchanged, carried, comp, comp_named, conjoined, decorated, delta, disjoined, membership, memberships, new_place, place_of, place_or, prime, sets_on, unchanged, with_comp, with_comps, xi}
+pub use Rattle.zf_calculus.specs.Calculus.{Agree, Agrees, all_unchanged, carried, comp, comp_named, conjoined, decorated, delta, disjoined, membership, memberships, new_place, prime, sets_on, unchanged, with_comp, with_comps, xi}
 pub use Rattle.zf_calculus.specs.CalculusLaws.{AreOnce}
-pub use Rattle.zf_calculus.specs.Growth.{AreAt, constrained, counted, disjoined_over, either_comp, enriched, equalities, equality, grown, IfStopped, IsGrowing, place_found, place_named}
+pub use Rattle.zf_calculus.specs.Growth.{AreAt, constrained, counted, disjoined_over, either_comp, enriched, equalities, equality, grown, IfStopped, IsGrowing, place_found, place_named, place_of, place_or}
 pub use Rattle.zf_calculus.specs.Steps.{Clashes, IsNext, OneClashes, Stops}

@@ -1,7 +1,8 @@
 -- A schema that is taken into the one of no declarations is itself, where its components have names of their own.
 use Rattle.zf_calculus.proofs.Prelude.{if◌then◌else◌, ◌++◌, ◌∙◌, ◌∷◌, ◌≡◌, [], add-one, ap, Bool, false, List, None, Option, refl, slice_get, Some, subst, suc, sym, true, zero, ℕ, append-nil, append_assoc, none-some, same_Some, AllByRecursion, bytes_eq, unmoved, is_itself, is_same, swapped, Comp, Schema, later, ResolvedTree, moved}
 use Rattle.std.proofs.Math.Path.{fun_ext}
-use Rattle.zf_calculus.specs.Calculus.{carried, comp_named, conjoined, new_place, nothing, place_of, place_or, schema_with, with_comp, with_comps}
+use Rattle.zf_calculus.specs.Calculus.{carried, comp_named, conjoined, new_place, empty_schema, schema_with, with_comp, with_comps}
+use Rattle.zf_calculus.specs.Growth.{place_or, place_of}
 use Rattle.zf_calculus.specs.CalculusLaws.{AreOnce}
 use Rattle.zf_calculus.proofs.Merging.{new_last, nothing_before, none_known}
 use Rattle.zf_calculus.proofs.Renumbering.{all_same}
@@ -55,7 +56,7 @@ none_carried ds ts once =
 
 -- ---- schemas
 
-pub taken_whole : (a b : Schema) → a ≡ nothing → AreOnce b.comps → b ≡ conjoined a b
+pub taken_whole : (a b : Schema) → a ≡ empty_schema → AreOnce b.comps → b ≡ conjoined a b
 taken_whole a b e once =
     let joined = all_new [] b.comps once (new_to_none b.comps) in
     sym (ap (λ (s : Schema). conjoined s b) e ∙ ap (λ (cs : List Comp). schema_with cs (carried b.comps cs b.conjuncts)) joined

@@ -1,7 +1,8 @@
 -- The schema calculus: what schemas are made of others by inclusion, decoration, `\Delta`, `\Xi`, conjunction and disjunction.
-use Rattle.std.specs.Prelude.{◌≡◌, ℕ, ◌+◌, List, [], ◌∷◌, ◌++◌, map, fold, flat_map, Option, Some, None, slice_get, if◌then◌else◌}
+use Rattle.std.specs.Prelude.{◌≡◌, ℕ, ◌+◌, List, [], ◌∷◌, ◌++◌, map, fold, flat_map, Option, slice_get, if◌then◌else◌}
 use Rattle.std.specs.List.{AllByRecursion}
 use Rattle.std.specs.Str.{bytes_eq}
+use Rattle.std.specs.Option.{IfSome, option_map_or}
 use Rattle.zf_tree.specs.declared.symbol.Relation.TheVariants.{Equal}
 use Rattle.zf_tree.specs.declared.tree.RefMark.{RefMark}
 use Rattle.zf_tree.specs.declared.tree.RefMark.TheVariants.{Plain, Delta, Xi}
@@ -19,19 +20,15 @@ comp name type sets = record { name = name; type = type; sets = sets }
 abbrev pub schema_with : List Comp → List ResolvedTree → Schema
 schema_with comps conjuncts = record { comps = comps; conjuncts = conjuncts }
 
--- the schema of no declarations
-abbrev pub nothing : Schema
-nothing = schema_with [] []
+abbrev pub empty_schema : Schema
+empty_schema = schema_with [] []
 
 abbrev pub comp_named : List ℕ → List Comp → Option (ℕ × Comp)
 comp_named = first_named (λ c. c.name)
 
--- ---- components of one name
-
 -- the component has the type of the one that has its name, if one has
 abbrev pub HasTypeOf : Option (ℕ × Comp) → Comp → Type 0
-HasTypeOf None c = Unit {0}
-HasTypeOf (Some p) c = p.1.type ≡ c.type
+HasTypeOf found c = IfSome found (λ p. p.1.type ≡ c.type)
 
 abbrev pub Agrees : List Comp → Comp → Type 0
 Agrees cs c = HasTypeOf (comp_named c.name cs) c
@@ -50,17 +47,9 @@ with_comps = fold with_comp
 
 -- ---- conjunction and inclusion
 
-abbrev pub place_or : Option (ℕ × Comp) → ℕ → ℕ
-place_or None i = i
-place_or (Some p) i = p.0
-
-abbrev pub place_of : Option Comp → List Comp → ℕ → ℕ
-place_of None cs i = i
-place_of (Some c) cs i = place_or (comp_named c.name cs) i
-
 -- where the component that has this place among ds is among cs
 abbrev pub new_place : List Comp → List Comp → ℕ → ℕ
-new_place ds cs i = place_of (slice_get ds i) cs i
+new_place ds cs i = option_map_or (λ c. option_map_or (λ p. p.0) (comp_named c.name cs) i) (slice_get ds i) i
 
 -- the conjuncts of a schema of components ds, over the components cs
 abbrev pub carried : List Comp → List Comp → List ResolvedTree → List ResolvedTree
@@ -88,7 +77,6 @@ delta a = conjoined a (decorated prime a)
 abbrev pub unchanged : (line : ℕ) → List Comp → List Comp → ℕ → ResolvedTree
 unchanged l cs all i = chain l (reference l (Component i)) (link Equal (reference l (Component (new_place cs all i))) no_links)
 
--- for each component from that place on
 abbrev pub all_unchanged : (line : ℕ) → List Comp → List Comp → ℕ → List Comp → List ResolvedTree
 all_unchanged l primed all i [] = []
 all_unchanged l primed all i (c ∷ cs) = unchanged l primed all i ∷ all_unchanged l primed all (i + 1) cs
@@ -105,15 +93,13 @@ marked Xi l a = xi l a
 -- the components of S and of S' agree, where both are taken
 abbrev pub MarkAgrees : RefMark → Schema → Type 0
 MarkAgrees Plain a = Unit {0}
-MarkAgrees Delta a = Agree a.comps (decorated prime a).comps
-MarkAgrees Xi a = Agree a.comps (decorated prime a).comps
+MarkAgrees _ a = Agree a.comps (decorated prime a).comps
 
 -- ---- disjunction
 
 -- the declared sets of a component on a side; all values of its type where the side lacks it
 abbrev pub sets_on : Option (ℕ × Comp) → Ty → List DeclaredSet
-sets_on None t = carrier t ∷ []
-sets_on (Some p) t = p.1.sets
+sets_on found t = option_map_or (λ p. p.1.sets) found (carrier t ∷ [])
 
 abbrev pub either_comps : List Comp → List Comp → List Comp
 either_comps cs ds =
@@ -123,8 +109,7 @@ either_comps cs ds =
 -- `x \in E`, of a declared set that a declaration names; other declared sets give no constraint
 abbrev pub membership : (place : ℕ) → DeclaredSet → List ResolvedTree
 membership i (plain e) = is_member i e ∷ []
-membership i (carrier t) = []
-membership i (sides a b) = []
+membership i _ = []
 
 abbrev pub memberships : (place : ℕ) → List Comp → List ResolvedTree
 memberships i [] = []

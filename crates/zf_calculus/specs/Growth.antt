@@ -1,6 +1,7 @@
 -- A schema that grows within the limits, and what stops it.
 use Rattle.std.specs.Prelude.{◌≡◌, ℕ, ◌+◌, ◌++◌, List, [], ◌∷◌, Option, Some, None}
 use Rattle.std.specs.List.{sum_by}
+use Rattle.std.specs.Option.{option_map_or}
 use Rattle.zf_tree.specs.declared.symbol.Relation.TheVariants.{Equal}
 use Rattle.zf_term.specs.declared.schema.Component.{Component}
 use Rattle.zf_term.specs.declared.schema.Domain.{Domain}
@@ -15,7 +16,7 @@ use Rattle.zf_calculus.specs.declared.stop.Stop.{Stop}
 use Rattle.zf_calculus.specs.declared.stop.Stop.TheVariants.{Clash, TooLarge, OutOfMemory}
 use Rattle.zf_calculus.specs.Calculus as calculus
 use Rattle.zf_calculus.specs.Calculus.{with_comp, with_comps}
-use Rattle.zf_term.specs.Limits.{AreFew, IsWithin}
+use Rattle.zf_term.specs.Limits.{AreFew}
 use Rattle.zf_term.specs.LimitViews.{HasLeft}
 
 -- its numbers are what is left of the limits
@@ -81,3 +82,10 @@ either_comp cs ds c = calculus.comp c.name c.type (sides (sets_of (calculus.sets
 -- the disjunction, which has these components
 abbrev pub disjoined_over : List Comp → (line : ℕ) → Schema → Schema → Schema
 disjoined_over all l a b = calculus.schema_with all (one_holds l (calculus.constraints a) (calculus.carried b.comps all (calculus.constraints b)) ∷ [])
+
+-- the place that is found, or else this one
+abbrev pub place_or : Option (ℕ × Comp) → ℕ → ℕ
+place_or found i = option_map_or (λ p. p.0) found i
+
+abbrev pub place_of : Option Comp → List Comp → ℕ → ℕ
+place_of found cs i = option_map_or (λ c. place_or (calculus.comp_named c.name cs) i) found i

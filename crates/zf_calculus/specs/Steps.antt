@@ -1,7 +1,8 @@
 -- The next schema, and why there is none.
-use Rattle.std.specs.Prelude.{◌≡◌, ◌⊎◌, ℕ, List, [], ◌∷◌, Option, Some, None}
+use Rattle.std.specs.Prelude.{◌≡◌, ◌⊎◌, ℕ, List, [], ◌∷◌, Option}
+use Rattle.std.specs.Option.{IsSomeAnd}
 use Rattle.zf_tree.specs.declared.tree.RefMark.{RefMark}
-use Rattle.zf_tree.specs.declared.tree.RefMark.TheVariants.{Plain, Delta, Xi}
+use Rattle.zf_tree.specs.declared.tree.RefMark.TheVariants.{Plain}
 use Rattle.zf_term.specs.Faults.{Offence, clash}
 use Rattle.zf_term.specs.Definitions.{Comp, Schema}
 use Rattle.zf_calculus.specs.Calculus.{schema_with, comp_named, Agrees, Agree, with_comp, conjoined, decorated, prime}
@@ -11,23 +12,19 @@ use Rattle.zf_term.specs.Limits.{IsWithin, IsTooLarge}
 abbrev pub IsNext : Schema → Schema → Type 0
 IsNext next b = (b ≡ next) × IsWithin next
 
--- one more component
 abbrev pub Adds : Schema → Comp → Schema → Type 0
 Adds a c b = Agrees a.comps c × IsNext (schema_with (with_comp a.comps c) a.conjuncts) b
 
--- another schema that is taken in
 abbrev pub Includes : Schema → Schema → Schema → Type 0
 Includes a c b = Agree a.comps c.comps × IsNext (conjoined a c) b
 
 -- the component has another type than the one that has its name
 abbrev pub Differs : Option (ℕ × Comp) → Comp → Offence → Type 0
-Differs None c o = ⊥
-Differs (Some p) c o = (p.1.type ≡ c.type → ⊥) × (o ≡ clash c.name p.1.type c.type)
+Differs found c o = IsSomeAnd found (λ p. (p.1.type ≡ c.type → ⊥) × (o ≡ clash c.name p.1.type c.type))
 
 abbrev pub Clashes : List Comp → Comp → Offence → Type 0
 Clashes cs c o = Differs (comp_named c.name cs) c o
 
--- one of the components ds has
 abbrev pub OneClashes : List Comp → List Comp → Offence → Type 0
 OneClashes cs [] o = ⊥
 OneClashes cs (d ∷ ds) o = Clashes cs d o ⊎ OneClashes cs ds o
@@ -35,8 +32,7 @@ OneClashes cs (d ∷ ds) o = Clashes cs d o ⊎ OneClashes cs ds o
 -- of S', where S and S' are taken
 abbrev pub MarkClashes : RefMark → Schema → Offence → Type 0
 MarkClashes Plain a o = ⊥
-MarkClashes Delta a o = OneClashes a.comps (decorated prime a).comps o
-MarkClashes Xi a o = OneClashes a.comps (decorated prime a).comps o
+MarkClashes _ a o = OneClashes a.comps (decorated prime a).comps o
 
 -- why there is no next schema: a component gets two types, or all agree and a limit is passed
 abbrev pub Stops : (Offence → Type 0) → Type 0 → Schema → Offence → Type 0

@@ -10,7 +10,7 @@ ghost use Rattle.zf_term.specs.declared.fault.Limit.TheVariants as limit;
 ghost use Rattle.zf_calculus.specs.Calculus as spec;
 ghost use Rattle.zf_calculus.specs.Calculus.{Agrees, Agree, comp_named, new_place, with_comp, with_comps};
 ghost use Rattle.zf_calculus.specs.CalculusLaws.{AreOnce};
-ghost use Rattle.zf_calculus.specs.Growth.{AreAt, IfStopped, enriched, place_named};
+ghost use Rattle.zf_calculus.specs.Growth.{AreAt, enriched, IfStopped, place_named, place_or};
 ghost use Rattle.zf_term.specs.Limits.{AreFew, components_max};
 ghost use Rattle.zf_calculus.specs.Steps.{Clashes, OneClashes};
 
@@ -218,7 +218,7 @@ pub fn new_places<'a>(
 
 /// The place of the component of the name, or this one where there is none.
 fn place_or(components: &[Component<'_>], name: &[u8], otherwise: usize) -> usize
-    ensures { result ≡ spec.place_or (comp_named name.now (map comp_of components.now)) otherwise }
+    ensures { result ≡ place_or (comp_named name.now (map comp_of components.now)) otherwise }
 {
     match component_of(components, name) {
         Some((place, _)) => place,

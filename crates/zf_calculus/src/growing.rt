@@ -5,10 +5,10 @@ ghost use Rattle.zf_term.specs.ResolvedTrees.{ResolvedTree};
 ghost use Rattle.zf_reference.specs.NumberingViews.{place_in};
 ghost use Rattle.zf_term.specs.Shapes.{moved};
 ghost use Rattle.zf_term.specs.ShapeViews.{numbering};
-ghost use Rattle.zf_calculus.specs.Calculus.{Agree, Agrees, conjoined, new_place, nothing};
+ghost use Rattle.zf_calculus.specs.Calculus.{Agree, Agrees, conjoined, new_place, empty_schema};
 ghost use Rattle.zf_calculus.specs.Steps.{Adds, Clashes, Includes, IsNext, OneClashes, Stops};
 ghost use Rattle.zf_calculus.specs.Growth.{HasLeftBeside, IsGrowing, IfStopped, constrained, equalities, equality, grown};
-ghost use Rattle.zf_term.specs.Limits.{IsTooLarge, Keeps};
+ghost use Rattle.zf_term.specs.Limits.{IsTooLarge, KeepsTo};
 
 use crate::components::{agree, agrees, are_apart, join, join_all};
 use crate::limits::{COMPONENTS_MAX, CONJUNCTS_MAX, NODES_MAX, SETS_MAX};
@@ -41,7 +41,7 @@ pub struct Growing<'a> {
 impl<'a> Growing<'a> {
     /// The schema of no declarations, with room for what is expected of it.
     pub fn with_room(arena: &'a Bump, spare: Spare) -> Result<Growing<'a>, AllocError>
-        ensures schema { IfOk result (λ g. schema_of g.flat ≡ nothing) }
+        ensures schema { IfOk result (λ g. schema_of g.flat ≡ empty_schema) }
         ensures growing { IfOk result (λ g. IsGrowing g) }
     {
         let components = Items::with_room(arena, spare.components)?;
@@ -59,7 +59,7 @@ impl<'a> Growing<'a> {
     /// A schema that was made elsewhere, if it is within the limits.
     pub fn of(flat: Flat<'a>) -> Result<Growing<'a>, Limit>
         ensures ok { IfOk result (λ g. (schema_of g.flat ≡ schema_of flat.entry) × IsGrowing g) }
-        ensures passed { IfErr result (λ l. Keeps l (schema_of flat.entry) → ⊥) }
+        ensures passed { IfErr result (λ l. KeepsTo l (schema_of flat.entry) → ⊥) }
     {
         // Before its nodes are counted, which descends as far as it is high.
         if !none_too_high(&flat.conjuncts) {
@@ -182,7 +182,7 @@ impl<'a> Growing<'a> {
 
     /// Whether it has neither components nor conjuncts.
     pub fn is_nothing(&self) -> bool
-        ensures { IsTrue result ↔ (schema_of self.now.flat ≡ nothing) }
+        ensures { IsTrue result ↔ (schema_of self.now.flat ≡ empty_schema) }
     {
         self.flat.components.as_slice().is_empty() && self.flat.conjuncts.len() == 0
     }
@@ -222,7 +222,7 @@ impl<'a> Growing<'a> {
         requires before { IsGrowing self.now }
         requires further { IsGrowing other.now }
         ensures ok { IfOk result (HasLeftBeside (schema_of self.now.flat) (schema_of other.now.flat)) }
-        ensures passed { IfErr result (λ l. Keeps l (conjoined (schema_of self.now.flat) (schema_of other.now.flat)) → ⊥) }
+        ensures passed { IfErr result (λ l. KeepsTo l (conjoined (schema_of self.now.flat) (schema_of other.now.flat)) → ⊥) }
     {
         let Some(sets_left) = self.sets_left.checked_sub(SETS_MAX - other.sets_left) else {
             return Err(Limit::Sets);

@@ -1,5 +1,5 @@
 -- What is asked of a well typed term has the same answer where more is defined behind.
-use Rattle.zf_checker.proofs.Prelude.{if◌then◌else◌, ◌&&◌, ◌++◌, ◌∙◌, ◌≡◌, ap, Bool, drop, List, None, Option, refl, slice_get, Some, subst, sym, take, ℕ, take-append-drop, none-some, spelling, Links, no_decls, no_trees, Perhaps, Tree, tree, Trees, var_decl, VarDecls, abbreviation, Comp, Defined, first_named, or_else, ResolvedTree, Ty, Tys, bound, referent, resolved, resolved_all, resolved_links, resolved_part, resolved_ranges, predicate, set_sort, Sort, typed, outside, ExtentsKept}
+use Rattle.zf_checker.proofs.Prelude.{if◌then◌else◌, ◌&&◌, ◌++◌, ◌∙◌, ◌≡◌, ap, Bool, drop, List, None, Option, refl, slice_get, Some, subst, sym, take, ℕ, take-append-drop, none-some, spelling, Links, no_decls, no_trees, Perhaps, Tree, tree, Trees, var_decl, VarDecls, abbreviation, Comp, Defined, first_named, ResolvedTree, Ty, Tys, bound, referent, resolved, resolved_all, resolved_links, resolved_part, resolved_ranges, predicate, set_sort, Sort, typed, outside, ExtentsKept, option_or}
 use Rattle.zf_tree.specs.declared.symbol.Relation.{Relation}
 use Rattle.zf_tree.specs.declared.operator.Listed.{Listed}
 use Rattle.zf_tree.specs.Trees as text
@@ -28,8 +28,8 @@ name_same s x r z more e =
   where
     by :
         (l : Option (ℕ × Var)) (c : Option (ℕ × Comp)) (d : Option (ℕ × Defined)) → ((p : ℕ × Defined) → d ≡ Some p → slice_get s.globals p.0 ≡ Some p.1)
-        → or_else (variable_meaning l) (or_else (component_meaning c) (global_meaning d)) ≡ Some (r, z)
-        → Same s.globals more (λ g. extent_named g (referent (or_else (variable_meaning l) (or_else (component_meaning c) (global_meaning d)))))
+        → option_or (variable_meaning l) (option_or (component_meaning c) (global_meaning d)) ≡ Some (r, z)
+        → Same s.globals more (λ g. extent_named g (referent (option_or (variable_meaning l) (option_or (component_meaning c) (global_meaning d)))))
     by (Some v) c d there e = refl
     by None (Some c) d there e = refl
     by None None (Some p) there e = let at = there p refl in ap extent_found (in_front s.globals more p.0 p.1 at ∙ sym at)

@@ -1,5 +1,5 @@
 -- Conjunction and disjunction by name, and where components of the second schema stand.
-use Rattle.zf_checker.proofs.Prelude.{if◌then◌else◌, ◌∙◌, ◌∷◌, ◌≡◌, [], ap, Bool, false, List, map, None, Option, refl, slice_get, Some, subst, suc, sym, true, zero, ℕ, none-some, same_Some, slice_get-map, option_map, bytes_eq, Comp, sets_of, sides, later, or_else, Ty, Agree, Agrees, AreOnce, comp, comp_named, either_comps, HasTypeOf, new_place, place_of, place_or, sets_on, with_comps, PlacesCarried, sets_found, SetsJoined, SetsOfEither, StandsAt, type_found, type_named, TypesJoined, TypesOfEither}
+use Rattle.zf_checker.proofs.Prelude.{if◌then◌else◌, ◌∙◌, ◌∷◌, ◌≡◌, [], ap, Bool, false, List, map, None, Option, refl, slice_get, Some, subst, suc, sym, true, zero, ℕ, none-some, same_Some, slice_get-map, option_map, bytes_eq, Comp, sets_of, sides, later, Ty, Agree, Agrees, AreOnce, comp, comp_named, either_comps, HasTypeOf, new_place, place_of, place_or, sets_on, with_comps, PlacesCarried, sets_found, SetsJoined, SetsOfEither, StandsAt, type_found, type_named, TypesJoined, TypesOfEither, option_or}
 use Rattle.zf_schema.proofs.Named.{found, stands_there, joined_type, joined_sets, type_of_once}
 
 pub types_joined : TypesJoined
@@ -13,7 +13,7 @@ agrees_at cs [] i c agreed e = absurd (none-some c e)
 agrees_at cs (d ∷ ds) zero c agreed e = subst (Agrees cs) (same_Some d c e) agreed.0
 agrees_at cs (d ∷ ds) (suc i) c agreed e = agrees_at cs ds i c agreed.1 e
 
-type_agreed : (o : Option (ℕ × Comp)) (c : Comp) → HasTypeOf o c → or_else (type_found o) (Some c.type) ≡ Some c.type
+type_agreed : (o : Option (ℕ × Comp)) (c : Comp) → HasTypeOf o c → option_or (type_found o) (Some c.type) ≡ Some c.type
 type_agreed None c agreed = refl
 type_agreed (Some p) c agreed = ap Some agreed
 
@@ -24,7 +24,7 @@ changed_stands f cs i c names types at = (f at.0, slice_get-map f cs i ∙ ap (o
 pub carried_place : (cs ds : List Comp) (i : ℕ) (c : Comp) → AreOnce ds → Agree cs ds → slice_get ds i ≡ Some c → StandsAt (with_comps cs ds) (new_place ds (with_comps cs ds) i) c
 carried_place cs ds i c once agreed at =
     let all = with_comps cs ds in
-    let named = joined_type c.name cs ds ∙ ap (or_else (type_named c.name cs)) (type_of_once ds i c once at) in
+    let named = joined_type c.name cs ds ∙ ap (option_or (type_named c.name cs)) (type_of_once ds i c once at) in
     let type = named ∙ type_agreed (comp_named c.name cs) c (agrees_at cs ds i c agreed at) in
     let there = found (comp_named c.name all) c.type type in
     let stands = stands_there c.name all there.0 there.1 in

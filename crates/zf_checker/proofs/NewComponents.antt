@@ -1,5 +1,5 @@
 -- A conjunction has the components of the first schema, then those of the second that are new.
-use Rattle.zf_checker.proofs.Prelude.{if◌then◌else◌, ◌++◌, ◌+◌, ◌∙◌, ◌∷◌, ◌≡◌, [], ap, Bool, false, List, None, Option, refl, Some, sym, true, ℕ, append-nil, append_assoc, none-some, bytes_eq, or_none, swapped, Comp, later, or_else, AreOnce, comp, comp_named, with_comp, with_comps, CompsJoined, new_comps, signature, type_found, type_named, unless_found}
+use Rattle.zf_checker.proofs.Prelude.{if◌then◌else◌, ◌++◌, ◌+◌, ◌∙◌, ◌∷◌, ◌≡◌, [], ap, Bool, false, List, None, Option, refl, Some, sym, true, ℕ, append-nil, append_assoc, none-some, bytes_eq, or_none, swapped, Comp, later, AreOnce, comp, comp_named, with_comp, with_comps, CompsJoined, new_comps, signature, type_found, type_named, unless_found, option_or}
 use Rattle.zf_schema.proofs.Named.{type_one_more}
 
 -- ---- whether one is found
@@ -29,7 +29,7 @@ still_new cs [] c none = refl
 still_new cs (d ∷ ds) c none =
     let others = apart (bytes_eq d.name c.name) (0, d) (comp_named c.name ds) none in
     let other = swapped c.name d.name ∙ others.0 in
-    let known = type_one_more d.name cs c ∙ ap (λ t. or_else (type_named d.name cs) (if t then Some c.type else None)) other ∙ or_none (type_named d.name cs) in
+    let known = type_one_more d.name cs c ∙ ap (λ t. option_or (type_named d.name cs) (if t then Some c.type else None)) other ∙ or_none (type_named d.name cs) in
     found_alike (comp_named d.name (with_comp cs c)) (comp_named d.name cs) d (new_comps (with_comp cs c) ds) known
     ∙ ap (unless_found (comp_named d.name cs) d) (still_new cs ds c others.1)
 

@@ -3,7 +3,7 @@ pub use Rattle.std.proofs.Common.{if◌then◌else◌, ◌&&◌, ◌++◌, ◌+�
 pub use Rattle.std.proofs.lemmas.List.{append-nil, append_assoc, length-append, map-append, take-append-drop}
 pub use Rattle.std.proofs.lemmas.Option.{none-some, same_Some, slice_get-map}
 pub use Rattle.std.proofs.lemmas.Result.{on_ok_weaker}
-pub use Rattle.std.specs.Option.{option_map}
+pub use Rattle.std.specs.Option.{option_map, option_or}
 pub use Rattle.std.specs.Str.{bytes_eq}
 pub use Rattle.zf_tree.specs.Names.{spelling}
 pub use Rattle.zf_tree.specs.Trees.{BoxTree, definition, free, given, Links, no_decls, no_trees, ParagraphTree, Perhaps, schema_text, Tree, tree, Trees, var_decl, VarDecls}
@@ -15,7 +15,7 @@ pub use Rattle.zf_term.proofs.Walk.{at_end, at_step}
 pub use Rattle.zf_term.specs.Definitions.{abbreviation, Comp, constructor, Defined, Definition, free_type, given_set, schema, sets_of, sides}
 pub use Rattle.zf_term.specs.SchemaViews.{comp_of}
 pub use Rattle.zf_term.specs.DefinitionViews.{definition_of, globals_of}
-pub use Rattle.zf_term.specs.FirstNamed.{first_named, later, or_else}
+pub use Rattle.zf_term.specs.FirstNamed.{first_named, later}
 pub use Rattle.zf_term.specs.Numbers.{next_number}
 pub use Rattle.zf_term.specs.ResolvedTrees.{ResolvedTree}
 pub use Rattle.zf_term.specs.Types.{Ty, Tys}
@@ -26,7 +26,8 @@ pub use Rattle.zf_sorts.specs.Refusals.{fault_of, IfFault, offence_of}
 pub use Rattle.zf_type.specs.Resolving.{bound, referent, resolved, resolved_all, resolved_links, resolved_part, resolved_ranges}
 pub use Rattle.zf_sorts.specs.Rules.{predicate, set_sort, Sort, typed}
 pub use Rattle.zf_sorts.specs.declared.fault.Refusal.{Refusal}
-pub use Rattle.zf_calculus.specs.Calculus.{Agree, Agrees, all_unchanged, comp, comp_named, decorated, either_comps, HasTypeOf, new_place, place_of, place_or, prime, sets_on, unchanged, with_comp, with_comps}
+pub use Rattle.zf_calculus.specs.Calculus.{Agree, Agrees, all_unchanged, comp, comp_named, decorated, either_comps, HasTypeOf, new_place, prime, sets_on, unchanged, with_comp, with_comps}
+pub use Rattle.zf_calculus.specs.Growth.{place_or, place_of}
 pub use Rattle.zf_calculus.specs.CalculusLaws.{AreOnce}
 pub use Rattle.zf_schema.specs.Checking.{a_box, a_paragraph, ChecksAll, ChecksOne, Defines, IsChecked, Item, items, items_in, OffendsItem}
 pub use Rattle.zf_schema.specs.Expressions.{outside}

@@ -3,7 +3,6 @@ use Rattle.std.specs.Prelude.{ℕ, List, [], ◌∷◌, ◌++◌, flat_map, code
 use Rattle.zf_term.specs.Definitions.{Comp, Definition, given_set, free_type, constructor, abbreviation, schema, Defined}
 use Rattle.zf_term.specs.TypeTexts.{type_text}
 
--- names with ` | ` between each two
 abbrev pub choices_text : List (List ℕ) → List ℕ
 choices_text [] = []
 choices_text (name ∷ names) = name ++ flat_map (λ next. codes " | " ++ next) names

@@ -75,7 +75,6 @@ fn check_box<'a>(
             check_schema_box(
                 arena,
                 checked,
-                next,
                 name,
                 decls.as_slice(),
                 predicates.as_slice(),
@@ -114,17 +113,16 @@ fn check_paragraph<'a>(
     note(&mut checked.faults, defined)
 }
 
+/// Checks a schema box, which defines no type.
 fn check_schema_box<'a>(
     arena: &'a Bump,
     checked: &mut Checked<'a>,
-    next: &mut usize,
     name: &Name<'a>,
     decls: &[Decl<'a>],
     predicates: &[Boxed<'a, Term<'a>>],
 ) -> Result<(), AllocError>
-    requires { next.old ≡ next_number (globals_of checked.old.globals) }
     ensures runs { OnOk result (RunsOne checked.old (a_box name.now (map decl_of decls.now) (map tree_of predicates.now)) checked.new) }
-    ensures numbered { next.new ≡ next_number (globals_of checked.new.globals) }
+    ensures numbered { next_number (globals_of checked.new.globals) ≡ next_number (globals_of checked.old.globals) }
 {
     let defined = define_box(arena, &mut checked.globals, name, decls, predicates);
     note(&mut checked.faults, defined)

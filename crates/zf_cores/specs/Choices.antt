@@ -12,10 +12,6 @@ IsLeft chosen i = slice_get chosen i ≡ Some false
 abbrev pub HasChosen : List Bool → Type 0
 HasChosen chosen = (i : ℕ) × IsChosen chosen i
 
--- what is chosen by the one is chosen by the other
-pub record IsFewer (small large : List Bool) : Type 0 where
-  pub chosen : (i : ℕ) → IsChosen small i → IsChosen large i
-
 -- of some things those that are chosen
 abbrev pub chosen_of : {A : Type 0} → List A → List Bool → List A
 chosen_of [] chosen = []
@@ -28,8 +24,3 @@ pub record IsMinimal (Possible : List Bool → Type 0) (n : ℕ) (chosen : List 
   pub each : length chosen ≡ n
   pub impossible : Possible chosen → ⊥
   pub needed : (i : ℕ) → IsChosen chosen i → Possible (slice_set chosen i false)
-
--- P where it is so, Q where not
-abbrev pub OneOf : Type 0 → Type 0 → Bool → Type 0
-OneOf P Q true = P
-OneOf P Q false = Q

@@ -1,13 +1,12 @@
 //! What is possible with some of several members.
 ghost use Rattle.std.specs.Prelude.{◌≡◌, IfOk, length};
-ghost use Rattle.zf_cores.specs.Choices.{OneOf};
 
 use std::alloc::AllocError;
 
 /// What is possible with some of several members. What is possible with more of them is possible with fewer.
 pub trait Trial {
     ghost use Rattle.std.specs.Prelude.{ℕ, Bool, List};
-    ghost use Rattle.zf_cores.specs.Choices.{IsFewer};
+    ghost use Rattle.zf_cores.specs.Trials.{IsFewer, OneOf};
 
     /// How many members there are.
     ghost number: { Self → ℕ };

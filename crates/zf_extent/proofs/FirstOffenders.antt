@@ -10,7 +10,7 @@ use Rattle.zf_term.specs.Definitions.{Defined}
 use Rattle.zf_extent.specs.declared.offender.Offender.{Offender}
 use Rattle.zf_extent.specs.Extents.{first, unless, tested, is_last, offending, all_offending, links_offending, ranges_offending, part_offending}
 use Rattle.zf_term.specs.ResolvedViews.{resolved_of, resolved_link_of, range_of, terms, links, ranges, part_of}
-use Rattle.zf_term.specs.FirstNamed.{or_else}
+use Rattle.std.specs.Option.{option_or}
 use Rattle.zf_term.proofs.Choices.{or_none, or_else_assoc}
 use Rattle.zf_term.proofs.Walk.{dropped}
 use Rattle.zf_term.proofs.ResolvedSeen.{of-Builder, link-seen, range-seen}
@@ -24,7 +24,7 @@ offending_links g ks = links_offending g (links (map resolved_link_of ks))
 abbrev pub offending_ranges : List Defined → List Range → List Offender
 offending_ranges g rs = ranges_offending g (ranges (map range_of rs))
 
-pub first_of_both : {A : Type 0} (xs ys : List A) → first (xs ++ ys) ≡ or_else (first xs) (first ys)
+pub first_of_both : {A : Type 0} (xs ys : List A) → first (xs ++ ys) ≡ option_or (first xs) (first ys)
 first_of_both [] ys = refl
 first_of_both (x ∷ xs) ys = refl
 
@@ -33,33 +33,33 @@ pub first_step :
     {X A : Type 0} (all behind : List X → List A) (xs : List X) (i : ℕ) (x : X) (here : List A) (whole found next : Option A)
     → x ≡ get_or xs i x → i < length xs
     → all (x ∷ drop (i + 1) xs) ≡ here ++ behind (drop (i + 1) xs)
-    → whole ≡ or_else found (first (all (drop i xs)))
-    → next ≡ or_else found (first here)
-    → whole ≡ or_else next (first (behind (drop (i + 1) xs)))
+    → whole ≡ option_or found (first (all (drop i xs)))
+    → next ≡ option_or found (first here)
+    → whole ≡ option_or next (first (behind (drop (i + 1) xs)))
 first_step all behind xs i x here whole found next at l parts before step =
     let rest = behind (drop (i + 1) xs) in
     before
-    ∙ ap (λ ys. or_else found (first (all ys))) (dropped xs i x l at)
-    ∙ ap (λ ls. or_else found (first ls)) parts
-    ∙ ap (or_else found) (first_of_both here rest)
+    ∙ ap (λ ys. option_or found (first (all ys))) (dropped xs i x l at)
+    ∙ ap (λ ls. option_or found (first ls)) parts
+    ∙ ap (option_or found) (first_of_both here rest)
     ∙ sym (or_else_assoc found (first here) (first rest))
-    ∙ ap (λ o. or_else o (first rest)) (sym step)
+    ∙ ap (λ o. option_or o (first rest)) (sym step)
 
 -- terms, links and ranges, one further
 pub terms_step :
     (g : List Defined) (xs : List Resolved) (i : ℕ) (x : Resolved) (whole found next : Option Offender)
     → x ≡ get_or xs i x → i < length xs
-    → whole ≡ or_else found (first (offending_terms g (drop i xs)))
-    → next ≡ or_else found (first (offending g (resolved_of x)))
-    → whole ≡ or_else next (first (offending_terms g (drop (i + 1) xs)))
+    → whole ≡ option_or found (first (offending_terms g (drop i xs)))
+    → next ≡ option_or found (first (offending g (resolved_of x)))
+    → whole ≡ option_or next (first (offending_terms g (drop (i + 1) xs)))
 terms_step g xs i x whole found next at l = first_step (offending_terms g) (offending_terms g) xs i x (offending g (resolved_of x)) whole found next at l refl
 
 pub ranges_step :
     (g : List Defined) (xs : List Range) (i : ℕ) (x : Range) (whole found next : Option Offender)
     → x ≡ get_or xs i x → i < length xs
-    → whole ≡ or_else found (first (offending_ranges g (drop i xs)))
-    → next ≡ or_else found (first (offending g (resolved_of x.set)))
-    → whole ≡ or_else next (first (offending_ranges g (drop (i + 1) xs)))
+    → whole ≡ option_or found (first (offending_ranges g (drop i xs)))
+    → next ≡ option_or found (first (offending g (resolved_of x.set)))
+    → whole ≡ option_or next (first (offending_ranges g (drop (i + 1) xs)))
 ranges_step g xs i x whole found next at l =
     first_step (offending_ranges g) (offending_ranges g) xs i x (offending g (resolved_of x.set)) whole found next at l
     (ap (λ r. ranges_offending g (ranges (r ∷ map range_of (drop (i + 1) xs)))) (range-seen x))
@@ -71,9 +71,9 @@ pub links_step :
     (g : List Defined) (xs : List ResolvedLink) (i : ℕ) (x : ResolvedLink) (last : Bool) (whole found next : Option Offender)
     → x ≡ get_or xs i x → i < length xs
     → last ≡ ends (drop (i + 1) xs)
-    → whole ≡ or_else found (first (offending_links g (drop i xs)))
-    → next ≡ or_else found (first (unless (tested g x.relation last (resolved_of x.right)) (offending g (resolved_of x.right))))
-    → whole ≡ or_else next (first (offending_links g (drop (i + 1) xs)))
+    → whole ≡ option_or found (first (offending_links g (drop i xs)))
+    → next ≡ option_or found (first (unless (tested g x.relation last (resolved_of x.right)) (offending g (resolved_of x.right))))
+    → whole ≡ option_or next (first (offending_links g (drop (i + 1) xs)))
 links_step g xs i x last whole found next at l end =
     let t = resolved_of x.right in
     let rest = map resolved_link_of (drop (i + 1) xs) in
@@ -91,23 +91,23 @@ ends_at xs n = ap (λ ks. length ks == 0) (take_rest xs n) ∙ ends_where (drop 
 -- no item is ahead
 pub first_end :
     {X A : Type 0} (all : List X → List A) (xs : List X) (i : ℕ) (whole found : Option A)
-    → all [] ≡ [] → length xs ≤ i → whole ≡ or_else found (first (all (drop i xs))) → found ≡ whole
+    → all [] ≡ [] → length xs ≤ i → whole ≡ option_or found (first (all (drop i xs))) → found ≡ whole
 first_end all xs i whole found none h before =
-    sym (before ∙ ap (λ ys. or_else found (first (all ys))) (drop_all i xs h) ∙ ap (λ os. or_else found (first os)) none ∙ or_none found)
+    sym (before ∙ ap (λ ys. option_or found (first (all ys))) (drop_all i xs h) ∙ ap (λ os. option_or found (first os)) none ∙ or_none found)
 
 -- a builder: its ranges, the filter, and the term
 pub first_of_builder :
     (g : List Defined) (l : ℕ) (rs : List Range) (p t : Option Resolved) (whole : Resolved) (a b c : Option Offender) → whole ≡ v.Builder l rs p t
     → a ≡ first (ranges_offending g (ranges (map range_of rs)))
-    → b ≡ or_else a (first (part_offending g (part_of p)))
-    → c ≡ or_else b (first (part_offending g (part_of t)))
+    → b ≡ option_or a (first (part_offending g (part_of p)))
+    → c ≡ option_or b (first (part_offending g (part_of t)))
     → c ≡ first (offending g (resolved_of whole))
 first_of_builder g l rs p t whole a b c is e f h =
     let here = ranges_offending g (ranges (map range_of rs)) in
     let filter = part_offending g (part_of p) in
     let last = part_offending g (part_of t) in
     h
-    ∙ ap (λ o. or_else o (first last)) (f ∙ ap (λ o. or_else o (first filter)) e ∙ sym (first_of_both here filter))
+    ∙ ap (λ o. option_or o (first last)) (f ∙ ap (λ o. option_or o (first filter)) e ∙ sym (first_of_both here filter))
     ∙ sym (first_of_both (here ++ filter) last)
     ∙ sym (ap (λ w. first (offending g w)) (of-Builder l rs p t))
     ∙ sym (ap (λ w. first (offending g (resolved_of w))) is)

@@ -15,7 +15,7 @@ use Rattle.zf_term.specs.ResolvedTrees.{ResolvedTree}
 use Rattle.zf_term.specs.ResolvedViews.{resolved_of}
 use Rattle.zf_term.specs.Shapes.{moved}
 use Rattle.zf_term.specs.ShapeViews.{numbering}
-use Rattle.zf_term.specs.FirstNamed.{or_else}
+use Rattle.std.specs.Option.{option_or}
 use Rattle.zf_term.proofs.Choices.{or_else_assoc}
 use Rattle.zf_term.proofs.ConjunctsSeen.{batch-seen, of-Either, of-Member, of-Term}
 use Rattle.zf_extent.specs.declared.offender.Offender.{Offender}
@@ -59,31 +59,31 @@ same_in_all g f (t ∷ ts) =
 
 pub in_term :
     (g : List Defined) (t u : Resolved) (ps : Option (List ℕ)) (whole : Conjunct) (found next : Option Offender) → whole ≡ v.Term t ps → u ≡ t
-    → next ≡ or_else found (first (offending g (resolved_of u))) → next ≡ or_else found (first (offending g (conjunct_of whole)))
+    → next ≡ option_or found (first (offending g (resolved_of u))) → next ≡ option_or found (first (offending g (conjunct_of whole)))
 in_term g t u ps whole found next is same step =
     step
-    ∙ ap (λ s. or_else found (first (offending g (resolved_of s)))) same
-    ∙ ap (λ os. or_else found (first os)) (sym (ap (λ c. offending g (conjunct_of c)) is ∙ ap (offending g) (of-Term t ps) ∙ same_offences g (numbering ps) (resolved_of t)))
+    ∙ ap (λ s. option_or found (first (offending g (resolved_of s)))) same
+    ∙ ap (λ os. option_or found (first os)) (sym (ap (λ c. offending g (conjunct_of c)) is ∙ ap (offending g) (of-Term t ps) ∙ same_offences g (numbering ps) (resolved_of t)))
 
 pub in_member :
     (g : List Defined) (i : ℕ) (t u : Resolved) (ps : Option (List ℕ)) (whole : Conjunct) (found next : Option Offender) → whole ≡ v.Member i t ps → u ≡ t
-    → next ≡ or_else found (first (offending_within g (resolved_of u))) → next ≡ or_else found (first (offending g (conjunct_of whole)))
+    → next ≡ option_or found (first (offending_within g (resolved_of u))) → next ≡ option_or found (first (offending g (conjunct_of whole)))
 in_member g i t u ps whole found next is same step =
     step
-    ∙ ap (λ s. or_else found (first (offending_within g (resolved_of s)))) same
-    ∙ ap (λ os. or_else found (first os))
+    ∙ ap (λ s. option_or found (first (offending_within g (resolved_of s)))) same
+    ∙ ap (λ os. option_or found (first os))
     (sym (ap (λ c. offending g (conjunct_of c)) is ∙ ap (offending g) (of-Member i t ps) ∙ same_offences g (numbering ps) (is_member i (resolved_of t)) ∙ of_member g i (resolved_of t)))
 
 pub in_either :
     (g : List Defined) (l : ℕ) (left right bs ds : List Batch) (ps : Option (List ℕ)) (whole : Conjunct) (found a b : Option Offender) → whole ≡ v.Either l left right ps
-    → bs ≡ left → ds ≡ right → a ≡ or_else found (first (side g bs)) → b ≡ or_else a (first (side g ds)) → b ≡ or_else found (first (offending g (conjunct_of whole)))
+    → bs ≡ left → ds ≡ right → a ≡ option_or found (first (side g bs)) → b ≡ option_or a (first (side g ds)) → b ≡ option_or found (first (offending g (conjunct_of whole)))
 in_either g l left right bs ds ps whole found a b is one other first_side second_side =
     second_side
-    ∙ ap (λ o. or_else o (first (side g ds))) (first_side ∙ ap (λ xs. or_else found (first (side g xs))) one)
-    ∙ ap (λ xs. or_else (or_else found (first (side g left))) (first (side g xs))) other
+    ∙ ap (λ o. option_or o (first (side g ds))) (first_side ∙ ap (λ xs. option_or found (first (side g xs))) one)
+    ∙ ap (λ xs. option_or (option_or found (first (side g left))) (first (side g xs))) other
     ∙ or_else_assoc found (first (side g left)) (first (side g right))
-    ∙ ap (or_else found) (sym (first_of_both (side g left) (side g right)))
-    ∙ ap (λ os. or_else found (first os))
+    ∙ ap (option_or found) (sym (first_of_both (side g left) (side g right)))
+    ∙ ap (λ os. option_or found (first os))
     (sym (ap (λ c. offending g (conjunct_of c)) is ∙ ap (offending g) (of-Either l left right ps)
     ∙ same_offences g (numbering ps) (one_holds l (all_of (map batch_of left)) (all_of (map batch_of right)))
     ∙ of_either g l (all_of (map batch_of left)) (all_of (map batch_of right))))
@@ -93,9 +93,9 @@ in_either g l left right bs ds ps whole found a b is one other first_side second
 pub conjuncts_step :
     (g : List Defined) (xs : List Conjunct) (i : ℕ) (x : Conjunct) (whole found next : Option Offender)
     → x ≡ get_or xs i x → i < length xs
-    → whole ≡ or_else found (first (offenders g (map conjunct_of (drop i xs))))
-    → next ≡ or_else found (first (offending g (conjunct_of x)))
-    → whole ≡ or_else next (first (offenders g (map conjunct_of (drop (i + 1) xs))))
+    → whole ≡ option_or found (first (offenders g (map conjunct_of (drop i xs))))
+    → next ≡ option_or found (first (offending g (conjunct_of x)))
+    → whole ≡ option_or next (first (offenders g (map conjunct_of (drop (i + 1) xs))))
 conjuncts_step g xs i x whole found next at l =
     first_step (λ ys. offenders g (map conjunct_of ys)) (λ ys. offenders g (map conjunct_of ys)) xs i x (offending g (conjunct_of x)) whole found next at l
     (flat_map-cons (offending g) (conjunct_of x) (map conjunct_of (drop (i + 1) xs)))
@@ -109,9 +109,9 @@ one_more g b bs =
 pub batches_step :
     (g : List Defined) (xs : List Batch) (i : ℕ) (x : Batch) (cs : List Conjunct) (whole found next : Option Offender)
     → x ≡ get_or xs i x → i < length xs → cs ≡ x.conjuncts
-    → whole ≡ or_else found (first (side g (drop i xs)))
-    → next ≡ or_else found (first (offenders g (map conjunct_of cs)))
-    → whole ≡ or_else next (first (side g (drop (i + 1) xs)))
+    → whole ≡ option_or found (first (side g (drop i xs)))
+    → next ≡ option_or found (first (offenders g (map conjunct_of cs)))
+    → whole ≡ option_or next (first (side g (drop (i + 1) xs)))
 batches_step g xs i x cs whole found next at l same before step =
     first_step (side g) (side g) xs i x (offenders g (map conjunct_of x.conjuncts)) whole found next at l (one_more g x (drop (i + 1) xs)) before
-    (step ∙ ap (λ ys. or_else found (first (offenders g (map conjunct_of ys)))) same)
+    (step ∙ ap (λ ys. option_or found (first (offenders g (map conjunct_of ys)))) same)

@@ -1,52 +1,44 @@
 -- Infinite sets in terms: `\num`, `\nat`, `\nat_1`, and each name that is defined as one of them.
--- A value can be tested for being in one; no search goes through one. So one may stand as the whole right side of the last link
--- of a chain, if that is `\in` or `\notin`, and anywhere in the parameter of an empty set, which is no set of values.
+-- One may stand as the whole right side of a chain's last link, if that is `\in` or `\notin`, and anywhere in the parameter of an empty set.
 use Rattle.std.specs.Prelude.{ℕ, Bool, true, false, ◌&&◌, if◌then◌else◌, List, [], ◌∷◌, ◌++◌, Option, Some, None, slice_get}
+use Rattle.std.specs.Option.{option_map_or}
 use Rattle.zf_tree.specs.declared.symbol.Constant.{Constant}
-use Rattle.zf_tree.specs.declared.symbol.Constant.TheVariants.{True, False, Integers, Naturals, Positives}
+use Rattle.zf_tree.specs.declared.symbol.Constant.TheVariants.{Integers, Naturals, Positives}
 use Rattle.zf_tree.specs.declared.symbol.Relation.{Relation}
-use Rattle.zf_tree.specs.declared.symbol.Relation.TheVariants.{Equal, NotEqual, Member, NotMember, Subset, ProperSubset, Less, AtMost, Greater, AtLeast}
+use Rattle.zf_tree.specs.declared.symbol.Relation.TheVariants.{Member, NotMember}
 use Rattle.zf_term.specs.declared.extent.Extent.{Extent}
 use Rattle.zf_term.specs.declared.extent.Extent.TheVariants as extent
 use Rattle.zf_term.specs.declared.extent.Infinite.{Infinite}
 use Rattle.zf_term.specs.declared.extent.Infinite.TheVariants.{Num, Nat, Nat1}
 use Rattle.zf_reference.specs.declared.reference.Reference.{Reference}
-use Rattle.zf_reference.specs.declared.reference.Reference.TheVariants.{Component, Local, Global}
+use Rattle.zf_reference.specs.declared.reference.Reference.TheVariants.{Global}
 use Rattle.zf_extent.specs.declared.offender.Offender.{Offender}
 use Rattle.zf_extent.specs.declared.offender.Offender.TheVariants.{Name, Symbol}
-use Rattle.zf_term.specs.Definitions.{Defined, Definition, given_set, free_type, constructor, abbreviation, schema}
-use Rattle.zf_term.specs.ResolvedTrees.{ResolvedTree, reference, number, constant, empty_set, bracket, listed, builder, unary, binary, chain, quantified, ResolvedTrees, no_terms, term, ResolvedLinks, no_links, link, Ranges, no_ranges, range, ResolvedPart, absent, present}
+use Rattle.zf_term.specs.Definitions.{Defined, Definition, abbreviation}
+use Rattle.zf_term.specs.ResolvedTrees.{ResolvedTree, reference, constant, bracket, listed, builder, unary, binary, chain, quantified, ResolvedTrees, no_terms, term, ResolvedLinks, no_links, link, Ranges, no_ranges, range, ResolvedPart, absent, present}
 
 -- ---- the infinite set that a term is
 
 abbrev pub constant_set : Constant → Option Infinite
-constant_set True = None
-constant_set False = None
 constant_set Integers = Some Num
 constant_set Naturals = Some Nat
 constant_set Positives = Some Nat1
+constant_set _ = None
 
 abbrev pub definition_extent : Definition → Extent
-definition_extent (given_set n) = extent.Closed
-definition_extent (free_type n names) = extent.Closed
-definition_extent (constructor n of_type place) = extent.Closed
 definition_extent (abbreviation t r x) = x
-definition_extent (schema a) = extent.Closed
+definition_extent _ = extent.Closed
 
 abbrev pub extent_found : Option Defined → Extent
-extent_found None = extent.Closed
-extent_found (Some d) = definition_extent d.definition
+extent_found found = option_map_or (λ d. definition_extent d.definition) found extent.Closed
 
--- the extent of what a name stands for
 abbrev pub extent_named : List Defined → Reference → Extent
-extent_named g (Component i) = extent.Closed
-extent_named g (Local i) = extent.Closed
 extent_named g (Global i) = extent_found (slice_get g i)
+extent_named g _ = extent.Closed
 
 abbrev pub extent_set : Extent → Option Infinite
 extent_set (extent.Infinite s) = Some s
-extent_set extent.Open = None
-extent_set extent.Closed = None
+extent_set _ = None
 
 -- the infinite set that the term is, within brackets or without
 abbrev pub direct : List Defined → ResolvedTree → Option Infinite
@@ -58,16 +50,9 @@ direct g _ = None
 -- ---- what offends
 
 abbrev pub is_membership : Relation → Bool
-is_membership Equal = false
-is_membership NotEqual = false
 is_membership Member = true
 is_membership NotMember = true
-is_membership Subset = false
-is_membership ProperSubset = false
-is_membership Less = false
-is_membership AtMost = false
-is_membership Greater = false
-is_membership AtLeast = false
+is_membership _ = false
 
 abbrev pub is_last : ResolvedLinks → Bool
 is_last no_links = true
@@ -78,26 +63,23 @@ abbrev pub tested : List Defined → Relation → (last : Bool) → ResolvedTree
 tested g r last t = if is_membership r && last then direct g t else None
 
 -- where a term may be an infinite set as a whole, that is no offence
-abbrev pub unless : Option Infinite → List Offender → List Offender
+abbrev pub unless : {A : Type 0} → Option A → List Offender → List Offender
 unless None offenders = offenders
 unless (Some s) offenders = []
 
 -- the name of a global of this extent, if it offends
 abbrev pub global_offenders : (line place : ℕ) → Extent → List Offender
-global_offenders l i (extent.Infinite s) = Name l i ∷ []
-global_offenders l i extent.Open = Name l i ∷ []
 global_offenders l i extent.Closed = []
+global_offenders l i _ = Name l i ∷ []
 
 abbrev pub name_offenders : (line : ℕ) → Reference → Extent → List Offender
-name_offenders l (Component i) x = []
-name_offenders l (Local i) x = []
 name_offenders l (Global i) x = global_offenders l i x
+name_offenders l _ x = []
 
 abbrev pub constant_offenders : (line : ℕ) → Constant → Option Infinite → List Offender
 constant_offenders l c None = []
 constant_offenders l c (Some s) = Symbol l c ∷ []
 
--- the line of what offends
 abbrev pub offender_line : Offender → ℕ
 offender_line (Name l i) = l
 offender_line (Symbol l c) = l
@@ -106,9 +88,7 @@ offender_line (Symbol l c) = l
 abbrev mutual
   pub offending : List Defined → ResolvedTree → List Offender
   offending g (reference l r) = name_offenders l r (extent_named g r)
-  offending g (number l v) = []
   offending g (constant l c) = constant_offenders l c (constant_set c)
-  offending g (empty_set l t) = []
   offending g (bracket l t) = offending g t
   offending g (listed l form ts) = all_offending g ts
   offending g (builder l rs p t) = ranges_offending g rs ++ part_offending g p ++ part_offending g t
@@ -116,6 +96,7 @@ abbrev mutual
   offending g (binary l op a b) = offending g a ++ offending g b
   offending g (chain l t ks) = offending g t ++ links_offending g ks
   offending g (quantified l q rs p t) = ranges_offending g rs ++ part_offending g p ++ offending g t
+  offending g _ = []
 
   pub all_offending : List Defined → ResolvedTrees → List Offender
   all_offending g no_terms = []

@@ -3,7 +3,7 @@ ghost use Rattle.std.specs.Prelude.{◌≡◌, flat_map, map};
 ghost use Rattle.zf_data.specs.Chunks.{all_of};
 ghost use Rattle.zf_term.specs.SchemaViews.{batch_of, conjunct_of};
 ghost use Rattle.zf_term.specs.DefinitionViews.{globals_of};
-ghost use Rattle.zf_term.specs.FirstNamed.{or_else};
+ghost use Rattle.std.specs.Option.{option_or};
 ghost use Rattle.zf_extent.specs.Extents as extents;
 
 use crate::infinite;
@@ -19,7 +19,7 @@ pub fn offending_after<'a>(
     found: Option<Offender>,
     globals: &Globals<'a>,
 ) -> Option<Offender>
-    ensures { result ≡ or_else found (extents.first (extents.offending (globals_of globals.now) (conjunct_of conjunct.now))) }
+    ensures { result ≡ option_or found (extents.first (extents.offending (globals_of globals.now) (conjunct_of conjunct.now))) }
 {
     match conjunct {
         Conjunct::Term(term, _) => infinite::offending_after(term.get(), found, globals),
@@ -40,7 +40,7 @@ fn side_offending_after<'a>(
     found: Option<Offender>,
     globals: &Globals<'a>,
 ) -> Option<Offender>
-    ensures { result ≡ or_else found (extents.first (flat_map (extents.offending (globals_of globals.now)) (all_of (map batch_of batches.now)))) }
+    ensures { result ≡ option_or found (extents.first (flat_map (extents.offending (globals_of globals.now)) (all_of (map batch_of batches.now)))) }
 {
     let mut offender = found;
     for batch in batches.as_slice() {
@@ -56,7 +56,7 @@ fn all_offending_after<'a>(
     found: Option<Offender>,
     globals: &Globals<'a>,
 ) -> Option<Offender>
-    ensures { result ≡ or_else found (extents.first (flat_map (extents.offending (globals_of globals.now)) (map conjunct_of conjuncts.now))) }
+    ensures { result ≡ option_or found (extents.first (flat_map (extents.offending (globals_of globals.now)) (map conjunct_of conjuncts.now))) }
 {
     let mut offender = found;
     for conjunct in conjuncts.as_slice() {

@@ -3,7 +3,7 @@ ghost use Rattle.std.specs.Prelude.{◌≡◌, map};
 ghost use Rattle.zf_term.specs.DefinitionViews.{definition_of, globals_of};
 ghost use Rattle.zf_extent.specs.Extents as spec;
 ghost use Rattle.zf_term.specs.ResolvedViews.{resolved_of, resolved_link_of, range_of, terms, links, ranges, part_of};
-ghost use Rattle.zf_term.specs.FirstNamed.{or_else};
+ghost use Rattle.std.specs.Option.{option_or};
 
 use crate::offender::Offender;
 use zf_data::arena::{Boxed, Items};
@@ -84,7 +84,7 @@ pub fn offending_after<'a>(
     found: Option<Offender>,
     globals: &Globals<'a>,
 ) -> Option<Offender>
-    ensures { result ≡ or_else found (spec.first (spec.offending (globals_of globals.now) (resolved_of term.now))) }
+    ensures { result ≡ option_or found (spec.first (spec.offending (globals_of globals.now) (resolved_of term.now))) }
 {
     match found {
         Some(offender) => Some(offender),
@@ -99,7 +99,7 @@ pub fn offending_within_after<'a>(
     found: Option<Offender>,
     globals: &Globals<'a>,
 ) -> Option<Offender>
-    ensures { result ≡ or_else found (spec.first (spec.offending_within (globals_of globals.now) (resolved_of term.now))) }
+    ensures { result ≡ option_or found (spec.first (spec.offending_within (globals_of globals.now) (resolved_of term.now))) }
 {
     match direct(term, globals) {
         Some(_) => found,
@@ -124,7 +124,7 @@ fn links_after<'a>(
     found: Option<Offender>,
     globals: &Globals<'a>,
 ) -> Option<Offender>
-    ensures { result ≡ or_else found (spec.first (spec.links_offending (globals_of globals.now) (links (map resolved_link_of further.now)))) }
+    ensures { result ≡ option_or found (spec.first (spec.links_offending (globals_of globals.now) (links (map resolved_link_of further.now)))) }
 {
     let mut offender = found;
     let all = further.as_slice();
@@ -144,7 +144,7 @@ fn right_after<'a>(
     is_last: bool,
     globals: &Globals<'a>,
 ) -> Option<Offender>
-    ensures { result ≡ or_else found (spec.first (spec.unless (spec.tested (globals_of globals.now) relation is_last (resolved_of right.now)) (spec.offending (globals_of globals.now) (resolved_of right.now)))) }
+    ensures { result ≡ option_or found (spec.first (spec.unless (spec.tested (globals_of globals.now) relation is_last (resolved_of right.now)) (spec.offending (globals_of globals.now) (resolved_of right.now)))) }
 {
     if is_membership(relation) && is_last {
         offending_within_after(right, found, globals)
@@ -173,7 +173,7 @@ fn part_after<'a>(
     found: Option<Offender>,
     globals: &Globals<'a>,
 ) -> Option<Offender>
-    ensures { result ≡ or_else found (spec.first (spec.part_offending (globals_of globals.now) (part_of part.now))) }
+    ensures { result ≡ option_or found (spec.first (spec.part_offending (globals_of globals.now) (part_of part.now))) }
 {
     match part.get() {
         None => found,

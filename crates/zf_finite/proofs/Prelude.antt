@@ -5,9 +5,9 @@ pub use Rattle.zf_term.specs.ResolvedTrees.{ResolvedTree}
 pub use Rattle.zf_term.specs.Definitions.{Comp, Defined, Schema, sets_of}
 pub use Rattle.zf_term.specs.SchemaViews.{comp_of, conjunct_of, schema_of, set_of}
 pub use Rattle.zf_term.specs.DefinitionViews.{globals_of}
-pub use Rattle.zf_term.specs.FirstNamed.{or_else}
+pub use Rattle.std.specs.Option.{option_or}
 pub use Rattle.zf_extent.specs.declared.offender.Offender.{Offender}
-pub use Rattle.zf_extent.specs.Extents.{first, offending}
+pub use Rattle.zf_extent.specs.Extents.{first, offending, unless}
 pub use Rattle.zf_finite.specs.declared.not_finite.NotFinite.TheVariants.{Offends}
-pub use Rattle.zf_finite.specs.Finite.{all_plain_lines, all_set_offenders, causes, comp_causes, first_or, IsFinite, one_bounds, plain_lines, set_offenders, unbounded, unless_ended}
+pub use Rattle.zf_finite.specs.Finite.{all_plain_lines, all_set_offenders, causes, comp_causes, IsFinite, one_bounds, plain_lines, set_offenders, unbounded}
 pub use Rattle.zf_finite.specs.FiniteLaws.{FiniteWithoutCause}

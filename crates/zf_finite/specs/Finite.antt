@@ -1,21 +1,13 @@
--- Which schemas are finite: whose bindings are among those of finite sets, where each given set is finite.
--- Where there is a greatest number, each set of numbers is finite too: then each declared set bounds, and nothing offends.
-use Rattle.std.specs.Prelude.{◌≡◌, IsTrue, ℕ, Bool, true, false, not, ◌&&◌, ◌||◌, is_some, if◌then◌else◌, List, [], ◌∷◌, ◌++◌, flat_map, map, Option, Some, None}
+-- Which schemas are finite, where given sets are, and sets of numbers if there is a greatest one: each component has a finite declared set.
+use Rattle.std.specs.Prelude.{◌≡◌, IsTrue, ℕ, Bool, false, not, ◌&&◌, ◌||◌, is_some, if◌then◌else◌, List, [], ◌∷◌, ◌++◌, flat_map, map, Option, is_none, unwrap_or}
 use Rattle.std.specs.List.{AllByRecursion}
-use Rattle.zf_term.specs.declared.extent.Infinite.{Infinite}
 use Rattle.zf_term.specs.Definitions.{Comp, Schema, DeclaredSet, plain, carrier, sides, DeclaredSets, no_sets, set, sets_of, Defined}
 use Rattle.zf_extent.specs.declared.offender.Offender.{Offender}
-use Rattle.zf_extent.specs.Extents.{direct, offender_line, offending, offending_within}
+use Rattle.zf_extent.specs.Extents.{direct, offender_line, offending, offending_within, first, unless}
 use Rattle.zf_finite.specs.declared.not_finite.NotFinite.{NotFinite}
 use Rattle.zf_finite.specs.declared.not_finite.NotFinite.TheVariants.{Unbounded, Offends}
 use Rattle.zf_term.specs.Shapes.{term_line}
 use Rattle.zf_term.specs.Types.{has_numbers}
-
--- ---- what bounds a component
-
-abbrev pub is_none : Option Infinite → Bool
-is_none None = true
-is_none (Some s) = false
 
 -- where n is the greatest number, if there is one: a declared set bounds, unless it is infinite; a disjunction needs a bound on both sides
 abbrev mutual
@@ -27,10 +19,6 @@ abbrev mutual
   pub one_bounds : Option ℕ → List Defined → DeclaredSets → Bool
   one_bounds n g no_sets = false
   one_bounds n g (set d ds) = bounds n g d || one_bounds n g ds
-
-abbrev pub first_or : List ℕ → ℕ → ℕ
-first_or [] other = other
-first_or (l ∷ ls) other = l
 
 -- the lines of the sets of declarations, from left to right
 abbrev mutual
@@ -45,13 +33,11 @@ abbrev mutual
 
 -- the line of the first of them; a component of a schema has one
 abbrev pub first_plain : DeclaredSets → ℕ
-first_plain ds = first_or (all_plain_lines ds) 0
+first_plain ds = unwrap_or (first (all_plain_lines ds)) 0
 
 -- the component, with that line, where nothing bounds it
 abbrev pub unbounded : Option ℕ → List Defined → (name : List ℕ) → DeclaredSets → List NotFinite
 unbounded n g name ds = if one_bounds n g ds then [] else Unbounded (first_plain ds) name ∷ []
-
--- ---- what offends in it
 
 -- a declared set that is infinite as a whole does not offend: it filters
 abbrev mutual
@@ -64,21 +50,13 @@ abbrev mutual
   all_set_offenders g no_sets = []
   all_set_offenders g (set d ds) = set_offenders g d ++ all_set_offenders g ds
 
--- where there is a greatest number, nothing offends
-abbrev pub unless_ended : Option ℕ → List Offender → List Offender
-unless_ended None offenders = offenders
-unless_ended (Some n) offenders = []
-
--- ---- schemas
-
 abbrev pub comp_causes : Option ℕ → List Defined → Comp → List NotFinite
-comp_causes n g c = unbounded n g c.name (sets_of c.sets) ++ map Offends (unless_ended n (all_set_offenders g (sets_of c.sets)))
+comp_causes n g c = unbounded n g c.name (sets_of c.sets) ++ map Offends (unless n (all_set_offenders g (sets_of c.sets)))
 
 -- what makes a schema infinite: its components with their declared sets, and then its conjuncts
 abbrev pub causes : Option ℕ → List Defined → Schema → List NotFinite
-causes n g a = flat_map (comp_causes n g) a.comps ++ map Offends (flat_map (λ t. unless_ended n (offending g t)) a.conjuncts)
+causes n g a = flat_map (comp_causes n g) a.comps ++ map Offends (flat_map (λ t. unless n (offending g t)) a.conjuncts)
 
--- the line on which it stands
 abbrev pub cause_line : NotFinite → ℕ
 cause_line (Unbounded l name) = l
 cause_line (Offends o) = offender_line o
@@ -86,5 +64,5 @@ cause_line (Offends o) = offender_line o
 -- each component has a declared set that bounds it, and nothing offends
 pub record IsFinite (n : Option ℕ) (g : List Defined) (a : Schema) : Type 0 where
   pub bounded : AllByRecursion (λ c. IsTrue (one_bounds n g (sets_of c.sets))) a.comps
-  pub sets : AllByRecursion (λ c. unless_ended n (all_set_offenders g (sets_of c.sets)) ≡ []) a.comps
-  pub conjuncts : AllByRecursion (λ t. unless_ended n (offending g t) ≡ []) a.conjuncts
+  pub sets : AllByRecursion (λ c. unless n (all_set_offenders g (sets_of c.sets)) ≡ []) a.comps
+  pub conjuncts : AllByRecursion (λ t. unless n (offending g t) ≡ []) a.conjuncts

@@ -3,9 +3,9 @@ ghost use Rattle.std.specs.Prelude.{◌≡◌, OnOk, IfErr, Some, flat_map, map}
 ghost use Rattle.zf_term.specs.SchemaViews.{comp_of, conjunct_of, schema_of, set_of};
 ghost use Rattle.zf_term.specs.DefinitionViews.{globals_of};
 ghost use Rattle.zf_term.specs.Definitions.{sets_of};
-ghost use Rattle.zf_extent.specs.Extents.{first};
+ghost use Rattle.zf_extent.specs.Extents.{first, unless};
 ghost use Rattle.zf_extent.specs.Extents as extents;
-ghost use Rattle.zf_term.specs.FirstNamed.{or_else};
+ghost use Rattle.std.specs.Option.{option_or};
 ghost use Rattle.zf_finite.specs.Finite as spec;
 ghost use Rattle.zf_finite.specs.Finite.{IsFinite};
 
@@ -93,7 +93,7 @@ fn sets_offender<'a>(
     domains: &Chunked<'a, Domain<'a>>,
     globals: &Globals<'a>,
 ) -> Option<Offender>
-    ensures { result ≡ first (spec.unless_ended numbers (spec.all_set_offenders (globals_of globals.now) (sets_of (map set_of domains.now)))) }
+    ensures { result ≡ first (unless numbers (spec.all_set_offenders (globals_of globals.now) (sets_of (map set_of domains.now)))) }
 {
     match numbers {
         Some(_) => None,
@@ -139,7 +139,7 @@ fn conjuncts_offender<'a>(
     conjuncts: &Chunked<'a, Conjunct<'a>>,
     globals: &Globals<'a>,
 ) -> Option<Offender>
-    ensures { result ≡ first (flat_map (λ t. spec.unless_ended numbers (extents.offending (globals_of globals.now) t)) (map conjunct_of conjuncts.now)) }
+    ensures { result ≡ first (flat_map (λ t. unless numbers (extents.offending (globals_of globals.now) t)) (map conjunct_of conjuncts.now)) }
 {
     match numbers {
         Some(_) => None,
@@ -194,7 +194,7 @@ fn one_bounds<'a>(
 #[cycle(plain)]
 #[tactic(auto, using(zf_term::proofs::SetsSeen::seen, crate::proofs::FirstCauses::both_after))]
 fn plain_after<'a>(domain: &Domain<'a>, found: Option<u32>) -> Option<u32>
-    ensures { result ≡ or_else found (first (spec.plain_lines (set_of domain.now))) }
+    ensures { result ≡ option_or found (first (spec.plain_lines (set_of domain.now))) }
 {
     match domain {
         Domain::Plain(set) => or_line(found, set.get().line()),
@@ -207,7 +207,7 @@ fn plain_after<'a>(domain: &Domain<'a>, found: Option<u32>) -> Option<u32>
 }
 
 fn or_line(found: Option<u32>, line: u32) -> Option<u32>
-    ensures { result ≡ or_else found (Some line) }
+    ensures { result ≡ option_or found (Some line) }
 {
     match found {
         Some(line) => Some(line),
@@ -217,7 +217,7 @@ fn or_line(found: Option<u32>, line: u32) -> Option<u32>
 
 #[cycle(plain)]
 fn all_plain_after<'a>(domains: &Items<'a, Domain<'a>>, found: Option<u32>) -> Option<u32>
-    ensures { result ≡ or_else found (first (spec.all_plain_lines (sets_of (map set_of domains.now)))) }
+    ensures { result ≡ option_or found (first (spec.all_plain_lines (sets_of (map set_of domains.now)))) }
 {
     let mut line = found;
     for domain in domains.as_slice() {
@@ -234,7 +234,7 @@ fn set_offending_after<'a>(
     found: Option<Offender>,
     globals: &Globals<'a>,
 ) -> Option<Offender>
-    ensures { result ≡ or_else found (first (spec.set_offenders (globals_of globals.now) (set_of domain.now))) }
+    ensures { result ≡ option_or found (first (spec.set_offenders (globals_of globals.now) (set_of domain.now))) }
 {
     match domain {
         Domain::Plain(set) => offending_within_after(set.get(), found, globals),
@@ -252,7 +252,7 @@ fn all_offending_after<'a>(
     found: Option<Offender>,
     globals: &Globals<'a>,
 ) -> Option<Offender>
-    ensures { result ≡ or_else found (first (spec.all_set_offenders (globals_of globals.now) (sets_of (map set_of domains.now)))) }
+    ensures { result ≡ option_or found (first (spec.all_set_offenders (globals_of globals.now) (sets_of (map set_of domains.now)))) }
 {
     let mut offender = found;
     for domain in domains.as_slice() {

@@ -1,6 +1,8 @@
 -- The lines that say what a fault is about, after its own. Each begins with four blanks.
-use Rattle.std.specs.Prelude.{ℕ, ◌&&◌, nat_eq, nat_le, nat_lt, Bool, if◌then◌else◌, List, [], ◌∷◌, ◌++◌, Option, Some, None, codes, decimal, slice_get, ◌≡◌, ◌==◌, map}
+use Rattle.std.specs.Prelude.{ℕ, nat_eq, nat_lt, Bool, if◌then◌else◌, List, [], ◌∷◌, ◌++◌, Some, None, codes, decimal, slice_get, ◌≡◌, ◌==◌, map}
 use Rattle.std.specs.List.{starts_with, flat_map}
+use Rattle.std.specs.Option.{option_map_or}
+use Rattle.std.specs.Char.{is_ascii_graphic}
 use Rattle.zf_tree.specs.declared.symbol.Constant.{Constant}
 use Rattle.zf_tree.specs.declared.symbol.Constant.TheVariants.{True, False, Integers, Naturals, Positives}
 use Rattle.zf_scan.specs.declared.fault.TextFault.{TextFault}
@@ -16,7 +18,6 @@ use Rattle.zf_term.specs.FirstNamed.{first_named}
 use Rattle.zf_term.specs.Limits.{components_max, sets_max, conjuncts_max, nodes_max, height_max}
 use Rattle.zf_term.specs.Types.{type_nodes_max}
 use Rattle.zf_term.specs.TypeTexts.{type_text}
-use Rattle.zf_text.specs.declared.unread.About.{About}
 use Rattle.zf_text.specs.Height.{height_limit}
 use Rattle.zf_extent.specs.declared.offender.Offender.{Offender}
 use Rattle.zf_extent.specs.declared.offender.Offender.TheVariants.{Name, Symbol}
@@ -65,8 +66,7 @@ offence_details (misplaced n z) = detail (codes "found") (sort_text z)
 offence_details (clash x t u) = detail (codes "component") x ++ (detail (codes "left") (type_text t) ++ detail (codes "right") (type_text u))
 offence_details (too_large l) = detail (codes "limit") (limit_text l)
 
--- what is reported beside an offence: how the source spells the term that offends, with the lines of its first and of its last symbol, or a name
--- that is like the one that is missing
+-- what is reported beside an offence: the text of the term that offends, with the lines of its first and last symbol, or a name like the missing one
 pub data Aside : Type 0 where
   nothing : Aside
   quoted : (text : List ℕ) → (first last : ℕ) → Aside
@@ -88,7 +88,6 @@ beside (like name) lines = lines ++ detail (codes "like") name
 abbrev pub type_fault_lines : (details : Bool) → (file : List ℕ) → Fault → Aside → List ℕ
 type_fault_lines details file fault aside = with_details details (type_fault_line file fault) (beside aside (offence_details fault.offence))
 
--- a fault, and what is reported beside it
 pub record Reported : Type 0 where
   pub fault : Fault
   pub aside : Aside
@@ -108,7 +107,7 @@ symbol_text symbol = if starts_with nat_eq symbol (codes "\\end{") then codes "e
 
 -- a byte that is printed, or its number
 abbrev pub is_printed : ℕ → Bool
-is_printed b = nat_le 33 b && nat_le b 126
+is_printed = is_ascii_graphic
 
 -- a command; without the byte behind its backslash, where that is not printed
 abbrev pub command_text : List ℕ → List ℕ
@@ -135,9 +134,6 @@ pub record Cited : Type 0 where
   pub symbol : List ℕ
   pub other : List ℕ
   pub line : ℕ
-
-abbrev pub cited_of : About → Cited
-cited_of a = record { symbol = a.symbol.now; other = a.other.now; line = a.line }
 
 abbrev pub located : List ℕ → ℕ → List ℕ
 located symbol line = symbol ++ codes ", line " ++ decimal line
@@ -178,12 +174,8 @@ constant_text Integers = codes "\\num"
 constant_text Naturals = codes "\\nat"
 constant_text Positives = codes "\\nat_1"
 
-abbrev pub name_of : Option Defined → List ℕ
-name_of None = []
-name_of (Some d) = d.name
-
 abbrev pub offender_text : List Defined → Offender → List ℕ
-offender_text g (Name l place) = name_of (slice_get g place)
+offender_text g (Name l place) = option_map_or (λ d. d.name) (slice_get g place) []
 offender_text g (Symbol l c) = constant_text c
 
 -- this is the name of a schema that has no such component

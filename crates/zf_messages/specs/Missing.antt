@@ -1,12 +1,11 @@
 -- The lines for a schema or a size that is missing: if details are asked for, with the names that there are.
 use Rattle.std.specs.Prelude.{ℕ, Bool, if◌then◌else◌, List, [], ◌∷◌, ◌++◌, codes}
 use Rattle.std.specs.List.{flat_map, fold}
-use Rattle.zf_term.specs.Definitions.{Defined, Definition, given_set, free_type, constructor, abbreviation, schema}
+use Rattle.zf_term.specs.Definitions.{Defined, Definition, schema}
 use Rattle.zf_messages.specs.Details.{detail_if_any, with_details}
 use Rattle.zf_term.specs.Likeness.{is_like}
 use Rattle.zf_messages.specs.Texts.{no_schema_line, no_size_line}
 
--- names, and one more
 abbrev pub and_name : List ℕ → List ℕ → List ℕ
 and_name [] name = name
 and_name (c ∷ text) name = (c ∷ text) ++ codes ", " ++ name
@@ -15,21 +14,14 @@ and_name (c ∷ text) name = (c ∷ text) ++ codes ", " ++ name
 abbrev pub names_text : List (List ℕ) → List ℕ
 names_text names = fold and_name [] names
 
--- ---- schemas
-
 -- the name, if it is that of a schema
 abbrev pub if_schema : List ℕ → Definition → List (List ℕ)
-if_schema name (given_set n) = []
-if_schema name (free_type n names) = []
-if_schema name (constructor n of_type place) = []
-if_schema name (abbreviation t r x) = []
 if_schema name (schema a) = name ∷ []
+if_schema name _ = []
 
--- the schemas, in order of definition
 abbrev pub schemas : List Defined → List (List ℕ)
 schemas g = flat_map (λ d. if_schema d.name d.definition) g
 
--- the first of the names that is like this one
 abbrev pub first_like : List ℕ → List (List ℕ) → List ℕ
 first_like name [] = []
 first_like name (other ∷ names) = if is_like name other then other else first_like name names
@@ -37,8 +29,6 @@ first_like name (other ∷ names) = if is_like name other then other else first_
 -- `zf: no schema S`; behind it the first schema that is like it, and all that there are
 abbrev pub no_schema_lines : (details : Bool) → List Defined → List ℕ → List ℕ
 no_schema_lines details g name = with_details details (no_schema_line name) (detail_if_any (codes "like") (first_like name (schemas g)) ++ detail_if_any (codes "schemas") (names_text (schemas g)))
-
--- ---- sizes
 
 -- `zf: no size for N`; behind it all given sets without a size
 abbrev pub no_size_lines : (details : Bool) → List (List ℕ) → List ℕ → List ℕ

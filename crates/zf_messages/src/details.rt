@@ -1,7 +1,8 @@
 //! The lines that say what a fault is about, after its own.
 ghost use Rattle.std.specs.Prelude.{◌≡◌, ◌++◌, codes, decimal, IfOk, OnOk, slice_get};
 ghost use Rattle.zf_messages.specs.Details as spec;
-ghost use Rattle.zf_messages.specs.AsideViews.{aside_of};
+ghost use Rattle.zf_messages.specs.Named.{name_of};
+ghost use Rattle.zf_messages.specs.AsideViews.{aside_of, cited_of};
 ghost use Rattle.zf_term.specs.DefinitionViews.{globals_of};
 ghost use Rattle.zf_term.specs.TypeTexts.{type_text};
 ghost use Rattle.zf_term.specs.TypeViews.{type_of};
@@ -303,7 +304,7 @@ fn append_open(lines: &mut Vec<u8>, bracket: &[u8], line: u32) -> Result<(), All
 
 /// A symbol that is unexpected.
 fn append_unexpected(lines: &mut Vec<u8>, about: &About<'_>) -> Result<(), AllocError>
-    ensures { OnOk result (lines.new.items ≡ lines.old.items ++ spec.unexpected_details (spec.cited_of about.now)) }
+    ensures { OnOk result (lines.new.items ≡ lines.old.items ++ spec.unexpected_details (cited_of about.now)) }
 {
     append_if_any(lines, b"symbol", symbol_text(about.symbol))?;
     append_open(lines, about.other, about.line)
@@ -315,7 +316,7 @@ fn append_text_details(
     kind: TextFaultKind,
     about: &About<'_>,
 ) -> Result<(), AllocError>
-    ensures { OnOk result (lines.new.items ≡ lines.old.items ++ spec.text_details kind (spec.cited_of about.now)) }
+    ensures { OnOk result (lines.new.items ≡ lines.old.items ++ spec.text_details kind (cited_of about.now)) }
 {
     let symbol = about.symbol;
     match kind {
@@ -339,7 +340,7 @@ pub fn text_fault_lines(
     fault: TextFault,
     about: &About<'_>,
 ) -> Result<Vec<u8>, AllocError>
-    ensures { IfOk result (λ v. v.items ≡ spec.text_fault_lines details file.now fault (spec.cited_of about.now)) }
+    ensures { IfOk result (λ v. v.items ≡ spec.text_fault_lines details file.now fault (cited_of about.now)) }
 {
     let mut lines = text_fault_line(alloc, file, fault)?;
     if details {
@@ -365,7 +366,7 @@ fn constant_text(constant: Constant) -> &'static [u8]
 
 /// The name of the global at this place.
 fn name_at<'g>(globals: &'g Globals<'_>, place: usize) -> &'g [u8]
-    ensures { result.now ≡ spec.name_of (slice_get (globals_of globals.now) place) }
+    ensures { result.now ≡ name_of (slice_get (globals_of globals.now) place) }
 {
     match globals.in_order(place) {
         Some((name, _)) => name,

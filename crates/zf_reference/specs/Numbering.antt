@@ -1,5 +1,4 @@
--- Components numbered anew: what a name stands for where the components of a schema have other places. Bound variables and globals keep their numbers, so no
--- bound variable is captured.
+-- Components numbered anew, where they have other places. Bound variables and globals keep their numbers, so no bound variable is captured.
 use Rattle.std.specs.Prelude.{ℕ}
 use Rattle.zf_reference.specs.declared.reference.Reference.{Reference}
 use Rattle.zf_reference.specs.declared.reference.Reference.TheVariants.{Component, Local, Global}

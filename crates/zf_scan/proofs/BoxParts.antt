@@ -1,5 +1,5 @@
 -- What the list of the symbols of a box is while the scanner fills it.
-use Rattle.zf_scan.proofs.Prelude.{◌++◌, ◌∙◌, ◌∷◌, ◌≡◌, ◌≤◌, [], ap, append_assoc, Bool, false, inl, inr, length, List, refl, Some, subst, sym, take, true, ℕ, append-nil, list_all, if◌then◌else◌, bytes_eq, begins_box, BeginsBox, ends_box, EndsOnce, Follows, IsBox, IsBoxAtMost, IsCutOn, IsCutUpTo, entered, escape, informal, is_directive, look_up, opening, OutsideKind, remark, schema, SpellsOutside, openings, kind_of, Found, NotInProfile, Next, Piece, Plain, Refused, Symbol, Place, Border, Kind, BeginSchema, BeginZed, EndBox, Token}
+use Rattle.zf_scan.proofs.Prelude.{◌++◌, ◌∙◌, ◌∷◌, ◌≡◌, ◌≤◌, [], ap, append_assoc, Bool, false, inl, inr, length, List, refl, Some, subst, sym, take, true, ℕ, append-nil, list_all, if◌then◌else◌, bytes_eq, begins_box, BeginsBox, ends_box, EndsOnce, Follows, IsBox, IsBoxAtMost, IsCutOn, IsCutUpTo, entered, escape, informal, is_directive, look_up, opening, OutsideKind, remark, schema_opening, SpellsOutside, openings, kind_of, Found, NotInProfile, Next, Piece, Plain, Refused, Symbol, Place, Border, Kind, BeginSchema, BeginZed, EndBox, Token}
 use Rattle.zf_scan.specs.declared.next.Next.TheVariants as next
 use Rattle.zf_scan.specs.declared.pieces.Place.TheVariants.{Outside, Zed, Schema}
 use Rattle.zf_scan.proofs.Laws.{cut_whole}
@@ -33,7 +33,7 @@ no_remark p kind false e = cc
 
 outside_begins : (form : OutsideKind) (kind : Kind) (p : List ℕ) → SpellsOutside form (Symbol kind) p → begins_box kind ≡ true
 outside_begins opening kind p h = row_opens openings p (Symbol kind) all_open h
-outside_begins schema kind p h =
+outside_begins schema_opening kind p h =
     let e = h.4 in
     let same : kind ≡ BeginSchema h.0 = cc e in
     ap begins_box same

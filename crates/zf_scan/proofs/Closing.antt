@@ -1,5 +1,5 @@
 -- Inside a box: commands and the closing of the box, and all pieces together.
-use Rattle.zf_scan.proofs.Prelude.{◌++◌, ◌+◌, ◌<◌, ◌∙◌, ◌∷◌, ◌≡◌, ◌≤◌, ◌⊎◌, [], ap, append_assoc, arith, Bool, drop, false, inl, inr, length, length-append, length-drop, length-take-le, List, min, None, Option, refl, Some, subst, sym, take, take-append-drop, true, ℕ, ⊎_elim, one-add, nat_tests, ◌&&◌, ◌==◌, codes, not, closing, fixed, InsideKind, is_digit, is_letter, is_run, IsCommand, look_up, name, numeral, remark, SpellsInside, unknown, symbols, begins, command_len, found, long_len, or_else, run_len, step_len, tail_len, command_found, comment_found, inside_found, number_found, short_command, Piece, Refused, Symbol, Digits, Letters, EndBox}
+use Rattle.zf_scan.proofs.Prelude.{◌++◌, ◌+◌, ◌<◌, ◌∙◌, ◌∷◌, ◌≡◌, ◌≤◌, ◌⊎◌, [], ap, append_assoc, arith, Bool, drop, false, inl, inr, length, length-append, length-drop, length-take-le, List, min, None, Option, refl, Some, subst, sym, take, take-append-drop, true, ℕ, ⊎_elim, one-add, nat_tests, ◌&&◌, ◌==◌, codes, not, closing, fixed, InsideKind, is_letter, is_run, IsCommand, look_up, name, digits, remark, SpellsInside, unknown, symbols, begins, command_len, found, long_len, or_else, run_len, step_len, tail_len, command_found, comment_found, inside_found, number_found, short_command, Piece, Refused, Symbol, Digits, Letters, EndBox, is_ascii_digit}
 use Rattle.zf_scan.specs.declared.fault.TextFaultKind.TheVariants as faults
 use Rattle.zf_scan.proofs.Runs.{and_left, and_right, run_le, run_exact, run_all, run_within}
 use Rattle.zf_scan.proofs.Texts.{pick, eq_is, both, back_is, taken, front_le, tail_is, begins_is, is_begun}
@@ -27,17 +27,17 @@ short_text t = pick (λ n. IsCommand (take n (92 ∷ t))) (run_len Letters t == 
     lone [] = ([], refl, inl refl)
     lone (c ∷ cs) = let n : min (length (92 ∷ c ∷ cs)) 2 ≡ 2 = omega arith in (c ∷ [], rw n, inr refl)
 
-digit_tail : (x : ℕ) (rest : List ℕ) → is_digit x ≡ true → tail_len (x ∷ rest) ≡ 1
+digit_tail : (x : ℕ) (rest : List ℕ) → is_ascii_digit x ≡ true → tail_len (x ∷ rest) ≡ 1
 digit_tail x rest d = rw (no_bar x rest d) (step x rest d)
   where
-    no_bar : (x : ℕ) (rest : List ℕ) → is_digit x ≡ true → begins (x ∷ rest) (codes "_1") ≡ false
+    no_bar : (x : ℕ) (rest : List ℕ) → is_ascii_digit x ≡ true → begins (x ∷ rest) (codes "_1") ≡ false
     no_bar x rest d = let n : (95 == x) ≡ false = grind (arith, nat_tests) in rw n
 
-    step : (x : ℕ) (rest : List ℕ) → is_digit x ≡ true → step_len Digits (x ∷ rest) ≡ 1
+    step : (x : ℕ) (rest : List ℕ) → is_ascii_digit x ≡ true → step_len Digits (x ∷ rest) ≡ 1
     step x [] d = rw d
     step x (c ∷ cs) d = rw d
 
-digit_stops : (x : ℕ) (rest : List ℕ) → is_digit x ≡ true → run_len Letters (x ∷ rest) ≡ 0
+digit_stops : (x : ℕ) (rest : List ℕ) → is_ascii_digit x ≡ true → run_len Letters (x ∷ rest) ≡ 0
 digit_stops x [] d = rw (digit_no_letter x d)
 digit_stops x (c ∷ cs) d = rw (digit_no_letter x d)
 
@@ -66,7 +66,7 @@ fits_by w (x ∷ []) u rest t e n h g = by (length w == 0) refl
     by : (z : Bool) → (length w == 0) ≡ z → Reaches u t
     by true z = inl (omega (arith, n, eq_is (length w) 0 z, two_le t (omega (arith, all))))
     by false z =
-        let d : is_digit x ≡ true = either (length w == 0) (is_digit x) g (λ y. absurd (both (length w == 0) y z)) (λ d. d) in
+        let d : is_ascii_digit x ≡ true = either (length w == 0) (is_ascii_digit x) g (λ y. absurd (both (length w == 0) y z)) (λ d. d) in
         let some : 0 < length w = grind (arith, nat_tests) in
         inr (omega (arith, n, long_is w (x ∷ rest) h (digit_stops x rest d) some, digit_tail x rest d, ap (λ t. long_len (92 ∷ t)) e))
 fits_by w (x ∷ y ∷ []) u rest t e n h g =
@@ -94,8 +94,8 @@ tail_within s = pick (λ n. n ≤ length s) (begins s (codes "_1")) _ _ (λ h. f
   where
     step_within : (s : List ℕ) → step_len Digits s ≤ length s
     step_within [] = omega arith
-    step_within (b ∷ []) = pick (λ n. n ≤ length (b ∷ [])) (is_digit b) _ _ (λ _. omega arith) (λ _. omega arith)
-    step_within (b ∷ c ∷ cs) = pick (λ n. n ≤ length (b ∷ c ∷ cs)) (is_digit b) _ _ (λ _. omega arith) (λ _. omega arith)
+    step_within (b ∷ []) = pick (λ n. n ≤ length (b ∷ [])) (is_ascii_digit b) _ _ (λ _. omega arith) (λ _. omega arith)
+    step_within (b ∷ c ∷ cs) = pick (λ n. n ≤ length (b ∷ c ∷ cs)) (is_ascii_digit b) _ _ (λ _. omega arith) (λ _. omega arith)
 
 long_within : (t : List ℕ) → long_len (92 ∷ t) ≤ length (92 ∷ t)
 long_within t = omega (arith, command_within t, tail_within (drop (command_len (92 ∷ t)) (92 ∷ t)), length-drop (command_len (92 ∷ t)) (92 ∷ t))
@@ -120,7 +120,7 @@ at_backslash z t fixed piece r rest h e =
 at_backslash z t closing piece r rest h e = inr (inr (ap length h.0, is_begun (92 ∷ t) (92 ∷ z) rest (e ∙ ap (λ r. r ++ rest) h.0)))
 at_backslash z t remark piece r rest h e = let k = headed z remark piece r rest 92 t h e in absurd (omega (arith, k))
 at_backslash z t name piece r rest h e = absurd (both false (headed z name piece r rest 92 t h e) refl)
-at_backslash z t numeral piece r rest h e = absurd (both false (headed z numeral piece r rest 92 t h e) refl)
+at_backslash z t digits piece r rest h e = absurd (both false (headed z digits piece r rest 92 t h e) refl)
 at_backslash z t unknown piece r rest h e = inl (unknown_bound r rest t h.0 e)
 
 -- where the longer text is listed
@@ -179,7 +179,7 @@ remark_next : (z bs : List ℕ) → Next (92 ∷ z) (37 ∷ bs) (comment_found (
 unfolding comment_found
 remark_next z bs = inl (comment_at z bs)
 
-numeral_next : (z : List ℕ) (b : ℕ) (bs : List ℕ) → is_digit b ≡ true → Next (92 ∷ z) (b ∷ bs) (number_found (b ∷ bs))
+numeral_next : (z : List ℕ) (b : ℕ) (bs : List ℕ) → is_ascii_digit b ≡ true → Next (92 ∷ z) (b ∷ bs) (number_found (b ∷ bs))
 unfolding number_found
 numeral_next z b bs e = inl (number_at z b bs e)
 
@@ -190,7 +190,7 @@ inside_next z (b ∷ bs) closes some =
     pick (Next (92 ∷ z) (b ∷ bs)) (b == 37) _ _ (λ e. subst (λ b. Next (92 ∷ z) (b ∷ bs) (comment_found (b ∷ bs))) (sym (eq_is b 37 e)) (remark_next z bs))
     (λ percent. pick (Next (92 ∷ z) (b ∷ bs)) (b == 92) _ _ (λ e. subst (λ b. Next (92 ∷ z) (b ∷ bs) (command_found (92 ∷ z) (b ∷ bs))) (sym (eq_is b 92 e)) (command_next z bs closes))
     (λ backslash. pick (Next (92 ∷ z) (b ∷ bs)) (is_letter b) _ _ (λ e. word_next z b bs e)
-    (λ letter. pick (Next (92 ∷ z) (b ∷ bs)) (is_digit b) _ _ (λ e. numeral_next z b bs e)
+    (λ letter. pick (Next (92 ∷ z) (b ∷ bs)) (is_ascii_digit b) _ _ (λ e. numeral_next z b bs e)
     (λ digit. symbol_next z b bs (record { percent = percent; backslash = backslash; letter = letter; digit = digit })))))
 
 pub zed_next : (s : List ℕ) → 0 < length s → Next (codes "\\end{zed}") s (inside_found (codes "\\end{zed}") s)

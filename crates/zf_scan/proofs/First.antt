@@ -1,5 +1,5 @@
 -- Outside the boxes: what is found at the front of a text is of the first kind that fits.
-use Rattle.zf_scan.proofs.Prelude.{◌++◌, ◌+◌, ◌<◌, ◌∙◌, ◌∷◌, ◌≡◌, ◌≤◌, ◌⊎◌, [], ap, append_assoc, arith, Bool, drop, false, inl, inr, length, length-append, length-take-le, List, min, None, Option, refl, Some, subst, sym, take, take-append-drop, true, ℕ, ⊎_elim, one-add, nat_tests, list_all, if◌then◌else◌, ◌==◌, ◌||◌, codes, not, bytes_eq, StandsOutside, escape, informal, is_base, is_letter, is_run, look_up, opening, OutsideKind, remark, schema, SpellsOutside, turn, openings, symbols, base_len, begins, Found, has_no_name, plain, run_len, comment_found, opening_found, other_opening_found, outside_found, schema_found, Piece, Plain, Refused, Symbol, Base, Line, BeginSchema, BeginZed}
+use Rattle.zf_scan.proofs.Prelude.{◌++◌, ◌+◌, ◌<◌, ◌∙◌, ◌∷◌, ◌≡◌, ◌≤◌, ◌⊎◌, [], ap, append_assoc, arith, Bool, drop, false, inl, inr, length, length-append, length-take-le, List, min, None, Option, refl, Some, subst, sym, take, take-append-drop, true, ℕ, ⊎_elim, one-add, nat_tests, list_all, if◌then◌else◌, ◌==◌, ◌||◌, codes, not, bytes_eq, StandsOutside, escape, informal, is_base, is_letter, is_run, look_up, opening, OutsideKind, remark, schema_opening, SpellsOutside, turn, openings, symbols, base_len, begins, Found, has_no_name, plain, run_len, comment_found, opening_found, other_opening_found, outside_found, schema_found, Piece, Plain, Refused, Symbol, Base, Line, BeginSchema, BeginZed}
 use Rattle.std.specs.Option.{is_some}
 use Rattle.zf_scan.specs.declared.fault.TextFaultKind.TheVariants as faults
 use Rattle.zf_scan.proofs.Runs.{and_left, and_right, run_le, run_exact, run_within}
@@ -69,7 +69,7 @@ opening_le r piece h = by_opening r piece h (λ e. omega (arith, ap length e)) (
 pub schema_is : (s r rest name : List ℕ) → r ≡ codes "\\begin{schema}{" ++ name ++ codes "}" → s ≡ r ++ rest → s ≡ codes "\\begin{schema}{" ++ ((name ++ codes "}") ++ rest)
 schema_is s r rest name f e = e ∙ ap (λ r. r ++ rest) f
 
-schema_begins : (s r rest : List ℕ) (piece : Piece) → SpellsOutside schema piece r → s ≡ r ++ rest → begins s (codes "\\begin{schema}{") ≡ true
+schema_begins : (s r rest : List ℕ) (piece : Piece) → SpellsOutside schema_opening piece r → s ≡ r ++ rest → begins s (codes "\\begin{schema}{") ≡ true
 schema_begins s r rest piece h e = is_begun s (codes "\\begin{schema}{") ((h.0 ++ codes "}") ++ rest) (schema_is s r rest h.0 h.1 e)
 
 wider : (s : List ℕ) → begins s (codes "\\begin{schema}{") ≡ true → begins s (codes "\\begin{") ≡ true
@@ -90,7 +90,7 @@ escape_head b bs r rest piece h e = ⊎_elim (λ k. head_is b 92 bs rest (e ∙ 
 opening_head : (b : ℕ) (bs r rest : List ℕ) (piece : Piece) → SpellsOutside opening piece r → b ∷ bs ≡ r ++ rest → b ≡ 92
 opening_head b bs r rest piece h e = head_of b bs (codes "\\begin{") 92 (codes "begin{") (opening_begins (b ∷ bs) r rest piece h e) refl
 
-schema_head : (b : ℕ) (bs r rest : List ℕ) (piece : Piece) → SpellsOutside schema piece r → b ∷ bs ≡ r ++ rest → b ≡ 92
+schema_head : (b : ℕ) (bs r rest : List ℕ) (piece : Piece) → SpellsOutside schema_opening piece r → b ∷ bs ≡ r ++ rest → b ≡ 92
 schema_head b bs r rest piece h e = head_of b bs (codes "\\begin{schema}{") 92 (codes "begin{schema}{") (schema_begins (b ∷ bs) r rest piece h e) refl
 
 plain_next : (b : ℕ) (bs : List ℕ) → (b == 92) ≡ false → (b == 37) ≡ false → Next (b ∷ bs) (plain 1)
@@ -98,7 +98,7 @@ plain_next b bs backslash percent = at_from (b ∷ bs) Plain 1 informal (omega a
   where
     bound : Bound (b ∷ bs) informal 1
     bound opening piece r rest h e = not_backslash b bs backslash (opening_head b bs r rest piece h e)
-    bound schema piece r rest h e = not_backslash b bs backslash (schema_head b bs r rest piece h e)
+    bound schema_opening piece r rest h e = not_backslash b bs backslash (schema_head b bs r rest piece h e)
     bound escape piece r rest h e = not_backslash b bs backslash (escape_head b bs r rest piece h e)
     bound remark piece r rest h e = absurd (both (b == 37) (ap (λ b. b == 37) (head_is b 37 bs (h.0.0 ++ rest) (e ∙ ap (λ r. r ++ rest) h.0.1))) percent)
     bound informal piece r rest h e = inr (refl, omega (arith, h.0))
@@ -109,7 +109,7 @@ comment_next bs = at_from (37 ∷ bs) _ (1 + run_len Line bs) remark (omega arit
   where
     bound : Bound (37 ∷ bs) remark (1 + run_len Line bs)
     bound opening piece r rest h e = let k = opening_head 37 bs r rest piece h e in absurd (omega (arith, k))
-    bound schema piece r rest h e = let k = schema_head 37 bs r rest piece h e in absurd (omega (arith, k))
+    bound schema_opening piece r rest h e = let k = schema_head 37 bs r rest piece h e in absurd (omega (arith, k))
     bound escape piece r rest h e = let k = escape_head 37 bs r rest piece h e in absurd (omega (arith, k))
     bound remark piece r rest h e =
         let behind = tail_is 37 37 bs (h.0.0 ++ rest) (e ∙ ap (λ r. r ++ rest) h.0.1) in
@@ -129,7 +129,7 @@ escape_next t none nameless = at_from (92 ∷ t) Plain (min (length (92 ∷ t)) 
   where
     bound : Bound (92 ∷ t) escape (min (length (92 ∷ t)) 2)
     bound opening piece r rest h e = absurd (none piece r rest h e)
-    bound schema piece r rest h e = absurd (both _ (schema_begins (92 ∷ t) r rest piece h e) nameless)
+    bound schema_opening piece r rest h e = absurd (both _ (schema_begins (92 ∷ t) r rest piece h e) nameless)
     bound escape piece r rest h e = inr (refl, ⊎_elim (λ k. omega (arith, ap length k, front_le (92 ∷ t) r rest e)) (λ k. omega (arith, ap length k.1, front_le (92 ∷ t) r rest e)) h.0)
     bound remark piece r rest h e = inl (omega arith)
     bound informal piece r rest h e = inl (omega arith)
@@ -139,7 +139,7 @@ escape_next t none nameless = at_from (92 ∷ t) Plain (min (length (92 ∷ t)) 
 -- the length bounds every opening
 opened : (s q : List ℕ) (piece : Piece) → 0 < length q → look_up q openings ≡ Some piece → begins s q ≡ true
     → ((found : Piece) (r rest : List ℕ) → look_up r openings ≡ Some found → s ≡ r ++ rest → length r ≤ length q)
-    → ((found : Piece) (r rest : List ℕ) → SpellsOutside schema found r → s ≡ r ++ rest → length r ≤ length q)
+    → ((found : Piece) (r rest : List ℕ) → SpellsOutside schema_opening found r → s ≡ r ++ rest → length r ≤ length q)
     → At s piece (length q)
 opened s q piece some listed e fixed named = at_from s piece (length q) opening some (front_le s q _ is) (ap (λ p. look_up p openings) (taken s q _ (length q) is refl) ∙ listed) bound
   where
@@ -148,12 +148,12 @@ opened s q piece some listed e fixed named = at_from s piece (length q) opening 
 
     bound : Bound s opening (length q)
     bound opening piece r rest h e = inr (refl, fixed piece r rest h e)
-    bound schema piece r rest h e = inr (refl, named piece r rest h e)
+    bound schema_opening piece r rest h e = inr (refl, named piece r rest h e)
     bound escape piece r rest h e = inl (omega arith)
     bound remark piece r rest h e = inl (omega arith)
     bound informal piece r rest h e = inl (omega arith)
 
-nameless_bound : (s : List ℕ) (n : ℕ) → begins s (codes "\\begin{schema}{") ≡ false → (found : Piece) (r rest : List ℕ) → SpellsOutside schema found r → s ≡ r ++ rest → length r ≤ n
+nameless_bound : (s : List ℕ) (n : ℕ) → begins s (codes "\\begin{schema}{") ≡ false → (found : Piece) (r rest : List ℕ) → SpellsOutside schema_opening found r → s ≡ r ++ rest → length r ≤ n
 nameless_bound s n nameless piece r rest h e = absurd (both _ (schema_begins s r rest piece h e) nameless)
 
 -- two openings do not begin one text
@@ -184,7 +184,7 @@ syntax_next : (s : List ℕ) → begins s (codes "\\begin{schema}{") ≡ false �
 unfolding openings
 syntax_next s nameless e = opened s (codes "\\begin{syntax}") (Refused faults.NotInProfile) (omega arith) refl e (λ found r rest h f. opening_le r found h) (nameless_bound s 14 nameless)
 
-unnamed_next : (s : List ℕ) → begins s (codes "\\begin{schema}") ≡ true → ((found : Piece) (r rest : List ℕ) → SpellsOutside schema found r → s ≡ r ++ rest
+unnamed_next : (s : List ℕ) → begins s (codes "\\begin{schema}") ≡ true → ((found : Piece) (r rest : List ℕ) → SpellsOutside schema_opening found r → s ≡ r ++ rest
     → length r ≤ 14) → At s (Refused faults.BadByte) 14
 unfolding openings
 unnamed_next s e named = opened s (codes "\\begin{schema}") (Refused faults.BadByte) (omega arith) refl e (λ found r rest h f. opening_le r found h) named
@@ -230,7 +230,7 @@ named (c ∷ cs) rest h k =
     three : (a b d : Bool) → a ≡ false → b ≡ true → d ≡ false → (a || (not b || d)) ≡ false
     three a b d e f g = rw (e, f, g)
 
-schema_long : (s r rest : List ℕ) (piece : Piece) → SpellsOutside schema piece r → s ≡ r ++ rest → (length r ≡ 16 + base_len (drop 15 s)) × (has_no_name (drop 15 s) ≡ false)
+schema_long : (s r rest : List ℕ) (piece : Piece) → SpellsOutside schema_opening piece r → s ≡ r ++ rest → (length r ≡ 16 + base_len (drop 15 s)) × (has_no_name (drop 15 s) ≡ false)
 schema_long s r rest piece h e =
     let behind : drop 15 s ≡ h.0 ++ 125 ∷ rest = ap (drop 15) (schema_is s r rest h.0 h.1 e) ∙ append_assoc h.0 (codes "}") rest in
     let n = named h.0 rest h.2 h.3 in
@@ -268,7 +268,7 @@ schema_text s e n =
     begins_is s (codes "\\begin{schema}{") e ∙ ap (λ t. codes "\\begin{schema}{" ++ t) (all ∙ sym (append_assoc (take (base_len t) t) (codes "}") (drop 1 (drop (base_len t) t))))
 
 named_next : (s : List ℕ) → begins s (codes "\\begin{schema}{") ≡ true → Named (drop 15 s) → At s (Symbol (BeginSchema (take (base_len (drop 15 s)) (drop 15 s)))) (16 + base_len (drop 15 s))
-named_next s e n = at_from s _ (16 + base_len t) schema (omega arith) (omega (
+named_next s e n = at_from s _ (16 + base_len t) schema_opening (omega arith) (omega (
   arith,
   front_le s (codes "\\begin{schema}{" ++ take (base_len (drop 15 s)) (drop 15 s) ++ codes "}") (drop 1 (drop (base_len (drop 15 s)) (drop 15 s))) is,
   long,
@@ -284,9 +284,9 @@ named_next s e n = at_from s _ (16 + base_len t) schema (omega arith) (omega (
     long : length (codes "\\begin{schema}{" ++ take (base_len (drop 15 s)) (drop 15 s) ++ codes "}") ≡ 16 + base_len (drop 15 s)
     long = omega (arith, length-append (take (base_len (drop 15 s)) (drop 15 s)) (codes "}"), length-take-le (base_len (drop 15 s)) (drop 15 s) (base_within (drop 15 s)))
 
-    bound : Bound s schema (16 + base_len (drop 15 s))
+    bound : Bound s schema_opening (16 + base_len (drop 15 s))
     bound opening piece r rest h e = inr (refl, omega (arith, opening_le r piece h))
-    bound schema piece r rest h e = inr (refl, omega (arith, (schema_long s r rest piece h e).0))
+    bound schema_opening piece r rest h e = inr (refl, omega (arith, (schema_long s r rest piece h e).0))
     bound escape piece r rest h e = inl (omega arith)
     bound remark piece r rest h e = inl (omega arith)
     bound informal piece r rest h e = inl (omega arith)

@@ -1,5 +1,5 @@
 -- Inside a box: what is found at the front of a text is the longest, and where nothing is found no piece fits.
-use Rattle.zf_scan.proofs.Prelude.{◌++◌, ◌+◌, ◌<◌, ◌∙◌, ◌∷◌, ◌≡◌, ◌≤◌, ◌⊎◌, [], ap, append_assoc, arith, Bool, drop, false, inl, inr, length, length-append, length-drop, length-take-le, List, None, Option, refl, Some, sym, take, take-append-drop, true, ℕ, one-add, take-add, nat_tests, ◌&&◌, ◌==◌, ◌||◌, codes, StandsInside, closing, comment, fixed, InsideKind, is_base, is_digit, is_letter, is_number, is_one, is_run, is_two, IsComment, look_up, name, number_piece, numeral, remark, SpellsInside, unknown, symbols, base_len, begins, Found, found, name_of, or_else, run_len, strokes_len, symbol_len, word_len, symbol_found, word_found, Piece, Refused, Symbol, Base, Digits, Line, Strokes}
+use Rattle.zf_scan.proofs.Prelude.{◌++◌, ◌+◌, ◌<◌, ◌∙◌, ◌∷◌, ◌≡◌, ◌≤◌, ◌⊎◌, [], ap, append_assoc, arith, Bool, drop, false, inl, inr, length, length-append, length-drop, length-take-le, List, None, Option, refl, Some, sym, take, take-append-drop, true, ℕ, one-add, take-add, nat_tests, ◌&&◌, ◌==◌, ◌||◌, codes, StandsInside, closing, comment, fixed, InsideKind, is_base, is_letter, is_number, is_one, is_run, is_two, IsComment, look_up, name, number_piece, digits, remark, SpellsInside, unknown, symbols, base_len, begins, Found, found, name_of, or_else, run_len, strokes_len, symbol_len, word_len, symbol_found, word_found, Piece, Refused, Symbol, Base, Digits, Line, Strokes, is_ascii_digit}
 use Rattle.zf_scan.specs.declared.fault.TextFaultKind.TheVariants as faults
 use Rattle.zf_scan.proofs.Runs.{and_left, and_right, run_le, run_exact, run_all, run_within, run_len-one}
 use Rattle.zf_scan.proofs.Texts.{pick, eq_is, both, back_is, taken, front_le, head_is, tail_is, begins_is, is_begun, bytes_same}
@@ -37,31 +37,31 @@ Heads fixed b = Unit {0}
 Heads closing b = b ≡ 92
 Heads remark b = b ≡ 37
 Heads name b = is_letter b ≡ true
-Heads numeral b = is_digit b ≡ true
+Heads digits b = is_ascii_digit b ≡ true
 Heads unknown b = b ≡ 92
 
 name_head : (base strokes rest : List ℕ) (b : ℕ) (bs : List ℕ) → is_base base ≡ true → b ∷ bs ≡ (base ++ strokes) ++ rest → is_letter b ≡ true
 name_head [] strokes rest b bs h e = absurd (cc)
 name_head (c ∷ cs) strokes rest b bs h e = ap is_letter (head_is b c bs ((cs ++ strokes) ++ rest) e) ∙ and_left (is_letter c) (is_run Base cs) h
 
-pub run_head : (c : ℕ) (cs : List ℕ) → is_run Digits (c ∷ cs) ≡ true → is_digit c ≡ true
+pub run_head : (c : ℕ) (cs : List ℕ) → is_run Digits (c ∷ cs) ≡ true → is_ascii_digit c ≡ true
 run_head c [] h = h
-run_head c (d ∷ ds) h = by (is_digit c) refl
+run_head c (d ∷ ds) h = by (is_ascii_digit c) refl
   where
-    by : (t : Bool) → is_digit c ≡ t → is_digit c ≡ true
+    by : (t : Bool) → is_ascii_digit c ≡ t → is_ascii_digit c ≡ true
     by true e = e
     by false e = let k : false ≡ true = rw e at h in absurd (cc)
 
-number_head : (r rest : List ℕ) (b : ℕ) (bs : List ℕ) → is_number r ≡ true → b ∷ bs ≡ r ++ rest → is_digit b ≡ true
+number_head : (r rest : List ℕ) (b : ℕ) (bs : List ℕ) → is_number r ≡ true → b ∷ bs ≡ r ++ rest → is_ascii_digit b ≡ true
 number_head [] rest b bs h e = absurd (cc)
-number_head (c ∷ cs) rest b bs h e = ap is_digit (head_is b c bs (cs ++ rest) e) ∙ run_head c cs h
+number_head (c ∷ cs) rest b bs h e = ap is_ascii_digit (head_is b c bs (cs ++ rest) e) ∙ run_head c cs h
 
 pub headed : (z : List ℕ) (kind : InsideKind) (piece : Piece) (r rest : List ℕ) (b : ℕ) (bs : List ℕ) → SpellsInside (92 ∷ z) kind piece r → b ∷ bs ≡ r ++ rest → Heads kind b
 headed z fixed piece r rest b bs h e = tt
 headed z closing piece r rest b bs h e = head_is b 92 bs (z ++ rest) (e ∙ ap (λ r. r ++ rest) h.0)
 headed z remark piece r rest b bs h e = head_is b 37 bs (h.0.0 ++ rest) (e ∙ ap (λ r. r ++ rest) h.0.1)
 headed z name piece r rest b bs h e = name_head h.0 h.1 rest b bs h.3 (e ∙ ap (λ r. r ++ rest) h.2)
-headed z numeral piece r rest b bs h e = number_head r rest b bs h.0 e
+headed z digits piece r rest b bs h e = number_head r rest b bs h.0 e
 headed z unknown piece r rest b bs h e = head_is b 92 bs (h.0.0 ++ rest) (e ∙ ap (λ r. r ++ rest) h.0.1)
 
 -- a listed text begins with the same byte
@@ -80,7 +80,7 @@ listed_from (c ∷ cs) rest piece b bs h e = record {
   fits = ap (λ b. row_fits (b ∷ cs)) (head_is b c bs (cs ++ rest) e) ∙ listed_fits (c ∷ cs) piece h;
 }
 
-letter_not_digit : (b : ℕ) → is_letter b ≡ true → is_digit b ≡ true → ⊥
+letter_not_digit : (b : ℕ) → is_letter b ≡ true → is_ascii_digit b ≡ true → ⊥
 letter_not_digit b e f = grind (arith, nat_tests)
 
 pub spelled_some : (z : List ℕ) (kind : InsideKind) (piece : Piece) (p : List ℕ) → SpellsInside (92 ∷ z) kind piece p → 0 < length p
@@ -93,8 +93,8 @@ spelled_some z name piece p h = base_some h.0 h.1 p h.2 h.3
     base_some : (base strokes p : List ℕ) → p ≡ base ++ strokes → is_base base ≡ true → 0 < length p
     base_some [] strokes p e f = absurd (cc)
     base_some (c ∷ cs) strokes p e f = omega (arith, ap length e)
-spelled_some z numeral piece [] h = absurd (both false h.0 refl)
-spelled_some z numeral piece (b ∷ bs) h = omega arith
+spelled_some z digits piece [] h = absurd (both false h.0 refl)
+spelled_some z digits piece (b ∷ bs) h = omega arith
 spelled_some z unknown piece p h = omega (arith, ap length h.0.1)
 
 -- ---- comments
@@ -106,7 +106,7 @@ comment_bound z bs remark piece r rest h e =
     let behind = tail_is 37 37 bs (h.0.0 ++ rest) (e ∙ ap (λ r. r ++ rest) h.0.1) in
     omega (arith, ap length h.0.1, run_le Line h.0.0 rest h.0.2, ap (run_len Line) behind)
 comment_bound z bs name piece r rest h e = absurd (both false (headed z name piece r rest 37 bs h e) refl)
-comment_bound z bs numeral piece r rest h e = absurd (both false (headed z numeral piece r rest 37 bs h e) refl)
+comment_bound z bs digits piece r rest h e = absurd (both false (headed z digits piece r rest 37 bs h e) refl)
 comment_bound z bs unknown piece r rest h e = let k = headed z unknown piece r rest 37 bs h e in absurd (omega (arith, k))
 
 pub comment_text : (bs : List ℕ) → IsComment (take (1 + run_len Line bs) (37 ∷ bs))
@@ -117,32 +117,32 @@ comment_at z bs = at_from (92 ∷ z) (37 ∷ bs) _ (1 + run_len Line bs) remark 
 
 -- ---- numbers
 
-pub digit_no_letter : (b : ℕ) → is_digit b ≡ true → is_letter b ≡ false
+pub digit_no_letter : (b : ℕ) → is_ascii_digit b ≡ true → is_letter b ≡ false
 digit_no_letter b e = grind (arith, nat_tests)
 
-pub digit_byte : (b : ℕ) → is_digit b ≡ true → ((b == 37) ≡ false) × ((b == 92) ≡ false)
+pub digit_byte : (b : ℕ) → is_ascii_digit b ≡ true → ((b == 37) ≡ false) × ((b == 92) ≡ false)
 digit_byte b e = (grind (arith, nat_tests), grind (arith, nat_tests))
 
-pub digit_row : (b : ℕ) (u : List ℕ) → is_digit b ≡ true → row_fits (b ∷ u) ≡ false
+pub digit_row : (b : ℕ) (u : List ℕ) → is_ascii_digit b ≡ true → row_fits (b ∷ u) ≡ false
 digit_row b u e = let d = digit_byte b e in rw (d.0, d.1, digit_no_letter b e, e)
 
-number_bound : (z : List ℕ) (b : ℕ) (bs : List ℕ) → is_digit b ≡ true → Bound (92 ∷ z) (b ∷ bs) (run_len Digits (b ∷ bs))
+number_bound : (z : List ℕ) (b : ℕ) (bs : List ℕ) → is_ascii_digit b ≡ true → Bound (92 ∷ z) (b ∷ bs) (run_len Digits (b ∷ bs))
 number_bound z b bs d fixed piece r rest h e = let l = listed_from r rest piece b bs h e in absurd (both (row_fits (b ∷ l.more)) l.fits (digit_row b l.more d))
-number_bound z b bs d closing piece r rest h e = absurd (both false (sym (ap is_digit (headed z closing piece r rest b bs h e)) ∙ d) refl)
-number_bound z b bs d remark piece r rest h e = absurd (both false (sym (ap is_digit (headed z remark piece r rest b bs h e)) ∙ d) refl)
+number_bound z b bs d closing piece r rest h e = absurd (both false (sym (ap is_ascii_digit (headed z closing piece r rest b bs h e)) ∙ d) refl)
+number_bound z b bs d remark piece r rest h e = absurd (both false (sym (ap is_ascii_digit (headed z remark piece r rest b bs h e)) ∙ d) refl)
 number_bound z b bs d name piece r rest h e = absurd (letter_not_digit b (headed z name piece r rest b bs h e) d)
-number_bound z b bs d numeral piece [] rest h e = absurd (both false h.0 refl)
-number_bound z b bs d numeral piece (c ∷ cs) rest h e = omega (arith, run_le Digits (c ∷ cs) rest h.0, ap (run_len Digits) e)
-number_bound z b bs d unknown piece r rest h e = absurd (both false (sym (ap is_digit (headed z unknown piece r rest b bs h e)) ∙ d) refl)
+number_bound z b bs d digits piece [] rest h e = absurd (both false h.0 refl)
+number_bound z b bs d digits piece (c ∷ cs) rest h e = omega (arith, run_le Digits (c ∷ cs) rest h.0, ap (run_len Digits) e)
+number_bound z b bs d unknown piece r rest h e = absurd (both false (sym (ap is_ascii_digit (headed z unknown piece r rest b bs h e)) ∙ d) refl)
 
-number_text : (b : ℕ) (bs : List ℕ) → is_digit b ≡ true → is_number (take (run_len Digits (b ∷ bs)) (b ∷ bs)) ≡ true
+number_text : (b : ℕ) (bs : List ℕ) → is_ascii_digit b ≡ true → is_number (take (run_len Digits (b ∷ bs)) (b ∷ bs)) ≡ true
 number_text b bs d =
     let long = run_len-one Digits b bs d in
     let is : take (run_len Digits (b ∷ bs)) (b ∷ bs) ≡ b ∷ take (run_len Digits bs) bs = rw (long, one-add) in
     ap is_number is ∙ sym (ap (is_run Digits) is) ∙ run_all Digits (b ∷ bs)
 
-pub number_at : (z : List ℕ) (b : ℕ) (bs : List ℕ) → is_digit b ≡ true → At (92 ∷ z) (b ∷ bs) (number_piece (take (run_len Digits (b ∷ bs)) (b ∷ bs))) (run_len Digits (b ∷ bs))
-number_at z b bs d = at_from (92 ∷ z) (b ∷ bs) _ (run_len Digits (b ∷ bs)) numeral (run_within Digits (b ∷ bs)) (number_text b bs d, refl) (number_bound z b bs d)
+pub number_at : (z : List ℕ) (b : ℕ) (bs : List ℕ) → is_ascii_digit b ≡ true → At (92 ∷ z) (b ∷ bs) (number_piece (take (run_len Digits (b ∷ bs)) (b ∷ bs))) (run_len Digits (b ∷ bs))
+number_at z b bs d = at_from (92 ∷ z) (b ∷ bs) _ (run_len Digits (b ∷ bs)) digits (run_within Digits (b ∷ bs)) (number_text b bs d, refl) (number_bound z b bs d)
 
 -- ---- words
 
@@ -160,7 +160,7 @@ stroke_byte d (c ∷ cs) h = by (is_one Strokes d) refl
     by true e = (grind (arith, nat_tests), grind (arith, nat_tests))
     by false e =
         let k : (is_two Strokes d c && is_run Strokes cs) ≡ true = rw e at h in
-        let w : d ≡ 95 = eq_is d 95 (and_left (d == 95) (is_digit c) (and_left (is_two Strokes d c) (is_run Strokes cs) k)) in
+        let w : d ≡ 95 = eq_is d 95 (and_left (d == 95) (is_ascii_digit c) (and_left (is_two Strokes d c) (is_run Strokes cs) k)) in
         (ap (is_one Base) w, ap (λ d. d == 92) w)
 
 pub no_step : (d : ℕ) (x : List ℕ) → is_one Base d ≡ false → (d == 92) ≡ false → run_len Base (d ∷ x) ≡ 0
@@ -197,7 +197,7 @@ word_bound z b bs l name piece r rest h e = by h.0 h.1 h.2 h.3 h.4
         let all : b ∷ bs ≡ (c ∷ cs ++ strokes) ++ rest = e ∙ ap (λ r. r ++ rest) is in
         let behind : bs ≡ cs ++ (strokes ++ rest) = tail_is b c bs ((cs ++ strokes) ++ rest) all ∙ append_assoc cs strokes rest in
         omega (arith, ap length is, length-append cs strokes, name_bound b bs cs strokes rest l (and_right (is_letter c) (is_run Base cs) f) k behind)
-word_bound z b bs l numeral piece r rest h e = absurd (letter_not_digit b l (headed z numeral piece r rest b bs h e))
+word_bound z b bs l digits piece r rest h e = absurd (letter_not_digit b l (headed z digits piece r rest b bs h e))
 word_bound z b bs l unknown piece r rest h e = absurd (both false (sym (ap is_letter (headed z unknown piece r rest b bs h e)) ∙ l) refl)
 
 pub base_text : (b : ℕ) (bs : List ℕ) → is_letter b ≡ true → is_base (take (base_len (b ∷ bs)) (b ∷ bs)) ≡ true
@@ -239,7 +239,7 @@ pub record Other (b : ℕ) : Type 0 where
   pub percent : (b == 37) ≡ false
   pub backslash : (b == 92) ≡ false
   pub letter : is_letter b ≡ false
-  pub digit : is_digit b ≡ false
+  pub digit : is_ascii_digit b ≡ false
 
 other_row : (b : ℕ) (u : List ℕ) → Other b → row_fits (b ∷ u) ≡ fits_symbol (b ∷ u)
 other_row b u o = rw (o.percent, o.backslash, o.letter, o.digit)
@@ -297,7 +297,7 @@ other_bound z b bs o fixed piece r rest h e = let l = listed_from r rest piece b
 other_bound z b bs o closing piece r rest h e = absurd (both (b == 92) (ap (λ b. b == 92) (headed z closing piece r rest b bs h e)) o.backslash)
 other_bound z b bs o remark piece r rest h e = absurd (both (b == 37) (ap (λ b. b == 37) (headed z remark piece r rest b bs h e)) o.percent)
 other_bound z b bs o name piece r rest h e = absurd (both (is_letter b) (headed z name piece r rest b bs h e) o.letter)
-other_bound z b bs o numeral piece r rest h e = absurd (both (is_digit b) (headed z numeral piece r rest b bs h e) o.digit)
+other_bound z b bs o digits piece r rest h e = absurd (both (is_ascii_digit b) (headed z digits piece r rest b bs h e) o.digit)
 other_bound z b bs o unknown piece r rest h e = absurd (both (b == 92) (ap (λ b. b == 92) (headed z unknown piece r rest b bs h e)) o.backslash)
 
 pub symbol_next : (z : List ℕ) (b : ℕ) (bs : List ℕ) → Other b → Next (92 ∷ z) (b ∷ bs) (symbol_found (b ∷ bs))

@@ -15,25 +15,13 @@ pub use Rattle.zf_scan.specs.Cuts.{Cuts, entered, Fails, reported_line, HasFault
 pub use Rattle.zf_scan.specs.CutLaws.{FaultsOnce, IsCutOnce, IsCutOrFaults, IsNotBoth}
 pub use Rattle.zf_scan.specs.CutViews.{IsUncut, IsWantOfMemory}
 pub use Rattle.zf_scan.specs.Laying.{amount, AreWithin, IsLaid, spelling}
-pub use Rattle.zf_scan.specs.Pieces.{closing, comment, escape, fixed, informal, InsideKind, is_base, is_digit, is_directive, is_letter, is_number, is_one, is_run, is_two, IsCommand, IsComment, look_up, name, number_piece, number_max, numeral, opening, OutsideKind, remark, schema, SpellsInside, SpellsOutside, turn, unknown, value}
+pub use Rattle.zf_scan.specs.Pieces.{closing, comment, escape, fixed, informal, InsideKind, is_base, is_directive, is_letter, is_number, is_one, is_run, is_two, IsCommand, IsComment, look_up, name, number_piece, number_max, digits, opening, OutsideKind, remark, schema_opening, SpellsInside, SpellsOutside, turn, unknown, value}
+pub use Rattle.std.specs.Char.{is_ascii_digit}
 unfoldable pub use Rattle.zf_scan.specs.Pieces.{openings, symbols}
 pub use Rattle.zf_scan.specs.Placing.{between, symbol_at, token_at, unplaced}
 pub use Rattle.zf_scan.specs.Sights.{kind_of, piece_of, seen, told}
 pub use Rattle.zf_scan.specs.Steps.{base_len, begins, command_len, Found, found, has_no_name, long_len, name_of, or_else, plain, run_len, step_len, strokes_len, symbol_len, tail_len, word_len}
-unfoldable pub use Rattle.zf_scan.specs.Steps.{
-  command_found,
-  comment_found,
-  found_at,
-  inside_found,
-  number_found,
-  opening_found,
-  other_opening_found,
-  outside_found,
-  schema_found,
-  short_command,
-  symbol_found,
-  word_found,
-}
+unfoldable pub use Rattle.zf_scan.specs.Steps.{command_found, comment_found, found_at, inside_found, number_found, opening_found, other_opening_found, outside_found, schema_found, short_command, symbol_found, word_found}
 pub use Rattle.zf_scan.specs.declared.fault.TextFault.{TextFault}
 pub use Rattle.zf_scan.specs.declared.fault.TextFaultKind.{TextFaultKind}
 pub use Rattle.zf_scan.specs.declared.fault.TextFaultKind.TheVariants.{BadByte, NotInProfile, TooLong, UnclosedBox}

@@ -1,5 +1,5 @@
 -- No newline stands in the text of a symbol; which letters begin a word of one spelling.
-use Rattle.zf_scan.proofs.Prelude.{◌++◌, ◌∙◌, ◌∷◌, ◌≡◌, ◌≤◌, [], ap, arith, Bool, false, length, List, None, Option, refl, slice_index_or, Some, subst, sym, take, true, ℕ, list_all, ◌&&◌, ◌==◌, ◌||◌, codes, not, bytes_eq, newlines, closing, escape, fixed, informal, InsideKind, is_base, is_letter, is_one, is_run, is_two, look_up, name, numeral, opening, OutsideKind, remark, schema, SpellsInside, SpellsOutside, unknown, openings, symbols, Found, Piece, Plain, Symbol, Place, Run, Base, Digits, Letters, Line, Strokes, Kind}
+use Rattle.zf_scan.proofs.Prelude.{◌++◌, ◌∙◌, ◌∷◌, ◌≡◌, ◌≤◌, [], ap, arith, Bool, false, length, List, None, Option, refl, slice_index_or, Some, subst, sym, take, true, ℕ, list_all, ◌&&◌, ◌==◌, ◌||◌, codes, not, bytes_eq, newlines, closing, escape, fixed, informal, InsideKind, is_base, is_letter, is_one, is_run, is_two, look_up, name, digits, opening, OutsideKind, remark, schema_opening, SpellsInside, SpellsOutside, unknown, openings, symbols, Found, Piece, Plain, Symbol, Place, Run, Base, Digits, Letters, Line, Strokes, Kind}
 use Rattle.zf_scan.specs.declared.pieces.Place.TheVariants as places
 use Rattle.zf_scan.proofs.Alone.{differ}
 use Rattle.zf_scan.proofs.Runs.{and_left, and_right}
@@ -91,13 +91,13 @@ inside_quiet end quiet fixed k p h = fixed_quiet k p h
 inside_quiet end quiet closing k p h = ap newlines h.0 ∙ quiet
 inside_quiet end quiet remark k p h = ap newlines h.0.1 ∙ more 37 h.0.0 refl (run_quiet Line h.0.0 h.0.2)
 inside_quiet end quiet name k p h = ap newlines h.2 ∙ newlines_append h.0 h.1 ∙ omega (arith, base_quiet h.0 h.3, run_quiet Strokes h.1 h.4)
-inside_quiet end quiet numeral k [] h = refl
-inside_quiet end quiet numeral k (b ∷ bs) h = run_quiet Digits (b ∷ bs) h.0
+inside_quiet end quiet digits k [] h = refl
+inside_quiet end quiet digits k (b ∷ bs) h = run_quiet Digits (b ∷ bs) h.0
 inside_quiet end quiet unknown k p h = absurd (cc)
 
 outside_quiet : (kind : OutsideKind) (k : Kind) (p : List ℕ) → SpellsOutside kind (Symbol k) p → newlines p ≡ 0
 outside_quiet opening k p h = eq_is (newlines p) 0 (hit (λ p. newlines p == 0) openings p (Symbol k) openings_quiet h)
-outside_quiet schema k p h =
+outside_quiet schema_opening k p h =
     let opened : newlines (codes "\\begin{schema}{") ≡ 0 = refl in
     let closed : newlines (codes "}") ≡ 0 = refl in
     ap newlines h.1 ∙ newlines_append (codes "\\begin{schema}{") (h.0 ++ codes "}") ∙ omega (arith, opened, closed, newlines_append h.0 (codes "}"), base_quiet h.0 h.2)

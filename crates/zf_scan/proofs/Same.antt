@@ -1,5 +1,5 @@
 -- One piece stands at a place.
-use Rattle.zf_scan.proofs.Prelude.{◌++◌, ◌+◌, ◌<◌, ◌∙◌, ◌∷◌, ◌≡◌, ◌≤◌, ◌⊎◌, [], ap, arith, Bool, drop, false, inl, inr, length, length-append, List, None, Option, refl, Some, sym, take, true, unwrap_or, ℕ, ⊎_elim, one-add, bytes_decides, if◌then◌else◌, ◌==◌, codes, bytes_eq, Stands, StandsInside, StandsOutside, comment, InsideKind, is_base, is_digit, is_letter, is_number, is_run, IsCommand, look_up, number_piece, OutsideKind, SpellsInside, SpellsOutside, turn, openings, symbols, base_len, run_len, Piece, Plain, Refused, Symbol, Place, Base, Letters, Strokes, BeginSchema, EndBox, Name}
+use Rattle.zf_scan.proofs.Prelude.{◌++◌, ◌+◌, ◌<◌, ◌∙◌, ◌∷◌, ◌≡◌, ◌≤◌, ◌⊎◌, [], ap, arith, Bool, drop, false, inl, inr, length, length-append, List, None, Option, refl, Some, sym, take, true, unwrap_or, ℕ, ⊎_elim, one-add, bytes_decides, if◌then◌else◌, ◌==◌, codes, bytes_eq, Stands, StandsInside, StandsOutside, comment, InsideKind, is_base, is_letter, is_number, is_run, IsCommand, look_up, number_piece, OutsideKind, SpellsInside, SpellsOutside, turn, openings, symbols, base_len, run_len, Piece, Plain, Refused, Symbol, Place, Base, Letters, Strokes, BeginSchema, EndBox, Name, is_ascii_digit}
 use Rattle.zf_scan.specs.declared.fault.TextFaultKind.TheVariants as faults
 use Rattle.zf_scan.specs.declared.pieces.Place.TheVariants as places
 use Rattle.zf_scan.specs.Pieces
@@ -16,7 +16,7 @@ spelled [] = Plain
 spelled (b ∷ bs) =
     if b == 37 then comment (b ∷ bs)
     else (if is_letter b then Symbol (Name (take (base_len (b ∷ bs)) (b ∷ bs)) (drop (base_len (b ∷ bs)) (b ∷ bs)))
-    else (if is_digit b then number_piece (b ∷ bs) else Refused faults.UnknownCommand))
+    else (if is_ascii_digit b then number_piece (b ∷ bs) else Refused faults.UnknownCommand))
 
 meaning : List ℕ → List ℕ → Piece
 meaning end p = unwrap_or (look_up p symbols) (if bytes_eq p end then Symbol EndBox else spelled p)
@@ -58,7 +58,7 @@ letter_is c cs h l = pick_true (c == 37) h _ _ _ (pick_false (is_letter c) l _ _
     pick_false true e x y z f = f
     pick_false false e x y z f = both false e refl
 
-digit_is : (c : ℕ) (cs : List ℕ) → (c == 37) ≡ false → is_digit c ≡ true → spelled (c ∷ cs) ≡ number_piece (c ∷ cs)
+digit_is : (c : ℕ) (cs : List ℕ) → (c == 37) ≡ false → is_ascii_digit c ≡ true → spelled (c ∷ cs) ≡ number_piece (c ∷ cs)
 unfolding spelled
 digit_is c cs h d = rw (h, digit_no_letter c d, d)
 
@@ -121,7 +121,7 @@ told_inside z closer Pieces.closing piece p h = h.1 ∙ sym (ap (meaning (92 ∷
 told_inside z closer InsideKind.remark piece p h = h.1 ∙ ap comment h.0.1
     ∙ sym (ap (meaning (92 ∷ z)) h.0.1 ∙ unlisted_is (92 ∷ z) (37 ∷ h.0.0) (unlisted (37 ∷ h.0.0) refl) ∙ other_is z 37 h.0.0 refl ∙ comment_is h.0.0)
 told_inside z closer Pieces.name piece p h = h.6 ∙ name_told z h.0 h.1 p h.2 h.3 h.4 h.5
-told_inside z closer Pieces.numeral piece p h = h.1 ∙ sym (number_told z p h.0)
+told_inside z closer Pieces.digits piece p h = h.1 ∙ sym (number_told z p h.0)
 told_inside z closer Pieces.unknown piece p h = h.2 ∙ sym (ap (meaning (92 ∷ z)) h.0.1 ∙ unknown_told z h.0.0 closer h.0.2 (sym (ap (λ p. look_up p symbols) h.0.1) ∙ h.1))
 
 -- ---- outside
@@ -141,7 +141,7 @@ unopened p h = by (look_up p openings) refl
 told_outside : (kind : OutsideKind) (piece : Piece) (p : List ℕ) → SpellsOutside kind piece p → piece ≡ meaning_outside (turn kind) p
 unfolding meaning_outside
 told_outside Pieces.opening piece p h = let e : look_up p openings ≡ Some piece = h in rw e
-told_outside Pieces.schema piece p h =
+told_outside Pieces.schema_opening piece p h =
     let behind : drop 15 p ≡ h.0 ++ 125 ∷ [] = ap (drop 15) h.1 in
     let n = named h.0 [] h.2 h.3 in
     let front : take (base_len (drop 15 p)) (drop 15 p) ≡ h.0 = ap (λ t. take (base_len t) t) behind ∙ ap (λ k. take k (h.0 ++ 125 ∷ [])) n.0 ∙ front_is h.0 (125 ∷ []) in
@@ -199,7 +199,7 @@ unopened_empty piece h = cc
 outside_some : (kind : OutsideKind) (piece : Piece) (p : List ℕ) → SpellsOutside kind piece p → 0 < length p
 outside_some Pieces.opening piece [] h = absurd (unopened_empty piece h)
 outside_some Pieces.opening piece (b ∷ bs) h = omega arith
-outside_some Pieces.schema piece p h = omega (arith, ap length h.1)
+outside_some Pieces.schema_opening piece p h = omega (arith, ap length h.1)
 outside_some Pieces.escape piece p h = ⊎_elim (λ k. omega (arith, ap length k)) (λ k. omega (arith, ap length k.1)) h.0
 outside_some OutsideKind.remark piece p h = omega (arith, ap length h.0.1)
 outside_some Pieces.informal piece p h = omega (arith, h.0)

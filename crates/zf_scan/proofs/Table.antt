@@ -1,5 +1,5 @@
 -- The tables: what holds of each row holds of what is looked up.
-use Rattle.zf_scan.proofs.Prelude.{◌∙◌, ◌∷◌, ◌≡◌, [], ap, Bool, drop, false, length, List, refl, Some, true, ℕ, list_all, if◌then◌else◌, ◌&&◌, ◌==◌, ◌||◌, codes, not, bytes_eq, is_digit, is_letter, is_run, look_up, symbols, run_len, Piece, Base, Letters}
+use Rattle.zf_scan.proofs.Prelude.{◌∙◌, ◌∷◌, ◌≡◌, [], ap, Bool, drop, false, length, List, refl, Some, true, ℕ, list_all, if◌then◌else◌, ◌&&◌, ◌==◌, ◌||◌, codes, not, bytes_eq, is_letter, is_run, look_up, symbols, run_len, Piece, Base, Letters, is_ascii_digit}
 use Rattle.zf_scan.proofs.Runs.{and_left, and_right}
 use Rattle.zf_scan.proofs.Texts.{bytes_same}
 
@@ -16,7 +16,7 @@ hit test (row ∷ rows) p piece all e = by (bytes_eq p row.0) refl (hit test row
 -- what stands behind the letters of a command: nothing, one byte, `_1`
 abbrev pub ends_well : ℕ → List ℕ → Bool
 ends_well m [] = true
-ends_well m (x ∷ []) = m == 0 || is_digit x
+ends_well m (x ∷ []) = m == 0 || is_ascii_digit x
 ends_well m (x ∷ y ∷ []) = not (m == 0) && (x == 95 && y == 49)
 ends_well m (x ∷ y ∷ z ∷ xs) = false
 
@@ -32,7 +32,7 @@ row_fits (b ∷ u) =
     if b == 37 then false
     else (if b == 92 then fits_command u
     else (if is_letter b then is_run Base u
-    else (if is_digit b then false else fits_symbol (b ∷ u))))
+    else (if is_ascii_digit b then false else fits_symbol (b ∷ u))))
 
 all_fit : list_all (λ row. row_fits row.0) symbols ≡ true
 unfolding symbols

@@ -4,7 +4,7 @@ use Rattle.zf_scan.specs.declared.fault.TextFault.{TextFault}
 use Rattle.zf_scan.specs.declared.fault.TextFaultKind.{TextFaultKind}
 use Rattle.zf_scan.specs.declared.fault.TextFaultKind.TheVariants.{BadByte, UnclosedBox, TooLong}
 use Rattle.zf_scan.specs.declared.pieces.Piece.{Piece}
-use Rattle.zf_scan.specs.declared.pieces.Piece.TheVariants.{Plain, Symbol, Refused}
+use Rattle.zf_scan.specs.declared.pieces.Piece.TheVariants.{Symbol, Refused}
 use Rattle.zf_scan.specs.declared.pieces.Place.{Place}
 use Rattle.zf_scan.specs.declared.pieces.Place.TheVariants as places
 use Rattle.zf_scan.specs.declared.scan.TheConstants.{SOURCE_MAX}
@@ -29,8 +29,6 @@ Stands places.Outside piece p after = StandsOutside piece p after
 Stands (places.Zed line) piece p after = StandsInside (codes "\\end{zed}") piece p after
 Stands (places.Schema line) piece p after = StandsInside (codes "\\end{schema}") piece p after
 
--- ---- places
-
 abbrev pub newlines : List ℕ → ℕ
 newlines [] = 0
 newlines (b ∷ bs) = (if b == 10 then 1 else 0) + newlines bs
@@ -48,12 +46,10 @@ start = record { place = places.Outside; before = [] }
 
 -- the place behind a piece
 abbrev pub entered : Place → ℕ → Piece → Place
-entered place line Plain = place
-entered place line (Refused kind) = place
 entered place line (Symbol BeginZed) = places.Zed line
 entered place line (Symbol (BeginSchema name)) = places.Schema line
 entered place line (Symbol EndBox) = places.Outside
-entered place line (Symbol _) = place
+entered place line _ = place
 
 abbrev pub past : Spot → Piece × List ℕ → Spot
 past spot p = record { place = entered spot.place (spot_line spot) p.0; before = spot.before ++ p.1 }
@@ -61,9 +57,8 @@ past spot p = record { place = entered spot.place (spot_line spot) p.0; before =
 -- ---- cuts
 
 abbrev pub IsRead : Piece → Type 0
-IsRead Plain = Unit {0}
-IsRead (Symbol kind) = Unit {0}
 IsRead (Refused kind) = ⊥
+IsRead _ = Unit {0}
 
 -- pieces, each the one that stands at its spot, from one text to what is left of it
 abbrev pub Cuts : List (Piece × List ℕ) → Spot → List ℕ → Spot → List ℕ → Type 0
@@ -71,9 +66,8 @@ Cuts [] spot source end rest = (spot ≡ end) × (source ≡ rest)
 Cuts (p ∷ ps) spot source end rest = (after : List ℕ) × (source ≡ p.1 ++ after) × Stands spot.place p.0 p.1 after × IsRead p.0 × Cuts ps (past spot p) after end rest
 
 abbrev pub tokens_of : Spot → Piece → List ℕ → List Token
-tokens_of spot Plain p = []
-tokens_of spot (Refused kind) p = []
 tokens_of spot (Symbol kind) p = record { kind = kind; start = length spot.before; stop = length spot.before + length p; line = spot_line spot } ∷ []
+tokens_of spot _ p = []
 
 abbrev pub tokens_from : Spot → List (Piece × List ℕ) → List Token
 tokens_from spot [] = []

@@ -1,6 +1,6 @@
--- The pieces that a source is cut into: how each is spelled, and which spellings are refused. What a word and a decoration are is said in
--- ZRM 3.1; the spellings are those of the fuzz markup.
+-- The pieces that a source is cut into: how each is spelled (words and decorations by ZRM 3.1, in the fuzz markup), and which are refused.
 use Rattle.std.specs.Prelude.{◌≡◌, ℕ, ◌+◌, ◌-◌, ◌*◌, ◌⊎◌, Bool, true, false, not, ◌&&◌, ◌||◌, nat_le, ◌==◌, if◌then◌else◌, List, [], ◌∷◌, ◌++◌, length, codes, Option, Some, None}
+use Rattle.std.specs.Char.{is_ascii_digit, is_ascii_lowercase, is_ascii_uppercase}
 use Rattle.std.specs.List.{fold}
 use Rattle.std.specs.Str.{bytes_eq}
 use Rattle.zf_scan.specs.declared.pieces.Piece.{Piece}
@@ -18,32 +18,22 @@ use Rattle.zf_tree.specs.declared.symbol.Relation.TheVariants as relations
 use Rattle.zf_tree.specs.declared.symbol.Connective.TheVariants as connectives
 use Rattle.zf_tree.specs.declared.symbol.Quantifier.TheVariants as quantifiers
 
--- ---- bytes
-
-abbrev pub is_lower : ℕ → Bool
-is_lower b = nat_le 97 b && nat_le b 122
-
 abbrev pub is_letter : ℕ → Bool
-is_letter b = is_lower b || (nat_le 65 b && nat_le b 90)
-
-abbrev pub is_digit : ℕ → Bool
-is_digit b = nat_le 48 b && nat_le b 57
+is_letter b = is_ascii_lowercase b || is_ascii_uppercase b
 
 -- the bytes that a run is made of: in strokes `'`, `?` and `!`
 abbrev pub is_one : Run → ℕ → Bool
 is_one Letters b = is_letter b
-is_one Digits b = is_digit b
-is_one Base b = is_letter b || is_digit b
+is_one Digits b = is_ascii_digit b
+is_one Base b = is_letter b || is_ascii_digit b
 is_one Strokes b = b == 39 || (b == 63 || b == 33)
 is_one Line b = not (b == 10)
 
 -- and the pairs of bytes: in a base `\_`, in strokes `_` with a digit
 abbrev pub is_two : Run → ℕ → ℕ → Bool
 is_two Base b c = b == 92 && c == 95
-is_two Strokes b c = b == 95 && is_digit c
-is_two Letters b c = false
-is_two Digits b c = false
-is_two Line b c = false
+is_two Strokes b c = b == 95 && is_ascii_digit c
+is_two _ b c = false
 
 abbrev pub is_run : Run → List ℕ → Bool
 is_run run [] = true
@@ -199,10 +189,8 @@ abbrev pub IsComment : List ℕ → Type 0
 IsComment p = (line : List ℕ) × (p ≡ 37 ∷ line) × (is_run Line line ≡ true)
 
 abbrev pub is_directive : List ℕ → Bool
-is_directive [] = false
-is_directive (a ∷ []) = false
-is_directive (a ∷ b ∷ []) = false
-is_directive (a ∷ b ∷ c ∷ cs) = a == 37 && (b == 37 && is_lower c)
+is_directive (a ∷ b ∷ c ∷ cs) = a == 37 && (b == 37 && is_ascii_lowercase c)
+is_directive _ = false
 
 abbrev pub comment : List ℕ → Piece
 comment p = if is_directive p then Refused faults.NotInProfile else Plain
@@ -229,15 +217,13 @@ number_piece p = if nat_le (value p) number_max then Symbol (Number (value p)) e
 abbrev pub IsCommand : List ℕ → Type 0
 IsCommand p = (word : List ℕ) × (p ≡ 92 ∷ word) × ((is_run Letters word ≡ true) ⊎ (length word ≡ 1))
 
--- ---- the tables
-
 -- the kinds of piece inside a box: of one spelling, its closing, a comment, a name, a number, a command that the table lacks
 pub data InsideKind : Type 0 where
   fixed : InsideKind
   closing : InsideKind
   remark : InsideKind
   name : InsideKind
-  numeral : InsideKind
+  digits : InsideKind
   unknown : InsideKind
 
 -- how a piece of each is spelled, and what it then is, where `end` closes the box
@@ -246,21 +232,20 @@ SpellsInside end fixed piece p = look_up p symbols ≡ Some piece
 SpellsInside end closing piece p = (p ≡ end) × (piece ≡ Symbol EndBox)
 SpellsInside end remark piece p = IsComment p × (piece ≡ comment p)
 SpellsInside end name piece p = (base strokes : List ℕ) × (p ≡ base ++ strokes) × (is_base base ≡ true) × (is_run Strokes strokes ≡ true) × (look_up p symbols ≡ None) × (piece ≡ Symbol (Name base strokes))
-SpellsInside end numeral piece p = (is_number p ≡ true) × (piece ≡ number_piece p)
+SpellsInside end digits piece p = (is_number p ≡ true) × (piece ≡ number_piece p)
 SpellsInside end unknown piece p = IsCommand p × (look_up p symbols ≡ None) × (piece ≡ Refused faults.UnknownCommand)
 
--- the kinds of piece outside a box: an opening of one spelling, that of a named schema box, a backslash with the byte after it,
--- a comment, any other byte
+-- outside a box: an opening of one spelling, that of a named schema box, a backslash with the byte after it, a comment, any other byte
 pub data OutsideKind : Type 0 where
   opening : OutsideKind
-  schema : OutsideKind
+  schema_opening : OutsideKind
   escape : OutsideKind
   remark : OutsideKind
   informal : OutsideKind
 
 abbrev pub SpellsOutside : OutsideKind → Piece → List ℕ → Type 0
 SpellsOutside opening piece p = look_up p openings ≡ Some piece
-SpellsOutside schema piece p = (name : List ℕ) × (p ≡ codes "\\begin{schema}{" ++ name ++ codes "}") × (is_base name ≡ true) × (look_up name symbols ≡ None) × (piece ≡ Symbol (BeginSchema name))
+SpellsOutside schema_opening piece p = (name : List ℕ) × (p ≡ codes "\\begin{schema}{" ++ name ++ codes "}") × (is_base name ≡ true) × (look_up name symbols ≡ None) × (piece ≡ Symbol (BeginSchema name))
 SpellsOutside escape piece p = ((p ≡ 92 ∷ []) ⊎ ((b : ℕ) × (p ≡ 92 ∷ b ∷ []))) × (piece ≡ Plain)
 SpellsOutside remark piece p = IsComment p × (piece ≡ comment p)
 SpellsOutside informal piece p = (length p ≡ 1) × (piece ≡ Plain)
@@ -268,7 +253,7 @@ SpellsOutside informal piece p = (length p ≡ 1) × (piece ≡ Plain)
 -- the order in which they are tried
 abbrev pub turn : OutsideKind → ℕ
 turn opening = 1
-turn schema = 1
+turn schema_opening = 1
 turn escape = 2
 turn remark = 3
 turn informal = 4

@@ -1,5 +1,4 @@
--- The reduced list of a token list: each run of separators is one symbol, and those that a neighbour makes needless are left out (the
--- line breaks of ZRM 3.1).
+-- The reduced list of a token list: a run of separators is one symbol, or none where a neighbour makes it needless (line breaks of ZRM 3.1).
 use Rattle.std.specs.Prelude.{ℕ, Bool, true, false, ◌||◌, if◌then◌else◌, List, [], ◌∷◌}
 use Rattle.zf_scan.specs.declared.token.Kind.{Kind}
 use Rattle.zf_scan.specs.declared.token.Kind.TheVariants as k

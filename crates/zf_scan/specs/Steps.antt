@@ -12,7 +12,8 @@ use Rattle.zf_scan.specs.declared.pieces.Place.{Place}
 use Rattle.zf_scan.specs.declared.pieces.Place.TheVariants.{Outside, Zed, Schema}
 use Rattle.zf_scan.specs.declared.pieces.Run.{Run}
 use Rattle.zf_scan.specs.declared.pieces.Run.TheVariants.{Letters, Digits, Base, Strokes, Line}
-use Rattle.zf_scan.specs.Pieces.{is_one, is_two, is_letter, is_digit, look_up, symbols, comment, number_piece}
+use Rattle.zf_scan.specs.Pieces.{is_one, is_two, is_letter, look_up, symbols, comment, number_piece}
+use Rattle.std.specs.Char.{is_ascii_digit}
 
 -- ---- runs
 
@@ -101,7 +102,7 @@ inside_found end (b ∷ bs) =
     if b == 37 then comment_found (b ∷ bs)
     else (if b == 92 then command_found end (b ∷ bs)
     else (if is_letter b then word_found (b ∷ bs)
-    else (if is_digit b then number_found (b ∷ bs) else symbol_found (b ∷ bs))))
+    else (if is_ascii_digit b then number_found (b ∷ bs) else symbol_found (b ∷ bs))))
 
 -- ---- outside
 

@@ -3,6 +3,7 @@ ghost use Rattle.std.specs.Prelude.{◌≡◌, ◌≤◌, IsTrue, length, nat_eq
 ghost use Rattle.std.specs.Str.{bytes_eq};
 ghost use Rattle.std.specs.List.{starts_with};
 ghost use Rattle.zf_scan.specs.Pieces as spec;
+ghost use Rattle.std.specs.Char.{is_ascii_digit};
 ghost use Rattle.zf_scan.specs.Steps as steps;
 
 use crate::fault::TextFaultKind;
@@ -74,7 +75,7 @@ pub fn is_letter(b: u8) -> bool
 }
 
 pub fn is_digit(b: u8) -> bool
-    ensures { result ≡ spec.is_digit b }
+    ensures { result ≡ is_ascii_digit b }
 {
     b'0' <= b && b <= b'9'
 }

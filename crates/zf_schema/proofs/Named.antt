@@ -1,5 +1,5 @@
 -- Components by name: their types and declared sets, before and after one more.
-use Rattle.zf_schema.proofs.Prelude.{if◌then◌else◌, ◌++◌, ◌+◌, ◌∙◌, ◌∷◌, ◌≡◌, [], ap, arith, Bool, false, List, None, Option, refl, slice_get, Some, subst, suc, sym, true, zero, ℕ, append-nil, append_assoc, none-some, same_Some, bytes_eq, or_else_assoc, or_none, is_itself, is_same, swapped, Comp, first_named, later, or_else, Ty, AreOnce, comp, comp_named, with_comp, with_comps, sets_found, sets_named, type_found, type_named}
+use Rattle.zf_schema.proofs.Prelude.{if◌then◌else◌, ◌++◌, ◌+◌, ◌∙◌, ◌∷◌, ◌≡◌, [], ap, arith, Bool, false, List, None, Option, refl, slice_get, Some, subst, suc, sym, true, zero, ℕ, append-nil, append_assoc, none-some, same_Some, bytes_eq, or_else_assoc, or_none, is_itself, is_same, swapped, Comp, first_named, later, Ty, AreOnce, comp, comp_named, with_comp, with_comps, sets_found, sets_named, type_found, type_named, option_or}
 
 -- ---- what is found
 
@@ -42,7 +42,7 @@ stands_there = named_there (λ c. c.name)
 -- ---- one more component
 
 -- the type is that of the first that has the name
-pub type_one_more : (x : List ℕ) (cs : List Comp) (c : Comp) → type_named x (with_comp cs c) ≡ or_else (type_named x cs) (if bytes_eq c.name x then Some c.type else None)
+pub type_one_more : (x : List ℕ) (cs : List Comp) (c : Comp) → type_named x (with_comp cs c) ≡ option_or (type_named x cs) (if bytes_eq c.name x then Some c.type else None)
 type_one_more x [] c = by (bytes_eq c.name x)
   where
     by : (t : Bool) → type_found (if t then Some (0, c) else None) ≡ (if t then Some c.type else None)
@@ -53,20 +53,20 @@ type_one_more x (d ∷ ds) c = by (bytes_eq d.name c.name) refl (type_one_more x
     known :
         (t w : Bool) → t ≡ w
         → type_found (if t then Some (0, comp d.name d.type (d.sets ++ c.sets)) else later (comp_named x ds))
-        ≡ or_else (type_found (if t then Some (0, d) else later (comp_named x ds))) (if w then Some c.type else None)
+        ≡ option_or (type_found (if t then Some (0, d) else later (comp_named x ds))) (if w then Some c.type else None)
     known true w e = refl
     known false true e = absurd (cc)
     known false false e = sym (or_none (type_found (later (comp_named x ds))))
 
     passed :
-        (t w : Bool) → type_named x (with_comp ds c) ≡ or_else (type_named x ds) (if w then Some c.type else None)
-        → type_found (if t then Some (0, d) else later (comp_named x (with_comp ds c))) ≡ or_else (type_found (if t then Some (0, d) else later (comp_named x ds))) (if w then Some c.type else None)
+        (t w : Bool) → type_named x (with_comp ds c) ≡ option_or (type_named x ds) (if w then Some c.type else None)
+        → type_found (if t then Some (0, d) else later (comp_named x (with_comp ds c))) ≡ option_or (type_found (if t then Some (0, d) else later (comp_named x ds))) (if w then Some c.type else None)
     passed true w rest = refl
-    passed false w rest = later_type (comp_named x (with_comp ds c)) ∙ rest ∙ ap (λ o. or_else o (if w then Some c.type else None)) (sym (later_type (comp_named x ds)))
+    passed false w rest = later_type (comp_named x (with_comp ds c)) ∙ rest ∙ ap (λ o. option_or o (if w then Some c.type else None)) (sym (later_type (comp_named x ds)))
 
     by :
-        (s : Bool) → bytes_eq d.name c.name ≡ s → type_named x (with_comp ds c) ≡ or_else (type_named x ds) (if bytes_eq c.name x then Some c.type else None)
-        → type_named x (if s then comp d.name d.type (d.sets ++ c.sets) ∷ ds else d ∷ with_comp ds c) ≡ or_else (type_named x (d ∷ ds)) (if bytes_eq c.name x then Some c.type else None)
+        (s : Bool) → bytes_eq d.name c.name ≡ s → type_named x (with_comp ds c) ≡ option_or (type_named x ds) (if bytes_eq c.name x then Some c.type else None)
+        → type_named x (if s then comp d.name d.type (d.sets ++ c.sets) ∷ ds else d ∷ with_comp ds c) ≡ option_or (type_named x (d ∷ ds)) (if bytes_eq c.name x then Some c.type else None)
     by true same rest = known (bytes_eq d.name x) (bytes_eq c.name x) (ap (λ n. bytes_eq n x) (is_same d.name c.name same))
     by false same rest = passed (bytes_eq d.name x) (bytes_eq c.name x) rest
 
@@ -104,13 +104,13 @@ sets_one_more x (d ∷ ds) c = by (bytes_eq d.name c.name) refl (sets_one_more x
 
 -- ---- many more
 
-pub joined_type : (x : List ℕ) (cs ds : List Comp) → type_named x (with_comps cs ds) ≡ or_else (type_named x cs) (type_named x ds)
+pub joined_type : (x : List ℕ) (cs ds : List Comp) → type_named x (with_comps cs ds) ≡ option_or (type_named x cs) (type_named x ds)
 joined_type x cs [] = sym (or_none (type_named x cs))
 joined_type x cs (d ∷ ds) =
-    joined_type x (with_comp cs d) ds ∙ ap (λ o. or_else o (type_named x ds)) (type_one_more x cs d)
-    ∙ or_else_assoc (type_named x cs) (if bytes_eq d.name x then Some d.type else None) (type_named x ds) ∙ ap (or_else (type_named x cs)) (first (bytes_eq d.name x))
+    joined_type x (with_comp cs d) ds ∙ ap (λ o. option_or o (type_named x ds)) (type_one_more x cs d)
+    ∙ or_else_assoc (type_named x cs) (if bytes_eq d.name x then Some d.type else None) (type_named x ds) ∙ ap (option_or (type_named x cs)) (first (bytes_eq d.name x))
   where
-    first : (t : Bool) → or_else (if t then Some d.type else None) (type_named x ds) ≡ type_found (if t then Some (0, d) else later (comp_named x ds))
+    first : (t : Bool) → option_or (if t then Some d.type else None) (type_named x ds) ≡ type_found (if t then Some (0, d) else later (comp_named x ds))
     first true = refl
     first false = sym (later_type (comp_named x ds))
 

@@ -1,10 +1,10 @@
 -- A schema expression that is a schema has no offence.
-use Rattle.zf_schema.proofs.Prelude.{◌∙◌, ◌++◌, ◌∷◌, [], inl, inr, List, refl, subst, sym, ℕ, None, none-some, Option, same_Some, Some, spelling, both, DeclTree, either, include, reference, schema_bracket, schema_text, SchemaTree, Tree, vars, Name, SchemaRef, DeclaredSet, Defined, plain, Schema, schema, ResolvedTree, conjuncts, Comp, Ty, Offence, no_offence, one_sort, same_set, Offends, resolved, predicate, set_sort, Clashes, Differs, Includes, IsNext, IsTooLarge, IsWithin, Keeps, Limit, MarkClashes, OneClashes, Stops, AddsAll, Constrains, Declares, DeclaresOne, inside, IsSchema, IsText, outside, Refers, TakesAll, AnyByRecursion, CantRefer, IsNoSchema, name_line, OffendsAfter, OffendsAlone, OffendsConjuncts, OffendsDecls, OffendsNames, OffendsPredicates, OffendsRef, OffendsSchema, OffendsText, OneConstrainsTooMuch, OneOffendsAfter, StopsEither}
+use Rattle.zf_schema.proofs.Prelude.{◌∙◌, ◌++◌, ◌∷◌, [], inl, inr, List, refl, subst, sym, ℕ, None, none-some, Option, same_Some, Some, spelling, both, DeclTree, either, include, schema_reference, schema_bracket, schema_text, SchemaTree, Tree, vars, Name, SchemaRef, DeclaredSet, Defined, plain, Schema, schema, ResolvedTree, conjuncts, Comp, Ty, Offence, no_offence, one_sort, same_set, Offends, resolved, predicate, set_sort, Clashes, Differs, Includes, IsNext, IsTooLarge, IsWithin, KeepsTo, Limit, MarkClashes, OneClashes, Stops, AddsAll, Constrains, Declares, DeclaresOne, inside, IsSchema, IsText, outside, Refers, TakesAll, AnyByRecursion, CantRefer, IsNoSchema, name_line, OffendsAfter, OffendsAlone, OffendsConjuncts, OffendsDecls, OffendsNames, OffendsPredicates, OffendsRef, OffendsSchema, OffendsText, OneConstrainsTooMuch, OneOffendsAfter, StopsEither}
 use Rattle.zf_tree.specs.declared.operator.Need.TheVariants as need
 use Rattle.zf_tree.specs.declared.tree.RefMark.{RefMark}
 use Rattle.zf_tree.specs.declared.tree.RefMark.TheVariants.{Plain, Delta, Xi}
 use Rattle.zf_term.specs.declared.fault.Limit.TheVariants as limit
-use Rattle.zf_calculus.specs.Calculus.{comp, schema_with, nothing, Agrees, Agree, HasTypeOf, comp_named, with_comp, conjoined, decorated, marked, MarkAgrees, disjoined, prime}
+use Rattle.zf_calculus.specs.Calculus.{comp, schema_with, empty_schema, Agrees, Agree, HasTypeOf, comp_named, with_comp, conjoined, decorated, marked, MarkAgrees, disjoined, prime}
 use Rattle.zf_schema.proofs.Once.{taken_comps}
 use Rattle.zf_schema.proofs.Texts.{same_judged}
 use Rattle.zf_schema.proofs.OneSchema.{one_base, one_reference, one_added, one_declaration, all_declared, one_constraint, one_schema}
@@ -28,7 +28,7 @@ mark_agrees Plain a k agreed d = d
 mark_agrees Delta a k agreed d = none_clashes a.comps (decorated prime a).comps k agreed d
 mark_agrees Xi a k agreed d = none_clashes a.comps (decorated prime a).comps k agreed d
 
-keeps_each : (l : Limit) (a : Schema) → IsWithin a → Keeps l a
+keeps_each : (l : Limit) (a : Schema) → IsWithin a → KeepsTo l a
 keeps_each limit.TypeNodes a w = tt
 keeps_each limit.Components a w = w.comps
 keeps_each limit.Sets a w = w.sets
@@ -136,14 +136,14 @@ no_constraint_offence g a es b k m p (inr o) = none_is_too_much g a es b k m p o
 -- ---- boxes and schema expressions
 
 pub no_text_offence : (g : List Defined) (ds : List DeclTree) (es : List Tree) (b : Schema) (k : Offence) (m : ℕ) → IsText g ds es b → OffendsText g ds es k m → ⊥
-no_text_offence g ds es b k m p (inl o) = no_declared_offence g nothing ds p.0 k m p.1 o
+no_text_offence g ds es b k m p (inl o) = no_declared_offence g empty_schema ds p.0 k m p.1 o
 no_text_offence g ds es b k m p (inr o) =
-    let mid = all_declared g nothing ds p.0 o.0 p.1 o.1 in
+    let mid = all_declared g empty_schema ds p.0 o.0 p.1 o.1 in
     no_constraint_offence g o.0 es b k m (subst (λ v. Constrains g v es b) mid p.2) o.2
 
 pub no_schema_offence : (g : List Defined) (x : SchemaTree) (c : Schema) (k : Offence) (m : ℕ) → IsSchema g x c → OffendsSchema g x k m → ⊥
 no_schema_offence g (schema_text ds es) c k m p o = no_text_offence g ds es c k m p o
-no_schema_offence g (reference r) c k m p o = no_reference_offence g r c k m p o
+no_schema_offence g (schema_reference r) c k m p o = no_reference_offence g r c k m p o
 no_schema_offence g (both x y) c k m p (inl o) = no_schema_offence g x p.0 k m p.2 o
 no_schema_offence g (both x y) c k m p (inr (inl o)) = no_schema_offence g y p.1 k m p.3 o
 no_schema_offence g (both x y) c k m p (inr (inr o)) =

@@ -1,5 +1,5 @@
 -- What is made of schemas whose components have names of their own is such a schema.
-use Rattle.zf_schema.proofs.Prelude.{if◌then◌else◌, ◌++◌, ◌+◌, ◌∙◌, ◌∷◌, ◌≡◌, [], ap, Bool, false, List, map, None, Option, refl, Some, subst, sym, true, ℕ, append_cancel_right, none-some, same_Some, bytes_eq, spelling, both, DeclTree, either, include, reference, schema_bracket, schema_text, SchemaTree, Tree, vars, Name, SchemaRef, is_same, swapped, tests_alike, Comp, DeclaredSet, Defined, plain, Schema, schema, first_named, later, ResolvedTree, conjuncts, Ty, resolved, AreOnce, comp, comp_named, decorated, either_comps, marked, nothing, prime, with_comp, with_comps, AddsAll, Constrains, Declares, DeclaresOne, inside, IsSchema, IsText, outside, Refers, TakesAll, HasCompsOnce, HaveCompsOnce, type_found, type_named}
+use Rattle.zf_schema.proofs.Prelude.{if◌then◌else◌, ◌++◌, ◌+◌, ◌∙◌, ◌∷◌, ◌≡◌, [], ap, Bool, false, List, map, None, Option, refl, Some, subst, sym, true, ℕ, append_cancel_right, none-some, same_Some, bytes_eq, spelling, both, DeclTree, either, include, schema_reference, schema_bracket, schema_text, SchemaTree, Tree, vars, Name, SchemaRef, is_same, swapped, tests_alike, Comp, DeclaredSet, Defined, plain, Schema, schema, first_named, later, ResolvedTree, conjuncts, Ty, resolved, AreOnce, comp, comp_named, decorated, either_comps, marked, empty_schema, prime, with_comp, with_comps, AddsAll, Constrains, Declares, DeclaresOne, inside, IsSchema, IsText, outside, Refers, TakesAll, HasCompsOnce, HaveCompsOnce, type_found, type_named}
 use Rattle.std.proofs.lemmas.Slice.Eq.{bytes_eq-Decides}
 use Rattle.std.specs.List.{AllByRecursion}
 use Rattle.zf_tree.specs.declared.tree.RefMark.{RefMark}
@@ -105,11 +105,11 @@ constrained_comps g a [] b p = ap (λ v. v.comps) p
 constrained_comps g a (e ∷ es) b p = constrained_comps g p.0 es b p.2 ∙ taken_comps a (conjuncts (resolved (inside g a) e)) p.0 p.1.1
 
 pub text_once : (g : List Defined) (ds : List DeclTree) (es : List Tree) (b : Schema) → IsText g ds es b → AreOnce b.comps
-text_once g ds es b p = subst AreOnce (sym (constrained_comps g p.0 es b p.2)) (declared_once g nothing ds p.0 tt p.1)
+text_once g ds es b p = subst AreOnce (sym (constrained_comps g p.0 es b p.2)) (declared_once g empty_schema ds p.0 tt p.1)
 
 pub schema_once : (g : List Defined) (x : SchemaTree) (c : Schema) → HaveCompsOnce g → IsSchema g x c → AreOnce c.comps
 schema_once g (schema_text ds es) c all p = text_once g ds es c p
-schema_once g (reference r) c all p = reference_once g r c all p
+schema_once g (schema_reference r) c all p = reference_once g r c all p
 schema_once g (both x y) c all p = subst (λ v. AreOnce v.comps) (sym p.5.0) (joined_once p.0.comps p.1.comps (schema_once g x p.0 all p.2))
 schema_once g (either l x y) c all p = subst (λ v. AreOnce v.comps) (sym p.5.0) (disjoined_once p.0.comps p.1.comps (schema_once g x p.0 all p.2))
 schema_once g (schema_bracket x) c all p = schema_once g x c all p

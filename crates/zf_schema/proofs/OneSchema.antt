@@ -1,5 +1,5 @@
 -- A schema expression, and each of its parts, is one schema at most.
-use Rattle.zf_schema.proofs.Prelude.{◌∙◌, ◌∷◌, ◌≡◌, [], ap, List, Some, subst, sym, ℕ, same_Some, spelling, both, DeclTree, either, include, reference, schema_bracket, schema_text, SchemaTree, Tree, vars, Name, SchemaRef, Comp, DeclaredSet, Defined, plain, Schema, schema, first_named, ResolvedTree, conjuncts, Ty, one_sort, same_set, resolved, set_sort, comp, conjoined, decorated, disjoined, marked, nothing, Adds, Includes, AddsAll, Constrains, ConstrainsOne, Declares, DeclaresOne, inside, IsSchema, IsText, outside, Refers, TakesAll}
+use Rattle.zf_schema.proofs.Prelude.{◌∙◌, ◌∷◌, ◌≡◌, [], ap, List, Some, subst, sym, ℕ, same_Some, spelling, both, DeclTree, either, include, schema_reference, schema_bracket, schema_text, SchemaTree, Tree, vars, Name, SchemaRef, Comp, DeclaredSet, Defined, plain, Schema, schema, first_named, ResolvedTree, conjuncts, Ty, one_sort, same_set, resolved, set_sort, comp, conjoined, decorated, disjoined, marked, empty_schema, Adds, Includes, AddsAll, Constrains, ConstrainsOne, Declares, DeclaresOne, inside, IsSchema, IsText, outside, Refers, TakesAll}
 
 -- ---- the base of a reference
 
@@ -71,12 +71,12 @@ all_constrained g a (e ∷ es) b c p q =
 
 pub one_text : (g : List Defined) (ds : List DeclTree) (es : List Tree) (b c : Schema) → IsText g ds es b → IsText g ds es c → b ≡ c
 one_text g ds es b c p q =
-    let mid = all_declared g nothing ds p.0 q.0 p.1 q.1 in
+    let mid = all_declared g empty_schema ds p.0 q.0 p.1 q.1 in
     all_constrained g q.0 es b c (subst (λ m. Constrains g m es b) mid p.2) q.2
 
 pub one_schema : (g : List Defined) (x : SchemaTree) (b c : Schema) → IsSchema g x b → IsSchema g x c → b ≡ c
 one_schema g (schema_text ds es) b c p q = one_text g ds es b c p q
-one_schema g (reference r) b c p q = one_reference g r b c p q
+one_schema g (schema_reference r) b c p q = one_reference g r b c p q
 one_schema g (both x y) b c p q =
     let left = one_schema g x p.0 q.0 p.2 q.2 in
     let right = one_schema g y p.1 q.1 p.3 q.3 in

@@ -1,5 +1,5 @@
 -- What a text defines, and the faults of its paragraphs and boxes.
-use Rattle.std.specs.Prelude.{◌≡◌, ◌⊎◌, ℕ, ◌+◌, List, [], ◌∷◌, ◌++◌, length, map, flat_map, None}
+use Rattle.std.specs.Prelude.{◌≡◌, ◌⊎◌, ℕ, ◌+◌, List, [], ◌∷◌, ◌++◌, map, flat_map, None}
 use Rattle.zf_tree.specs.declared.tree.Name.{Name}
 use Rattle.zf_tree.specs.Trees.{Tree, DeclTree, ParagraphTree, given, free, definition, BoxTree, zed, schema_box}
 use Rattle.zf_tree.specs.Trees as text
@@ -19,7 +19,6 @@ use Rattle.zf_type.specs.Typing.{IsOf}
 use Rattle.zf_schema.specs.Expressions.{outside, IsText, IsSchema}
 use Rattle.zf_schema.specs.SchemaOffences.{OffendsText, OffendsSchema}
 
--- a paragraph, or a schema box
 pub data Item : Type 0 where
   a_paragraph : ParagraphTree → Item
   a_box : Name → List DeclTree → List Tree → Item
@@ -35,7 +34,6 @@ items = flat_map items_in
 abbrev pub IsNew : List Defined → Name → Type 0
 IsNew g n = first_named (λ d. d.name) (spelling n) g ≡ None
 
--- one more global
 abbrev pub with_global : List Defined → Name → Definition → List Defined
 with_global g n d = g ++ record { name = spelling n; definition = d } ∷ []
 
@@ -106,13 +104,5 @@ ChecksAll g [] h faults = (h ≡ g) × (faults ≡ [])
 ChecksAll g (item ∷ rest) h faults =
     (mid : List Defined) × (first more : List Fault) × ChecksOne g item mid first × ChecksAll mid rest h more × (faults ≡ first ++ more)
 
--- what a text defines, and its faults
 abbrev pub IsChecked : List BoxTree → List Defined → List Fault → Type 0
 IsChecked boxes globals faults = ChecksAll [] (items boxes) globals faults
-
--- how many given sets and free types a paragraph defines
-abbrev pub elements : ParagraphTree → ℕ
-elements (given ns) = length ns
-elements (free n ns) = 1
-elements (text.abbreviation n e) = 0
-elements (definition n x) = 0

@@ -2,7 +2,7 @@
 use Rattle.std.specs.Prelude.{◌≡◌, ℕ, List, [], ◌∷◌, ◌++◌, Some}
 use Rattle.zf_tree.specs.declared.tree.Name.{Name}
 use Rattle.zf_tree.specs.declared.tree.SchemaRef.{SchemaRef}
-use Rattle.zf_tree.specs.Trees.{Tree, DeclTree, vars, include, SchemaTree, schema_text, reference, both, either, schema_bracket}
+use Rattle.zf_tree.specs.Trees.{Tree, DeclTree, vars, include, SchemaTree, schema_text, schema_reference, both, either, schema_bracket}
 use Rattle.zf_term.specs.FirstNamed.{first_named}
 use Rattle.zf_term.specs.Definitions.{Schema, DeclaredSet, plain, Defined, schema}
 use Rattle.zf_term.specs.ResolvedTrees.{ResolvedTree}
@@ -13,7 +13,7 @@ use Rattle.zf_sorts.specs.Rules.{set_sort, predicate}
 use Rattle.zf_type.specs.Scopes.{Scope}
 use Rattle.zf_tree.specs.Names.{spelling}
 use Rattle.zf_type.specs.Typing.{IsOf}
-use Rattle.zf_calculus.specs.Calculus.{comp, schema_with, nothing, Agree, conjoined, decorated, marked, MarkAgrees, disjoined}
+use Rattle.zf_calculus.specs.Calculus.{comp, schema_with, empty_schema, Agree, conjoined, decorated, marked, MarkAgrees, disjoined}
 use Rattle.zf_calculus.specs.Steps.{IsNext, Adds, Includes}
 
 -- what is in scope in a declared set: the globals
@@ -39,12 +39,10 @@ abbrev pub DeclaresOne : List Defined → Schema → DeclTree → Schema → Typ
 DeclaresOne g a (vars ns e) b = (t : Ty) × IsOf (outside g) e (set_sort t) × AddsAll a ns t (plain (resolved (outside g) e)) b
 DeclaresOne g a (include r) b = (c : Schema) × Refers g r c × Includes a c b
 
--- declarations, one after another
 abbrev pub Declares : List Defined → Schema → List DeclTree → Schema → Type 0
 Declares g a [] b = b ≡ a
 Declares g a (d ∷ ds) b = (mid : Schema) × DeclaresOne g a d mid × Declares g mid ds b
 
--- conjuncts, one after another
 abbrev pub TakesAll : Schema → List ResolvedTree → Schema → Type 0
 TakesAll a [] b = b ≡ a
 TakesAll a (c ∷ cs) b = (mid : Schema) × IsNext (schema_with a.comps (a.conjuncts ++ c ∷ [])) mid × TakesAll mid cs b
@@ -59,11 +57,11 @@ Constrains g a (p ∷ ps) b = (mid : Schema) × ConstrainsOne g a p mid × Const
 
 -- declarations, and then predicates over them
 abbrev pub IsText : List Defined → List DeclTree → List Tree → Schema → Type 0
-IsText g ds ps b = (mid : Schema) × Declares g nothing ds mid × Constrains g mid ps b
+IsText g ds ps b = (mid : Schema) × Declares g empty_schema ds mid × Constrains g mid ps b
 
 abbrev pub IsSchema : List Defined → SchemaTree → Schema → Type 0
 IsSchema g (schema_text ds ps) c = IsText g ds ps c
-IsSchema g (reference r) c = Refers g r c
+IsSchema g (schema_reference r) c = Refers g r c
 IsSchema g (both x y) c = (a b : Schema) × IsSchema g x a × IsSchema g y b × Agree a.comps b.comps × IsNext (conjoined a b) c
 IsSchema g (either l x y) c = (a b : Schema) × IsSchema g x a × IsSchema g y b × Agree a.comps b.comps × IsNext (disjoined l a b) c
 IsSchema g (schema_bracket x) c = IsSchema g x c

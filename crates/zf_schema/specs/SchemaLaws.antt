@@ -3,11 +3,11 @@ use Rattle.std.specs.Prelude.{◌≡◌, ℕ, List, [], ◌∷◌, ◌++◌, map
 use Rattle.std.specs.List.{AllByRecursion}
 use Rattle.zf_tree.specs.declared.symbol.Relation.TheVariants.{Equal}
 use Rattle.zf_tree.specs.declared.tree.RefMark.TheVariants.{Xi}
-use Rattle.zf_tree.specs.Trees.{SchemaTree, BoxTree}
+use Rattle.zf_tree.specs.Trees.{SchemaTree, BoxTree, ParagraphTree, given, free}
 use Rattle.zf_reference.specs.declared.reference.Reference.TheVariants.{Component}
 use Rattle.zf_term.specs.Definitions.{Comp, Schema, DeclaredSet, sides, sets_of, Defined, Definition, given_set, free_type, constructor, abbreviation, schema}
 use Rattle.zf_term.specs.ResolvedTrees.{reference, chain, no_links, link}
-use Rattle.zf_term.specs.FirstNamed.{or_else}
+use Rattle.std.specs.Option.{option_or}
 use Rattle.zf_term.specs.Types.{Ty}
 use Rattle.zf_term.specs.Faults.{Offence, Fault}
 use Rattle.zf_calculus.specs.CalculusLaws.{EachOnce, AreOnce}
@@ -94,7 +94,7 @@ CompsJoined = (a b : Schema) → AreOnce b.comps → signature (conjoined a b).c
 
 -- a component has the type that the one schema gives it, or else the other
 abbrev pub TypesJoined : Type 0
-TypesJoined = (a b : Schema) (x : List ℕ) → type_named x (conjoined a b).comps ≡ or_else (type_named x a.comps) (type_named x b.comps)
+TypesJoined = (a b : Schema) (x : List ℕ) → type_named x (conjoined a b).comps ≡ option_or (type_named x a.comps) (type_named x b.comps)
 
 -- it has the declared sets of the one, then those of the other
 abbrev pub SetsJoined : Type 0
@@ -114,7 +114,7 @@ PlacesCarried =
 -- ---- disjunction, by name
 
 abbrev pub TypesOfEither : Type 0
-TypesOfEither = (l : ℕ) (a b : Schema) (x : List ℕ) → type_named x (disjoined l a b).comps ≡ or_else (type_named x a.comps) (type_named x b.comps)
+TypesOfEither = (l : ℕ) (a b : Schema) (x : List ℕ) → type_named x (disjoined l a b).comps ≡ option_or (type_named x a.comps) (type_named x b.comps)
 
 -- it has the components that the conjunction has, of the same types
 abbrev pub CompsOfEither : Type 0
@@ -163,3 +163,9 @@ CompsOnce = (g : List Defined) (x : SchemaTree) (a : Schema) → HaveCompsOnce g
 -- a name is defined once, and is one component of a schema at most
 abbrev pub NamesOnce : Type 0
 NamesOnce = (boxes : List BoxTree) (g : List Defined) (faults : List Fault) → IsChecked boxes g faults → AreDefinedOnce g × HaveCompsOnce g
+
+-- how many given sets and free types a paragraph defines
+abbrev pub elements : ParagraphTree → ℕ
+elements (given ns) = length ns
+elements (free n ns) = 1
+elements _ = 0

@@ -2,10 +2,10 @@
 use Rattle.std.specs.Prelude.{◌≡◌, ◌⊎◌, ℕ, List, [], ◌∷◌, ◌++◌, None, Some}
 use Rattle.zf_tree.specs.declared.tree.Name.{Name}
 use Rattle.zf_tree.specs.declared.tree.SchemaRef.{SchemaRef}
-use Rattle.zf_tree.specs.Trees.{Tree, DeclTree, vars, include, SchemaTree, schema_text, reference, both, either, schema_bracket}
+use Rattle.zf_tree.specs.Trees.{Tree, DeclTree, vars, include, SchemaTree, schema_text, schema_reference, both, either, schema_bracket}
 use Rattle.zf_term.specs.FirstNamed.{first_named}
 use Rattle.zf_tree.specs.declared.operator.Need.TheVariants as need
-use Rattle.zf_term.specs.Definitions.{Schema, DeclaredSet, plain, Defined, Definition, given_set, free_type, constructor, abbreviation, schema}
+use Rattle.zf_term.specs.Definitions.{Schema, DeclaredSet, plain, Defined, Definition, schema}
 use Rattle.zf_term.specs.ResolvedTrees.{ResolvedTree}
 use Rattle.zf_term.specs.Shapes.{term_line, conjuncts}
 use Rattle.zf_term.specs.Types.{Ty}
@@ -15,7 +15,7 @@ use Rattle.zf_type.specs.Resolving.{resolved}
 use Rattle.zf_sorts.specs.Rules.{set_sort, predicate}
 use Rattle.zf_tree.specs.Names.{spelling}
 use Rattle.zf_type.specs.Typing.{IsOf}
-use Rattle.zf_calculus.specs.Calculus.{comp, schema_with, nothing, Agrees, Agree, with_comp, conjoined, decorated, marked, MarkAgrees, disjoined}
+use Rattle.zf_calculus.specs.Calculus.{comp, schema_with, empty_schema, Agrees, Agree, with_comp, conjoined, decorated, marked, MarkAgrees, disjoined}
 use Rattle.zf_schema.specs.Expressions.{outside, inside, Refers, DeclaresOne, Declares, ConstrainsOne, IsSchema}
 use Rattle.zf_calculus.specs.Steps.{IsNext, Adds, Clashes, OneClashes, MarkClashes, Stops}
 use Rattle.zf_term.specs.Limits.{IsTooLarge}
@@ -26,11 +26,8 @@ AnyByRecursion P [] = ⊥
 AnyByRecursion P (a ∷ rest) = P a ⊎ AnyByRecursion P rest
 
 abbrev pub IsNoSchema : Definition → Type 0
-IsNoSchema (given_set n) = Unit {0}
-IsNoSchema (free_type n names) = Unit {0}
-IsNoSchema (constructor n of_type place) = Unit {0}
-IsNoSchema (abbreviation t r x) = Unit {0}
 IsNoSchema (schema a) = ⊥
+IsNoSchema _ = Unit {0}
 
 -- the base of a reference is not declared, or is no schema; or the schema can't be taken as it is marked
 abbrev pub CantRefer : List Defined → SchemaRef → Offence → Type 0
@@ -88,9 +85,8 @@ OffendsPredicates g a ps o m = AnyByRecursion (λ p. Offends (inside g a) need.P
 
 -- predicates are judged over the components that the declarations make
 abbrev pub OffendsText : List Defined → List DeclTree → List Tree → Offence → ℕ → Type 0
-OffendsText g ds ps o m = OffendsDecls g nothing ds o m ⊎ ((mid : Schema) × Declares g nothing ds mid × OffendsPredicates g mid ps o m)
+OffendsText g ds ps o m = OffendsDecls g empty_schema ds o m ⊎ ((mid : Schema) × Declares g empty_schema ds mid × OffendsPredicates g mid ps o m)
 
--- the line of the first name
 abbrev pub names_line : List Name → ℕ
 names_line [] = 0
 names_line (n ∷ ns) = n.line
@@ -102,7 +98,7 @@ decls_line (include r ∷ ds) = r.name.line
 
 abbrev pub name_line : SchemaTree → ℕ
 name_line (schema_text ds ps) = decls_line ds
-name_line (reference r) = r.name.line
+name_line (schema_reference r) = r.name.line
 name_line (both x y) = name_line x
 name_line (either l x y) = name_line x
 name_line (schema_bracket x) = name_line x
@@ -113,7 +109,7 @@ StopsEither clashes agree next l name o m = ((m ≡ name) × clashes o) ⊎ ((m 
 
 abbrev pub OffendsSchema : List Defined → SchemaTree → Offence → ℕ → Type 0
 OffendsSchema g (schema_text ds ps) o m = OffendsText g ds ps o m
-OffendsSchema g (reference r) o m = OffendsRef g r o m
+OffendsSchema g (schema_reference r) o m = OffendsRef g r o m
 OffendsSchema g (both x y) o m =
     OffendsSchema g x o m
     ⊎ (OffendsSchema g y o m

@@ -15,6 +15,7 @@ ghost use Rattle.zf_schema.specs.Expressions.{outside};
 ghost use Rattle.zf_sorts.specs.Refusals.{IfFault};
 ghost use Rattle.zf_tree.specs.Names.{spelling};
 ghost use Rattle.zf_schema.specs.Checking as spec;
+ghost use Rattle.zf_schema.specs.SchemaLaws.{elements};
 ghost use Rattle.zf_schema.specs.Checking.{IsNew, with_global, abbreviated, Gives, Constructs, DefinesParagraph, Defines, a_box, IsTaken, OffendsGiven, OffendsConstructors, OffendsParagraph, OffendsItem};
 
 use crate::expression::schema_of_expression;
@@ -54,7 +55,7 @@ pub fn define<'a>(
 
 /// How many given sets and free types it defines.
 fn elements(paragraph: &Paragraph<'_>) -> usize
-    ensures number { result ≡ spec.elements (paragraph_of paragraph.now) }
+    ensures number { result ≡ elements (paragraph_of paragraph.now) }
     ensures small { result < 2 ^ 63 }
 {
     match paragraph {

@@ -12,8 +12,8 @@ pub use Rattle.zf_term.specs.ResolvedTrees.{absent, binary, bracket, builder, ch
 pub use Rattle.zf_term.specs.ResolvedViews.{links, part_of, range_of, ranges, resolved_link_of, resolved_of, terms}
 pub use Rattle.zf_term.specs.SetShapeViews.{all_set_counts, all_set_nodes}
 pub use Rattle.zf_term.specs.SetShapes.{set_count, set_nodes}
-pub use Rattle.zf_term.specs.Shapes.{all_nodes, height, moved, link_nodes, nodes, part_height, part_nodes, range_nodes, tallest, tallest_link, tallest_range}
-pub use Rattle.zf_term.specs.ShapeViews.{numbering}
+pub use Rattle.zf_term.specs.Shapes.{height, moved, nodes}
+pub use Rattle.zf_term.specs.ShapeViews.{numbering, all_nodes, link_nodes, range_nodes, part_nodes, tallest, tallest_link, tallest_range, part_height}
 pub use Rattle.zf_term.specs.declared.conjunct.Batch.{Batch}
 pub use Rattle.zf_term.specs.declared.conjunct.Conjunct.{Conjunct}
 pub use Rattle.zf_term.specs.declared.resolved.Range.{Range}

@@ -6,6 +6,7 @@ ghost use Rattle.zf_term.specs.SchemaViews.{batch_of, conjunct_of};
 ghost use Rattle.zf_term.specs.Definitions.{joined};
 ghost use Rattle.zf_term.specs.ResolvedViews.{terms};
 ghost use Rattle.zf_term.specs.Shapes as spec;
+ghost use Rattle.zf_term.specs.ShapeViews.{all_nodes};
 
 use crate::terms;
 use zf_data::arena::Items;
@@ -56,7 +57,7 @@ fn room_after_count<'a>(batches: &Items<'a, Batch<'a>>, room: usize) -> Option<u
 #[cycle(room)]
 #[tactic(auto, using(crate::proofs::Joined::batches_before))]
 fn room_after_batches<'a>(batches: &Items<'a, Batch<'a>>, room: usize) -> Option<usize>
-    ensures { MatchOption result (room < spec.all_nodes (terms (all_of (map batch_of batches.now)))) (λ left. left + spec.all_nodes (terms (all_of (map batch_of batches.now))) ≡ room) }
+    ensures { MatchOption result (room < all_nodes (terms (all_of (map batch_of batches.now)))) (λ left. left + all_nodes (terms (all_of (map batch_of batches.now))) ≡ room) }
 {
     let mut left = room;
     for batch in batches.as_slice() {
@@ -69,7 +70,7 @@ fn room_after_batches<'a>(batches: &Items<'a, Batch<'a>>, room: usize) -> Option
 #[cycle(room)]
 #[tactic(auto, using(crate::proofs::Joined::conjuncts_before))]
 fn room_after_all<'a>(conjuncts: &Items<'a, Conjunct<'a>>, room: usize) -> Option<usize>
-    ensures { MatchOption result (room < spec.all_nodes (terms (map conjunct_of conjuncts.now))) (λ left. left + spec.all_nodes (terms (map conjunct_of conjuncts.now)) ≡ room) }
+    ensures { MatchOption result (room < all_nodes (terms (map conjunct_of conjuncts.now))) (λ left. left + all_nodes (terms (map conjunct_of conjuncts.now)) ≡ room) }
 {
     let mut left = room;
     for conjunct in conjuncts.as_slice() {

@@ -2,6 +2,7 @@
 ghost use Rattle.std.specs.Prelude.{◌≡◌, ◌+◌, ◌<◌, ◌≤◌, ◌↔◌, IsTrue, MatchOption, map};
 ghost use Rattle.zf_term.specs.ResolvedViews.{resolved_of, resolved_link_of, range_of, terms, links, ranges, part_of};
 ghost use Rattle.zf_term.specs.Shapes as spec;
+ghost use Rattle.zf_term.specs.ShapeViews.{all_nodes, link_nodes, part_height, part_nodes, range_nodes, tallest, tallest_link, tallest_range};
 
 use zf_data::arena::{Boxed, Items};
 use zf_term::resolved::{Links, Part, Range, Resolved, ResolvedLink, Terms};
@@ -81,7 +82,7 @@ pub fn is_within<'a>(term: &Resolved<'a>, highest: usize) -> bool
 #[cycle(room)]
 #[tactic(auto, using(crate::proofs::Nodes::terms_before))]
 fn room_after_terms<'a>(items: &Terms<'a>, room: usize) -> Option<usize>
-    ensures { MatchOption result (room < spec.all_nodes (terms (map resolved_of items.now))) (λ left. left + spec.all_nodes (terms (map resolved_of items.now)) ≡ room) }
+    ensures { MatchOption result (room < all_nodes (terms (map resolved_of items.now))) (λ left. left + all_nodes (terms (map resolved_of items.now)) ≡ room) }
 {
     let mut left = room;
     for term in items.as_slice() {
@@ -93,7 +94,7 @@ fn room_after_terms<'a>(items: &Terms<'a>, room: usize) -> Option<usize>
 #[cycle(room)]
 #[tactic(auto, using(crate::proofs::Nodes::links_before))]
 fn room_after_links<'a>(further: &Links<'a>, room: usize) -> Option<usize>
-    ensures { MatchOption result (room < spec.link_nodes (links (map resolved_link_of further.now))) (λ left. left + spec.link_nodes (links (map resolved_link_of further.now)) ≡ room) }
+    ensures { MatchOption result (room < link_nodes (links (map resolved_link_of further.now))) (λ left. left + link_nodes (links (map resolved_link_of further.now)) ≡ room) }
 {
     let mut left = room;
     for link in further.as_slice() {
@@ -105,7 +106,7 @@ fn room_after_links<'a>(further: &Links<'a>, room: usize) -> Option<usize>
 #[cycle(room)]
 #[tactic(auto, using(crate::proofs::Nodes::ranges_before))]
 fn room_after_ranges<'a>(variables: &Boxed<'a, Items<'a, Range<'a>>>, room: usize) -> Option<usize>
-    ensures { MatchOption result (room < spec.range_nodes (ranges (map range_of variables.now))) (λ left. left + spec.range_nodes (ranges (map range_of variables.now)) ≡ room) }
+    ensures { MatchOption result (room < range_nodes (ranges (map range_of variables.now))) (λ left. left + range_nodes (ranges (map range_of variables.now)) ≡ room) }
 {
     let mut left = room;
     for range in variables.as_slice() {
@@ -116,7 +117,7 @@ fn room_after_ranges<'a>(variables: &Boxed<'a, Items<'a, Range<'a>>>, room: usiz
 
 #[cycle(room)]
 fn room_after_part<'a>(part: &Part<'a>, room: usize) -> Option<usize>
-    ensures { MatchOption result (room < spec.part_nodes (part_of part.now)) (λ left. left + spec.part_nodes (part_of part.now) ≡ room) }
+    ensures { MatchOption result (room < part_nodes (part_of part.now)) (λ left. left + part_nodes (part_of part.now) ≡ room) }
 {
     match part.get() {
         None => Some(room),
@@ -126,7 +127,7 @@ fn room_after_part<'a>(part: &Part<'a>, room: usize) -> Option<usize>
 
 #[cycle(within)]
 fn are_terms_within<'a>(items: &Terms<'a>, highest: usize) -> bool
-    ensures { IsTrue result ↔ spec.tallest (terms (map resolved_of items.now)) ≤ highest }
+    ensures { IsTrue result ↔ tallest (terms (map resolved_of items.now)) ≤ highest }
 {
     for term in items.as_slice() {
         if !is_within(term, highest) {
@@ -138,7 +139,7 @@ fn are_terms_within<'a>(items: &Terms<'a>, highest: usize) -> bool
 
 #[cycle(within)]
 fn are_links_within<'a>(further: &Links<'a>, highest: usize) -> bool
-    ensures { IsTrue result ↔ spec.tallest_link (links (map resolved_link_of further.now)) ≤ highest }
+    ensures { IsTrue result ↔ tallest_link (links (map resolved_link_of further.now)) ≤ highest }
 {
     for link in further.as_slice() {
         if !is_within(&link.right, highest) {
@@ -150,7 +151,7 @@ fn are_links_within<'a>(further: &Links<'a>, highest: usize) -> bool
 
 #[cycle(within)]
 fn are_ranges_within<'a>(variables: &Boxed<'a, Items<'a, Range<'a>>>, highest: usize) -> bool
-    ensures { IsTrue result ↔ spec.tallest_range (ranges (map range_of variables.now)) ≤ highest }
+    ensures { IsTrue result ↔ tallest_range (ranges (map range_of variables.now)) ≤ highest }
 {
     for range in variables.as_slice() {
         if !is_within(&range.set, highest) {
@@ -162,7 +163,7 @@ fn are_ranges_within<'a>(variables: &Boxed<'a, Items<'a, Range<'a>>>, highest: u
 
 #[cycle(within)]
 fn is_part_within<'a>(part: &Part<'a>, highest: usize) -> bool
-    ensures { IsTrue result ↔ spec.part_height (part_of part.now) ≤ highest }
+    ensures { IsTrue result ↔ part_height (part_of part.now) ≤ highest }
 {
     match part.get() {
         None => true,

@@ -1,7 +1,7 @@
 -- The rules of types: what the places of a symbol need, and how the types of its operands and of the whole belong together.
 use Rattle.std.specs.Prelude.{◌≡◌}
 use Rattle.zf_tree.specs.declared.symbol.Constant.{Constant}
-use Rattle.zf_tree.specs.declared.symbol.Constant.TheVariants.{True, False, Integers, Naturals, Positives}
+use Rattle.zf_tree.specs.declared.symbol.Constant.TheVariants.{True, False}
 use Rattle.zf_tree.specs.declared.symbol.Prefix.{Prefix}
 use Rattle.zf_tree.specs.declared.symbol.Prefix.TheVariants.{Power, Finset, Domain, Range, Size}
 use Rattle.zf_tree.specs.declared.operator.Sign.{Sign}
@@ -27,10 +27,7 @@ relation_sort t u = set_sort (pair_type t u)
 
 abbrev pub IsSmallSort : Sort → Type 0
 IsSmallSort (typed t) = IsSmall t
-IsSmallSort predicate = Unit {0}
-IsSmallSort a_schema = Unit {0}
-
--- ---- what places need
+IsSmallSort _ = Unit {0}
 
 abbrev pub Meets : Need → Sort → Type 0
 Meets need.Expression z = (t : Ty) × (z ≡ typed t)
@@ -78,9 +75,7 @@ UnaryTakes unary.Not x z = (x ≡ predicate) × (z ≡ predicate)
 abbrev pub constant_sort : Constant → Sort
 constant_sort True = predicate
 constant_sort False = predicate
-constant_sort Integers = set_sort int
-constant_sort Naturals = set_sort int
-constant_sort Positives = set_sort int
+constant_sort _ = set_sort int
 
 -- what is wrong with two operands that a rule doesn't take together: where one has to fit the other, the type that is needed and the one that is found
 abbrev pub Disagreement : Rule → (left right : Sort) → Offence → Type 0

@@ -16,7 +16,8 @@ pub use Rattle.zf_term.specs.SchemaViews.{batch_step, comp_of, conjunct_step, do
 pub use Rattle.zf_term.specs.Definitions.{carrier, DeclaredSet, Defined, is_member, one_holds, plain, sets_of, sides}
 pub use Rattle.zf_term.specs.DefinitionViews.{definition_of, entry_of, globals_of}
 unfoldable pub use Rattle.zf_term.specs.SchemaViews.{batch_of, conjunct_of, set_of}
-pub use Rattle.zf_term.specs.FirstNamed.{first_named, later, or_else}
+pub use Rattle.zf_term.specs.FirstNamed.{first_named, later}
+pub use Rattle.std.specs.Option.{option_or}
 pub use Rattle.zf_term.specs.References.{all_onto, links_onto, onto, part_onto, ranges_onto}
 pub use Rattle.zf_term.specs.ResolvedTrees.{absent, binary, bracket, builder, chain, constant, empty_set, link, listed, no_links, no_ranges, no_terms, number, present, quantified, range, Ranges, reference, ResolvedLinks, ResolvedPart, ResolvedTree, ResolvedTrees, term, unary}
 pub use Rattle.zf_term.specs.ResolvedViews.{links, part_of, range_step, ranges, resolved_link_step, resolved_step, terms}

@@ -1,4 +1,4 @@
--- What global names are defined as, as plain data, and how the program's globals are seen as it.
+-- What global names are defined as, as plain data.
 use Rattle.std.specs.Prelude.{ℕ, List}
 use Rattle.zf_term.specs.declared.extent.Extent.{Extent}
 use Rattle.zf_term.specs.ResolvedTrees.{ResolvedTree}
@@ -13,7 +13,6 @@ pub data Definition : Type 0 where
   abbreviation : Ty → ResolvedTree → Extent → Definition
   schema : Schema → Definition
 
--- a global name, with what it is defined as
 pub record Defined : Type 0 where
   pub name : List ℕ
   pub definition : Definition

@@ -22,23 +22,18 @@ pub data Offence : Type 0 where
   local_twice : (name : List ℕ) → Offence
   -- what stands to the left and to the right is of two sorts that no rule takes together
   mismatch : (left right : Sort) → Offence
-  -- a type is needed, and another one found
   unfit : (needed found : Ty) → Offence
   -- a display without members, which has no type
   no_members : Offence
   -- a place needs another sort than what was found there
   misplaced : Need → (found : Sort) → Offence
-  -- a component that has two types
   clash : (name : List ℕ) → (left right : Ty) → Offence
-  -- a limit that is passed
   too_large : Limit → Offence
 
 -- with the line of the first token of the term or name that offends
 pub record Fault : Type 0 where
   pub offence : Offence
   pub line : ℕ
-
--- ---- the kind of fault
 
 -- of an expression where this is needed
 abbrev pub lack : Need → TypeFaultKind
@@ -55,17 +50,14 @@ untyped_lack _ = NotAnExpression
 
 abbrev pub lack_of : Need → Sort → TypeFaultKind
 lack_of n (typed t) = lack n
-lack_of n predicate = untyped_lack n
-lack_of n a_schema = untyped_lack n
+lack_of n _ = untyped_lack n
 
 abbrev pub kind_of : Offence → TypeFaultKind
 kind_of (not_declared x) = NotDeclared
 kind_of (already_defined x) = AlreadyDefined
 kind_of (not_a_schema x) = NotASchema
 kind_of (local_twice x) = LocalTwice
-kind_of (mismatch x y) = Mismatch
-kind_of (unfit n f) = Mismatch
-kind_of no_members = Mismatch
 kind_of (misplaced n z) = lack_of n z
 kind_of (clash x t u) = ComponentClash
 kind_of (too_large l) = TooLarge
+kind_of _ = Mismatch

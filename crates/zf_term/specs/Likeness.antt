@@ -7,12 +7,10 @@ use Rattle.std.specs.Str.{bytes_eq}
 abbrev pub begins_stroke : (before : ℕ) → ℕ → Bool
 begins_stroke before b = b == 39 || (b == 63 || (b == 33 || (b == 95 && not (before == 92))))
 
--- the bytes up to the first stroke
 abbrev pub up_to_stroke : (before : ℕ) → List ℕ → List ℕ
 up_to_stroke before [] = []
 up_to_stroke before (b ∷ rest) = if begins_stroke before b then [] else b ∷ up_to_stroke b rest
 
--- the name without its strokes
 abbrev pub without_strokes : List ℕ → List ℕ
 without_strokes name = up_to_stroke 0 name
 

@@ -46,14 +46,14 @@ pub record IsWithin (a : Schema) : Type 0 where
   pub low : AllByRecursion IsLow a.conjuncts
 
 -- the schema is within this limit
-abbrev pub Keeps : Limit → Schema → Type 0
-Keeps limit.TypeNodes a = Unit {0}
-Keeps limit.Components a = AreFew a.comps
-Keeps limit.Sets a = declared_sets a ≤ sets_max
-Keeps limit.Conjuncts a = length a.conjuncts ≤ conjuncts_max
-Keeps limit.Nodes a = schema_nodes a ≤ nodes_max
-Keeps limit.Height a = AllByRecursion IsLow a.conjuncts
+abbrev pub KeepsTo : Limit → Schema → Type 0
+KeepsTo limit.TypeNodes a = Unit {0}
+KeepsTo limit.Components a = AreFew a.comps
+KeepsTo limit.Sets a = declared_sets a ≤ sets_max
+KeepsTo limit.Conjuncts a = length a.conjuncts ≤ conjuncts_max
+KeepsTo limit.Nodes a = schema_nodes a ≤ nodes_max
+KeepsTo limit.Height a = AllByRecursion IsLow a.conjuncts
 
 -- it passes one: which one is told
 abbrev pub IsTooLarge : Schema → Offence → Type 0
-IsTooLarge a o = (l : Limit) × (o ≡ too_large l) × (Keeps l a → ⊥)
+IsTooLarge a o = (l : Limit) × (o ≡ too_large l) × (KeepsTo l a → ⊥)

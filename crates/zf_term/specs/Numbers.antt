@@ -1,14 +1,12 @@
 -- How given sets and free types are numbered.
 use Rattle.std.specs.Prelude.{ℕ, List}
 use Rattle.std.specs.List.{sum_by}
-use Rattle.zf_term.specs.Definitions.{Defined, Definition, given_set, free_type, constructor, abbreviation, schema}
+use Rattle.zf_term.specs.Definitions.{Defined, Definition, given_set, free_type}
 
 abbrev pub has_elements : Definition → ℕ
 has_elements (given_set n) = 1
 has_elements (free_type n names) = 1
-has_elements (constructor n of_type place) = 0
-has_elements (abbreviation t r x) = 0
-has_elements (schema a) = 0
+has_elements _ = 0
 
 -- the number of the next given set or free type
 abbrev pub next_number : List Defined → ℕ

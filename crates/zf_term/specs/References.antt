@@ -1,13 +1,11 @@
 -- What the names of a resolved term stand for, from left to right, behind others.
 use Rattle.std.specs.Prelude.{List, [], ◌∷◌, ◌++◌}
 use Rattle.zf_reference.specs.declared.reference.Reference.{Reference}
-use Rattle.zf_term.specs.ResolvedTrees.{ResolvedTree, reference, number, constant, empty_set, bracket, listed, builder, unary, binary, chain, quantified, ResolvedTrees, no_terms, term, ResolvedLinks, no_links, link, Ranges, no_ranges, range, ResolvedPart, absent, present}
+use Rattle.zf_term.specs.ResolvedTrees.{ResolvedTree, reference, empty_set, bracket, listed, builder, unary, binary, chain, quantified, ResolvedTrees, no_terms, term, ResolvedLinks, no_links, link, Ranges, no_ranges, range, ResolvedPart, absent, present}
 
 abbrev mutual
   pub onto : List Reference → ResolvedTree → List Reference
   onto rs (reference l r) = rs ++ r ∷ []
-  onto rs (number l v) = rs
-  onto rs (constant l c) = rs
   onto rs (empty_set l t) = onto rs t
   onto rs (bracket l t) = onto rs t
   onto rs (listed l form ts) = all_onto rs ts
@@ -16,6 +14,7 @@ abbrev mutual
   onto rs (binary l op a b) = onto (onto rs a) b
   onto rs (chain l t ks) = links_onto (onto rs t) ks
   onto rs (quantified l q ds p t) = onto (part_onto (ranges_onto rs ds) p) t
+  onto rs _ = rs
 
   pub all_onto : List Reference → ResolvedTrees → List Reference
   all_onto rs no_terms = rs

@@ -1,4 +1,4 @@
--- Resolved terms as plain data, and how the program's are seen as them.
+-- Resolved terms as plain data: each has the line of its first token, and each name says what it stands for.
 use Rattle.std.specs.Prelude.{ℕ}
 use Rattle.zf_tree.specs.declared.symbol.Constant.{Constant}
 use Rattle.zf_tree.specs.declared.symbol.Quantifier.{Quantifier}
@@ -8,7 +8,6 @@ use Rattle.zf_tree.specs.declared.operator.Operator.{Operator}
 use Rattle.zf_tree.specs.declared.operator.Unary.{Unary}
 use Rattle.zf_reference.specs.declared.reference.Reference.{Reference}
 
--- a term, with the line of its first token; each name says what it stands for
 mutual
   pub data ResolvedTree : Type 0 where
     reference : (line : ℕ) → Reference → ResolvedTree

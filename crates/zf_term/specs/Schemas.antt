@@ -1,4 +1,4 @@
--- Schemas as plain data, and how the program's schemas are seen as it.
+-- Schemas as plain data.
 use Rattle.std.specs.Prelude.{ℕ, List, [], ◌∷◌, fold}
 use Rattle.zf_reference.specs.declared.reference.Reference.TheVariants.{Component as component}
 use Rattle.zf_tree.specs.declared.operator.Operator.TheVariants.{Connective}
@@ -20,18 +20,14 @@ mutual
     no_sets : DeclaredSets
     set : DeclaredSet → DeclaredSets → DeclaredSets
 
--- a component, with its type and its declared sets
 pub record Comp : Type 0 where
   pub name : List ℕ
   pub type : Ty
   pub sets : List DeclaredSet
 
--- a schema: its components in order, and its conjuncts
 pub record Schema : Type 0 where
   pub comps : List Comp
   pub conjuncts : List ResolvedTree
-
--- ---- the program's schemas as these
 
 abbrev pub sets_of : List DeclaredSet → DeclaredSets
 sets_of [] = no_sets

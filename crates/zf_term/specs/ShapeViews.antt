@@ -1,9 +1,9 @@
--- New numbers of components by a list, and of parts of a term.
-use Rattle.std.specs.Prelude.{ℕ, List, Option, Some, None}
+-- New numbers of components by a list, and of parts of a term; the nodes and the height of several terms.
+use Rattle.std.specs.Prelude.{ℕ, ◌+◌, max, List, Option, Some, None}
 use Rattle.zf_tree.specs.declared.symbol.Relation.{Relation}
 use Rattle.zf_reference.specs.NumberingViews.{place_in}
-use Rattle.zf_term.specs.ResolvedTrees.{ResolvedTree}
-use Rattle.zf_term.specs.Shapes.{moved}
+use Rattle.zf_term.specs.ResolvedTrees.{Ranges, ResolvedLinks, ResolvedPart, ResolvedTree, ResolvedTrees}
+use Rattle.zf_term.specs.Shapes.{links_measure, moved, part_measure, ranges_measure, terms_measure}
 
 -- by a list, where there is one
 abbrev pub numbering : Option (List ℕ) → ℕ → ℕ
@@ -15,3 +15,31 @@ link_moved f l = (l.0, moved f l.1)
 
 abbrev pub range_moved : (ℕ → ℕ) → ℕ × ResolvedTree → ℕ × ResolvedTree
 range_moved f r = (r.0, moved f r.1)
+
+-- ---- nodes
+
+abbrev pub all_nodes : ResolvedTrees → ℕ
+all_nodes = terms_measure ◌+◌
+
+abbrev pub link_nodes : ResolvedLinks → ℕ
+link_nodes = links_measure ◌+◌
+
+abbrev pub range_nodes : Ranges → ℕ
+range_nodes = ranges_measure ◌+◌
+
+abbrev pub part_nodes : ResolvedPart → ℕ
+part_nodes = part_measure ◌+◌
+
+-- ---- height
+
+abbrev pub tallest : ResolvedTrees → ℕ
+tallest = terms_measure max
+
+abbrev pub tallest_link : ResolvedLinks → ℕ
+tallest_link = links_measure max
+
+abbrev pub tallest_range : Ranges → ℕ
+tallest_range = ranges_measure max
+
+abbrev pub part_height : ResolvedPart → ℕ
+part_height = part_measure max

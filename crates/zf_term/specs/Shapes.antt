@@ -1,6 +1,6 @@
 -- The shape of resolved terms: their nodes, their height, their conjuncts, and their components numbered anew.
 use Rattle.std.specs.Prelude.{ℕ, ◌+◌, max, Bool, true, false, if◌then◌else◌, List, [], ◌∷◌, ◌++◌}
-use Rattle.zf_tree.specs.declared.symbol.Connective.TheVariants.{And, Or, Implies, Iff}
+use Rattle.zf_tree.specs.declared.symbol.Connective.TheVariants.{And}
 use Rattle.zf_tree.specs.declared.operator.Operator.{Operator}
 use Rattle.zf_tree.specs.declared.operator.Operator.TheVariants as operator
 use Rattle.zf_reference.specs.Numbering.{renumbered}
@@ -20,69 +20,43 @@ term_line (binary l op a b) = l
 term_line (chain l t ks) = l
 term_line (quantified l q rs p t) = l
 
--- ---- nodes: the terms in a term, itself among them; brackets do not count
+-- ---- nodes and height
 
+-- what `join` makes of the terms in a term, with one for itself; brackets do not count
 abbrev mutual
-  pub nodes : ResolvedTree → ℕ
-  nodes (reference l r) = 1
-  nodes (number l v) = 1
-  nodes (constant l c) = 1
-  nodes (empty_set l t) = nodes t + 1
-  nodes (bracket l t) = nodes t
-  nodes (listed l form ts) = all_nodes ts + 1
-  nodes (builder l rs p t) = range_nodes rs + part_nodes p + part_nodes t + 1
-  nodes (unary l op t) = nodes t + 1
-  nodes (binary l op a b) = nodes a + nodes b + 1
-  nodes (chain l t ks) = nodes t + link_nodes ks + 1
-  nodes (quantified l q rs p t) = range_nodes rs + part_nodes p + nodes t + 1
+  pub measure : (join : ℕ → ℕ → ℕ) → ResolvedTree → ℕ
+  measure join (empty_set l t) = measure join t + 1
+  measure join (bracket l t) = measure join t
+  measure join (listed l form ts) = terms_measure join ts + 1
+  measure join (builder l rs p t) = join (join (ranges_measure join rs) (part_measure join p)) (part_measure join t) + 1
+  measure join (unary l op t) = measure join t + 1
+  measure join (binary l op a b) = join (measure join a) (measure join b) + 1
+  measure join (chain l t ks) = join (measure join t) (links_measure join ks) + 1
+  measure join (quantified l q rs p t) = join (join (ranges_measure join rs) (part_measure join p)) (measure join t) + 1
+  measure join _ = 1
 
-  pub all_nodes : ResolvedTrees → ℕ
-  all_nodes no_terms = 0
-  all_nodes (term t ts) = nodes t + all_nodes ts
+  pub terms_measure : (join : ℕ → ℕ → ℕ) → ResolvedTrees → ℕ
+  terms_measure join no_terms = 0
+  terms_measure join (term t ts) = join (measure join t) (terms_measure join ts)
 
-  pub link_nodes : ResolvedLinks → ℕ
-  link_nodes no_links = 0
-  link_nodes (link r t ks) = nodes t + link_nodes ks
+  pub links_measure : (join : ℕ → ℕ → ℕ) → ResolvedLinks → ℕ
+  links_measure join no_links = 0
+  links_measure join (link r t ks) = join (measure join t) (links_measure join ks)
 
-  pub range_nodes : Ranges → ℕ
-  range_nodes no_ranges = 0
-  range_nodes (range n t rs) = nodes t + range_nodes rs
+  pub ranges_measure : (join : ℕ → ℕ → ℕ) → Ranges → ℕ
+  ranges_measure join no_ranges = 0
+  ranges_measure join (range n t rs) = join (measure join t) (ranges_measure join rs)
 
-  pub part_nodes : ResolvedPart → ℕ
-  part_nodes absent = 0
-  part_nodes (present t) = nodes t
+  pub part_measure : (join : ℕ → ℕ → ℕ) → ResolvedPart → ℕ
+  part_measure join absent = 0
+  part_measure join (present t) = measure join t
 
--- ---- height: one more than that of the highest term directly in it; brackets do not count
+-- how many terms there are
+abbrev pub nodes : ResolvedTree → ℕ
+nodes = measure ◌+◌
 
-abbrev mutual
-  pub height : ResolvedTree → ℕ
-  height (reference l r) = 1
-  height (number l v) = 1
-  height (constant l c) = 1
-  height (empty_set l t) = height t + 1
-  height (bracket l t) = height t
-  height (listed l form ts) = tallest ts + 1
-  height (builder l rs p t) = max (max (tallest_range rs) (part_height p)) (part_height t) + 1
-  height (unary l op t) = height t + 1
-  height (binary l op a b) = max (height a) (height b) + 1
-  height (chain l t ks) = max (height t) (tallest_link ks) + 1
-  height (quantified l q rs p t) = max (max (tallest_range rs) (part_height p)) (height t) + 1
-
-  pub tallest : ResolvedTrees → ℕ
-  tallest no_terms = 0
-  tallest (term t ts) = max (height t) (tallest ts)
-
-  pub tallest_link : ResolvedLinks → ℕ
-  tallest_link no_links = 0
-  tallest_link (link r t ks) = max (height t) (tallest_link ks)
-
-  pub tallest_range : Ranges → ℕ
-  tallest_range no_ranges = 0
-  tallest_range (range n t rs) = max (height t) (tallest_range rs)
-
-  pub part_height : ResolvedPart → ℕ
-  part_height absent = 0
-  part_height (present t) = height t
+abbrev pub height : ResolvedTree → ℕ
+height = measure max
 
 -- ---- components numbered anew
 
@@ -120,13 +94,7 @@ abbrev mutual
 
 abbrev pub is_and : Operator → Bool
 is_and (operator.Connective And) = true
-is_and (operator.Connective Or) = false
-is_and (operator.Connective Implies) = false
-is_and (operator.Connective Iff) = false
-is_and (operator.Function op) = false
-is_and (operator.Generic op) = false
-is_and operator.Application = false
-is_and operator.Image = false
+is_and _ = false
 
 -- a conjunction, within brackets or without
 abbrev pub is_conjunction : ResolvedTree → Bool

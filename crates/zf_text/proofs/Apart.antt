@@ -1,5 +1,5 @@
 -- Where a box ends: behind its end, whatever follows.
-use Rattle.zf_text.proofs.Prelude.{◌++◌, ◌∙◌, ◌∷◌, ◌≡◌, ◌≤◌, [], ap, arith, false, length, List, refl, subst, sym, true, ℕ, append_cancel_right, if◌then◌else◌, BoxTree, DeclTree, include, ParagraphTree, reference, schema_box, SchemaTree, Tree, vars, zed, And, Or, Name, RefMark, Delta, Plain, Xi, ends_box, separator, Symbol, symbol, Kind, IsOn, Next, PartedBy, Spells, SpellsBox, SpellsDecl, SpellsMarked, SpellsName, SpellsParagraph, SpellsPredicates, SpellsSchema}
+use Rattle.zf_text.proofs.Prelude.{◌++◌, ◌∙◌, ◌∷◌, ◌≡◌, ◌≤◌, [], ap, arith, false, length, List, refl, subst, sym, true, ℕ, append_cancel_right, if◌then◌else◌, BoxTree, DeclTree, include, ParagraphTree, schema_reference, schema_box, SchemaTree, Tree, vars, zed, And, Or, Name, RefMark, Delta, Plain, Xi, ends_box, separator, Symbol, symbol, Kind, IsOn, Next, PartedBy, Spells, SpellsBox, SpellsDecl, SpellsMarked, SpellsName, SpellsParagraph, SpellsPredicates, SpellsSchema}
 use Rattle.zf_scan.specs.declared.token.Kind.TheVariants as k
 use Rattle.zf_tree.specs.Trees as shape
 use Rattle.zf_text.proofs.SchemaExps.{schema_shorter}
@@ -51,7 +51,7 @@ schema_own : (x : SchemaTree) (ts us : List Symbol) → SpellsSchema x ts us →
 schema_own (shape.schema_text ds ps) ts us h =
     four (next_own k.OpenSquare ts h.0 refl h.3) (decls_own ds h.0 h.1 h.4) (predicates_own k.Bar refl ps h.1 h.2 h.5) (next_own k.CloseSquare h.2 us refl h.6)
     (λ x a b c y p q r s. (a, b, c, p, q, r, s))
-schema_own (reference r) ts us h = as_own (marked_own r.mark r.name ts us h) (λ x y p. p)
+schema_own (schema_reference r) ts us h = as_own (marked_own r.mark r.name ts us h) (λ x y p. p)
 schema_own (shape.both x y) ts us h = three (schema_own x ts h.0 h.2) (next_own (k.Connective And) h.0 h.1 refl h.3) (schema_own y h.1 us h.4) (λ x a b y p q r. (a, b, p, q, r))
 schema_own (shape.either l x y) ts us h =
     three (on_line l x ts h.0 (schema_own x ts h.0 h.3) h.2) (next_own (k.Connective Or) h.0 h.1 refl h.4) (schema_own y h.1 us h.5) (λ x a b y p q r. (a, b, p.0, p.1, q, r))

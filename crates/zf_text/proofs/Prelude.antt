@@ -6,7 +6,7 @@ pub use Rattle.std.proofs.lemmas.List.{append-nil, append_cancel_right, drop-set
 pub use Rattle.std.specs.List.{AllByRecursion}
 pub use Rattle.std.specs.Prelude.{if◌then◌else◌, ◌==◌, ◌||◌, ◌⊎◌, nat_le}
 pub use Rattle.zf_tree.specs.NameViews.{ident_of, is_bare}
-pub use Rattle.zf_tree.specs.Trees.{both, BoxTree, bracket, chain, constant, DeclTree, either, include, line_of, link, Links, named, no_links, no_trees, numeral, ParagraphTree, reference, schema_box, SchemaTree, Tree, tree, Trees, vars, zed}
+pub use Rattle.zf_tree.specs.Trees.{both, BoxTree, bracket, chain, constant, DeclTree, either, include, line_of, link, Links, named, no_links, no_trees, numeral, ParagraphTree, schema_reference, schema_box, SchemaTree, Tree, tree, Trees, vars, zed}
 pub use Rattle.zf_tree.specs.TreeViews.{box_of, decl_of, decl_step, link_step, new_link, paragraph_of, part_of, schema_tree_of, tree_step}
 unfoldable pub use Rattle.zf_tree.specs.TreeViews.{link_of, tree_of, var_decl_of}
 pub use Rattle.zf_tree.specs.declared.operator.Listed.{Listed}
@@ -39,24 +39,7 @@ pub use Rattle.zf_scan.specs.declared.token.Kind.{Kind}
 pub use Rattle.zf_scan.specs.declared.token.Token.{Token}
 pub use Rattle.zf_text.specs.BoxByBox.{AreSoFar, Later, ReadsBox, ReadsOneBox, ReadsUpTo, RefusesBox, SpellsUpTo}
 pub use Rattle.zf_text.specs.BoxReading.{box_by, is_and, is_or, predicates, read_decls, read_paragraph, read_ref, schema_part_by, with_item}
-unfoldable pub use Rattle.zf_text.specs.BoxReading.{
-  boxes_from,
-  conjunction,
-  disjunction,
-  items,
-  items_from,
-  joined,
-  read_all,
-  read_box,
-  read_boxes,
-  read_only,
-  read_schema,
-  read_schema_box,
-  read_zed,
-  schema_bracket,
-  schema_part,
-  schema_text,
-}
+unfoldable pub use Rattle.zf_text.specs.BoxReading.{boxes_from, conjunction, disjunction, items, items_from, joined, read_all, read_box, read_boxes, read_only, read_schema, read_schema_box, read_zed, schema_bracket, schema_part, schema_text}
 pub use Rattle.zf_text.specs.Height.{box_height, decl_height, tree_height, height_limit, highest, most, paragraph_height, perhaps_height, schema_height, trees_height, links_height, decls_height}
 pub use Rattle.zf_text.specs.Levels.{AreAt, AreEnough, AreTwo, atom_level, BoxIsLevelled, chain_level, DeclIsLevelled, DeclsAreLevelled, expression_level, infix_level, IsAt, IsLevelled, left_place, level, LinksAreLevelled, listed_level, member_place, negation_level, operator_level, ParagraphIsLevelled, PartIsAt, postfix_level, priority, product_level, quantifier_level, right_place, schema_level, SchemaIsLevelled, sign_level, unary_level}
 pub use Rattle.zf_text.specs.ParsingViews.{Parses, ReadsSpec}

@@ -1,5 +1,5 @@
 -- Schema expressions: what is read is spelled, and what is spelled is read.
-use Rattle.zf_text.proofs.Prelude.{◌+◌, ◌-◌, ◌<◌, ◌∙◌, ◌∷◌, ◌≡◌, ◌≤◌, [], ap, arith, Bool, Err, false, inl, inr, length, List, map, max, Ok, refl, subst, suc, sym, true, zero, ℕ, leb-false, leb-true, AllByRecursion, if◌then◌else◌, ◌⊎◌, nat_le, both, decl_of, DeclTree, either, reference, schema_tree_of, SchemaTree, Tree, tree_of, And, Or, Name, RefMark, Delta, Plain, Xi, SchemaExp, is_mark, next_of, separator, Symbol, symbol, Kind, is_and, is_or, predicates, read_decls, read_ref, schema_part_by, conjunction, disjunction, joined, read_schema, schema_bracket, schema_part, schema_text, decl_height, tree_height, most, schema_height, DeclIsLevelled, IsLevelled, quantifier_level, schema_level, SchemaIsLevelled, first, rest, IsOn, Next, PartedBy, SpellsDecl, SpellsMarked, SpellsPredicates, SpellsSchema, and_then, binds, expect, here, Outcome, Parser, tall, TooDeep, Tall}
+use Rattle.zf_text.proofs.Prelude.{◌+◌, ◌-◌, ◌<◌, ◌∙◌, ◌∷◌, ◌≡◌, ◌≤◌, [], ap, arith, Bool, Err, false, inl, inr, length, List, map, max, Ok, refl, subst, suc, sym, true, zero, ℕ, leb-false, leb-true, AllByRecursion, if◌then◌else◌, ◌⊎◌, nat_le, both, decl_of, DeclTree, either, schema_reference, schema_tree_of, SchemaTree, Tree, tree_of, And, Or, Name, RefMark, Delta, Plain, Xi, SchemaExp, is_mark, next_of, separator, Symbol, symbol, Kind, is_and, is_or, predicates, read_decls, read_ref, schema_part_by, conjunction, disjunction, joined, read_schema, schema_bracket, schema_part, schema_text, decl_height, tree_height, most, schema_height, DeclIsLevelled, IsLevelled, quantifier_level, schema_level, SchemaIsLevelled, first, rest, IsOn, Next, PartedBy, SpellsDecl, SpellsMarked, SpellsPredicates, SpellsSchema, and_then, binds, expect, here, Outcome, Parser, tall, TooDeep, Tall}
 use Rattle.zf_scan.specs.declared.next.Mark.TheVariants as mark
 use Rattle.zf_scan.specs.declared.next.Next as code
 use Rattle.zf_scan.specs.declared.token.Kind.TheVariants as k
@@ -16,7 +16,7 @@ use Rattle.zf_tree.proofs.SchemaSeen as of
 pub schema_shorter : (t : SchemaTree) (ts us : List Symbol) → SpellsSchema t ts us → length us + 1 ≤ length ts
 schema_shorter (shape.schema_text ds ps) ts us h =
     omega (arith, next_shorter ts h.0 h.3, decls_shorter ds h.0 h.1 h.4, predicates_shorter k.Bar ps h.1 h.2 h.5, next_shorter h.2 us h.6)
-schema_shorter (reference r) ts us h = ref_shorter r ts us h
+schema_shorter (schema_reference r) ts us h = ref_shorter r ts us h
 schema_shorter (both a b) ts us h = omega (arith, schema_shorter a ts h.0 h.2, next_shorter h.0 h.1 h.3, schema_shorter b h.1 us h.4)
 schema_shorter (either l a b) ts us h = omega (arith, schema_shorter a ts h.0 h.3, next_shorter h.0 h.1 h.4, schema_shorter b h.1 us h.5)
 schema_shorter (shape.schema_bracket a) ts us h = omega (arith, next_shorter ts h.0 h.2, schema_shorter a h.0 h.1 h.3, next_shorter h.1 us h.4)
@@ -85,7 +85,7 @@ text_sound n begin ts us x opened e =
 ref_exp_sound : (n : ℕ) (ts us : List Symbol) (x : Tall SchemaExp) → and_then (read_ref ts) (λ r us. Ok (tall (schema.Ref r) 1, us)) ≡ Ok (x, us) → SchemaIsThere 2 (n + 1) x ts us
 ref_exp_sound n ts us x e =
     let r = bind_ok (read_ref ts) _ (x, us) e in
-    made 2 (n + 1) (reference r.0) (schema.Ref r.0) 1 ts r.1 us x (of.of-Ref r.0) r.3 (omega arith, tt) refl (omega arith) (ref_sound ts r.1 r.0 r.2)
+    made 2 (n + 1) (schema_reference r.0) (schema.Ref r.0) 1 ts r.1 us x (of.of-Ref r.0) r.3 (omega arith, tt) refl (omega arith) (ref_sound ts r.1 r.0 r.2)
 
 module _ (joins : code.Next → Bool) (operand : Parser (Tall SchemaExp)) (make : SchemaExp → SchemaExp → SchemaExp) (highest : ℕ) (Whole : Tall SchemaExp → List Symbol → Type 0)
     (step : (x y : Tall SchemaExp) (a us : List Symbol) → Whole x a → joins (first a) ≡ true → operand (rest a) ≡ Ok (y, us)
@@ -330,9 +330,9 @@ module _ (n : ℕ) (below : Parser (Tall SchemaExp)) (ok : SchemaIsComplete n be
       let (a, b, c, begin, decls, under, close) = h in
       subst (λ o. SchemaIsRead (n + 1) (shape.schema_text ds ps) o us) (sym (part_is k.OpenSquare ts a begin (schema_text n a) (λ line. refl)))
       (text_answers ds ps a us at.1.0 at.1.1 b c decls under close)
-  part_answers (reference r) ts us at h =
-      let Is = Seen schema_tree_of (reference r) 1 in
-      subst (λ o. SchemaIsRead (n + 1) (reference r) o us) (sym (ref_first n below r.mark r.name ts us h))
+  part_answers (schema_reference r) ts us at h =
+      let Is = Seen schema_tree_of (schema_reference r) 1 in
+      subst (λ o. SchemaIsRead (n + 1) (schema_reference r) o us) (sym (ref_first n below r.mark r.name ts us h))
       (then_answers Is (n + 1) 1 (read_ref ts) _ r us us (ref_read r ts us h) (done Is (n + 1) 1 (tall (schema.Ref r) 1) us (record { is = of.of-Ref r; high = refl }) (omega arith)))
   part_answers (both a b) ts us at h = absurd (omega (arith, at.0))
   part_answers (either l a b) ts us at h = absurd (omega (arith, at.0))
@@ -357,7 +357,7 @@ module _ (n : ℕ) (below : Parser (Tall SchemaExp)) (ok : SchemaIsComplete n be
       (λ x y is_x is_y. of.of-Both x y ∙ ap (λ a. both a (schema_tree_of y)) is_x ∙ ap (both a) is_y) runs after
   and_runs (either l a b) ts us at h = absurd (omega (arith, at.0))
   and_runs (shape.schema_text ds ps) ts us at h = and_begun (shape.schema_text ds ps) ts us (omega arith, at.1) h
-  and_runs (reference r) ts us at h = and_begun (reference r) ts us (omega arith, at.1) h
+  and_runs (schema_reference r) ts us at h = and_begun (schema_reference r) ts us (omega arith, at.1) h
   and_runs (shape.schema_bracket t) ts us at h = and_begun (shape.schema_bracket t) ts us (omega arith, at.1) h
 
   conjunction_answers : (t : SchemaTree) (ts us : List Symbol) → SchemaIsAt 1 t → SpellsSchema t ts us → is_and (first us) ≡ false → SchemaIsRead (n + 1) t (conjunction n below ts) us
@@ -385,7 +385,7 @@ module _ (n : ℕ) (below : Parser (Tall SchemaExp)) (ok : SchemaIsComplete n be
       ∙ ap (λ a. either l a (schema_tree_of y)) is_x ∙ ap (either l a) is_y) runs after
   or_runs (both a b) ts us lev h none = or_begun (both a b) ts us (omega arith, lev) h none
   or_runs (shape.schema_text ds ps) ts us lev h none = or_begun (shape.schema_text ds ps) ts us (omega arith, lev) h none
-  or_runs (reference r) ts us lev h none = or_begun (reference r) ts us (omega arith, lev) h none
+  or_runs (schema_reference r) ts us lev h none = or_begun (schema_reference r) ts us (omega arith, lev) h none
   or_runs (shape.schema_bracket t) ts us lev h none = or_begun (shape.schema_bracket t) ts us (omega arith, lev) h none
 
   disjunction_answers : (t : SchemaTree) (ts us : List Symbol) → SchemaIsLevelled t → SpellsSchema t ts us → Closes (first us) → SchemaIsRead (n + 1) t (disjunction n below ts) us
@@ -395,7 +395,7 @@ module _ (n : ℕ) (below : Parser (Tall SchemaExp)) (ok : SchemaIsComplete n be
       (λ x us. joined is_or (conjunction n below) (schema.Or (here ts)) (n + 1) (length us) x us)) t us closes.no_or (or_runs t ts us lev h closes.no_and)
 
 some_schema_height : (t : SchemaTree) → 0 < schema_height t
-some_schema_height (reference r) = omega arith
+some_schema_height (schema_reference r) = omega arith
 some_schema_height _ = omega arith
 
 -- a levelled tree that is spelled, and with which what follows does not go on, is the one that is read, unless it is too high

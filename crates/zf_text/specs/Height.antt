@@ -1,13 +1,9 @@
--- The height of a term or schema expression: a name, a number, a constant and a schema reference have 1, any other one more than the highest
--- term, declared set or schema expression directly in it.
+-- The height of a term or schema expression: 1, or one more than the highest term, declared set or schema expression directly in it.
 use Rattle.std.specs.Prelude.{ℕ, ◌+◌, max, List, [], ◌∷◌}
-use Rattle.zf_tree.specs.Trees.{Tree, named, numeral, constant, empty_set, bracket, listed, builder, unary, binary, chain, quantified, Trees, no_trees, tree, Links, no_links, link, VarDecls, no_decls, var_decl, Perhaps, absent, present, DeclTree, vars, include, SchemaTree, schema_text, reference, both, either, schema_bracket, ParagraphTree, given, free, abbreviation, definition, BoxTree, zed, schema_box}
+use Rattle.zf_tree.specs.Trees.{Tree, empty_set, bracket, listed, builder, unary, binary, chain, quantified, Trees, no_trees, tree, Links, no_links, link, VarDecls, no_decls, var_decl, Perhaps, absent, present, DeclTree, vars, include, SchemaTree, schema_text, schema_reference, both, either, schema_bracket, ParagraphTree, abbreviation, definition, BoxTree, zed, schema_box}
 
 abbrev mutual
   pub tree_height : Tree → ℕ
-  tree_height (named n) = 1
-  tree_height (numeral l v) = 1
-  tree_height (constant l c) = 1
   tree_height (empty_set l t) = tree_height t + 1
   tree_height (bracket l t) = tree_height t + 1
   tree_height (listed l form ts) = trees_height ts + 1
@@ -16,18 +12,16 @@ abbrev mutual
   tree_height (binary l op a b) = max (tree_height a) (tree_height b) + 1
   tree_height (chain l t ks) = max (tree_height t) (links_height ks) + 1
   tree_height (quantified l q ds p t) = max (max (decls_height ds) (perhaps_height p)) (tree_height t) + 1
+  tree_height _ = 1
 
-  -- the height of the highest of these
   pub trees_height : Trees → ℕ
   trees_height no_trees = 0
   trees_height (tree t ts) = max (tree_height t) (trees_height ts)
 
-  -- of the highest operand
   pub links_height : Links → ℕ
   links_height no_links = 0
   links_height (link r t ks) = max (tree_height t) (links_height ks)
 
-  -- of the highest declared set
   pub decls_height : VarDecls → ℕ
   decls_height no_decls = 0
   decls_height (var_decl ns t ds) = max (tree_height t) (decls_height ds)
@@ -41,30 +35,26 @@ abbrev pub most : {A : Type 0} → (A → ℕ) → List A → ℕ
 most f [] = 0
 most f (x ∷ xs) = max (f x) (most f xs)
 
--- of the declared set, or of the schema that is included
 abbrev pub decl_height : DeclTree → ℕ
 decl_height (vars ns t) = tree_height t
 decl_height (include r) = 1
 
 abbrev pub schema_height : SchemaTree → ℕ
 schema_height (schema_text ds ps) = max (most decl_height ds) (most tree_height ps) + 1
-schema_height (reference r) = 1
+schema_height (schema_reference r) = 1
 schema_height (both a b) = max (schema_height a) (schema_height b) + 1
 schema_height (either l a b) = max (schema_height a) (schema_height b) + 1
 schema_height (schema_bracket a) = schema_height a + 1
 
--- of the highest term or schema expression in it
 abbrev pub paragraph_height : ParagraphTree → ℕ
-paragraph_height (given ns) = 0
-paragraph_height (free n ns) = 0
 paragraph_height (abbreviation n t) = tree_height t
 paragraph_height (definition n a) = schema_height a
+paragraph_height _ = 0
 
 abbrev pub box_height : BoxTree → ℕ
 box_height (zed ps) = most paragraph_height ps
 box_height (schema_box n ds ps) = max (most decl_height ds) (most tree_height ps)
 
--- the height of the highest term or schema expression of a text
 abbrev pub highest : List BoxTree → ℕ
 highest = most box_height
 

@@ -1,12 +1,11 @@
--- The levels of the grammar (the binding powers of ZRM 6), the loosest first, and the trees whose children all stand at their level or a
--- tighter one.
+-- The levels of the grammar (the binding powers of ZRM 6), the loosest first, and the trees whose children all stand at a level that fits.
 use Rattle.std.specs.Prelude.{ℕ, ◌+◌, ◌≤◌}
 use Rattle.std.specs.List.{AllByRecursion}
 use Rattle.zf_tree.specs.declared.symbol.Connective.{Connective}
 use Rattle.zf_tree.specs.declared.symbol.Connective.TheVariants.{And, Or, Implies, Iff}
 use Rattle.zf_tree.specs.declared.symbol.Infix.{Infix}
 use Rattle.zf_tree.specs.declared.symbol.Infix.TheVariants.{Maplet, UpTo, Plus, Minus, Union, Difference, Times, Div, Mod, Intersection, Composition, Overriding, DomainRestriction, RangeRestriction, DomainSubtraction, RangeSubtraction}
-use Rattle.zf_tree.specs.declared.symbol.Prefix.TheVariants.{Power, Finset, Domain, Range, Size}
+use Rattle.zf_tree.specs.declared.symbol.Prefix.TheVariants.{Domain, Range, Size}
 use Rattle.zf_tree.specs.declared.operator.Listed.{Listed}
 use Rattle.zf_tree.specs.declared.operator.Listed.TheVariants as list
 use Rattle.zf_tree.specs.declared.operator.Operator.{Operator}
@@ -15,7 +14,7 @@ use Rattle.zf_tree.specs.declared.operator.Sign.{Sign}
 use Rattle.zf_tree.specs.declared.operator.Sign.TheVariants as sign
 use Rattle.zf_tree.specs.declared.operator.Unary.{Unary}
 use Rattle.zf_tree.specs.declared.operator.Unary.TheVariants as one
-use Rattle.zf_tree.specs.Trees.{Tree, named, numeral, constant, empty_set, bracket, listed, builder, unary, binary, chain, quantified, Trees, no_trees, tree, Links, no_links, link, VarDecls, no_decls, var_decl, Perhaps, absent, present, DeclTree, vars, include, SchemaTree, schema_text, reference, both, either, schema_bracket, ParagraphTree, given, free, abbreviation, definition, BoxTree, zed, schema_box}
+use Rattle.zf_tree.specs.Trees.{Tree, empty_set, bracket, listed, builder, unary, binary, chain, quantified, Trees, no_trees, tree, Links, no_links, link, VarDecls, no_decls, var_decl, Perhaps, absent, present, DeclTree, vars, include, SchemaTree, schema_text, schema_reference, both, either, schema_bracket, ParagraphTree, abbreviation, definition, BoxTree, zed, schema_box}
 
 -- a quantifier; the place of any term
 abbrev pub quantifier_level : ℕ
@@ -83,12 +82,10 @@ abbrev pub infix_level : Infix → ℕ
 infix_level op = function_level + priority op
 
 abbrev pub sign_level : Sign → ℕ
-sign_level sign.Minus = power_level
-sign_level (sign.Symbol Power) = power_level
-sign_level (sign.Symbol Finset) = power_level
 sign_level (sign.Symbol Domain) = prefix_level
 sign_level (sign.Symbol Range) = prefix_level
 sign_level (sign.Symbol Size) = prefix_level
+sign_level _ = power_level
 
 -- of a term over one operand; the operand's place too
 abbrev pub unary_level : Unary → ℕ
@@ -143,9 +140,6 @@ AreEnough _ ts = AreTwo ts
 
 abbrev mutual
   pub IsLevelled : Tree → Type 0
-  IsLevelled (named n) = Unit {0}
-  IsLevelled (numeral l v) = Unit {0}
-  IsLevelled (constant l c) = Unit {0}
   IsLevelled (empty_set l t) = (expression_level ≤ level t) × IsLevelled t
   IsLevelled (bracket l t) = IsLevelled t
   IsLevelled (listed l form ts) = AreEnough form ts × AreAt (member_place form) ts
@@ -154,6 +148,7 @@ abbrev mutual
   IsLevelled (binary l op a b) = (left_place op ≤ level a) × IsLevelled a × (right_place op ≤ level b) × IsLevelled b
   IsLevelled (chain l t ks) = (expression_level ≤ level t) × IsLevelled t × LinksAreLevelled ks
   IsLevelled (quantified l q ds p t) = DeclsAreLevelled ds × PartIsAt quantifier_level p × IsLevelled t
+  IsLevelled _ = Unit {0}
 
   pub AreAt : ℕ → Trees → Type 0
   AreAt place no_trees = Unit {0}
@@ -188,16 +183,15 @@ schema_level _ = 2
 
 abbrev pub SchemaIsLevelled : SchemaTree → Type 0
 SchemaIsLevelled (schema_text ds ps) = AllByRecursion DeclIsLevelled ds × AllByRecursion IsLevelled ps
-SchemaIsLevelled (reference r) = Unit {0}
+SchemaIsLevelled (schema_reference r) = Unit {0}
 SchemaIsLevelled (both a b) = (1 ≤ schema_level a) × (2 ≤ schema_level b) × SchemaIsLevelled a × SchemaIsLevelled b
 SchemaIsLevelled (either l a b) = (1 ≤ schema_level b) × SchemaIsLevelled a × SchemaIsLevelled b
 SchemaIsLevelled (schema_bracket a) = SchemaIsLevelled a
 
 abbrev pub ParagraphIsLevelled : ParagraphTree → Type 0
-ParagraphIsLevelled (given ns) = Unit {0}
-ParagraphIsLevelled (free n ns) = Unit {0}
 ParagraphIsLevelled (abbreviation n t) = IsAt expression_level t
 ParagraphIsLevelled (definition n a) = SchemaIsLevelled a
+ParagraphIsLevelled _ = Unit {0}
 
 abbrev pub BoxIsLevelled : BoxTree → Type 0
 BoxIsLevelled (zed ps) = AllByRecursion ParagraphIsLevelled ps

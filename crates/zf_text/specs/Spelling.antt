@@ -1,5 +1,4 @@
--- The spelling of a tree, by the grammar of ZRM 6 read from the tree to its symbols: `Spells tree ts rest` says that the symbols `ts` begin with
--- those of the tree, that `rest` follows them, and that each name and each term has the line of its first symbol.
+-- The grammar of ZRM 6: `Spells tree ts rest` where `ts` are the symbols of the tree, each term on the line of its first one, and then `rest`.
 use Rattle.std.specs.Prelude.{◌≡◌, ℕ, List, [], ◌∷◌}
 use Rattle.zf_scan.specs.declared.token.Kind.{Kind}
 use Rattle.zf_scan.specs.declared.token.Kind.TheVariants as k
@@ -18,7 +17,7 @@ use Rattle.zf_tree.specs.declared.operator.Sign.TheVariants as sign
 use Rattle.zf_tree.specs.declared.operator.Unary.{Unary}
 use Rattle.zf_tree.specs.declared.operator.Unary.TheVariants as one
 use Rattle.zf_scan.specs.Separators.{Symbol, symbol, separator}
-use Rattle.zf_tree.specs.Trees.{Tree, named, numeral, constant, empty_set, bracket, listed, builder, unary, binary, chain, quantified, Trees, no_trees, tree, Links, no_links, link, VarDecls, no_decls, var_decl, Perhaps, absent, present, DeclTree, vars, include, SchemaTree, schema_text, reference, both, either, schema_bracket, ParagraphTree, given, free, abbreviation, definition, BoxTree, zed, schema_box, line_of}
+use Rattle.zf_tree.specs.Trees.{Tree, named, numeral, constant, empty_set, bracket, listed, builder, unary, binary, chain, quantified, Trees, no_trees, tree, Links, no_links, link, VarDecls, no_decls, var_decl, Perhaps, absent, present, DeclTree, vars, include, SchemaTree, schema_text, schema_reference, both, either, schema_bracket, ParagraphTree, given, free, abbreviation, definition, BoxTree, zed, schema_box, line_of}
 
 -- the first symbol, with its line, and the rest
 abbrev pub Starts : Kind → ℕ → List Symbol → List Symbol → Type 0
@@ -155,7 +154,7 @@ IsOn line (t ∷ ts) = t.line ≡ line
 abbrev pub SpellsSchema : SchemaTree → List Symbol → List Symbol → Type 0
 SpellsSchema (schema_text ds ps) ts rest =
     (a b c : List Symbol) × Next k.OpenSquare ts a × PartedBy separator SpellsDecl ds a b × SpellsPredicates k.Bar ps b c × Next k.CloseSquare c rest
-SpellsSchema (reference r) ts rest = SpellsRef r ts rest
+SpellsSchema (schema_reference r) ts rest = SpellsRef r ts rest
 SpellsSchema (both x y) ts rest = (a b : List Symbol) × SpellsSchema x ts a × Next (k.Connective And) a b × SpellsSchema y b rest
 SpellsSchema (either l x y) ts rest = (a b : List Symbol) × IsOn l ts × SpellsSchema x ts a × Next (k.Connective Or) a b × SpellsSchema y b rest
 SpellsSchema (schema_bracket x) ts rest = (a b : List Symbol) × Next k.OpenRound ts a × SpellsSchema x a b × Next k.CloseRound b rest

@@ -8,7 +8,7 @@ use Rattle.zf_tree.specs.declared.tree.SchemaExp.TheOpen.{SchemaExp-F}
 use Rattle.zf_tree.specs.declared.tree.SchemaExp.TheViews.{roll-SchemaExp}
 use Rattle.zf_tree.specs.declared.tree.SchemaExp.TheVariants as v
 use Rattle.zf_tree.specs.declared.tree.SchemaExp.TheFolds.{fold-roll-SchemaExp, map-SchemaExp}
-use Rattle.zf_tree.specs.Trees.{SchemaTree, schema_text, reference, both, either, schema_bracket}
+use Rattle.zf_tree.specs.Trees.{SchemaTree, schema_text, schema_reference, both, either, schema_bracket}
 use Rattle.zf_tree.specs.TreeViews.{decl_of, tree_of, schema_tree_of, schema_step}
 
 rolled : (x : SchemaExp-F SchemaExp) → schema_tree_of (roll-SchemaExp x) ≡ schema_step (map-SchemaExp SchemaExp SchemaTree schema_tree_of x)
@@ -18,7 +18,7 @@ rolled x = fold-roll-SchemaExp SchemaTree schema_step x
 pub of-Text : (ds : List Decl) (ps : List Term) → schema_tree_of (v.Text ds ps) ≡ schema_text (map decl_of ds) (map tree_of ps)
 of-Text ds ps = ap schema_tree_of (sym (v.rolls-Text ds ps)) ∙ rolled (SchemaExp-F.Text ds ps)
 
-pub of-Ref : (r : SchemaRef) → schema_tree_of (v.Ref r) ≡ reference r
+pub of-Ref : (r : SchemaRef) → schema_tree_of (v.Ref r) ≡ schema_reference r
 of-Ref r = ap schema_tree_of (sym (v.rolls-Ref r)) ∙ rolled (SchemaExp-F.Ref r)
 
 pub of-Both : (a b : SchemaExp) → schema_tree_of (v.Both a b) ≡ both (schema_tree_of a) (schema_tree_of b)

@@ -2,9 +2,9 @@
 use Rattle.zf_tree.specs.declared.symbol.Infix.{Infix}
 use Rattle.zf_tree.specs.declared.symbol.Infix.TheVariants.{Maplet, UpTo, Plus, Minus, Union, Difference, Times, Div, Mod, Intersection, Composition, Overriding, DomainRestriction, RangeRestriction, DomainSubtraction, RangeSubtraction}
 use Rattle.zf_tree.specs.declared.symbol.Prefix.{Prefix}
-use Rattle.zf_tree.specs.declared.symbol.Prefix.TheVariants.{Power, Finset, Domain, Range, Size}
+use Rattle.zf_tree.specs.declared.symbol.Prefix.TheVariants.{Domain, Range}
 use Rattle.zf_tree.specs.declared.symbol.Relation.{Relation}
-use Rattle.zf_tree.specs.declared.symbol.Relation.TheVariants.{Equal, NotEqual, Member, NotMember, Subset, ProperSubset, Less, AtMost, Greater, AtLeast}
+use Rattle.zf_tree.specs.declared.symbol.Relation.TheVariants.{Equal, NotEqual, Member, NotMember, Subset, ProperSubset}
 use Rattle.zf_tree.specs.declared.operator.Sign.{Sign}
 use Rattle.zf_tree.specs.declared.operator.Sign.TheVariants as sign
 use Rattle.zf_tree.specs.declared.operator.Need.{Need}
@@ -48,53 +48,37 @@ relation_rule Member = rule.Belonging
 relation_rule NotMember = rule.Belonging
 relation_rule Subset = rule.Including
 relation_rule ProperSubset = rule.Including
-relation_rule Less = rule.Comparing
-relation_rule AtMost = rule.Comparing
-relation_rule Greater = rule.Comparing
-relation_rule AtLeast = rule.Comparing
+relation_rule _ = rule.Comparing
+
+-- of the left and of the right operand
+abbrev pub needs : Rule → Need × Need
+needs rule.Arithmetic = (need.Number, need.Number)
+needs rule.Interval = (need.Number, need.Number)
+needs rule.Pairing = (need.Expression, need.Expression)
+needs rule.SetFunction = (need.Set, need.Set)
+needs rule.Overriding = (need.Relation, need.Relation)
+needs rule.Composing = (need.Relation, need.Relation)
+needs rule.DomainRestricting = (need.Set, need.Relation)
+needs rule.RangeRestricting = (need.Relation, need.Set)
+needs rule.Relating = (need.Set, need.Set)
+needs rule.Applying = (need.Relation, need.Expression)
+needs rule.Imaging = (need.Relation, need.Set)
+needs rule.Equating = (need.Expression, need.Expression)
+needs rule.Belonging = (need.Expression, need.Set)
+needs rule.Including = (need.Set, need.Set)
+needs rule.Comparing = (need.Number, need.Number)
+needs rule.Connecting = (need.Predicate, need.Predicate)
 
 abbrev pub left_need : Rule → Need
-left_need rule.Arithmetic = need.Number
-left_need rule.Interval = need.Number
-left_need rule.Pairing = need.Expression
-left_need rule.SetFunction = need.Set
-left_need rule.Overriding = need.Relation
-left_need rule.Composing = need.Relation
-left_need rule.DomainRestricting = need.Set
-left_need rule.RangeRestricting = need.Relation
-left_need rule.Relating = need.Set
-left_need rule.Applying = need.Relation
-left_need rule.Imaging = need.Relation
-left_need rule.Equating = need.Expression
-left_need rule.Belonging = need.Expression
-left_need rule.Including = need.Set
-left_need rule.Comparing = need.Number
-left_need rule.Connecting = need.Predicate
+left_need r = (needs r).0
 
 abbrev pub right_need : Rule → Need
-right_need rule.Arithmetic = need.Number
-right_need rule.Interval = need.Number
-right_need rule.Pairing = need.Expression
-right_need rule.SetFunction = need.Set
-right_need rule.Overriding = need.Relation
-right_need rule.Composing = need.Relation
-right_need rule.DomainRestricting = need.Relation
-right_need rule.RangeRestricting = need.Set
-right_need rule.Relating = need.Set
-right_need rule.Applying = need.Expression
-right_need rule.Imaging = need.Set
-right_need rule.Equating = need.Expression
-right_need rule.Belonging = need.Set
-right_need rule.Including = need.Set
-right_need rule.Comparing = need.Number
-right_need rule.Connecting = need.Predicate
+right_need r = (needs r).1
 
 abbrev pub prefix_need : Prefix → Need
-prefix_need Power = need.Set
-prefix_need Finset = need.Set
-prefix_need Size = need.Set
 prefix_need Domain = need.Relation
 prefix_need Range = need.Relation
+prefix_need _ = need.Set
 
 abbrev pub sign_need : Sign → Need
 sign_need sign.Minus = need.Number

@@ -18,7 +18,7 @@ use Rattle.zf_tree.specs.declared.tree.Paragraph.TheVariants as paragraph
 use Rattle.zf_tree.specs.declared.tree.ZBox.{ZBox}
 use Rattle.zf_tree.specs.declared.tree.ZBox.TheVariants as zbox
 use Rattle.zf_tree.specs.declared.tree.Spec.{Spec}
-use Rattle.zf_tree.specs.Trees.{Tree, Trees, Links, VarDecls, Perhaps, DeclTree, SchemaTree, ParagraphTree, BoxTree, named, numeral, constant, empty_set, bracket, listed, builder, unary, binary, chain, quantified, no_trees, tree, no_links, link, no_decls, var_decl, absent, present, vars, include, schema_text, reference, both, either, schema_bracket, given, free, abbreviation, definition, zed, schema_box}
+use Rattle.zf_tree.specs.Trees.{Tree, Trees, Links, VarDecls, Perhaps, DeclTree, SchemaTree, ParagraphTree, BoxTree, named, numeral, constant, empty_set, bracket, listed, builder, unary, binary, chain, quantified, no_trees, tree, no_links, link, no_decls, var_decl, absent, present, vars, include, schema_text, schema_reference, both, either, schema_bracket, given, free, abbreviation, definition, zed, schema_box}
 
 abbrev pub trees : List Tree → Trees
 trees [] = no_trees
@@ -83,7 +83,7 @@ decl_of (decl.Include r) = include r
 
 abbrev pub schema_step : SchemaExp-F SchemaTree → SchemaTree
 schema_step (SchemaExp-F.Text ds ps) = schema_text (map decl_of ds) (map tree_of ps)
-schema_step (SchemaExp-F.Ref r) = reference r
+schema_step (SchemaExp-F.Ref r) = schema_reference r
 schema_step (SchemaExp-F.Both a b) = both a b
 schema_step (SchemaExp-F.Or l a b) = either l a b
 schema_step (SchemaExp-F.Bracket a) = schema_bracket a

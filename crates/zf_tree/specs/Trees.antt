@@ -1,4 +1,4 @@
--- Trees as plain data, a form for each form of ZRM 6 that is read, and how the program's trees are seen as them.
+-- Trees as plain data: a form for each form of ZRM 6 that is read.
 use Rattle.std.specs.Prelude.{ℕ, List}
 use Rattle.zf_tree.specs.declared.symbol.Constant.{Constant}
 use Rattle.zf_tree.specs.declared.symbol.Quantifier.{Quantifier}
@@ -67,7 +67,7 @@ pub data DeclTree : Type 0 where
 
 pub data SchemaTree : Type 0 where
   schema_text : List DeclTree → List Tree → SchemaTree
-  reference : SchemaRef → SchemaTree
+  schema_reference : SchemaRef → SchemaTree
   both : SchemaTree → SchemaTree → SchemaTree
   either : (line : ℕ) → SchemaTree → SchemaTree → SchemaTree
   schema_bracket : SchemaTree → SchemaTree

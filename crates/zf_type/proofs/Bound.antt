@@ -1,16 +1,16 @@
 -- Bound variables: names that are declared apart, and scopes with variables in them.
-use Rattle.zf_type.proofs.Prelude.{if◌then◌else◌, ◌++◌, ◌∙◌, ◌∷◌, ◌≡◌, [], ap, Bool, Err, false, inl, inr, length, List, map, None, Ok, Option, refl, Some, sym, take, true, true≢false, ℕ, ⊎_elim, take-append_seam, length-map, map-append, take-map, bytes_eq-Decides, bytes_eq, spelling, Name, comp_of, globals_of, later, or_else, Offence, AreNew, AreRepeated, IsBound, IsRepeated, Repeats, last_named, Scope, Var, variable_of, with_variables, scope_of, AreApart, IsApart, Variable}
+use Rattle.zf_type.proofs.Prelude.{if◌then◌else◌, ◌++◌, ◌∙◌, ◌∷◌, ◌≡◌, [], ap, Bool, Err, false, inl, inr, length, List, map, None, Ok, Option, refl, Some, sym, take, true, true≢false, ℕ, ⊎_elim, take-append_seam, length-map, map-append, take-map, bytes_eq-Decides, bytes_eq, spelling, Name, comp_of, globals_of, later, Offence, AreNew, AreRepeated, IsBound, IsRepeated, Repeats, last_named, Scope, Var, variable_of, with_variables, scope_of, AreApart, IsApart, Variable, option_or}
 use Rattle.std.specs.Prelude.{◌⊎◌, Result, OnErr, OnOk}
 use Rattle.zf_type.specs.declared.scope.Scope as program
 
 -- ---- the variable of a name
 
-neither : (o : Option (ℕ × Var)) (here : Bool) (v : Var) → None ≡ or_else (later o) (if here then Some (0, v) else None) → (None ≡ o) × (here ≡ false)
+neither : (o : Option (ℕ × Var)) (here : Bool) (v : Var) → None ≡ option_or (later o) (if here then Some (0, v) else None) → (None ≡ o) × (here ≡ false)
 neither None false v h = (refl, refl)
 neither None true v h = absurd (cc)
 neither (Some p) here v h = absurd (cc)
 
-either : (o : Option (ℕ × Var)) (here : Bool) (v : Var) (p : ℕ × Var) → Some p ≡ or_else (later o) (if here then Some (0, v) else None) → ((q : ℕ × Var) × (Some q ≡ o)) ⊎ (here ≡ true)
+either : (o : Option (ℕ × Var)) (here : Bool) (v : Var) (p : ℕ × Var) → Some p ≡ option_or (later o) (if here then Some (0, v) else None) → ((q : ℕ × Var) × (Some q ≡ o)) ⊎ (here ≡ true)
 either (Some q) here v p h = inl (q, refl)
 either None true v p h = inr refl
 either None false v p h = absurd (cc)

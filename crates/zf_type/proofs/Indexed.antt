@@ -1,5 +1,5 @@
 -- Variables are found by the buckets of their names.
-use Rattle.zf_type.proofs.Prelude.{if◌then◌else◌, ◌++◌, ◌+◌, ◌-◌, ◌<◌, ◌==◌, ◌∙◌, ◌∷◌, ◌≡◌, ◌≤◌, [], ap, arith, Bool, false, get_or, inl, inr, length, List, map, None, Option, refl, set, Some, subst, suc, sym, take, true, true≢false, zero, ℕ, ⊎_elim, take-append_seam, take-length, Decides-eqb, get_or-set_other, get_or-set_same, get_or-take, get_or_append_left, get_or_push, get_or_read_under, length-append, length-set, length-take-le, take-append-le, take-take, bytes_eq-Decides, bytes_eq, later, or_else, before, last_in, AreHeads, bucket, IsIndexed, last_named, Var, variable_of, Chained, Variable}
+use Rattle.zf_type.proofs.Prelude.{if◌then◌else◌, ◌++◌, ◌+◌, ◌-◌, ◌<◌, ◌==◌, ◌∙◌, ◌∷◌, ◌≡◌, ◌≤◌, [], ap, arith, Bool, false, get_or, inl, inr, length, List, map, None, Option, refl, set, Some, subst, suc, sym, take, true, true≢false, zero, ℕ, ⊎_elim, take-append_seam, take-length, Decides-eqb, get_or-set_other, get_or-set_same, get_or-take, get_or_append_left, get_or_push, get_or_read_under, length-append, length-set, length-take-le, take-append-le, take-take, bytes_eq-Decides, bytes_eq, later, before, last_in, AreHeads, bucket, IsIndexed, last_named, Var, variable_of, Chained, Variable, option_or}
 use Rattle.std.proofs.Math.Nat.{eq-or-lt_of_le}
 use Rattle.zf_type.proofs.Named.{last_at}
 
@@ -75,8 +75,8 @@ none_behind x (c ∷ cs) = by (last_in (bucket x) cs) (none_behind x cs)
     same t = (Decides-eqb (bucket x) (bucket c.variable.name)).1 (ap bucket (sym ((bytes_eq-Decides c.variable.name x).0 t)))
 
     by : (p : ℕ) → found x cs ≡ found x (take p cs) → found x (c ∷ cs) ≡ found x (take (before p (bucket x) c.variable.name) (c ∷ cs))
-    by zero e = ap (λ o. or_else (later o) (one (bytes_eq c.variable.name x))) e ∙ here (bucket x == bucket c.variable.name) same
-    by (suc p) e = ap (λ o. or_else (later o) (one (bytes_eq c.variable.name x))) e
+    by zero e = ap (λ o. option_or (later o) (one (bytes_eq c.variable.name x))) e ∙ here (bucket x == bucket c.variable.name) same
+    by (suc p) e = ap (λ o. option_or (later o) (one (bytes_eq c.variable.name x))) e
 
 -- what is ahead while a name is looked for: none behind has it, and the last of these is in its bucket
 pub record IsAhead (x : List ℕ) (cs : List Chained) (ahead : ℕ) : Type 0 where

@@ -1,6 +1,9 @@
 -- From the answers about the parts of a term to the answer about the term.
-use Rattle.zf_type.proofs.Prelude.{◌≡◌, Err, inr, None, Ok, Option, refl, Some, subst, sym, true≢false, ℕ, IfErr, IfOk, IsErr, IsErrAnd, Result, need_of, binary, bracket, builder, chain, constant, empty_set, listed, named, numeral, quantified, Tree, tree_of, unary, Need, Rule, Unary, Domain, Finset, Power, Range, Size, Term, resolved_of, pair_type, power, Offence, IsJudged, Judges, Misplaced, Offends, IfFault, IsRefusal, IsStill, offence_of, resolved, a_schema, Meets, number_sort, predicate, set_sort, Sort, sort_of, Takes, UnaryTakes, IsMade, IsMadeOfOne, Scope, IsOf, Refusal, Fault, OutOfMemory, Judged}
+use Rattle.zf_type.proofs.Prelude.{◌∙◌, ◌≡◌, ap, Err, inr, None, Ok, Option, refl, Some, subst, sym, true≢false, ℕ, IfErr, IfOk, IsErr, IsErrAnd, Result, need_of, binary, bracket, builder, chain, constant, empty_set, listed, named, numeral, quantified, Tree, tree_of, unary, Need, Rule, Unary, Domain, Finset, Power, Range, Size, Term, resolved_of, pair_type, power, Offence, IsJudged, Judges, Misplaced, Offends, IfFault, IsRefusal, IsStill, offence_of, resolved, a_schema, Meets, number_sort, predicate, set_sort, Sort, sort_of, Takes, UnaryTakes, IsMade, IsMadeOfOne, Scope, IsOf, Refusal, Fault, OutOfMemory, Judged}
+use Rattle.zf_tree.specs.declared.operator.Operator.{Operator}
 use Rattle.zf_tree.specs.declared.operator.Sign.TheVariants as sign
+use Rattle.zf_tree.specs.declared.tree.Term.TheVariants as form
+use Rattle.zf_tree.proofs.TermSeen as seen
 use Rattle.zf_tree.specs.declared.operator.Need.TheVariants as need
 use Rattle.zf_tree.specs.declared.operator.Unary.TheVariants.{Sign, Inverse, Not}
 use Rattle.zf_sorts.specs.declared.sort.Sort as program
@@ -54,6 +57,11 @@ from_fault s n e x (Err y) h p g = subst (λ z. Judges s n e (Err z)) (sym g) (j
 
 pub from_memory : (s : Scope) (n : Need) (e : Tree) (r : Result Judged Refusal) → IsErr r → IsErrAnd r (λ x. x ≡ OutOfMemory) → Judges s n e r
 from_memory s n e r p g = from_fault s n e OutOfMemory r tt p g
+
+-- what a symbol between two terms is seen as
+pub of_binary : (t : Term) (l : ℕ) (op : Operator) (a b x y : Term) → t ≡ form.Binary l op a b → x ≡ a → y ≡ b → tree_of t ≡ binary l op (tree_of x) (tree_of y)
+of_binary t l op a b x y is left right =
+    ap tree_of is ∙ seen.of-Binary l op a b ∙ ap (λ z. binary l op (tree_of z) (tree_of b)) (sym left) ∙ ap (λ z. binary l op (tree_of x) (tree_of z)) (sym right)
 
 -- what offends of a part offends of the whole
 pub from_part : (s t : Scope) (n m : Need) (e f : Tree) (x : Refusal) (r : Result Judged Refusal)

@@ -29,7 +29,8 @@ pub use Rattle.zf_term.proofs.Walk.{at_end, at_step, dropped, pushed}
 pub use Rattle.zf_term.specs.Definitions.{Comp, Defined}
 pub use Rattle.zf_term.specs.SchemaViews.{comp_of}
 pub use Rattle.zf_term.specs.DefinitionViews.{entry_of, globals_of}
-pub use Rattle.zf_term.specs.FirstNamed.{first_named, later, or_else}
+pub use Rattle.zf_term.specs.FirstNamed.{first_named, later}
+pub use Rattle.std.specs.Option.{option_or}
 pub use Rattle.zf_term.specs.FoundViews.{found_as}
 pub use Rattle.zf_term.specs.ResolvedViews.{range_of, ranges, resolved_link_of, resolved_of}
 pub use Rattle.zf_term.specs.ResolvedTrees.{reference, ResolvedTree}

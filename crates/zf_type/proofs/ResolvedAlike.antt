@@ -1,5 +1,5 @@
 -- How a term is resolved depends on the names in scope alone, and not on the types of the bound variables.
-use Rattle.zf_type.proofs.Prelude.{if◌then◌else◌, ◌++◌, ◌+◌, ◌∙◌, ◌∷◌, ◌≡◌, [], ap, Bool, false, List, map, None, Option, refl, Some, sym, true, ℕ, map-append, bytes_eq, Local, spelling, Links, no_decls, no_trees, Perhaps, Tree, tree, Trees, var_decl, VarDecls, Name, Comp, Defined, first_named, later, or_else, int, Ty, bound, referent, resolved, resolved_all, resolved_links, resolved_part, resolved_ranges, Sort, last_named, meaning, Scope, Var, component_meaning, global_meaning, variable_meaning, with_variables, Declare, declared, variables}
+use Rattle.zf_type.proofs.Prelude.{if◌then◌else◌, ◌++◌, ◌+◌, ◌∙◌, ◌∷◌, ◌≡◌, [], ap, Bool, false, List, map, None, Option, refl, Some, sym, true, ℕ, map-append, bytes_eq, Local, spelling, Links, no_decls, no_trees, Perhaps, Tree, tree, Trees, var_decl, VarDecls, Name, Comp, Defined, first_named, later, int, Ty, bound, referent, resolved, resolved_all, resolved_links, resolved_part, resolved_ranges, Sort, last_named, meaning, Scope, Var, component_meaning, global_meaning, variable_meaning, with_variables, Declare, declared, variables, option_or}
 use Rattle.zf_tree.specs.Trees as text
 use Rattle.zf_reference.specs.declared.reference.Reference.{Reference}
 use Rattle.zf_term.specs.ResolvedTrees.{reference, empty_set, bracket, listed, unary, present}
@@ -24,10 +24,10 @@ next_place (Some n) = Some (n + 1)
 -- the place of the last that is this name
 abbrev last_place : List ℕ → List (List ℕ) → Option ℕ
 last_place x [] = None
-last_place x (n ∷ ns) = or_else (next_place (last_place x ns)) (if bytes_eq n x then Some 0 else None)
+last_place x (n ∷ ns) = option_or (next_place (last_place x ns)) (if bytes_eq n x then Some 0 else None)
 
-one_further : (v : Var) (found : Option (ℕ × Var)) (here : Bool) → place_of (or_else (later found) (if here then Some (0, v) else None))
-    ≡ or_else (next_place (place_of found)) (if here then Some 0 else None)
+one_further : (v : Var) (found : Option (ℕ × Var)) (here : Bool) → place_of (option_or (later found) (if here then Some (0, v) else None))
+    ≡ option_or (next_place (place_of found)) (if here then Some 0 else None)
 one_further v (Some p) here = refl
 one_further v None true = refl
 one_further v None false = refl
@@ -36,7 +36,7 @@ by_names : (x : List ℕ) (vs : List Var) → place_of (last_named (λ v. v.name
 by_names x [] = refl
 by_names x (v ∷ vs) =
     one_further v (last_named (λ v. v.name) x vs) (bytes_eq v.name x)
-    ∙ ap (λ p. or_else (next_place p) (if bytes_eq v.name x then Some 0 else None)) (by_names x vs)
+    ∙ ap (λ p. option_or (next_place p) (if bytes_eq v.name x then Some 0 else None)) (by_names x vs)
 
 -- ---- what a name refers to
 
@@ -44,13 +44,13 @@ abbrev at_place : Option ℕ → Reference → Reference
 at_place None other = other
 at_place (Some n) other = Local n
 
-by_place : (found : Option (ℕ × Var)) (other : Option (Reference × Sort)) → referent (or_else (variable_meaning found) other) ≡ at_place (place_of found) (referent other)
+by_place : (found : Option (ℕ × Var)) (other : Option (Reference × Sort)) → referent (option_or (variable_meaning found) other) ≡ at_place (place_of found) (referent other)
 by_place None other = refl
 by_place (Some p) other = refl
 
 -- what a name refers to where no variable is bound to it
 abbrev outside : List Comp → List Defined → List ℕ → Option (Reference × Sort)
-outside comps globals x = or_else (component_meaning (first_named (λ c. c.name) x comps)) (global_meaning (first_named (λ d. d.name) x globals))
+outside comps globals x = option_or (component_meaning (first_named (λ c. c.name) x comps)) (global_meaning (first_named (λ d. d.name) x globals))
 
 by_names_alone : (s : Scope) (x : List ℕ) → referent (meaning s x) ≡ at_place (last_place x (names s.locals)) (referent (outside s.comps s.globals x))
 by_names_alone s x =

@@ -5,6 +5,7 @@ use Rattle.zf_tree.specs.declared.tree.Term.{Term}
 use Rattle.zf_tree.specs.declared.tree.Term.TheVariants as form
 use Rattle.zf_tree.specs.declared.tree.Link.{Link}
 use Rattle.zf_tree.specs.declared.tree.VarDecl.{VarDecl}
+use Rattle.zf_tree.specs.declared.operator.Operator.{Operator}
 use Rattle.zf_tree.specs.declared.symbol.Quantifier.{Quantifier}
 use Rattle.zf_tree.specs.Trees.{line_of, Tree, VarDecls, Perhaps, absent, present, bracket, binary}
 use Rattle.zf_tree.specs.declared.operator.Need.{Need}
@@ -40,6 +41,9 @@ is_conjunction (binary l op a b) = is_and op
 is_conjunction _ = false
 
 -- ---- terms of one form
+
+abbrev pub IsBinary : Term → Type 0
+IsBinary t = (l : ℕ) × (op : Operator) × (a b : Term) × (t ≡ form.Binary l op a b)
 
 abbrev pub IsChain : Term → Type 0
 IsChain t = (l : ℕ) × (a : Term) × (ks : List Link) × (t ≡ form.Chain l a ks)

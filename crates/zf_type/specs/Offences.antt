@@ -1,20 +1,19 @@
 -- What is wrong with a term that has no sort, or not one that its place takes. It is told apart from the checker, and has no order.
 use Rattle.std.specs.Prelude.{◌≡◌, ◌⊎◌, ℕ, List, [], ◌∷◌, None}
 use Rattle.zf_tree.specs.declared.tree.Name.{Name}
-use Rattle.zf_tree.specs.Trees.{line_of, Tree, named, numeral, constant, empty_set, bracket, listed, builder, unary, binary, chain, quantified, Trees, no_trees, tree, Links, no_links, link, VarDecls, no_decls, var_decl, Perhaps, absent, present}
+use Rattle.zf_tree.specs.Trees.{line_of, Tree, named, empty_set, bracket, listed, builder, unary, binary, chain, quantified, Trees, no_trees, tree, Links, no_links, link, VarDecls, no_decls, var_decl, Perhaps, absent, present}
 use Rattle.zf_tree.specs.Operators.{left_need, right_need, rule_of, relation_rule, need_of}
 use Rattle.zf_term.specs.Types.{Ty, power, Tys, IsSmall}
 use Rattle.zf_tree.specs.declared.operator.Need.{Need}
 use Rattle.zf_tree.specs.declared.operator.Need.TheVariants as need
 use Rattle.zf_tree.specs.declared.operator.Rule.{Rule}
-use Rattle.zf_tree.specs.declared.operator.Rule.TheVariants as rule
 use Rattle.zf_tree.specs.declared.operator.Unary.{Unary}
 use Rattle.zf_tree.specs.declared.operator.Listed.{Listed}
-use Rattle.zf_tree.specs.declared.operator.Listed.TheVariants.{Tuple, Display, Product}
+use Rattle.zf_tree.specs.declared.operator.Listed.TheVariants.{Display}
 use Rattle.zf_term.specs.declared.fault.Limit.TheVariants.{TypeNodes}
-use Rattle.zf_term.specs.Faults.{Offence, not_declared, local_twice, mismatch, unfit, no_members, too_large}
+use Rattle.zf_term.specs.Faults.{Offence, not_declared, local_twice, mismatch, no_members, too_large}
 use Rattle.zf_term.specs.Faults as fault
-use Rattle.zf_sorts.specs.Rules.{Disagreement, Sort, typed, set_sort, relation_sort, IsSmallSort, Meets, Takes, UnaryTakes}
+use Rattle.zf_sorts.specs.Rules.{Disagreement, Sort, typed, IsSmallSort, Meets, Takes, UnaryTakes}
 use Rattle.zf_type.specs.Scopes.{Scope, Var, with_variables, meaning}
 use Rattle.zf_tree.specs.Names.{spelling}
 use Rattle.zf_type.specs.Typing.{IsOf, AreMembers, Makes, member_need, Binds, HasMemberType, declared}
@@ -57,10 +56,9 @@ OneDiffers s u (tree e es) o m = ((v : Ty) × IsOf s e (typed v) × (u ≡ v →
 
 -- the members of a display have no type in common; those of a tuple or a product need none
 abbrev pub Differ : Listed → Scope → (line : ℕ) → Trees → Offence → ℕ → Type 0
-Differ Tuple s l es o m = ⊥
-Differ Product s l es o m = ⊥
 Differ Display s l no_trees o m = (o ≡ no_members) × (m ≡ l)
 Differ Display s l (tree e es) o m = (u : Ty) × IsOf s e (typed u) × OneDiffers s u es o m
+Differ _ s l es o m = ⊥
 
 -- the type of what the members make passes the limit
 abbrev pub ListedTooLarge : Listed → Scope → (line : ℕ) → Trees → Offence → ℕ → Type 0
@@ -73,8 +71,6 @@ BuildsTooLarge s vs l e o m = (u : Ty) × HasMemberType s vs e u × (IsSmall (po
 abbrev mutual
   pub Offends : Scope → Need → Tree → Offence → ℕ → Type 0
   Offends s n (named x) o m = ((meaning s (spelling x) ≡ None) × (o ≡ not_declared (spelling x)) × (m ≡ x.line)) ⊎ Misplaced s n (named x) o m
-  Offends s n (numeral l v) o m = Misplaced s n (numeral l v) o m
-  Offends s n (constant l c) o m = Misplaced s n (constant l c) o m
   Offends s n (empty_set l e) o m = Offends s need.Set e o m ⊎ Misplaced s n (empty_set l e) o m
   Offends s n (bracket l e) o m = Offends s n e o m ⊎ Misplaced s n (bracket l e) o m
   Offends s n (listed l form es) o m =
@@ -94,6 +90,7 @@ abbrev mutual
       ⊎ (SetsOffend s ds o m
       ⊎ (((vs : List Var) × Binds s ds vs × (PartOffends (with_variables s vs) need.Predicate p o m ⊎ Offends (with_variables s vs) need.Predicate e o m))
       ⊎ Misplaced s n (quantified l q ds p e) o m))
+  Offends s n e o m = Misplaced s n e o m
 
   -- of one of the terms, where each is to be this
   pub OneOffends : Scope → Need → Trees → Offence → ℕ → Type 0
@@ -112,7 +109,6 @@ abbrev mutual
   SetsOffend s no_decls o m = ⊥
   SetsOffend s (var_decl ns e ds) o m = Offends s need.Set e o m ⊎ SetsOffend s ds o m
 
-  -- of a part that may be left out
   pub PartOffends : Scope → Need → Perhaps → Offence → ℕ → Type 0
   PartOffends s n absent o m = ⊥
   PartOffends s n (present e) o m = Offends s n e o m

@@ -1,14 +1,14 @@
 -- What a name stands for: the innermost bound variable of that name, else the component, else the global.
 use Rattle.std.specs.Prelude.{ℕ, if◌then◌else◌, List, [], ◌∷◌, ◌++◌, Option, Some, None}
 use Rattle.std.specs.Str.{bytes_eq}
-use Rattle.zf_term.specs.FirstNamed.{later, or_else, first_named}
+use Rattle.std.specs.Option.{option_map, option_or}
+use Rattle.zf_term.specs.FirstNamed.{later, first_named}
 use Rattle.zf_reference.specs.declared.reference.Reference.{Reference}
 use Rattle.zf_reference.specs.declared.reference.Reference.TheVariants.{Component, Local, Global}
 use Rattle.zf_term.specs.Definitions.{Comp, Defined, Definition, given_set, free_type, constructor, abbreviation, schema}
 use Rattle.zf_term.specs.Types.{Ty, basic}
 use Rattle.zf_sorts.specs.Rules.{Sort, typed, a_schema, set_sort}
 
--- a bound variable
 pub record Var : Type 0 where
   pub name : List ℕ
   pub type : Ty
@@ -26,7 +26,7 @@ with_variables s vs = record { globals = s.globals; comps = s.comps; locals = s.
 -- the last that has it
 abbrev pub last_named : {A : Type 0} → (A → List ℕ) → List ℕ → List A → Option (ℕ × A)
 last_named name x [] = None
-last_named name x (a ∷ rest) = or_else (later (last_named name x rest)) (if bytes_eq (name a) x then Some (0, a) else None)
+last_named name x (a ∷ rest) = option_or (later (last_named name x rest)) (if bytes_eq (name a) x then Some (0, a) else None)
 
 abbrev pub definition_sort : List ℕ → Definition → Sort
 definition_sort name (given_set n) = set_sort (basic name)
@@ -39,19 +39,16 @@ abbrev pub global_sort : Defined → Sort
 global_sort d = definition_sort d.name d.definition
 
 abbrev pub variable_meaning : Option (ℕ × Var) → Option (Reference × Sort)
-variable_meaning None = None
-variable_meaning (Some p) = Some (Local p.0, typed p.1.type)
+variable_meaning = option_map (λ p. (Local p.0, typed p.1.type))
 
 abbrev pub component_meaning : Option (ℕ × Comp) → Option (Reference × Sort)
-component_meaning None = None
-component_meaning (Some p) = Some (Component p.0, typed p.1.type)
+component_meaning = option_map (λ p. (Component p.0, typed p.1.type))
 
 abbrev pub global_meaning : Option (ℕ × Defined) → Option (Reference × Sort)
-global_meaning None = None
-global_meaning (Some p) = Some (Global p.0, global_sort p.1)
+global_meaning = option_map (λ p. (Global p.0, global_sort p.1))
 
 -- what a name refers to, and what it is
 abbrev pub meaning : Scope → List ℕ → Option (Reference × Sort)
 meaning s x =
-    or_else (variable_meaning (last_named (λ v. v.name) x s.locals))
-    (or_else (component_meaning (first_named (λ c. c.name) x s.comps)) (global_meaning (first_named (λ d. d.name) x s.globals)))
+    option_or (variable_meaning (last_named (λ v. v.name) x s.locals))
+    (option_or (component_meaning (first_named (λ c. c.name) x s.comps)) (global_meaning (first_named (λ d. d.name) x s.globals)))

@@ -1,9 +1,10 @@
 -- The typing rules: a relation between what is in scope, a term, and a type, or that it is a predicate or a schema's name.
-use Rattle.std.specs.Prelude.{◌≡◌, List, [], ◌∷◌, ◌++◌, Some}
+use Rattle.std.specs.Prelude.{◌≡◌, List, [], ◌∷◌, ◌++◌, Some, map}
+use Rattle.std.specs.List.{AllByRecursion}
 use Rattle.zf_tree.specs.declared.tree.Name.{Name}
 use Rattle.zf_tree.specs.Trees.{Tree, named, numeral, constant, empty_set, bracket, listed, builder, unary, binary, chain, quantified, Trees, no_trees, tree, Links, no_links, link, VarDecls, no_decls, var_decl, Perhaps, absent, present}
 use Rattle.zf_tree.specs.Operators.{rule_of, relation_rule}
-use Rattle.zf_term.specs.Types.{Ty, power, Tys, no_types, type, IsSmall}
+use Rattle.zf_term.specs.Types.{Ty, power, Tys, no_types, type, IsSmall, types}
 use Rattle.zf_tree.specs.declared.operator.Listed.{Listed}
 use Rattle.zf_tree.specs.declared.operator.Listed.TheVariants.{Tuple, Display, Product}
 use Rattle.zf_tree.specs.declared.operator.Need.{Need}
@@ -16,18 +17,15 @@ use Rattle.zf_tree.specs.Names.{spelling}
 
 -- the variables of names that are declared to be in a set
 abbrev pub variables : List Name → Ty → List Var
-variables [] u = []
-variables (n ∷ ns) u = record { name = spelling n; type = u } ∷ variables ns u
+variables ns u = map (λ n. record { name = spelling n; type = u }) ns
 
--- the names that are declared
 abbrev pub declared : VarDecls → List Name
 declared no_decls = []
 declared (var_decl ns t ds) = ns ++ declared ds
 
 -- the name is spelled as none of these
 abbrev pub IsApart : Name → List Name → Type 0
-IsApart n [] = Unit {0}
-IsApart n (m ∷ ms) = (spelling n ≡ spelling m → ⊥) × IsApart n ms
+IsApart n ms = AllByRecursion (λ m. spelling n ≡ spelling m → ⊥) ms
 
 -- no two are spelled alike
 abbrev pub AreApart : List Name → Type 0
@@ -35,8 +33,7 @@ AreApart [] = Unit {0}
 AreApart (n ∷ ns) = IsApart n ns × AreApart ns
 
 abbrev pub types_of : List Var → Tys
-types_of [] = no_types
-types_of (v ∷ vs) = type v.type (types_of vs)
+types_of vs = types (map (λ v. v.type) vs)
 
 -- what a builder without a term builds: the one variable, or the tuple of all
 abbrev pub row_type : List Var → Ty
@@ -47,15 +44,13 @@ row_type vs = t.product (types_of vs)
 
 -- what a member has to be
 abbrev pub member_need : Listed → Need
-member_need Tuple = need.Expression
-member_need Display = need.Expression
 member_need Product = need.Set
+member_need _ = need.Expression
 
 -- what a member is that this type is told of: of a product, a set of that type
 abbrev pub member_sort : Listed → Ty → Sort
-member_sort Tuple u = typed u
-member_sort Display u = typed u
 member_sort Product u = set_sort u
+member_sort _ u = typed u
 
 -- one type or more, all the same as this one
 abbrev pub AreAll : Tys → Ty → Type 0
@@ -100,7 +95,6 @@ abbrev mutual
   Declare s no_decls vs = vs ≡ []
   Declare s (var_decl ns e ds) vs = (u : Ty) × (us : List Var) × IsOf s e (set_sort u) × Declare s ds us × (vs ≡ variables ns u ++ us)
 
-  -- what may be left out is a predicate
   pub PartIsPredicate : Scope → Perhaps → Type 0
   PartIsPredicate s absent = Unit {0}
   PartIsPredicate s (present e) = IsOf s e predicate

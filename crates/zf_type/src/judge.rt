@@ -140,18 +140,7 @@ fn judge_form<'a>(
             let line = *line;
             unary(operand.get(), arena, Place { need, line }, *op, scope)
         }
-        Term::Binary(line, op, left, right) => {
-            let line = *line;
-            binary(
-                term,
-                arena,
-                Place { need, line },
-                *op,
-                left.get(),
-                right.get(),
-                scope,
-            )
-        }
+        Term::Binary(_, _, _, _) => binary(term, arena, need, scope),
         Term::Chain(_, _, _) => chain(term, arena, need, scope),
         Term::Quantified(_, _, _, _, _) => quantified(term, arena, need, scope),
     }

@@ -1,5 +1,5 @@
 -- What can be decided of schemas: whether their components agree, and whether they are within the limits. So there is a next schema, or it is told why not.
-use Rattle.zf_verdicts.proofs.Prelude.{◌∷◌, ◌≡◌, ◌≤◌, ◌⊎◌, [], inl, inr, length, List, None, Option, refl, Some, ℕ, Comp, Schema, clash, Limit, Offence, too_large, Agree, Agrees, comp_named, decorated, HasTypeOf, MarkAgrees, prime, schema_nodes, AreFew, components_max, conjuncts_max, declared_sets, height_max, IsLow, IsTooLarge, IsWithin, Keeps, nodes_max, sets_max, Clashes, Differs, IsNext, MarkClashes, OneClashes, Stops, SomeOffence}
+use Rattle.zf_verdicts.proofs.Prelude.{◌∷◌, ◌≡◌, ◌≤◌, ◌⊎◌, [], inl, inr, length, List, None, Option, refl, Some, ℕ, Comp, Schema, clash, Limit, Offence, too_large, Agree, Agrees, comp_named, decorated, HasTypeOf, MarkAgrees, prime, schema_nodes, AreFew, components_max, conjuncts_max, declared_sets, height_max, IsLow, IsTooLarge, IsWithin, KeepsTo, nodes_max, sets_max, Clashes, Differs, IsNext, MarkClashes, OneClashes, Stops, SomeOffence}
 use Rattle.std.specs.List.{AllByRecursion}
 use Rattle.zf_tree.specs.declared.tree.RefMark.{RefMark}
 use Rattle.zf_tree.specs.declared.tree.RefMark.TheVariants.{Plain, Delta, Xi}
@@ -16,7 +16,7 @@ is_within a =
     by (at_most (length a.comps) components_max) (at_most (declared_sets a) sets_max) (at_most (length a.conjuncts) conjuncts_max) (at_most (schema_nodes a) nodes_max)
     (decided_all IsLow (λ t. at_most (height t) height_max) a.conjuncts)
   where
-    passed : (l : Limit) → (Keeps l a → ⊥) → OrTold (IsWithin a) (IsTooLarge a)
+    passed : (l : Limit) → (KeepsTo l a → ⊥) → OrTold (IsWithin a) (IsTooLarge a)
     passed l p = inr (too_large l, (l, refl, p))
 
     by :

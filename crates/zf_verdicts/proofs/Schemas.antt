@@ -1,5 +1,5 @@
 -- References, declarations, predicates and schema expressions are a schema, or have an offence.
-use Rattle.zf_verdicts.proofs.Prelude.{◌++◌, ◌∷◌, ◌≡◌, ◌⊎◌, [], inl, inr, List, None, Option, refl, Some, subst, ℕ, spelling, both, DeclTree, either, include, reference, schema_bracket, schema_text, SchemaTree, Tree, vars, Name, abbreviation, constructor, DeclaredSet, Defined, Definition, free_type, given_set, plain, Schema, schema, first_named, Ty, not_a_schema, not_declared, Offence, Offends, resolved, predicate, set_sort, IsOf, Agree, Agrees, comp, conjoined, decorated, disjoined, MarkAgrees, marked, nothing, schema_with, with_comp, IsTooLarge, IsWithin, Adds, Clashes, Includes, IsNext, MarkClashes, OneClashes, Stops, AnyByRecursion, IsNoSchema, name_line, OffendsAfter, OffendsAlone, OffendsConjuncts, OffendsDecls, OffendsNames, OffendsPredicates, OffendsRef, OffendsSchema, OffendsText, SomeOffence}
+use Rattle.zf_verdicts.proofs.Prelude.{◌++◌, ◌∷◌, ◌≡◌, ◌⊎◌, [], inl, inr, List, None, Option, refl, Some, subst, ℕ, spelling, both, DeclTree, either, include, schema_reference, schema_bracket, schema_text, SchemaTree, Tree, vars, Name, abbreviation, constructor, DeclaredSet, Defined, Definition, free_type, given_set, plain, Schema, schema, first_named, Ty, not_a_schema, not_declared, Offence, Offends, resolved, predicate, set_sort, IsOf, Agree, Agrees, comp, conjoined, decorated, disjoined, MarkAgrees, marked, empty_schema, schema_with, with_comp, IsTooLarge, IsWithin, Adds, Clashes, Includes, IsNext, MarkClashes, OneClashes, Stops, AnyByRecursion, IsNoSchema, name_line, OffendsAfter, OffendsAlone, OffendsConjuncts, OffendsDecls, OffendsNames, OffendsPredicates, OffendsRef, OffendsSchema, OffendsText, SomeOffence}
 use Rattle.zf_tree.specs.declared.tree.SchemaRef.{SchemaRef}
 use Rattle.zf_tree.specs.declared.operator.Need.TheVariants as need
 use Rattle.zf_term.specs.ResolvedTrees.{ResolvedTree}
@@ -165,8 +165,8 @@ predicates_judged g a (p ∷ ps) = first_constrained g a p ps (judged (inside g 
 
 pub text_judged : (g : List Defined) (ds : List DeclTree) (ps : List Tree) → ((b : Schema) × IsText g ds ps b) ⊎ SomeOffence (OffendsText g ds ps)
 text_judged g ds ps =
-    then_rest (Declares g nothing ds) (λ mid b. Constrains g mid ps b) (OffendsDecls g nothing ds) (λ mid. OffendsPredicates g mid ps)
-    (declarations_judged g nothing ds) (λ mid. predicates_judged g mid ps)
+    then_rest (Declares g empty_schema ds) (λ mid b. Constrains g mid ps b) (OffendsDecls g empty_schema ds) (λ mid. OffendsPredicates g mid ps)
+    (declarations_judged g empty_schema ds) (λ mid. predicates_judged g mid ps)
 
 module _ (g : List Defined) (x y : SchemaTree) where
   of_both :
@@ -200,7 +200,7 @@ module _ (g : List Defined) (x y : SchemaTree) where
 
 pub schema_judged : (g : List Defined) (x : SchemaTree) → ((a : Schema) × IsSchema g x a) ⊎ SomeOffence (OffendsSchema g x)
 schema_judged g (schema_text ds ps) = text_judged g ds ps
-schema_judged g (reference r) = reference_judged g r
+schema_judged g (schema_reference r) = reference_judged g r
 schema_judged g (both x y) = of_both g x y (schema_judged g x) (schema_judged g y)
 schema_judged g (either l x y) = of_either g x y l (schema_judged g x) (schema_judged g y)
 schema_judged g (schema_bracket x) = schema_judged g x

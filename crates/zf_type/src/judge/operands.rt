@@ -1,11 +1,10 @@
 //! Symbols that stand before a term or between two, and their rules.
-ghost use Rattle.std.specs.Prelude.{◌≡◌, ◌<◌};
-ghost use Rattle.zf_tree.specs.declared.tree.Term.{size-Term};
+ghost use Rattle.std.specs.Prelude.{◌≡◌};
 ghost use Rattle.zf_tree.specs.Trees as tree;
 ghost use Rattle.zf_tree.specs.Trees.{line_of, Tree};
 ghost use Rattle.zf_tree.specs.TreeViews.{tree_of};
 ghost use Rattle.zf_tree.specs.Operators.{left_need, need_of, right_need, rule_of};
-ghost use Rattle.zf_type.specs.Judging.{IsJudged, Judges};
+ghost use Rattle.zf_type.specs.Judging.{IsBinary, IsJudged, Judges};
 ghost use Rattle.zf_sorts.specs.Rules.{Meets};
 ghost use Rattle.zf_sorts.specs.RuleViews.{sort_of};
 ghost use Rattle.zf_type.specs.Scopes as spec;
@@ -19,7 +18,7 @@ use zf_sorts::disagreement::disagreeing;
 use zf_sorts::fault::Refusal;
 use zf_sorts::rules::{apply, combine};
 use zf_term::resolved::Resolved;
-use zf_tree::operator::{Operator, Unary};
+use zf_tree::operator::{Need, Operator, Unary};
 use zf_tree::tree::Term;
 
 #[cycle(judging)]
@@ -55,27 +54,36 @@ fn with_operand<'a>(
     made(arena, place, sort, term)
 }
 
-/// What two terms make, which are parts of the whole.
+/// What two terms make.
 #[cycle(judging)]
 #[inline(never)]
 pub(super) fn binary<'a>(
-    _whole: &Term<'a>,
+    term: &Term<'a>,
     arena: &'a Bump,
-    place: Place,
-    op: Operator,
-    left: &Term<'a>,
-    right: &Term<'a>,
+    need: Need,
     scope: &mut Scope<'a, '_>,
 ) -> Result<Judged<'a>, Refusal<'a>>
-    requires left { size-Term left.now < size-Term _whole.now }
-    requires right { size-Term right.now < size-Term _whole.now }
-    ensures judged { Judges (scope_of scope.old) place.need (tree.binary place.line op (tree_of left.now) (tree_of right.now)) result }
+    requires { IsBinary term.now }
+    ensures judged { Judges (scope_of scope.old) need (tree_of term.now) result }
     ensures scope { scope_of scope.new ≡ scope_of scope.old }
 {
+    let Term::Binary(line, op, left, right) = term else {
+        unreachable!();
+    };
+    let line = *line;
     let rule = op.rule();
+    let left = left.get();
+    let right = right.get();
     let of_left = judge_term(left, arena, rule.left_need(), scope)?;
     let of_right = judge_term(right, arena, rule.right_need(), scope)?;
-    with_operands(arena, place, op, of_left, of_right, right.line())
+    with_operands(
+        arena,
+        Place { need, line },
+        *op,
+        of_left,
+        of_right,
+        right.line(),
+    )
 }
 
 /// The rule of a symbol that stands between two terms, of which the right one stands at the line.

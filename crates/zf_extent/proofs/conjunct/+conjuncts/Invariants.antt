@@ -2,15 +2,15 @@ use Rattle.std.proofs.Common.{◌≡◌, drop, map}
 use Rattle.zf_term.specs.SchemaViews.{conjunct_of}
 use Rattle.zf_term.specs.DefinitionViews.{globals_of}
 use Rattle.zf_extent.specs.Extents.{first}
-use Rattle.zf_term.specs.FirstNamed.{or_else}
+use Rattle.std.specs.Option.{option_or}
 use Rattle.zf_extent.proofs.JoinedOffences.{offenders, side}
 use Rattle.zf_extent.proofs.conjunct.+conjuncts.Given as goal
 
 abbrev pub invariant-side_offending_after-loop-batch : goal.invariant-side_offending_after-loop-batch
 invariant-side_offending_after-loop-batch l =
-    or_else l.fn.found (first (side (globals_of l.globals) l.batches)) ≡ or_else l.offender (first (side (globals_of l.globals) (drop l.batch-index l.batch-items)))
+    option_or l.fn.found (first (side (globals_of l.globals) l.batches)) ≡ option_or l.offender (first (side (globals_of l.globals) (drop l.batch-index l.batch-items)))
 
 abbrev pub invariant-all_offending_after-loop-conjunct : goal.invariant-all_offending_after-loop-conjunct
 invariant-all_offending_after-loop-conjunct l =
-    or_else l.fn.found (first (offenders (globals_of l.globals) (map conjunct_of l.conjuncts)))
-    ≡ or_else l.offender (first (offenders (globals_of l.globals) (map conjunct_of (drop l.conjunct-index l.conjunct-items))))
+    option_or l.fn.found (first (offenders (globals_of l.globals) (map conjunct_of l.conjuncts)))
+    ≡ option_or l.offender (first (offenders (globals_of l.globals) (map conjunct_of (drop l.conjunct-index l.conjunct-items))))

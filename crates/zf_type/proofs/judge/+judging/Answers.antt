@@ -13,7 +13,7 @@ use Rattle.zf_type.proofs.Members.{lengths}
 use Rattle.zf_type.proofs.Bound.{all_apart, some_repeated}
 use Rattle.zf_type.proofs.Parts.{no_part, part_judged, part_from, row_here}
 use Rattle.zf_type.proofs.Chains.{compares}
-use Rattle.zf_type.proofs.Judging.{judged_of, judged_as, judges_ok, still_judged, if_fault, fault_of, fault_from, from_fault, from_memory, from_part, no_schema}
+use Rattle.zf_type.proofs.Judging.{judged_of, judged_as, of_binary, judges_ok, still_judged, if_fault, fault_of, fault_from, from_fault, from_memory, from_part, no_schema}
 use Rattle.zf_type.proofs.judge.+judging.Goals as goal
 
 -- ---- a fault that passes out of a term
@@ -99,49 +99,65 @@ operands::unary-with_operand-requires t c =
 pub operands::binary-returns-in_err-of_left-clause-judged : goal.operands::binary-returns-in_err-of_left-clause-judged
 operands::binary-returns-in_err-of_left-clause-judged t c =
     let s = scope_of c.args.scope.now in
-    let a = tree_of c.args.left.now in
+    let l = c.in-Binary.line in
+    let op = c.in-Binary.op in
+    let a = tree_of c.get-left.result.now in
+    let b = tree_of c.get-right.result.now in
     let x = c.in_err-of_left.field-0.0 in
-    from_part s s (left_need (rule_of c.args.op)) c.args.place.need a (tree.binary c.args.place.line c.args.op a (tree_of c.args.right.now)) x c.from_residual.result (λ k m o. inl o)
-    (subst (λ n. Judges s n a (Err x)) (c.left_need.ensures ∙ ap left_need c.rule-rule.ensures) c.in_err-of_left.ensures.judged) c.from_residual.ensures.0 c.from_residual.ensures.1
+    let need = c.left_need.ensures ∙ ap left_need c.rule-rule.ensures in
+    subst (λ d. Judges s c.args.need d c.from_residual.result) (sym (of_binary _ l op _ _ _ _ c.in-Binary.is c.get-left.ensures c.get-right.ensures))
+    (from_part s s (left_need (rule_of op)) c.args.need a (tree.binary l op a b) x c.from_residual.result (λ k m o. inl o)
+    (subst (λ n. Judges s n a (Err x)) need c.in_err-of_left.ensures.judged) c.from_residual.ensures.0 c.from_residual.ensures.1)
 
 pub operands::binary-returns-in_err-of_right-clause-judged : goal.operands::binary-returns-in_err-of_right-clause-judged
 operands::binary-returns-in_err-of_right-clause-judged t c =
     let s = scope_of c.args.scope.now in
-    let n = right_need (rule_of c.args.op) in
-    let b = tree_of c.args.right.now in
+    let l = c.in-Binary.line in
+    let op = c.in-Binary.op in
+    let n = right_need (rule_of op) in
+    let a = tree_of c.get-left.result.now in
+    let right = c.get-right.result.now in
     let x = c.in_err-of_right.field-0.0 in
-    from_part s s n c.args.place.need b (tree.binary c.args.place.line c.args.op (tree_of c.args.left.now) b) x c.from_residual-in_err-of_right.result (λ k m o. inr (inl o))
-    (judged_as s _ n _ c.args.right.now _ (Err x) c.in_ok-of_left.ensures.scope
-    (c.right_need.ensures ∙ ap right_need c.rule-rule.ensures) refl c.in_err-of_right.ensures.judged) c.from_residual-in_err-of_right.ensures.0
-    c.from_residual-in_err-of_right.ensures.1
+    let need = c.right_need.ensures ∙ ap right_need c.rule-rule.ensures in
+    let residual = c.from_residual-in_err-of_right in
+    subst (λ d. Judges s c.args.need d residual.result) (sym (of_binary _ l op _ _ _ _ c.in-Binary.is c.get-left.ensures c.get-right.ensures))
+    (from_part s s n c.args.need (tree_of right) (tree.binary l op a (tree_of right)) x residual.result (λ k m o. inr (inl o))
+    (judged_as s _ n _ right _ (Err x) c.in_ok-of_left.ensures.scope need refl c.in_err-of_right.ensures.judged) residual.ensures.0 residual.ensures.1)
 
 pub operands::binary-with_operands-requires-clause-left : goal.operands::binary-with_operands-requires-clause-left
 operands::binary-with_operands-requires-clause-left t c =
     let s = scope_of c.args.scope.now in
-    let a = tree_of c.args.left.now in
+    let a = tree_of c.get-left.result.now in
     let i = c.in_ok-of_left.of_left in
-    (judged_of s (left_need (rule_of c.args.op)) a i (subst (λ n. Judges s n a (Ok i)) (c.left_need.ensures ∙ ap left_need c.rule-rule.ensures) c.in_ok-of_left.ensures.judged)).met
+    let need = c.left_need.ensures ∙ ap left_need c.rule-rule.ensures in
+    (judged_of s (left_need (rule_of c.in-Binary.op)) a i (subst (λ n. Judges s n a (Ok i)) need c.in_ok-of_left.ensures.judged)).met
 
 pub operands::binary-with_operands-requires-clause-right : goal.operands::binary-with_operands-requires-clause-right
 operands::binary-with_operands-requires-clause-right t c =
     let s = scope_of c.args.scope.now in
-    let n = right_need (rule_of c.args.op) in
-    let b = tree_of c.args.right.now in
+    let n = right_need (rule_of c.in-Binary.op) in
+    let right = c.get-right.result.now in
     let j = c.in_ok-of_right.of_right in
-    (judged_of s n b j (judged_as s _ n _ c.args.right.now _ (Ok j) c.in_ok-of_left.ensures.scope (c.right_need.ensures ∙ ap right_need c.rule-rule.ensures) refl c.in_ok-of_right.ensures.judged)).met
+    let need = c.right_need.ensures ∙ ap right_need c.rule-rule.ensures in
+    (judged_of s n (tree_of right) j (judged_as s _ n _ right _ (Ok j) c.in_ok-of_left.ensures.scope need refl c.in_ok-of_right.ensures.judged)).met
 
 pub operands::binary-returns-clause-judged : goal.operands::binary-returns-clause-judged
 operands::binary-returns-clause-judged t c =
     let s = scope_of c.args.scope.now in
-    let a = tree_of c.args.left.now in
-    let b = tree_of c.args.right.now in
+    let op = c.in-Binary.op in
+    let a = tree_of c.get-left.result.now in
+    let right = c.get-right.result.now in
     let i = c.in_ok-of_left.of_left in
     let j = c.in_ok-of_right.of_right in
-    c.with_operands.ensures s a b
-    (judged_of s (left_need (rule_of c.args.op)) a i (subst (λ n. Judges s n a (Ok i)) (c.left_need.ensures ∙ ap left_need c.rule-rule.ensures) c.in_ok-of_left.ensures.judged))
-    (judged_of s (right_need (rule_of c.args.op)) b j (judged_as s _ (right_need (rule_of c.args.op)) _ c.args.right.now _ (Ok j) c.in_ok-of_left.ensures.scope
-    (c.right_need.ensures ∙ ap right_need c.rule-rule.ensures) refl c.in_ok-of_right.ensures.judged))
-    c.line.ensures
+    let left_is = c.left_need.ensures ∙ ap left_need c.rule-rule.ensures in
+    let right_is = c.right_need.ensures ∙ ap right_need c.rule-rule.ensures in
+    let m = left_need (rule_of op) in
+    let n = right_need (rule_of op) in
+    subst (λ d. Judges s c.args.need d c.with_operands.result) (sym (of_binary _ c.in-Binary.line op _ _ _ _ c.in-Binary.is c.get-left.ensures c.get-right.ensures))
+    (c.with_operands.ensures s a (tree_of right)
+    (judged_of s m a i (subst (λ k. Judges s k a (Ok i)) left_is c.in_ok-of_left.ensures.judged))
+    (judged_of s n (tree_of right) j (judged_as s _ n _ right _ (Ok j) c.in_ok-of_left.ensures.scope right_is refl c.in_ok-of_right.ensures.judged))
+    c.line.ensures)
 
 -- ---- members
 
