@@ -1,5 +1,5 @@
 -- What the tests of pairs say of functions and injections.
-use Rattle.zf_families.proofs.Prelude.{◌↔◌, ◌∙◌, ◌∷◌, ◌≡◌, [], ap, Bool, Equal, false, Greater, inl, inr, Less, List, Ordering, refl, subst, sym, true, ⊎_elim, and_from, and_parts, both_ways, false≢true, is_lt, ordering_reverse, IsTrue, every_at, not_below_itself, exact, members-SetOf, IsBetween, IsFunctional, IsInjective, IsRelationThat, IsSubset, IsTotal, pair, Every, IsAscending, IsMember, members, value_order, AreAmong, SetOf, Value, outs-Tuple, fits_any, fits_apart, pairs, first, first_at, firsts_rise, IsGraph, seconds_apart, IsFunctionFrom, IsInjectionFrom, IsPairOn}
+use Rattle.zf_families.proofs.Prelude.{◌↔◌, ◌∙◌, ◌∷◌, ◌≡◌, [], ap, Bool, Equal, false, Greater, inl, inr, Less, List, Ordering, refl, subst, sym, true, ⊎_elim, and_from, and_parts, both_ways, false≢true, is_lt, ordering_reverse, IsTrue, every_at, not_below_itself, exact, members-SetOf, IsBetween, IsFunctional, IsInjective, IsRelationThat, IsSubset, IsTotal, pair, IsAscending, IsMember, members, value_order, AreAmong, SetOf, Value, outs-Tuple, fits_any, fits_apart, pairs, first, first_at, firsts_rise, IsGraph, seconds_apart, IsFunctionFrom, IsInjectionFrom, IsPairOn, AllByRecursion}
 use Rattle.zf_value.specs.contracts.plain.ValueOrd.TheImpl.Laws.{total-law}
 use Rattle.zf_families.proofs.Comparisons.{not_both, below_rest, pair_parts, first_below, member_map, from_member_map}
 use Rattle.zf_families.proofs.Functions.{GoesAll, none_all, all_to, all_from}
@@ -15,14 +15,14 @@ lt_less Less h = refl
 lt_less Equal h = (cc)
 lt_less Greater h = (cc)
 
-lower : (z : Value) (r : List Value) → firsts_rise (z ∷ r) ≡ true → Every (λ w. value_order (first z) (first w) ≡ Less) r
+lower : (z : Value) (r : List Value) → firsts_rise (z ∷ r) ≡ true → AllByRecursion (λ w. value_order (first z) (first w) ≡ Less) r
 lower z [] h = tt
 lower z (w ∷ r) h =
     let both = and_parts (is_lt (value_order (first z) (first w))) (firsts_rise (w ∷ r)) h in
     let here = lt_less (value_order (first z) (first w)) both.0 in
     (here, through w r here (lower w r both.1))
   where
-    through : (w : Value) (us : List Value) → value_order (first z) (first w) ≡ Less → Every (λ u. value_order (first w) (first u) ≡ Less) us → Every (λ u. value_order (first z) (first u) ≡ Less) us
+    through : (w : Value) (us : List Value) → value_order (first z) (first w) ≡ Less → AllByRecursion (λ u. value_order (first w) (first u) ≡ Less) us → AllByRecursion (λ u. value_order (first z) (first u) ≡ Less) us
     through w [] l k = tt
     through w (u ∷ us) l k = (total-law.trans (first z) (first w) (first u) l k.0, through w us l k.1)
 

@@ -1,10 +1,10 @@
 -- The order of values, and lists that ascend in it.
-use Rattle.zf_families.proofs.Prelude.{tied_itself, is_eq, ordering_reverse, ordering_then, every_at, every_from, not_below_itself, ties, parts-Tuple, pair, Every, IsAscending, IsMember, parts, row_order, value_order, Value}
+use Rattle.zf_families.proofs.Prelude.{tied_itself, is_eq, ordering_reverse, ordering_then, every_at, every_from, not_below_itself, ties, parts-Tuple, pair, IsAscending, IsMember, parts, row_order, value_order, Value, AllByRecursion}
 use Rattle.std.proofs.Common.{◌≡◌, ◌↔◌, Bool, true, false, IsTrue, ap₂, List, [], ◌∷◌, map, refl, sym, ap, ◌∙◌, inl, inr, ⊎_elim, Less}
 use Rattle.zf_value.specs.contracts.plain.ValueOrd.TheImpl.Laws.{total-law}
 use Rattle.zf_families.proofs.Told.{tuple_order}
 
-pub every_map : (P : Value → Type 0) (f : Value → Value) (xs : List Value) → Every (λ x. P (f x)) xs → Every P (map f xs)
+pub every_map : (P : Value → Type 0) (f : Value → Value) (xs : List Value) → AllByRecursion (λ x. P (f x)) xs → AllByRecursion P (map f xs)
 every_map P f [] h = tt
 every_map P f (x ∷ xs) h = (h.0, every_map P f xs h.1)
 

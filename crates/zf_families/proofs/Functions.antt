@@ -1,5 +1,5 @@
 -- The functions from a set to a set are the rows that take pairs with ascending firsts.
-use Rattle.zf_families.proofs.Prelude.{◌↔◌, ◌∙◌, ◌∷◌, ◌≡◌, ◌⊎◌, [], ap, Bool, inl, inr, Less, List, map, refl, subst, sym, true, ⊎_elim, every_from, not_below_itself, IsBetween, IsFunctional, IsRelationThat, IsTotal, pair, Relates, Every, IsAscending, IsMember, value_order, SetOf, Value, pairs, some, whole}
+use Rattle.zf_families.proofs.Prelude.{◌↔◌, ◌∙◌, ◌∷◌, ◌≡◌, ◌⊎◌, [], ap, Bool, inl, inr, Less, List, map, refl, subst, sym, true, ⊎_elim, every_from, not_below_itself, IsBetween, IsFunctional, IsRelationThat, IsTotal, pair, Relates, IsAscending, IsMember, value_order, SetOf, Value, pairs, some, whole, AllByRecursion}
 use Rattle.zf_families.proofs.Lists.{Each, each_map}
 use Rattle.zf_families.proofs.InOrder.{IsLadder, ordered_some, ordered_whole}
 use Rattle.zf_families.proofs.Told.{Tells, set_order}
@@ -146,10 +146,10 @@ module _ (b : List Value) (f : Value → List Value → Bool) (Law : List Value 
 
   -- ---- what is told
 
-  above : (x : Value) (ys : List Value) → Every (λ y. value_order x y ≡ Less) ys → (y : Value) → Each (Every (λ q. value_order (pair x y) q ≡ Less)) (map (pairs b) ys)
-  above x ys h y = each_map (Every (λ q. value_order (pair x y) q ≡ Less)) (pairs b) ys (lift ys h)
+  above : (x : Value) (ys : List Value) → AllByRecursion (λ y. value_order x y ≡ Less) ys → (y : Value) → Each (AllByRecursion (λ q. value_order (pair x y) q ≡ Less)) (map (pairs b) ys)
+  above x ys h y = each_map (AllByRecursion (λ q. value_order (pair x y) q ≡ Less)) (pairs b) ys (lift ys h)
     where
-      lift : (us : List Value) → Every (λ u. value_order x u ≡ Less) us → Each (λ u. Every (λ q. value_order (pair x y) q ≡ Less) (pairs b u)) us
+      lift : (us : List Value) → AllByRecursion (λ u. value_order x u ≡ Less) us → Each (λ u. AllByRecursion (λ q. value_order (pair x y) q ≡ Less) (pairs b u)) us
       lift [] k = tt
       lift (u ∷ us) k = (every_map (λ q. value_order (pair x y) q ≡ Less) (pair u) b (every_from (λ v. value_order (pair x y) (pair u v) ≡ Less) b (λ v m. first_below x y u v k.0)), lift us k.1)
 
@@ -157,8 +157,8 @@ module _ (b : List Value) (f : Value → List Value → Bool) (Law : List Value 
   ladder [] h k = tt
   ladder (x ∷ a) h k = (
     pairs_ascending x b k,
-    every_map (λ p. Each (Every (λ q. value_order p q ≡ Less)) (map (pairs b) a)) (pair x) b
-        (every_from (λ y. Each (Every (λ q. value_order (pair x y) q ≡ Less)) (map (pairs b) a)) b (λ y m. above x a h.0 y)),
+    every_map (λ p. Each (AllByRecursion (λ q. value_order p q ≡ Less)) (map (pairs b) a)) (pair x) b
+        (every_from (λ y. Each (AllByRecursion (λ q. value_order (pair x y) q ≡ Less)) (map (pairs b) a)) b (λ y m. above x a h.0 y)),
     ladder a h.1 k,
   )
 

@@ -1,5 +1,5 @@
 -- The rows that are told are ascending, and are those that take their items of the layers.
-use Rattle.zf_families.proofs.Prelude.{◌∙◌, ◌∷◌, ◌≡◌, [], ap, Bool, Less, List, refl, tied_itself, filter, ordering_then, every_also, Every, IsAscending, row_order, value_order, Value, extended, extensions, some, whole}
+use Rattle.zf_families.proofs.Prelude.{◌∙◌, ◌∷◌, ◌≡◌, [], ap, Bool, Less, List, refl, tied_itself, filter, ordering_then, every_also, IsAscending, row_order, value_order, Value, extended, extensions, some, whole, AllByRecursion}
 use Rattle.zf_value.specs.contracts.plain.ValueOrd.TheImpl.Laws.{total-law}
 use Rattle.zf_families.proofs.Lists.{Each, IsOrdered, each_append, each_map, each_weaker, ordered_append, ordered_filter, ordered_map}
 
@@ -21,11 +21,11 @@ each_extended P f rows p h = each_map P (λ r. p ∷ r) (filter (f p) rows) (all
     all (r ∷ rs) = (h r, all rs)
 
 pub each_extension : (P : List Value → Type 0) (f : Value → List Value → Bool) (rows : List (List Value)) (layer : List Value)
-    → Every (λ p. (r : List Value) → P (p ∷ r)) layer → Each P (extensions f layer rows)
+    → AllByRecursion (λ p. (r : List Value) → P (p ∷ r)) layer → Each P (extensions f layer rows)
 each_extension P f rows [] h = tt
 each_extension P f rows (p ∷ layer) h = each_append P (extended f rows p) (extensions f layer rows) (each_extended P f rows p h.0) (each_extension P f rows layer h.1)
 
-pub each_some : (P : List Value → Type 0) (f : Value → List Value → Bool) (layers : List (List Value)) → Each (Every (λ p. (r : List Value) → P (p ∷ r))) layers → Each P (some f layers)
+pub each_some : (P : List Value → Type 0) (f : Value → List Value → Bool) (layers : List (List Value)) → Each (AllByRecursion (λ p. (r : List Value) → P (p ∷ r))) layers → Each P (some f layers)
 each_some P f [] h = tt
 each_some P f (l ∷ ls) h = each_append P (extensions f l ([] ∷ some f ls)) (some f ls) (each_extension P f ([] ∷ some f ls) l h.0) (each_some P f ls h.1)
 
@@ -48,16 +48,16 @@ ordered_whole f (l ∷ ls) h = ordered_extensions f (whole f ls) l h.0 (ordered_
 -- each layer is ascending, and is below those after it
 abbrev pub IsLadder : List (List Value) → Type 0
 IsLadder [] = Unit {0}
-IsLadder (l ∷ ls) = IsAscending l × Every (λ p. Each (Every (λ q. value_order p q ≡ Less)) ls) l × IsLadder ls
+IsLadder (l ∷ ls) = IsAscending l × AllByRecursion (λ p. Each (AllByRecursion (λ q. value_order p q ≡ Less)) ls) l × IsLadder ls
 
 pub ordered_some : (f : Value → List Value → Bool) (layers : List (List Value)) → IsLadder layers → IsOrdered Below ([] ∷ some f layers)
 ordered_some f layers h = (first layers, rest layers h)
   where
-    nothing : (xs : List Value) → Every (λ p. (r : List Value) → Below [] (p ∷ r)) xs
+    nothing : (xs : List Value) → AllByRecursion (λ p. (r : List Value) → Below [] (p ∷ r)) xs
     nothing [] = tt
     nothing (x ∷ xs) = (λ r. refl, nothing xs)
 
-    nothings : (ls : List (List Value)) → Each (Every (λ p. (r : List Value) → Below [] (p ∷ r))) ls
+    nothings : (ls : List (List Value)) → Each (AllByRecursion (λ p. (r : List Value) → Below [] (p ∷ r))) ls
     nothings [] = tt
     nothings (l ∷ ls) = (nothing l, nothings ls)
 
@@ -70,7 +70,7 @@ ordered_some f layers h = (first layers, rest layers h)
         ordered_append Below (extensions f l ([] ∷ some f ls)) (some f ls)
         (ordered_extensions f ([] ∷ some f ls) l g.0 (first ls, rest ls g.2)) (rest ls g.2)
         (each_extension (λ x. Each (Below x) (some f ls)) f ([] ∷ some f ls) l
-        (every_also (λ p. Each (Every (λ q. value_order p q ≡ Less)) ls) (λ p. (r : List Value) → Each (Below (p ∷ r)) (some f ls)) l
-        (λ p b r. each_some (Below (p ∷ r)) f ls (each_weaker (Every (λ q. value_order p q ≡ Less)) (Every (λ q. (s : List Value) → Below (p ∷ r) (q ∷ s))) ls
+        (every_also (λ p. Each (AllByRecursion (λ q. value_order p q ≡ Less)) ls) (λ p. (r : List Value) → Each (Below (p ∷ r)) (some f ls)) l
+        (λ p b r. each_some (Below (p ∷ r)) f ls (each_weaker (AllByRecursion (λ q. value_order p q ≡ Less)) (AllByRecursion (λ q. (s : List Value) → Below (p ∷ r) (q ∷ s))) ls
         (λ ys. every_also (λ q. value_order p q ≡ Less) (λ q. (s : List Value) → Below (p ∷ r) (q ∷ s)) ys (λ q e s. below_first p q r s e)) b))
         g.1))

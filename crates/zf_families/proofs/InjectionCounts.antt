@@ -1,5 +1,5 @@
 -- How many injections there are.
-use Rattle.zf_families.proofs.Prelude.{◌&&◌, ◌*◌, ◌++◌, ◌+◌, ◌-◌, ◌∙◌, ◌∷◌, ◌≡◌, [], ap, arith, Bool, cond, Equal, false, Greater, inl, inr, length, Less, List, map, not, Ordering, refl, subst, suc, true, ℕ, ⊎_elim, tied_itself, length-append, length-map, filter, is_eq, ordering_reverse, pair, Every, IsAscending, IsMember, value_order, Value, falling, partial_injection_count, extended, extensions, fits_apart, pairs, second, some, whole}
+use Rattle.zf_families.proofs.Prelude.{◌&&◌, ◌*◌, ◌++◌, ◌+◌, ◌-◌, ◌∙◌, ◌∷◌, ◌≡◌, [], ap, arith, Bool, cond, Equal, false, Greater, inl, inr, length, Less, List, map, not, Ordering, refl, subst, suc, true, ℕ, ⊎_elim, tied_itself, length-append, length-map, filter, is_eq, ordering_reverse, pair, IsAscending, IsMember, value_order, Value, falling, partial_injection_count, extended, extensions, fits_apart, pairs, second, some, whole, AllByRecursion}
 use Rattle.std.proofs.lemmas.List.Elements.{filter-append}
 use Rattle.zf_value.specs.contracts.plain.ValueOrd.TheImpl.Laws.{total-law}
 use Rattle.zf_families.proofs.FunctionLaws.{second-pair}
@@ -100,7 +100,7 @@ other_greater Less e = (cc)
 other_greater Equal e = (cc)
 other_greater Greater e = refl
 
-all_others : (y : Value) (b : List Value) → Every (λ v. value_order y v ≡ Less) b → others y b ≡ b
+all_others : (y : Value) (b : List Value) → AllByRecursion (λ v. value_order y v ≡ Less) b → others y b ≡ b
 all_others y [] h = refl
 all_others y (v ∷ b) h = ap (λ t. cond t (v ∷ others y b) (others y b)) (other_less (value_order y v) h.0) ∙ ap (λ vs. v ∷ vs) (all_others y b h.1)
 
@@ -109,16 +109,16 @@ length_others y [] h m = absurd m
 length_others y (v ∷ b) h m = ⊎_elim
     (λ s.
     let same : is_other y v ≡ false = ap (is_other y) s ∙ other_itself y in
-    let low : Every (λ w. value_order y w ≡ Less) b = subst (λ u. Every (λ w. value_order u w ≡ Less) b) s h.0 in
+    let low : AllByRecursion (λ w. value_order y w ≡ Less) b = subst (λ u. AllByRecursion (λ w. value_order u w ≡ Less) b) s h.0 in
     ap suc (ap length (ap (λ t. cond t (v ∷ others y b) (others y b)) same ∙ all_others y b low)))
     (λ n.
     let up : value_order y v ≡ Greater = total-law.antisymm y v ∙ ap ordering_reverse (below_rest v b y h n) in
     ap suc (ap length (ap (λ t. cond t (v ∷ others y b) (others y b)) (other_greater (value_order y v) up)) ∙ length_others y b h.1 n))
     m
 
-every_others : (P : Value → Type 0) (y : Value) (b : List Value) → Every P b → Every P (others y b)
+every_others : (P : Value → Type 0) (y : Value) (b : List Value) → AllByRecursion P b → AllByRecursion P (others y b)
 every_others P y [] h = tt
-every_others P y (v ∷ b) h = elim (is_other y v) as (λ t. Every P (cond t (v ∷ others y b) (others y b))) [
+every_others P y (v ∷ b) h = elim (is_other y v) as (λ t. AllByRecursion P (cond t (v ∷ others y b) (others y b))) [
   | true ↦ (h.0, every_others P y b h.1)
   | false ↦ every_others P y b h.1
 ]

@@ -5,7 +5,7 @@ pub use Rattle.std.proofs.lemmas.Bool.{and_from, and_parts, both_ways, cases_lt,
 pub use Rattle.std.proofs.lemmas.Cmp.{tied_itself}
 pub use Rattle.std.proofs.lemmas.List.{length-append, length-drop, length-map, length-take-le, map_more, nil_from_length, take-append-drop}
 pub use Rattle.std.proofs.lemmas.Result.{IfOk-weaker}
-pub use Rattle.std.specs.List.{filter, flat_map}
+pub use Rattle.std.specs.List.{AllByRecursion, filter, flat_map}
 pub use Rattle.std.specs.Ordering.{is_eq, is_lt, ordering_reverse, ordering_then}
 pub use Rattle.std.specs.Prelude.{IsTrue}
 pub use Rattle.std.specs.Result.{IfOk}
@@ -16,7 +16,7 @@ pub use Rattle.zf_value.proofs.Exact.{cmp_is, exact, ties}
 pub use Rattle.zf_value.proofs.Seen.{members-SetOf, parts-Tuple}
 pub use Rattle.zf_value.specs.Operations.{AreFrom, IsBetween, IsFunctional, IsInjective, IsRelationThat, IsSubset, IsTotal, pair, Relates}
 unfoldable pub use Rattle.zf_value.specs.Operations.{ArePartialFunctions, ArePartialInjections, AreRelations, AreTotalFunctions, AreTotalInjections, IsCross, IsPower}
-pub use Rattle.zf_value.specs.Sets.{Every, IsAscending, IsMember, IsSetOf, members, value_order}
+pub use Rattle.zf_value.specs.Sets.{IsAscending, IsMember, IsSetOf, members, value_order}
 pub use Rattle.zf_value.specs.SetLaws.{parts}
 pub use Rattle.zf_value.specs.ListLaws.{row_order}
 unfoldable pub use Rattle.zf_value.specs.Sets.{AreAmong}

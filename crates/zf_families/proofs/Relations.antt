@@ -1,5 +1,5 @@
 -- The relations from a set to a set are the subsets of the product.
-use Rattle.zf_families.proofs.Prelude.{◌*◌, ◌++◌, ◌+◌, ◌<◌, ◌^◌, ◌∙◌, ◌∷◌, ◌≡◌, [], ap, arith, inl, inr, length, Less, List, ltb, map, min, refl, Result, subst, suc, sym, zero, ℕ, ⊎_elim, pow-succ', pow-zero, cases_lt, length-append, length-map, flat_map, IfOk, AllocError, every_from, members-append, IsRelationThat, pair, AreRelations, Every, IsAscending, IsMember, value_order, AreAmong, SET_MAX, SetOf, Value, Outcome, Is, Out, AreSets, fits_any, pairs, singles, some, IsPairFrom}
+use Rattle.zf_families.proofs.Prelude.{◌*◌, ◌++◌, ◌+◌, ◌<◌, ◌^◌, ◌∙◌, ◌∷◌, ◌≡◌, [], ap, arith, inl, inr, length, Less, List, ltb, map, min, refl, Result, subst, suc, sym, zero, ℕ, ⊎_elim, pow-succ', pow-zero, cases_lt, length-append, length-map, flat_map, IfOk, AllocError, every_from, members-append, IsRelationThat, pair, AreRelations, IsAscending, IsMember, value_order, AreAmong, SET_MAX, SetOf, Value, Outcome, Is, Out, AreSets, fits_any, pairs, singles, some, IsPairFrom, AllByRecursion}
 use Rattle.zf_families.proofs.Told.{TellsOut, are_sets, ascends, Tells, out_by_size, built_result}
 use Rattle.zf_families.proofs.Counts.{length_some, sizes_same}
 use Rattle.zf_families.proofs.Subsets.{power_told}
@@ -8,7 +8,7 @@ use Rattle.zf_families.proofs.Comparisons.{member_map, from_member_map, below_re
 abbrev pub product_of : List Value → List Value → List Value
 product_of a b = flat_map (pairs b) a
 
-every_append : (P : Value → Type 0) (xs ys : List Value) → Every P xs → Every P ys → Every P (xs ++ ys)
+every_append : (P : Value → Type 0) (xs ys : List Value) → AllByRecursion P xs → AllByRecursion P ys → AllByRecursion P (xs ++ ys)
 every_append P [] ys h k = k
 every_append P (x ∷ xs) ys h k = (h.0, every_append P xs ys h.1 k)
 

@@ -1,5 +1,5 @@
 -- The subsets of a set are the rows that take some of its members.
-use Rattle.zf_families.proofs.Prelude.{◌+◌, ◌^◌, ◌↔◌, ◌∙◌, ◌∷◌, ◌≡◌, ◌⊎◌, [], inl, inr, length, Less, List, ltb, map, min, refl, Result, subst, suc, sym, ℕ, ⊎_elim, IfOk, AllocError, every_from, not_below_itself, IsSubset, IsPower, Every, IsAscending, value_order, AreAmong, SET_MAX, SetOf, Value, Outcome, Is, Out, AreSets, fits_any, singles, some}
+use Rattle.zf_families.proofs.Prelude.{◌+◌, ◌^◌, ◌↔◌, ◌∙◌, ◌∷◌, ◌≡◌, ◌⊎◌, [], inl, inr, length, Less, List, ltb, map, min, refl, Result, subst, suc, sym, ℕ, ⊎_elim, IfOk, AllocError, every_from, not_below_itself, IsSubset, IsPower, IsAscending, value_order, AreAmong, SET_MAX, SetOf, Value, Outcome, Is, Out, AreSets, fits_any, singles, some, AllByRecursion}
 use Rattle.zf_families.proofs.Counts.{length_some, sizes_same}
 use Rattle.zf_families.proofs.Lists.{Each, each_map}
 use Rattle.zf_families.proofs.InOrder.{IsLadder, ordered_some}
@@ -47,9 +47,9 @@ step_from x xs r g (inr h) = (h.0, λ z m. inr (h.1 z m))
 
 ladder : (a : List Value) → IsAscending a → IsLadder (singles a)
 ladder [] h = tt
-ladder (x ∷ a) h = ((tt, tt), (each_map (Every (λ q. value_order x q ≡ Less)) (λ y. y ∷ []) a (lift a h.0), tt), ladder a h.1)
+ladder (x ∷ a) h = ((tt, tt), (each_map (AllByRecursion (λ q. value_order x q ≡ Less)) (λ y. y ∷ []) a (lift a h.0), tt), ladder a h.1)
   where
-    lift : (ys : List Value) → Every (λ y. value_order x y ≡ Less) ys → Each (λ y. Every (λ q. value_order x q ≡ Less) (y ∷ [])) ys
+    lift : (ys : List Value) → AllByRecursion (λ y. value_order x y ≡ Less) ys → Each (λ y. AllByRecursion (λ q. value_order x q ≡ Less) (y ∷ [])) ys
     lift [] k = tt
     lift (y ∷ ys) k = ((k.0, tt), lift ys k.1)
 

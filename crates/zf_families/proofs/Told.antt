@@ -1,5 +1,5 @@
 -- A test that a list of rows answers makes the set of these rows, or is out where they are too many.
-use Rattle.zf_families.proofs.Prelude.{◌+◌, ◌↔◌, ◌∙◌, ◌∷◌, ◌≡◌, ◌≤◌, ◌⊎◌, [], ap, arith, Bool, inl, inr, length, Less, List, ltb, map, min, refl, Result, subst, suc, sym, take, zero, ℕ, ⊎_elim, cases_lt, lt-ltb, ltb-true, length-map, length-take-le, IfOk-weaker, IsTrue, IfOk, AllocError, cmp_is, members-SetOf, Every, IsAscending, IsMember, IsSetOf, members, row_order, value_order, SET_MAX, out-Value, SetOf, Tuple, Value, Value-F, outs-SetOf, outs-Tuple, Outcome, Is, Out, AllAscend, AreSets}
+use Rattle.zf_families.proofs.Prelude.{◌+◌, ◌↔◌, ◌∙◌, ◌∷◌, ◌≡◌, ◌≤◌, ◌⊎◌, [], ap, arith, Bool, inl, inr, length, Less, List, ltb, map, min, refl, Result, subst, suc, sym, take, zero, ℕ, ⊎_elim, cases_lt, lt-ltb, ltb-true, length-map, length-take-le, IfOk-weaker, IsTrue, IfOk, AllocError, cmp_is, members-SetOf, IsAscending, IsMember, IsSetOf, members, row_order, value_order, SET_MAX, out-Value, SetOf, Tuple, Value, Value-F, outs-SetOf, outs-Tuple, Outcome, Is, Out, AllAscend, AreSets, AllByRecursion}
 use Rattle.zf_value.specs.Order.{level_order}
 use Rattle.zf_value.proofs.Once.{one_set}
 use Rattle.zf_families.proofs.Lists.{Each, In, IsOrdered, ordered_map, ordered_take, in_map, in_from_map}
@@ -20,7 +20,7 @@ pub in_member : (z : Value) (xs : List Value) → In z xs → IsMember z xs
 in_member z [] m = absurd m
 in_member z (x ∷ xs) m = ⊎_elim (λ s. inl s) (λ n. inr (in_member z xs n)) m
 
-each_every : (P : Value → Type 0) (xs : List Value) → Each P xs → Every P xs
+each_every : (P : Value → Type 0) (xs : List Value) → Each P xs → AllByRecursion P xs
 each_every P [] h = tt
 each_every P (x ∷ xs) h = (h.0, each_every P xs h.1)
 
@@ -51,7 +51,7 @@ told make P rows t h = (
   ),
 )
 
-all_pass : (make : List Value → Value) (P : Value → Type 0) (rows : List (List Value)) → ((r : List Value) → In r rows → P (make r)) → Every P (map make rows)
+all_pass : (make : List Value → Value) (P : Value → Type 0) (rows : List (List Value)) → ((r : List Value) → In r rows → P (make r)) → AllByRecursion P (map make rows)
 all_pass make P [] h = tt
 all_pass make P (r ∷ rows) h = (h r (inl refl), all_pass make P rows (λ s m. h s (inr m)))
 
@@ -61,7 +61,7 @@ in_taken (suc n) [] r m = absurd m
 in_taken (suc n) (s ∷ rows) r m = ⊎_elim (λ e. inl e) (λ k. inr (in_taken n rows r k)) m
 
 many : (make : List Value → Value) (P : Value → Type 0) (rows : List (List Value)) (n : ℕ) → Tells make P rows → n ≤ length rows
-    → (xs : List Value) × IsAscending xs × (length xs ≡ n) × Every P xs
+    → (xs : List Value) × IsAscending xs × (length xs ≡ n) × AllByRecursion P xs
 many make P rows n t h = (
   map make (take n rows),
   made_ascending make t.kept (take n rows) (ordered_take Below n rows t.ordered),

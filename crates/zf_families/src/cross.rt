@@ -2,7 +2,8 @@
 ghost use Rattle.std.specs.Prelude.{◌≡◌, ◌+◌, ◌↔◌, ◌⊎◌, IsTrue, IfOk, map, min};
 ghost use Rattle.zf_value.specs.declared.plain.Value as plain;
 ghost use Rattle.zf_value.specs.Operations.{IsCross, AreFrom};
-ghost use Rattle.zf_value.specs.Sets.{Every, IsAscending, members};
+ghost use Rattle.zf_value.specs.Sets.{IsAscending, members};
+ghost use Rattle.std.specs.List.{AllByRecursion};
 ghost use Rattle.zf_families.specs.Counts.{sizes};
 ghost use Rattle.zf_families.specs.Families.{IsTupleFrom};
 ghost use Rattle.zf_families.specs.Selections.{whole, fits_any};
@@ -63,7 +64,7 @@ fn are_from(parts: &[Value], sets: &[Lent<'_>]) -> bool
 /// How many members the product has, counted no further than one more than a set may have.
 fn size(sets: &[Lent<'_>]) -> usize
     ensures is { result ≡ min (sizes (λ n. n) (map members sets.now)) (SET_MAX + 1) }
-    ensures ascending { Every (λ s. IsAscending (members s)) sets.now }
+    ensures ascending { AllByRecursion (λ s. IsAscending (members s)) sets.now }
 {
     let mut size = 1;
     for set in sets {
@@ -75,7 +76,7 @@ fn size(sets: &[Lent<'_>]) -> usize
 /// The tuples as rows. Where a set is empty there are none, however many the others would make.
 fn tuple_rows(alloc: Global, sets: &[Lent<'_>]) -> Result<Vec<Items<Value>>, AllocError>
     ensures is { IfOk result (λ rows. rows.items ≡ whole fits_any (map members sets.now)) }
-    ensures ascending { IfOk result (λ rows. Every (λ s. IsAscending (members s)) sets.now) }
+    ensures ascending { IfOk result (λ rows. AllByRecursion (λ s. IsAscending (members s)) sets.now) }
 {
     if size(sets) == 0 {
         return Ok(Vec::new(alloc));

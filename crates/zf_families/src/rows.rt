@@ -259,7 +259,7 @@ pub fn set_of_sets(alloc: Global, rows: Vec<Items<Value>>) -> Result<Outcome, Al
     requires { AreSets rows.items }
     ensures { IfOk result (λ o. o ≡ Outcome.Is (SetOf (map SetOf rows.items))) }
 {
-    let mut members = Vec::new(alloc);
+    let mut members = Vec::with_capacity(alloc, rows.len())?;
     for row in rows {
         members.push(Value {
             form: Form::SetOf(row),
@@ -275,7 +275,7 @@ pub fn set_of_tuples(alloc: Global, rows: Vec<Items<Value>>) -> Result<Outcome, 
     requires { IsAscending (map Tuple rows.items) }
     ensures { IfOk result (λ o. o ≡ Outcome.Is (SetOf (map Tuple rows.items))) }
 {
-    let mut members = Vec::new(alloc);
+    let mut members = Vec::with_capacity(alloc, rows.len())?;
     for row in rows {
         members.push(Value {
             form: Form::Tuple(row),

@@ -25,13 +25,10 @@ Tells fact Out = ⊥
 
 -- out where a side is out, else false where a side is undefined
 abbrev pub IsAtom : Outcome → Outcome → (Value → Value → Type 0) → Truth → Type 0
-IsAtom outcome.Out y holds t = t ≡ Out
-IsAtom outcome.Undefined outcome.Out holds t = t ≡ Out
-IsAtom outcome.Undefined outcome.Undefined holds t = t ≡ False
-IsAtom outcome.Undefined (outcome.Is w) holds t = t ≡ False
-IsAtom (outcome.Is v) outcome.Out holds t = t ≡ Out
-IsAtom (outcome.Is v) outcome.Undefined holds t = t ≡ False
 IsAtom (outcome.Is v) (outcome.Is w) holds t = Tells (holds v w) t
+IsAtom outcome.Out y holds t = t ≡ Out
+IsAtom x outcome.Out holds t = t ≡ Out
+IsAtom x y holds t = t ≡ False
 
 -- the same of one side
 abbrev pub IsTest : Outcome → (Value → Type 0) → Truth → Type 0
@@ -93,7 +90,6 @@ IsExists rows truth True = (vs : List Value) × rows vs × truth vs True
 IsExists rows truth False = (vs : List Value) → rows vs → truth vs False
 IsExists rows truth Out = ((vs : List Value) × rows vs × truth vs Out) × ((vs : List Value) → rows vs → truth vs False ⊎ truth vs Out)
 
--- two rows are true
 abbrev pub HasTwo : (List Value → Type 0) → (List Value → Truth → Type 0) → Type 0
 HasTwo rows truth = (vs ws : List Value) × rows vs × rows ws × truth vs True × truth ws True × (vs ≡ ws → ⊥)
 

@@ -1,7 +1,8 @@
 //! What relations say of the outcomes of their sides.
-ghost use Rattle.std.specs.Prelude.{◌≡◌, ◌↔◌, if◌then◌else◌, IsTrue};
+ghost use Rattle.std.specs.Prelude.{◌≡◌, ◌↔◌, if◌then◌else◌, IfSome, IsTrue};
 ghost use Rattle.zf_value.specs.declared.value.Outcome.TheVariants.{Is};
 ghost use Rattle.zf_value.specs.declared.plain.Value.{Int};
+ghost use Rattle.zf_value.specs.Operations.{pair};
 ghost use Rattle.zf_value.specs.Sets.{AreAmong, members};
 ghost use Rattle.zf_outcome.specs.Arithmetic.{AreOrdered, IsFrom};
 ghost use Rattle.zf_outcome.specs.Found.{found_outcome};
@@ -11,6 +12,7 @@ ghost use Rattle.zf_outcome.specs.Truths.{IsAtom, IsLink, IsTest};
 use crate::found::Found;
 use zf_term::extent::Infinite;
 use zf_tree::symbol::Relation;
+use zf_value::relation::relates;
 use zf_value::set::{are_among, is_member};
 use zf_value::value::{Form, Truth, Value};
 
@@ -44,6 +46,24 @@ pub fn between_numbers(relation: Relation, m: i64, n: i64) -> Truth
     let right = Value { form: Form::Int(n) };
     let does = holds(relation, &left, &right);
     told(does)
+}
+
+/// The truth of a relation between two values.
+pub fn between_values(relation: Relation, v: &Value, w: &Value) -> Truth
+    ensures { IsAtom (Is v.now) (Is w.now) (Holds relation) result }
+{
+    told(holds(relation, v, w))
+}
+
+/// The truth of a membership of a pair in a set; of other relations nothing is told.
+pub fn of_pair(relation: Relation, x: &Value, y: &Value, set: &Value) -> Option<Truth>
+    ensures { IfSome result (IsAtom (Is (pair x.now y.now)) (Is set.now) (Holds relation)) }
+{
+    match relation {
+        Relation::Member => Some(told(relates(set, x, y))),
+        Relation::NotMember => Some(told(!relates(set, x, y))),
+        _ => None,
+    }
 }
 
 fn test(set: Infinite, relation: Relation, x: &Found<'_>) -> Truth

@@ -3,7 +3,7 @@ use Rattle.zf_ranges.proofs.Prelude.{◌++◌, ◌+◌, ◌<◌, ◌∙◌, ◌�
 use Rattle.zf_term.specs.declared.schema.Component.{Component}
 use Rattle.zf_ranges.specs.declared.start_fault.StartFault.{StartFault}
 use Rattle.zf_ranges.specs.declared.start_fault.StartFault.TheVariants.{DeclaredOut, OutOfMemory}
-use Rattle.zf_ranges.specs.Ranges.{Refuses}
+use Rattle.zf_ranges.specs.StartFaults.{RefusesStart}
 
 -- ---- what is held
 
@@ -79,11 +79,11 @@ pub all_done : (e : Environment) (xs : List Component) (held : List (Option Valu
     → AreAllRanges e (take i (map comp_of xs)) held rs → AreAllRanges e (map comp_of xs) held rs
 all_done e xs held i rs l h = subst (λ (ds : List Comp). AreAllRanges e ds held rs) (whole (map comp_of xs) i (rw (length-map xs comp_of) l)) h
 
-refuses : (e : Environment) (cs : List Comp) (i : ℕ) (c : Comp) (f : StartFault) → slice_get cs i ≡ Some c → IsNoneOut e (take i cs) → IsOutBy e c i f → Refuses e cs f
+refuses : (e : Environment) (cs : List Comp) (i : ℕ) (c : Comp) (f : StartFault) → slice_get cs i ≡ Some c → IsNoneOut e (take i cs) → IsOutBy e c i f → RefusesStart e cs f
 refuses e cs i c (DeclaredOut place) g n h = subst (λ k. IsFirstOut e cs k) (sym h.0) (first_out e cs i c g n h.1)
 refuses e cs i c OutOfMemory g n h = tt
 
 pub refused : {X : Type 0} (e : Environment) (cs : List Comp) (i : ℕ) (c : Comp) (f : StartFault) (r : Result X StartFault) → IsErrAnd r (λ y. y ≡ f)
-    → slice_get cs i ≡ Some c → IsNoneOut e (take i cs) → IsOutBy e c i f → IfErr r (Refuses e cs)
+    → slice_get cs i ≡ Some c → IsNoneOut e (take i cs) → IsOutBy e c i f → IfErr r (RefusesStart e cs)
 refused e cs i c f (Ok x) is g n h = tt
-refused e cs i c f (Err y) is g n h = subst (Refuses e cs) (sym is) (refuses e cs i c f g n h)
+refused e cs i c f (Err y) is g n h = subst (RefusesStart e cs) (sym is) (refuses e cs i c f g n h)

@@ -8,7 +8,7 @@ pub use Rattle.std.specs.Prelude.{IfErr, IsErrAnd, IsTrue, slice_get}
 pub use Rattle.std.specs.declared.cmp.Ordering.TheVariants.{Less}
 pub use Rattle.zf_value.proofs.Among.{ascending-push, every_at, every_from, member_at, members-append, members-push, members-take_more, take_all}
 pub use Rattle.zf_value.proofs.Seen.{members-SetOf, parts-Tuple}
-pub use Rattle.zf_value.specs.Sets.{Every, IsAscending, IsMember, members, value_order}
+pub use Rattle.zf_value.specs.Sets.{IsAscending, IsMember, members, value_order}
 pub use Rattle.zf_value.specs.SetLaws.{parts}
 unfoldable pub use Rattle.zf_value.specs.ListLaws.{HaveSameMembers}
 pub use Rattle.zf_value.specs.declared.value.Outcome.{Outcome}
@@ -25,7 +25,8 @@ pub use Rattle.zf_term.specs.TypeViews.{type_of}
 pub use Rattle.zf_term.specs.declared.extent.Infinite.{Infinite}
 pub use Rattle.zf_term.specs.declared.schema.Domain.{Domain}
 pub use Rattle.zf_extent.specs.Extents.{direct}
-pub use Rattle.zf_finite.specs.Finite.{bounds, is_none, one_bounds}
+pub use Rattle.zf_finite.specs.Finite.{bounds, one_bounds}
+pub use Rattle.std.specs.Option.{is_none}
 pub use Rattle.zf_meaning.specs.Carriers.{IsCarrier}
 pub use Rattle.zf_meaning.specs.Environments.{Environment, globally}
 pub use Rattle.zf_meaning.specs.Envs.{environment_of}

@@ -1,5 +1,5 @@
 -- Tests of the type of a value, form by form.
-use Rattle.zf_ranges.proofs.Prelude.{◌+◌, ◌<◌, ◌↔◌, ◌∙◌, ◌∷◌, ◌≡◌, ◌≤◌, [], add-one, ap, arith, Bool, drop, false, get_or, length, List, map, refl, subst, suc, sym, zero, ℕ, false≢true, IsTrue, members-SetOf, parts-Tuple, Every, members, parts, SetOf, Tuple, Value, power, product, Ty, type_of, types, Tys, Environment, AreOfTypes, IsOfType, IsAscending}
+use Rattle.zf_ranges.proofs.Prelude.{◌+◌, ◌<◌, ◌↔◌, ◌∙◌, ◌∷◌, ◌≡◌, ◌≤◌, [], add-one, ap, arith, Bool, drop, false, get_or, length, List, map, refl, subst, suc, sym, zero, ℕ, false≢true, IsTrue, members-SetOf, parts-Tuple, members, parts, SetOf, Tuple, Value, power, product, Ty, type_of, types, Tys, Environment, AreOfTypes, IsOfType, IsAscending, AllByRecursion}
 use Rattle.zf_term.specs.declared.ztype.ZType.{ZType}
 use Rattle.zf_ranges.specs.OfTypes.{AreAllOf}
 use Rattle.std.proofs.Common.{ℤ, Option, Some, None, true, w64}
@@ -62,24 +62,24 @@ as_many e [] xs h = ap length h
 as_many e (t ∷ ts) xs h = ap length h.2 ∙ ap suc (as_many e ts h.1 h.4)
 
 module _ (P : Value → Type 0) where
-  next : (xs : List Value) (i : ℕ) (x : Value) → x ≡ get_or xs i x → i < length xs → Every P (drop i xs) ↔ (P x × Every P (drop (suc i) xs))
+  next : (xs : List Value) (i : ℕ) (x : Value) → x ≡ get_or xs i x → i < length xs → AllByRecursion P (drop i xs) ↔ (P x × AllByRecursion P (drop (suc i) xs))
   next [] i x at l = absurd (omega arith)
   next (y ∷ ys) zero x at l = (λ h. (subst P (sym at) h.0, h.1), λ h. (subst P at h.0, h.1))
   next (y ∷ ys) (suc i) x at l = next ys i x at (omega arith)
 
-  pub every_next : (xs : List Value) (i : ℕ) (x : Value) → x ≡ get_or xs i x → i < length xs → P x → Every P xs ↔ Every P (drop i xs) → Every P xs ↔ Every P (drop (i + 1) xs)
+  pub every_next : (xs : List Value) (i : ℕ) (x : Value) → x ≡ get_or xs i x → i < length xs → P x → AllByRecursion P xs ↔ AllByRecursion P (drop i xs) → AllByRecursion P xs ↔ AllByRecursion P (drop (i + 1) xs)
   every_next xs i x at l p h = rw add-one (let n = next xs i x at l in (λ k. (n.0 (h.0 k)).1, λ k. h.1 (n.1 (p, k))))
 
-  pub every_not : (xs : List Value) (i : ℕ) (x : Value) → x ≡ get_or xs i x → i < length xs → (P x → ⊥) → Every P xs ↔ Every P (drop i xs) → Every P xs → ⊥
+  pub every_not : (xs : List Value) (i : ℕ) (x : Value) → x ≡ get_or xs i x → i < length xs → (P x → ⊥) → AllByRecursion P xs ↔ AllByRecursion P (drop i xs) → AllByRecursion P xs → ⊥
   every_not xs i x at l p h k = p ((next xs i x at l).0 (h.0 k)).0
 
-  past : (xs : List Value) (i : ℕ) → length xs ≤ i → Every P (drop i xs)
+  past : (xs : List Value) (i : ℕ) → length xs ≤ i → AllByRecursion P (drop i xs)
   past [] zero l = tt
   past [] (suc i) l = tt
   past (y ∷ ys) zero l = absurd (omega arith)
   past (y ∷ ys) (suc i) l = past ys i (omega arith)
 
-  pub every_end : (xs : List Value) (i : ℕ) → length xs ≤ i → Every P xs ↔ Every P (drop i xs) → Every P xs
+  pub every_end : (xs : List Value) (i : ℕ) → length xs ≤ i → AllByRecursion P xs ↔ AllByRecursion P (drop i xs) → AllByRecursion P xs
   every_end xs i l h = h.1 (past xs i l)
 
 module _ (e : Environment) where

@@ -45,8 +45,6 @@ abbrev mutual
   IsInSets e no_sets v = Unit {0}
   IsInSets e (set d ds) v = IsInSet e d v × IsInSets e ds v
 
--- ---- declared sets that are out
-
 abbrev pub IsPlainOut : Environment → Option Infinite → ResolvedTree → Type 0
 IsPlainOut e (Some s) t = ⊥
 IsPlainOut e None t = HasOutcome (globally e) t Out

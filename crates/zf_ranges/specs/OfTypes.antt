@@ -4,7 +4,7 @@ use Rattle.std.specs.Int.{w64}
 use Rattle.zf_term.specs.Types.{Ty}
 use Rattle.zf_value.specs.declared.TheConstants.{SET_MAX}
 use Rattle.zf_value.specs.declared.plain.Value.{Value, Int}
-use Rattle.zf_value.specs.Sets.{Every}
+use Rattle.std.specs.List.{AllByRecursion}
 use Rattle.zf_meaning.specs.Environments.{Environment}
 use Rattle.zf_meaning.specs.Rows.{IsOfType}
 
@@ -13,4 +13,4 @@ IsNumberHere v = (n : ℤ) × (v ≡ Int n) × FitsSigned w64 n
 
 -- no more values than a set may have, each of the type
 abbrev pub AreAllOf : Environment → Ty → List Value → Type 0
-AreAllOf e t xs = (length xs ≤ SET_MAX) × Every (λ z. IsOfType e t z) xs
+AreAllOf e t xs = (length xs ≤ SET_MAX) × AllByRecursion (λ z. IsOfType e t z) xs

@@ -1,17 +1,14 @@
 -- The ranges of a schema's components where some values are held, and which components have a declared set that is out.
-use Rattle.std.specs.Prelude.{◌≡◌, ◌↔◌, ℕ, ◌<◌, List, [], ◌∷◌, Option, Some, None, slice_get}
+use Rattle.std.specs.Prelude.{◌≡◌, ◌↔◌, ℕ, ◌<◌, List, [], ◌∷◌, Option, Some, None, slice_get, IfSome}
 use Rattle.zf_term.specs.Definitions.{Comp, sets_of}
 use Rattle.zf_value.specs.declared.plain.Value.{Value}
 use Rattle.zf_value.specs.Sets.{IsMember, IsAscending}
 use Rattle.zf_meaning.specs.Environments.{Environment}
 use Rattle.zf_ranges.specs.DeclaredSets.{IsInSets, IsOneOut}
-use Rattle.zf_ranges.specs.declared.start_fault.StartFault.{StartFault}
-use Rattle.zf_ranges.specs.declared.start_fault.StartFault.TheVariants.{DeclaredOut, OutOfMemory}
 
 -- where a value is held it is this one alone
 abbrev pub IsHeld : Option Value → Value → Type 0
-IsHeld None v = Unit {0}
-IsHeld (Some w) v = v ≡ w
+IsHeld held v = IfSome held (λ w. v ≡ w)
 
 -- the ascending list of exactly the values in the component's range: those that lie in its declared sets, or of them the one that is held
 pub record IsComponentRange (e : Environment) (c : Comp) (held : Option Value) (xs : List Value) : Type 0 where
@@ -27,7 +24,6 @@ abbrev pub later_held : List (Option Value) → List (Option Value)
 later_held [] = []
 later_held (h ∷ held) = held
 
--- that of each component
 abbrev pub AreRanges : Environment → List Comp → (held : List (Option Value)) → List (List Value) → Type 0
 AreRanges e [] held [] = Unit {0}
 AreRanges e [] held (xs ∷ ranges) = ⊥
@@ -41,12 +37,6 @@ IsOutAt e cs place = (c : Comp) × (slice_get cs place ≡ Some c) × IsOneOut e
 abbrev pub IsNoneOut : Environment → List Comp → Type 0
 IsNoneOut e cs = (place : ℕ) → IsOutAt e cs place → ⊥
 
--- the first component that has one
 pub record IsFirstOut (e : Environment) (cs : List Comp) (place : ℕ) : Type 0 where
   pub here : IsOutAt e cs place
   pub first : (earlier : ℕ) → earlier < place → IsOutAt e cs earlier → ⊥
-
--- No search can begin: this component is the first that is out. Want of memory says nothing.
-abbrev pub Refuses : Environment → List Comp → StartFault → Type 0
-Refuses e cs (DeclaredOut place) = IsFirstOut e cs place
-Refuses e cs OutOfMemory = Unit {0}

@@ -7,7 +7,8 @@ ghost use Rattle.zf_finite.specs.Finite.{one_bounds};
 ghost use Rattle.zf_meaning.specs.Envs.{environment_of};
 ghost use Rattle.zf_ranges.specs.Components.{AreAllRanges, AreHeldRanges, IsHeldRange, IsOneRange, IsOutBy, held_at};
 ghost use Rattle.zf_ranges.specs.DeclaredSets.{IsOneOut};
-ghost use Rattle.zf_ranges.specs.Ranges.{IsNoneOut, Refuses};
+ghost use Rattle.zf_ranges.specs.Ranges.{IsNoneOut};
+ghost use Rattle.zf_ranges.specs.StartFaults.{RefusesStart};
 
 use crate::lack::Lack;
 use crate::ranges::values_with;
@@ -28,7 +29,7 @@ pub fn ranges<'a>(
 ) -> Result<Vec<Range<Value>>, StartFault>
     requires { AllByRecursion (λ c. IsTrue (one_bounds (environment_of env.now).numbers (environment_of env.now).globals (sets_of c.sets))) (map comp_of components.now) }
     ensures is { IfOk result (λ rs. AreAllRanges (environment_of env.now) (map comp_of components.now) held.now rs.items) }
-    ensures refused { IfErr result (Refuses (environment_of env.now) (map comp_of components.now)) }
+    ensures refused { IfErr result (RefusesStart (environment_of env.now) (map comp_of components.now)) }
 {
     let mut ranges = Vec::with_capacity(alloc, components.len())?;
     for place in 0..components.len() {

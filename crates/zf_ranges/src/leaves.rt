@@ -38,7 +38,7 @@ pub(crate) fn of_plain<'a>(
     ensures out { spec.bounds (environment_of env.now).numbers (environment_of env.now).globals (plain (resolved_of set.now)) ≡ true → IfErr result (λ lack. Tells lack (IsSetOut (environment_of env.now) (plain (resolved_of set.now)))) }
 {
     let outcome = outcome_of(set, env)?;
-    members_of(alloc, &outcome)
+    members_of(alloc, outcome)
 }
 
 /// The outcome of the set that a declaration names. No component is in scope there.
@@ -60,7 +60,7 @@ pub(crate) fn of_carrier<'a>(
     ensures out { spec.bounds (environment_of env.now).numbers (environment_of env.now).globals (carrier (type_of ztype.now)) ≡ true → IfErr result (λ lack. Tells lack (IsSetOut (environment_of env.now) (carrier (type_of ztype.now)))) }
 {
     let outcome = carrier_of(ztype, env)?;
-    members_of(alloc, &outcome)
+    members_of(alloc, outcome)
 }
 
 /// Those of the values that lie in the set that a declaration names.

@@ -47,12 +47,12 @@ pub(crate) fn members_among(
 }
 
 /// The members. What is undefined has none.
-pub(crate) fn members_of(alloc: Global, of: &Outcome) -> Result<Vec<Value>, Lack>
-    ensures is { IfOk result (λ out. IsListed of.now (IsIn of.now) out.items) }
-    ensures out { IfErr result (λ lack. Tells lack (of.now ≡ outcome.Out)) }
+pub(crate) fn members_of(alloc: Global, of: Outcome) -> Result<Vec<Value>, Lack>
+    ensures is { IfOk result (λ out. IsListed of (IsIn of) out.items) }
+    ensures out { IfErr result (λ lack. Tells lack (of ≡ outcome.Out)) }
 {
     match of {
-        Outcome::Is(set) => Ok(copied(alloc, set.members())?),
+        Outcome::Is(set) => Ok(set.into_members(alloc)?),
         Outcome::Undefined => Ok(Vec::new(alloc)),
         Outcome::Out => Err(Lack::Out),
     }

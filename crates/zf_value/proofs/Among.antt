@@ -1,5 +1,5 @@
 -- Members of lists, and lists in order.
-use Rattle.zf_value.proofs.Prelude.{◌++◌, ◌+◌, ◌-◌, ◌<◌, ◌↔◌, ◌∙◌, ◌∷◌, ◌≡◌, ◌≤◌, ◌⊎◌, [], add-one, ap, arith, drop, false, get_or, inl, inr, IsTrue, length, Less, List, refl, subst, suc, sym, take, true, zero, ℕ, ⊎_elim, tied_itself, get_or_default, all_adjacent_more, AllAdjacentBelow, AllByRecursion, Contains, IsStrictlySortedBy, is_lt, Every, IsAscending, IsMember, value_order, AreAmong, Value}
+use Rattle.zf_value.proofs.Prelude.{◌++◌, ◌+◌, ◌-◌, ◌<◌, ◌↔◌, ◌∙◌, ◌∷◌, ◌≡◌, ◌≤◌, ◌⊎◌, [], add-one, ap, arith, drop, false, get_or, inl, inr, IsTrue, length, Less, List, refl, subst, suc, sym, take, true, zero, ℕ, ⊎_elim, tied_itself, get_or_default, all_adjacent_more, AllAdjacentBelow, AllByRecursion, Contains, IsStrictlySortedBy, is_lt, IsAscending, IsMember, value_order, AreAmong, Value}
 use Rattle.std.specs.declared.cmp.Ordering.{Ordering}
 use Rattle.std.specs.declared.cmp.Ordering.TheVariants.{Equal, Greater}
 use Rattle.std.proofs.lemmas.List.Elements.{Contains-get_or}
@@ -8,19 +8,19 @@ use Rattle.zf_value.specs.contracts.plain.ValueOrd.TheImpl.Laws.{total-law}
 
 -- ---- each of a list
 
-pub every_from : (P : Value → Type 0) (xs : List Value) → ((z : Value) → IsMember z xs → P z) → Every P xs
+pub every_from : (P : Value → Type 0) (xs : List Value) → ((z : Value) → IsMember z xs → P z) → AllByRecursion P xs
 every_from P [] f = tt
 every_from P (x ∷ xs) f = (f x (inl refl), every_from P xs (λ z m. f z (inr m)))
 
-pub every_at : (P : Value → Type 0) (xs : List Value) (z : Value) → Every P xs → IsMember z xs → P z
+pub every_at : (P : Value → Type 0) (xs : List Value) (z : Value) → AllByRecursion P xs → IsMember z xs → P z
 every_at P [] z h m = absurd m
 every_at P (x ∷ xs) z h m = ⊎_elim (λ s. subst P s h.0) (λ n. every_at P xs z h.1 n) m
 
-pub every_also : (P Q : Value → Type 0) (xs : List Value) → ((z : Value) → P z → Q z) → Every P xs → Every Q xs
+pub every_also : (P Q : Value → Type 0) (xs : List Value) → ((z : Value) → P z → Q z) → AllByRecursion P xs → AllByRecursion Q xs
 every_also P Q [] f h = tt
 every_also P Q (x ∷ xs) f h = (f x h.0, every_also P Q xs f h.1)
 
-pub every-take : (P : Value → Type 0) (n : ℕ) (xs : List Value) → Every P xs → Every P (take n xs)
+pub every-take : (P : Value → Type 0) (n : ℕ) (xs : List Value) → AllByRecursion P xs → AllByRecursion P (take n xs)
 every-take P zero xs h = tt
 every-take P (suc n) [] h = tt
 every-take P (suc n) (x ∷ xs) h = (h.0, every-take P n xs h.1)
@@ -81,7 +81,7 @@ member xs z c = contained_at xs c.0 z c.1 c.2
 pub not_below_itself : (x : Value) → value_order x x ≡ Less → ⊥
 not_below_itself x e = let t = tied_itself total-law x in (cc)
 
-above_all : (x : Value) (xs : List Value) → AllByRecursion (λ y. value_order x y ≡ Less) xs → Every (λ y. value_order x y ≡ Less) xs
+above_all : (x : Value) (xs : List Value) → AllByRecursion (λ y. value_order x y ≡ Less) xs → AllByRecursion (λ y. value_order x y ≡ Less) xs
 above_all x [] h = tt
 above_all x (y ∷ ys) h = (h.0, above_all x ys h.1)
 
@@ -131,11 +131,11 @@ ascending_by_adjacent [] n l h = tt
 ascending_by_adjacent (x ∷ xs) n l h = ascending (x ∷ xs) (sorted_from_all_adjacent total-law (x ∷ xs) x (λ k m. h k x (omega (arith, l, m))))
 
 -- an ascending list with one more at its end
-pub ascending-push : (xs : List Value) (y : Value) → IsAscending xs → Every (λ x. value_order x y ≡ Less) xs → IsAscending (xs ++ y ∷ [])
+pub ascending-push : (xs : List Value) (y : Value) → IsAscending xs → AllByRecursion (λ x. value_order x y ≡ Less) xs → IsAscending (xs ++ y ∷ [])
 ascending-push [] y h b = (tt, tt)
 ascending-push (x ∷ xs) y h b = (every_push (λ z. value_order x z ≡ Less) xs y h.0 b.0, ascending-push xs y h.1 b.1)
   where
-    every_push : (P : Value → Type 0) (ys : List Value) (z : Value) → Every P ys → P z → Every P (ys ++ z ∷ [])
+    every_push : (P : Value → Type 0) (ys : List Value) (z : Value) → AllByRecursion P ys → P z → AllByRecursion P (ys ++ z ∷ [])
     every_push P [] z g p = (p, tt)
     every_push P (u ∷ us) z g p = (g.0, every_push P us z g.1 p)
 

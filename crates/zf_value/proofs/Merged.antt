@@ -1,5 +1,5 @@
 -- Two ascending lists, merged.
-use Rattle.zf_value.proofs.Prelude.{◌++◌, ◌+◌, ◌<◌, ◌↔◌, ◌∙◌, ◌∷◌, ◌≡◌, ◌≤◌, ◌⊎◌, [], add-one, ap, arith, drop, Equal, get_or, Greater, inl, inr, length, Less, List, subst, suc, sym, take, ℕ, ⊎_elim, append-nil, take-append-drop, ordering_reverse, Every, IsAscending, IsMember, value_order, IsJoined, Value}
+use Rattle.zf_value.proofs.Prelude.{◌++◌, ◌+◌, ◌<◌, ◌↔◌, ◌∙◌, ◌∷◌, ◌≡◌, ◌≤◌, ◌⊎◌, [], add-one, ap, arith, drop, Equal, get_or, Greater, inl, inr, length, Less, List, subst, suc, sym, take, ℕ, ⊎_elim, append-nil, take-append-drop, ordering_reverse, IsAscending, IsMember, value_order, IsJoined, Value, AllByRecursion}
 use Rattle.std.proofs.Math.Seq.{drop-cons, append_snoc}
 use Rattle.std.proofs.Math.ListN.{drop_of_length-le}
 use Rattle.zf_value.specs.contracts.plain.ValueOrd.TheImpl.Laws.{total-law}
@@ -19,10 +19,10 @@ unfolding IsJoined
 merging_none a b out e h k = subst (IsMerging a b 0 0) (sym e) (record { left = h; right = k; joined = λ w. (λ m. absurd m, λ m. ⊎_elim (λ n. n) (λ n. n) m); in_a = omega arith; in_b = omega arith })
 
 -- one that is less than all that is left of the other list comes next
-below_all : (x y : Value) (ys : List Value) → value_order x y ≡ Less → Every (λ z. value_order y z ≡ Less) ys → Every (λ z. value_order x z ≡ Less) ys
+below_all : (x y : Value) (ys : List Value) → value_order x y ≡ Less → AllByRecursion (λ z. value_order y z ≡ Less) ys → AllByRecursion (λ z. value_order x z ≡ Less) ys
 below_all x y ys l h = every_from _ ys (λ z m. total-law.trans x y z l (every_at _ ys z h m))
 
-every_put : (P : Value → Type 0) (out : List Value) (x : Value) (xs ys : List Value) → Every P (out ++ x ∷ xs) → Every P (out ++ ys) → Every P ((out ++ x ∷ []) ++ ys)
+every_put : (P : Value → Type 0) (out : List Value) (x : Value) (xs ys : List Value) → AllByRecursion P (out ++ x ∷ xs) → AllByRecursion P (out ++ ys) → AllByRecursion P ((out ++ x ∷ []) ++ ys)
 every_put P [] x xs ys h k = (h.0, k)
 every_put P (z ∷ out) x xs ys h k = (h.0, every_put P out x xs ys h.1 k.1)
 

@@ -22,28 +22,9 @@ pub use Rattle.zf_value.specs.NumberLaws.{DivisionsTell}
 pub use Rattle.zf_value.specs.Numbers.{IsDivision, IsNumber, IsRemainder, number_at, number_of, OnNumber, OnNumbers}
 unfoldable pub use Rattle.zf_value.specs.Numbers.{IsBetweenNumbers, IsDifference, IsInterval, IsModulus, IsNegation, IsProduct, IsQuotient, IsSum}
 pub use Rattle.zf_value.specs.Operations.{IsInDomain, IsInRange, IsPairOf, pair, Relates}
-unfoldable pub use Rattle.zf_value.specs.Operations.{
-  AreElements,
-  IsApplied,
-  IsComposition,
-  IsDisplay,
-  IsDomain,
-  IsDomainRestriction,
-  IsDomainSubtraction,
-  IsElement,
-  IsImage,
-  IsIntersection,
-  IsInverse,
-  IsOverriding,
-  IsRange,
-  IsRangeRestriction,
-  IsRangeSubtraction,
-  IsSetDifference,
-  IsSize,
-  IsUnion,
-}
+unfoldable pub use Rattle.zf_value.specs.Operations.{AreElements, IsApplied, IsComposition, IsDisplay, IsDomain, IsDomainRestriction, IsDomainSubtraction, IsElement, IsImage, IsIntersection, IsInverse, IsOverriding, IsRange, IsRangeRestriction, IsRangeSubtraction, IsSetDifference, IsSize, IsUnion}
 pub use Rattle.zf_value.specs.Order.{level_order}
-pub use Rattle.zf_value.specs.Sets.{Every, IsAscending, IsMember, IsSetOf, members, members_at, value_order}
+pub use Rattle.zf_value.specs.Sets.{IsAscending, IsMember, IsSetOf, members, members_at, value_order}
 pub use Rattle.zf_value.specs.SetLaws.{parts, parts_at}
 unfoldable pub use Rattle.zf_value.specs.Sets.{AreAmong}
 unfoldable pub use Rattle.zf_value.specs.ListLaws.{HaveSameMembers}

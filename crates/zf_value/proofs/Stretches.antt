@@ -1,5 +1,7 @@
 -- Where the pairs of an ascending relation that begin with one value stand.
 use Rattle.zf_value.proofs.Prelude.{◌+◌, ◌-◌, ◌<◌, ◌∙◌, ◌∷◌, ◌≡◌, ◌≤◌, [], ap, arith, drop, Equal, false, get_or, Greater, length, length-drop, length-take, Less, List, Ordering, refl, sym, take, true, ℕ, ⊎_elim, cases_lt, tied_itself, get_or-drop, get_or-take, slice_cmp, Contains, IsPartitionedBy, IsPartitionPoint, is_le, is_lt, ordering_index, ordering_then, pair, level_order, IsAscending, IsMember, value_order, AreRelated, place_at, place_beside, place_of_first, out-Value, Value, Value-F, outs-Tuple}
+use Rattle.std.specs.Prelude.{Bool}
+use Rattle.std.specs.List.{AllWithin, HoldsAt}
 use Rattle.zf_value.specs.contracts.plain.ValueOrd.TheImpl.Laws.{total-law}
 use Rattle.zf_value.proofs.Among.{contained, member, ascending-take, ascending-drop}
 use Rattle.zf_value.proofs.Exact.{cmp_is, exact}
@@ -75,6 +77,28 @@ lt_is_le Greater e f = (cc)
 pub in_order : (x : Value) (r : List Value) (i j : ℕ) → IsStart x r i → IsEnd x r j → i ≤ length r → i ≤ j
 in_order x r i j s e l = ⊎_elim (λ k. absurd (lt_is_le _ (s.0 j x (omega arith) k) (e.1 j x (omega arith) (omega (arith, k, l))))) (λ k. k) (cases_lt j i)
 
+lt_to_le : (o : Ordering) → is_lt o ≡ true → is_le o ≡ true
+lt_to_le Less e = refl
+lt_to_le Equal e = (cc)
+lt_to_le Greater e = (cc)
+
+-- those before the end that are found so far
+abbrev pub AreBefore : Value → List Value → ℕ → Type 0
+AreBefore x r i = AllWithin (λ z. is_le (place_beside x z) ≡ true) r 0 i
+
+pub from_start : (x : Value) (r : List Value) (i : ℕ) → IsStart x r i → AreBefore x r i
+from_start x r i s k d low l = lt_to_le _ (s.0 k d low l)
+
+pub end_here : (x : Value) (r : List Value) (i : ℕ) → IsAscending r → AreBefore x r i → HoldsAt (λ z. is_le (place_beside x z) ≡ false) r i → IsEnd x r i
+end_here x r i h b f = (b, λ k d low l. at k d low l (is_le (place_beside x (get_or r k d))) refl)
+  where
+    at : (k : ℕ) (d : Value) → i ≤ k → k < length r → (b : Bool) → is_le (place_beside x (get_or r k d)) ≡ b → is_le (place_beside x (get_or r k d)) ≡ false
+    at k d low l false e = e
+    at k d low l true e = let t = parted_behind x r h i k d low l e in let u = f d in (cc)
+
+pub end_of_all : (x : Value) (r : List Value) (i : ℕ) → AreBefore x r i → length r ≤ i → IsEnd x r i
+end_of_all x r i b l = (b, λ k d low m. absurd (omega (arith, l, low, m)))
+
 -- ---- what stands between them
 
 pair_place : (x u y : Value) → place_beside x (pair u y) ≡ value_order u x
@@ -126,3 +150,16 @@ related_between x r i j h s e l = record {
 
         no_end : {o : Ordering} → is_le o ≡ false → o ≡ Equal → ⊥
         no_end {o} a b = let f : is_le o ≡ true = ap is_le b in (cc)
+
+-- ---- a pair among others
+
+pub beside_pair : (z x y : Value) (a : Value-F Value) → out-Value z ≡ a → value_order z (pair x y) ≡ level_order value_order a (Value-F.Tuple (x ∷ y ∷ []))
+beside_pair z x y a e = cmp_is z (pair x y) ∙ ap (λ u. level_order value_order u (out-Value (pair x y))) e ∙ ap (level_order value_order a) (outs-Tuple (x ∷ y ∷ []))
+
+pub longer_beside : (ps : List Value) (x y a b : Value) → 3 ≤ length ps → a ≡ get_or ps 0 a → b ≡ get_or ps 1 b
+    → slice_cmp value_order ps (x ∷ y ∷ []) ≡ ordering_then (value_order a x) (ordering_then (value_order b y) Greater)
+longer_beside [] x y a b l e f = absurd (omega (arith, l))
+longer_beside (p ∷ []) x y a b l e f = absurd (omega (arith, l))
+longer_beside (p ∷ q ∷ []) x y a b l e f = absurd (omega (arith, l))
+longer_beside (p ∷ q ∷ r ∷ ps) x y a b l e f = ap (λ u. ordering_then (value_order u x) (ordering_then (value_order q y) Greater)) (sym e)
+    ∙ ap (λ u. ordering_then (value_order a x) (ordering_then (value_order u y) Greater)) (sym f)

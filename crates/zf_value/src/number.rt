@@ -121,10 +121,10 @@ fn is_remainder(b: i64, r: i64) -> bool
 fn numbers(alloc: Global, from: i64, to: i64) -> Result<Vec<Value>, AllocError>
     ensures { IfOk result (ListsNumbers from to) }
 {
-    let mut members = Vec::new(alloc);
     if to < from {
-        return Ok(members);
+        return Ok(Vec::new(alloc));
     }
+    let mut members = Vec::with_capacity(alloc, to.saturating_sub(from) as usize + 1)?;
     for n in from..to {
         members.push(Value { form: Form::Int(n) })?;
     }

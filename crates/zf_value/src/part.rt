@@ -22,6 +22,15 @@ pub(crate) enum Keep {
     Others,
 }
 
+/// Which values are selected, by a part that is tested against a set, and what is given of them.
+#[derive(Clone, Copy)]
+pub(crate) struct Selection<'s> {
+    pub test: Part,
+    pub keep: Keep,
+    pub set: &'s [Value],
+    pub given: Part,
+}
+
 impl Part {
     pub(crate) fn of<'a>(self, z: &'a Value) -> Option<&'a Value>
         ensures { GivesJust (IsPartOf self z.now) result }
@@ -52,6 +61,21 @@ impl Keep {
     }
 }
 
+impl Selection<'_> {
+    /// What is given of the value, if it is selected.
+    fn of<'a>(&self, z: &'a Value) -> Option<&'a Value>
+        requires { IsAscending self.now.set.now }
+        ensures { GivesJust (IsSelected self.now.test self.now.keep self.now.set.now self.now.given z.now) result }
+    {
+        let p = self.test.of(z)?;
+        if self.keep.keeps(p, self.set) {
+            self.given.of(z)
+        } else {
+            None
+        }
+    }
+}
+
 /// The parts of these values.
 pub(crate) fn parts(alloc: Global, values: &[Value], part: Part) -> Result<Vec<Value>, AllocError>
     ensures { IfOk result (λ out. IsGathered (IsPartOf part) values.now out.items) }
@@ -65,41 +89,20 @@ pub(crate) fn parts(alloc: Global, values: &[Value], part: Part) -> Result<Vec<V
     Ok(out)
 }
 
-/// What is given of these values where what is tested of them is kept.
+/// What is given of these values that are selected.
 pub(crate) fn selected(
     alloc: Global,
     values: &[Value],
-    test: Part,
-    keep: Keep,
-    set: &[Value],
-    given: Part,
+    selection: &Selection<'_>,
 ) -> Result<Vec<Value>, AllocError>
-    requires { IsAscending set.now }
-    ensures { IfOk result (λ out. IsGathered (IsSelected test keep set.now given) values.now out.items) }
+    requires { IsAscending selection.now.set.now }
+    ensures { IfOk result (λ out. IsGathered (IsSelected selection.now.test selection.now.keep selection.now.set.now selection.now.given) values.now out.items) }
 {
     let mut out = Vec::new(alloc);
     for z in values {
-        if let Some(w) = selected_of(z, test, keep, set, given) {
+        if let Some(w) = selection.of(z) {
             out.push(w.copy(alloc)?)?;
         }
     }
     Ok(out)
-}
-
-fn selected_of<'a>(
-    z: &'a Value,
-    test: Part,
-    keep: Keep,
-    set: &[Value],
-    given: Part,
-) -> Option<&'a Value>
-    requires { IsAscending set.now }
-    ensures { GivesJust (IsSelected test keep set.now given z.now) result }
-{
-    let p = test.of(z)?;
-    if keep.keeps(p, set) {
-        given.of(z)
-    } else {
-        None
-    }
 }

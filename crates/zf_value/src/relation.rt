@@ -1,10 +1,11 @@
 //! The operations on relations. A relation is a set of pairs; what is no pair relates nothing.
-ghost use Rattle.std.specs.Prelude.{◌≡◌, ◌≤◌, length, slice_range, IfOk, OnOk, MatchOption};
+ghost use Rattle.std.specs.Prelude.{◌≡◌, ◌↔◌, ◌≤◌, ◌∷◌, [], length, slice_range, IfOk, IsTrue, OnOk, MatchOption};
+ghost use Rattle.std.specs.Cmp.Lexicographic.{slice_cmp};
 ghost use Rattle.zf_value.specs.Operations.{pair, IsDomain, IsRange, IsInverse, IsImage, IsComposition, IsOverriding, IsDomainRestriction, IsDomainSubtraction, IsRangeRestriction, IsRangeSubtraction, IsApplied};
-ghost use Rattle.zf_value.specs.Sets.{members, IsAscending};
+ghost use Rattle.zf_value.specs.Sets.{members, value_order, IsAscending, IsMember};
 ghost use Rattle.zf_value.specs.Steps.{AreRelated, AddsPairs, place_beside as place};
 
-use crate::part::{Keep, Part, parts, selected};
+use crate::part::{Keep, Part, Selection, parts, selected};
 use crate::set::{copy_onto, display, is_too_many, make_ascending, tuple_of_two};
 use crate::value::{Form, Outcome, Value};
 use std::alloc::{AllocError, Global};
@@ -44,10 +45,12 @@ pub fn image(alloc: Global, r: &Value, a: &Value) -> Result<Outcome, AllocError>
     let kept = selected(
         alloc,
         r.members(),
-        Part::First,
-        Keep::Members,
-        a.members(),
-        Part::Second,
+        &Selection {
+            test: Part::First,
+            keep: Keep::Members,
+            set: a.members(),
+            given: Part::Second,
+        },
     )?;
     display(alloc, kept)
 }
@@ -78,10 +81,12 @@ pub fn overriding(alloc: Global, r: &Value, q: &Value) -> Result<Outcome, AllocE
     let mut values = selected(
         alloc,
         r.members(),
-        Part::First,
-        Keep::Others,
-        firsts.as_slice(),
-        Part::Whole,
+        &Selection {
+            test: Part::First,
+            keep: Keep::Others,
+            set: firsts.as_slice(),
+            given: Part::Whole,
+        },
     )?;
     copy_onto(alloc, &mut values, over)?;
     display(alloc, values)
@@ -94,10 +99,12 @@ pub fn domain_restriction(alloc: Global, a: &Value, r: &Value) -> Result<Outcome
     let kept = selected(
         alloc,
         r.members(),
-        Part::First,
-        Keep::Members,
-        a.members(),
-        Part::Whole,
+        &Selection {
+            test: Part::First,
+            keep: Keep::Members,
+            set: a.members(),
+            given: Part::Whole,
+        },
     )?;
     display(alloc, kept)
 }
@@ -109,10 +116,12 @@ pub fn domain_subtraction(alloc: Global, a: &Value, r: &Value) -> Result<Outcome
     let kept = selected(
         alloc,
         r.members(),
-        Part::First,
-        Keep::Others,
-        a.members(),
-        Part::Whole,
+        &Selection {
+            test: Part::First,
+            keep: Keep::Others,
+            set: a.members(),
+            given: Part::Whole,
+        },
     )?;
     display(alloc, kept)
 }
@@ -124,10 +133,12 @@ pub fn range_restriction(alloc: Global, r: &Value, b: &Value) -> Result<Outcome,
     let kept = selected(
         alloc,
         r.members(),
-        Part::Second,
-        Keep::Members,
-        b.members(),
-        Part::Whole,
+        &Selection {
+            test: Part::Second,
+            keep: Keep::Members,
+            set: b.members(),
+            given: Part::Whole,
+        },
     )?;
     display(alloc, kept)
 }
@@ -139,10 +150,12 @@ pub fn range_subtraction(alloc: Global, r: &Value, b: &Value) -> Result<Outcome,
     let kept = selected(
         alloc,
         r.members(),
-        Part::Second,
-        Keep::Others,
-        b.members(),
-        Part::Whole,
+        &Selection {
+            test: Part::Second,
+            keep: Keep::Others,
+            set: b.members(),
+            given: Part::Whole,
+        },
     )?;
     display(alloc, kept)
 }
@@ -163,7 +176,46 @@ pub fn applied<'a>(f: &'a Value, x: &Value) -> Option<&'a Value>
     found
 }
 
+/// Whether the pair of the values is a member of the set.
+pub fn relates(r: &Value, x: &Value, y: &Value) -> bool
+    ensures { IsTrue result ↔ IsMember (pair x.now y.now) (members r.now) }
+{
+    is_pair_found(x, y, r.members())
+}
+
 // ---- steps
+
+/// Whether the pair of the values is among these.
+fn is_pair_found(x: &Value, y: &Value, values: &[Value]) -> bool
+    requires { IsAscending values.now }
+    ensures { IsTrue result ↔ IsMember (pair x.now y.now) values.now }
+{
+    values.binary_search_by(|z| beside_pair(z, x, y)).is_ok()
+}
+
+/// How a value compares with the pair of two.
+fn beside_pair(z: &Value, x: &Value, y: &Value) -> Ordering
+    ensures { result ≡ value_order z.now (pair x.now y.now) }
+{
+    match z.form() {
+        Form::Int(_) => Ordering::Less,
+        Form::Elem(_, _) => Ordering::Less,
+        Form::Tuple(items) => parts_beside_pair(items.as_slice(), x, y),
+        Form::SetOf(_) => Ordering::Greater,
+    }
+}
+
+/// The same of a tuple of these parts.
+fn parts_beside_pair(parts: &[Value], x: &Value, y: &Value) -> Ordering
+    ensures { result ≡ slice_cmp value_order parts.now (x.now ∷ y.now ∷ []) }
+{
+    match parts {
+        [] => Ordering::Less,
+        [a] => a.order(x).then(Ordering::Less),
+        [a, b] => a.order(x).then_with(|| b.order(y)),
+        [a, b, _, ..] => a.order(x).then(b.order(y).then(Ordering::Greater)),
+    }
+}
 
 /// The members that begin with the value.
 fn related<'a>(r: &'a Value, x: &Value) -> &'a [Value]
@@ -182,7 +234,10 @@ fn stretch(r: &[Value], x: &Value) -> (usize, usize)
     ensures related { AreRelated r.now x.now (slice_range r.now result.0 result.1) }
 {
     let start = r.partition_point(|z| place_beside(x, z).is_lt());
-    let end = r.partition_point(|z| place_beside(x, z).is_le());
+    let mut end = start;
+    while end < r.len() && place_beside(x, &r[end]).is_le() {
+        end += 1;
+    }
     (start, end)
 }
 

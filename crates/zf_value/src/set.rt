@@ -8,7 +8,7 @@ ghost use Rattle.zf_value.specs.ListLaws.{HaveSameMembers};
 
 use crate::SET_MAX;
 use crate::items::Items;
-use crate::part::{Keep, Part, selected};
+use crate::part::{Keep, Part, Selection, selected};
 use crate::value::{Form, Outcome, Value};
 use std::alloc::{AllocError, Global};
 use std::cmp::Ordering;
@@ -114,10 +114,12 @@ pub fn intersection(alloc: Global, a: &Value, b: &Value) -> Result<Outcome, Allo
     let kept = selected(
         alloc,
         a.members(),
-        Part::Whole,
-        Keep::Members,
-        b.members(),
-        Part::Whole,
+        &Selection {
+            test: Part::Whole,
+            keep: Keep::Members,
+            set: b.members(),
+            given: Part::Whole,
+        },
     )?;
     display(alloc, kept)
 }
@@ -129,10 +131,12 @@ pub fn set_difference(alloc: Global, a: &Value, b: &Value) -> Result<Outcome, Al
     let kept = selected(
         alloc,
         a.members(),
-        Part::Whole,
-        Keep::Others,
-        b.members(),
-        Part::Whole,
+        &Selection {
+            test: Part::Whole,
+            keep: Keep::Others,
+            set: b.members(),
+            given: Part::Whole,
+        },
     )?;
     display(alloc, kept)
 }

@@ -1,4 +1,4 @@
-use Rattle.zf_families.proofs.Prelude.{◌+◌, ◌≡◌, subst, take_all, Every, IsAscending, members, SET_MAX}
+use Rattle.zf_families.proofs.Prelude.{◌+◌, ◌≡◌, subst, take_all, IsAscending, members, SET_MAX, AllByRecursion}
 use Rattle.zf_families.proofs.Counts.{count_more}
 use Rattle.zf_families.proofs.Tuples.{every_next}
 use Rattle.zf_families.proofs.cross.size.Goals as goal
@@ -13,4 +13,4 @@ loop-set-preserved c =
     )
 
 pub returns-clause-ascending : goal.returns-clause-ascending
-returns-clause-ascending c = subst (Every (λ s. IsAscending (members s))) (take_all c.loop-set.set-index c.args.sets.now c.loop-set-test.false) c.loop-set.invariant.1
+returns-clause-ascending c = subst (AllByRecursion (λ s. IsAscending (members s))) (take_all c.loop-set.set-index c.args.sets.now c.loop-set-test.false) c.loop-set.invariant.1

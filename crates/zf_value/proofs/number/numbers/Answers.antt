@@ -4,10 +4,10 @@ use Rattle.zf_value.proofs.Intervals.{lists_none, lists_all, lists_same, number_
 use Rattle.zf_value.proofs.number.numbers.Goals as goal
 
 pub returns-then-to-from : goal.returns-then-to-from
-returns-then-to-from c = let l : c.args.to <ℤ c.args.from = grind (arith, ints) in lists_none c.args.from c.args.to _ c.new-members.ensures.items l
+returns-then-to-from c = let l : c.args.to <ℤ c.args.from = grind (arith, ints) in lists_none c.args.from c.args.to _ c.new.ensures.items l
 
 pub loop-n-init : goal.loop-n-init
-loop-n-init c = (0, omega (arith, ints), c.new-members.ensures.items, grind (arith, ints))
+loop-n-init c = (0, omega (arith, ints), c.in_ok-members.ensures.items, grind (arith, ints))
 
 pub loop-n-preserved : goal.loop-n-preserved
 loop-n-preserved c =

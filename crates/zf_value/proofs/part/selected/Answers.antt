@@ -8,14 +8,15 @@ loop-z-init c = gathered_none _ _ c.new-out.ensures.items
 
 pub loop-z-preserved : goal.loop-z-preserved
 loop-z-preserved c =
-    elim c.match-selected_of.branch [
+    let by = c.args.selection.now in
+    elim c.match-of.branch [
       | in-Some+in_ok-copy+in_ok-push w ↦
-          step_push _ _ c.loop-z.z-index _ _ _ _ _ _ c.z-item.is c.loop-z-test.true c.loop-z.invariant c.selected_of.ensures w.in-Some.is w.in_ok-copy.ensures
+          step_push _ _ c.loop-z.z-index _ _ _ _ _ _ c.z-item.is c.loop-z-test.true c.loop-z.invariant c.of.ensures w.in-Some.is w.in_ok-copy.ensures
           (ap (λ v. v.items) w.out-is ∙ w.in_ok-push.ensures.items)
       | in_default w ↦
           step_pass _ _ c.loop-z.z-index _ _ _ c.z-item.is c.loop-z-test.true
-          (subst (λ (v : Vec Value Global). IsGathered (IsSelected c.args.test c.args.keep c.args.set.now c.args.given)
-          (take c.loop-z.z-index c.args.values.now) v.items) (sym w.out-is) c.loop-z.invariant) c.selected_of.ensures w.in_default.is
+          (subst (λ (v : Vec Value Global). IsGathered (IsSelected by.test by.keep by.set.now by.given)
+          (take c.loop-z.z-index c.args.values.now) v.items) (sym w.out-is) c.loop-z.invariant) c.of.ensures w.in_default.is
     ]
 
 pub returns : goal.returns

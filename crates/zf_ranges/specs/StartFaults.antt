@@ -1,0 +1,12 @@
+-- Why a search can't begin.
+use Rattle.std.specs.Prelude.{List}
+use Rattle.zf_term.specs.Definitions.{Comp}
+use Rattle.zf_meaning.specs.Environments.{Environment}
+use Rattle.zf_ranges.specs.declared.start_fault.StartFault.{StartFault}
+use Rattle.zf_ranges.specs.declared.start_fault.StartFault.TheVariants.{DeclaredOut, OutOfMemory}
+use Rattle.zf_ranges.specs.Ranges.{IsFirstOut}
+
+-- this component is the first that is out; want of memory says nothing
+abbrev pub RefusesStart : Environment → List Comp → StartFault → Type 0
+RefusesStart e cs (DeclaredOut place) = IsFirstOut e cs place
+RefusesStart e cs OutOfMemory = Unit {0}
