@@ -19,7 +19,7 @@ pub each_more : {A B : Type 0} → (g : B → A) (R : A → A → Type 0) (ps xs
     → AreEach R (map g ps) (map g (take i xs)) → R (g p) (g x) → AreEach R (map g (ps ++ p ∷ [])) (map g (take (i + 1) xs))
 each_more g R ps xs i x p at l h r = rw add-one (one_more g R ps xs i x p at l h r)
 
-whole : {B : Type 0} → (xs : List B) (i : ℕ) → length xs ≤ i → take i xs ≡ xs
+pub whole : {B : Type 0} → (xs : List B) (i : ℕ) → length xs ≤ i → take i xs ≡ xs
 whole [] zero l = refl
 whole [] (suc i) l = refl
 whole (c ∷ cs) zero l = absurd (omega arith)

@@ -5,7 +5,17 @@ use Rattle.zf_tree.specs.declared.operator.Unary.TheVariants as the_unary
 use Rattle.zf_extent.specs.Extents.{constant_set}
 use Rattle.zf_meaning.specs.Meaning.{IsConstantOutcome}
 use Rattle.zf_meaning.specs.NumberSets.{unended}
+use Rattle.zf_value.specs.declared.value.Outcome.TheVariants.{Is, Undefined, Out}
+use Rattle.zf_outcome.specs.Outcomes.{one_out, one_undefined, repeated, Several, values}
+use Rattle.zf_meaning.specs.Meaning.{HaveRanges}
+use Rattle.zf_meaning.proofs.Early.{from_length}
+use Rattle.std.specs.Prelude.{◌+◌, ◌++◌, [], length, replicate}
+use Rattle.std.proofs.Common.{◌∙◌, arith}
+use Rattle.std.proofs.lemmas.List.{length-append, length-replicate}
+use Rattle.zf_term.specs.ResolvedTrees.{no_ranges, range}
+use Rattle.zf_lift.specs.Lifts.{variables_of}
 use Rattle.zf_lift.proofs.Mapped as mapped
+use Rattle.zf_lift.proofs.Mapped.{IsFrom}
 
 itself : (X : Type 0) → X ↔ X
 itself X = (λ x. x, λ x. x)
@@ -93,58 +103,86 @@ same_chain c d l t u ks ls h k = record {
 
 -- ---- forms that bind
 
-rows_told : (c d : Context) (q : Quantifier) (p r : ResolvedPart) (t u : ResolvedTree) → ((vs : List Value) → IsSamePart (within c vs) p (within d vs) r)
-    → ((vs : List Value) → IsSame (within c vs) t (within d vs) u)
-    → (vs : List Value) (w : Truth) → IsTold q (λ a. IsConstraint (within c vs) p a) (λ b. IsTruth (within c vs) t b) w
-    → IsTold q (λ a. IsConstraint (within d vs) r a) (λ b. IsTruth (within d vs) u b) w
-rows_told c d q p r t u h k vs w x =
-    mapped.told q (IsConstraint (within c vs) p) (IsTruth (within c vs) t) (IsConstraint (within d vs) r) (IsTruth (within d vs) u) (λ a. ((h vs).constraint a).0) (λ b. ((k vs).truth b).0) w x
+repeated_length : (n m : ℕ) (x : Outcome) (r : Several) (ss : List Value) → values ss ≡ repeated n x r → ((ws : List Value) → r ≡ values ws → length ws ≡ m) → length ss ≡ n + m
+repeated_length n m Out r ss e h = absurd (cc)
+repeated_length n m Undefined one_out ss e h = absurd (cc)
+repeated_length n m Undefined one_undefined ss e h = absurd (cc)
+repeated_length n m Undefined (values ws) ss e h = absurd (cc)
+repeated_length n m (Is v) one_out ss e h = absurd (cc)
+repeated_length n m (Is v) one_undefined ss e h = absurd (cc)
+repeated_length n m (Is v) (values ws) ss e h =
+    let all : ss ≡ replicate n v ++ ws = (cc) in
+    omega (arith, ap length all, length-append (replicate n v) ws, length-replicate n v, h ws refl)
+
+ranges_length : (c : Context) (rs : Ranges) (ss : List Value) → HaveRanges c rs (values ss) → length ss ≡ variables_of rs
+ranges_length c no_ranges ss h = let none : ss ≡ [] = (cc) in ap length none
+ranges_length c (range n t rs) ss h = repeated_length n (variables_of rs) h.0 h.1 ss h.4 (λ ws e. ranges_length c rs ws (subst (HaveRanges c rs) e h.3))
+
+-- a row of ranges has a value for each of their variables
+row_length : (c : Context) (rs : Ranges) (s : Several) → HaveRanges c rs s → (vs : List Value) → IsFrom s vs → length vs ≡ variables_of rs
+row_length c rs one_out h vs f = absurd f
+row_length c rs one_undefined h vs f = absurd f
+row_length c rs (values ss) h vs f = from_length ss vs f ∙ ranges_length c rs ss h
+
+-- what holds behind so many variables of a binder
+abbrev pub Inside : ℕ → Context → Context → (Context → Context → Type 0) → Type 0
+Inside n c d P = (vs : List Value) → length vs ≡ n → P (within c vs) (within d vs)
+
+rows_told : (c d : Context) (q : Quantifier) (p r : ResolvedPart) (t u : ResolvedTree) → IsSamePart c p d r → IsSame c t d u → (w : Truth)
+    → IsTold q (IsConstraint c p) (IsTruth c t) w → IsTold q (IsConstraint d r) (IsTruth d u) w
+rows_told c d q p r t u h k w x =
+    mapped.told q (IsConstraint c p) (IsTruth c t) (IsConstraint d r) (IsTruth d u) (λ a. (h.constraint a).0) (λ b. (k.truth b).0) w x
 
 other_part : (c d : Context) (p r : ResolvedPart) → IsSamePart c p d r → IsSamePart d r c p
 other_part c d p r h = record { constraint = λ a. ((h.constraint a).1, (h.constraint a).0); builds = λ vs o. ((h.builds vs o).1, (h.builds vs o).0) }
 
-quantified_truth : (c d : Context) (l : ℕ) (q : Quantifier) (rs ss : Ranges) (p r : ResolvedPart) (t u : ResolvedTree) → AreSameRanges c rs d ss
-    → ((vs : List Value) → IsSamePart (within c vs) p (within d vs) r) → ((vs : List Value) → IsSame (within c vs) t (within d vs) u)
+quantified_truth : (c d : Context) (l n : ℕ) (q : Quantifier) (rs ss : Ranges) (p r : ResolvedPart) (t u : ResolvedTree)
+    → ((s : Several) → HaveRanges c rs s → (vs : List Value) → IsFrom s vs → length vs ≡ n) → AreSameRanges c rs d ss
+    → Inside n c d (λ x y. IsSamePart x p y r) → Inside n c d (λ x y. IsSame x t y u)
     → (a : Truth) → IsTruth c (quantified l q rs p t) a → IsTruth d (quantified l q ss r u) a
-quantified_truth c d l q rs ss p r t u g h k a x = (
+quantified_truth c d l n q rs ss p r t u sized g h k a x = (
   x.0,
   (g x.0).0 x.1,
   mapped.quantified q x.0 (λ vs w. IsTold q (λ a. IsConstraint (within c vs) p a) (λ b. IsTruth (within c vs) t b) w)
       (λ vs w. IsTold q (λ a. IsConstraint (within d vs) r a) (λ b. IsTruth (within d vs) u b) w)
-      (rows_told c d q p r t u h k)
-      (rows_told d c q r p u t (λ vs. other_part (within c vs) (within d vs) p r (h vs)) (λ vs. opposite_way (within c vs) t (within d vs) u (k vs)))
+      (λ vs w f. let o = sized x.0 x.1 vs f in rows_told (within c vs) (within d vs) q p r t u (h vs o) (k vs o) w)
+      (λ vs w f. let o = sized x.0 x.1 vs f in rows_told (within d vs) (within c vs) q r p u t
+      (other_part (within c vs) (within d vs) p r (h vs o)) (opposite_way (within c vs) t (within d vs) u (k vs o)) w)
       a x.2,
 )
 
 pub same_quantified : (c d : Context) (l : ℕ) (q : Quantifier) (rs ss : Ranges) (p r : ResolvedPart) (t u : ResolvedTree) → AreSameRanges c rs d ss
-    → ((vs : List Value) → IsSamePart (within c vs) p (within d vs) r) → ((vs : List Value) → IsSame (within c vs) t (within d vs) u)
+    → Inside (variables_of ss) c d (λ x y. IsSamePart x p y r) → Inside (variables_of ss) c d (λ x y. IsSame x t y u)
     → IsSame c (quantified l q rs p t) d (quantified l q ss r u)
 same_quantified c d l q rs ss p r t u g h k = record {
   outcome = λ o. (λ x. x, λ x. x);
   truth = λ a. (
-    quantified_truth c d l q rs ss p r t u g h k a,
-    quantified_truth d c l q ss rs r p u t (λ s. ((g s).1, (g s).0)) (λ vs. other_part (within c vs) (within d vs) p r (h vs)) (λ vs. opposite_way (within c vs) t (within d vs) u (k vs)) a,
+    quantified_truth c d l (variables_of ss) q rs ss p r t u (λ s x. row_length d ss s ((g s).0 x)) g h k a,
+    quantified_truth d c l (variables_of ss) q ss rs r p u t (row_length d ss) (λ s. ((g s).1, (g s).0))
+        (λ vs o. other_part (within c vs) (within d vs) p r (h vs o)) (λ vs o. opposite_way (within c vs) t (within d vs) u (k vs o)) a,
   );
   infinite = refl;
 }
 
-builder_outcome : (c d : Context) (l : ℕ) (rs ss : Ranges) (p r t u : ResolvedPart) → AreSameRanges c rs d ss
-    → ((vs : List Value) → IsSamePart (within c vs) p (within d vs) r) → ((vs : List Value) → IsSamePart (within c vs) t (within d vs) u)
+builder_outcome : (c d : Context) (l n : ℕ) (rs ss : Ranges) (p r t u : ResolvedPart)
+    → ((s : Several) → HaveRanges c rs s → (vs : List Value) → IsFrom s vs → length vs ≡ n) → AreSameRanges c rs d ss
+    → Inside n c d (λ x y. IsSamePart x p y r) → Inside n c d (λ x y. IsSamePart x t y u)
     → (o : Outcome) → HasOutcome c (builder l rs p t) o → HasOutcome d (builder l ss r u) o
-builder_outcome c d l rs ss p r t u g h k o x = (
+builder_outcome c d l n rs ss p r t u sized g h k o x = (
   x.0,
   (g x.0).0 x.1,
   mapped.built x.0 (λ vs a. IsConstraint (within c vs) p a) (λ vs a. IsConstraint (within d vs) r a) (λ vs z. Builds (within c vs) vs t z) (λ vs z. Builds (within d vs) vs u z)
-      (record { filter = λ vs a. (h vs).constraint a; term = λ vs z. (k vs).builds vs z }) o x.2,
+      (record { filter = λ vs f a. (h vs (sized x.0 x.1 vs f)).constraint a; term = λ vs f z. (k vs (sized x.0 x.1 vs f)).builds vs z }) o x.2,
 )
 
 pub same_builder : (c d : Context) (l : ℕ) (rs ss : Ranges) (p r t u : ResolvedPart) → AreSameRanges c rs d ss
-    → ((vs : List Value) → IsSamePart (within c vs) p (within d vs) r) → ((vs : List Value) → IsSamePart (within c vs) t (within d vs) u)
+    → Inside (variables_of ss) c d (λ x y. IsSamePart x p y r) → Inside (variables_of ss) c d (λ x y. IsSamePart x t y u)
     → IsSame c (builder l rs p t) d (builder l ss r u)
 same_builder c d l rs ss p r t u g h k = record {
   outcome = λ o. (
-    builder_outcome c d l rs ss p r t u g h k o,
-    builder_outcome d c l ss rs r p u t (λ s. ((g s).1, (g s).0)) (λ vs. other_part (within c vs) (within d vs) p r (h vs)) (λ vs. other_part (within c vs) (within d vs) t u (k vs)) o,
+    builder_outcome c d l (variables_of ss) rs ss p r t u (λ s x. row_length d ss s ((g s).0 x)) g h k o,
+    builder_outcome d c l (variables_of ss) ss rs r p u t (row_length d ss) (λ s. ((g s).1, (g s).0))
+        (λ vs o. other_part (within c vs) (within d vs) p r (h vs o)) (λ vs o. other_part (within c vs) (within d vs) t u (k vs o)) o,
   );
   truth = λ a. (λ x. x, λ x. x);
   infinite = refl;

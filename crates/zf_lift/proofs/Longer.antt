@@ -17,8 +17,8 @@ pub further : (e f g : Environment) → IsLonger e f → IsLonger f g → IsLong
 unfolding with_outcomes
 further e f g h k = (h.0 ++ k.0, k.1 ∙ ap (λ x. longer x k.0) h.1 ∙ ap (with_outcomes e) (append_assoc e.outcomes h.0 k.0))
 
-pub later : (outside : Bool) (f g e : Environment) (P : Context → Context → Type 0) → IsLonger f g → Wherever outside f e P → Wherever outside g e P
-later outside f g e P k h x l row locals o = h x (further f g x k l) row locals o
+pub later : (n : ℕ) (f g e : Environment) (P : Context → Context → Type 0) → IsLonger f g → Wherever n f e P → Wherever n g e P
+later n f g e P k h x l row locals o = h x (further f g x k l) row locals o
 
 pub same_globals : (e f : Environment) → IsLonger e f → f.globals ≡ e.globals
 same_globals e f h = ap (λ x. x.globals) h.1

@@ -18,7 +18,8 @@ pub use Rattle.zf_term.specs.ResolvedTrees.{absent, binary, bracket, builder, ch
 pub use Rattle.zf_term.specs.ResolvedViews.{links, part_of, range_of, ranges, resolved_link_of, resolved_of, terms}
 pub use Rattle.zf_term.specs.declared.extent.Infinite.{Infinite}
 pub use Rattle.zf_extent.specs.Extents.{direct, extent_found, extent_set, is_membership}
-pub use Rattle.zf_meaning.specs.Environments.{Context, Environment, outcome_in, outcome_or, within}
+pub use Rattle.zf_meaning.specs.Environments.{Context, Environment, outcome_in, within}
+pub use Rattle.zf_meaning.specs.Lookups.{outcome_or}
 pub use Rattle.zf_meaning.specs.Envs.{environment_of, longer}
 pub use Rattle.zf_meaning.specs.Meaning.{AreLinked, Builds, HasOutcome, infinite_right, IsBuilt, IsBuiltBy, IsBuiltOver, IsConstraint, IsOutOfBounds, IsTruth, IsWithinBounds}
 pub use Rattle.zf_outcome.specs.Outcomes.{one_out, one_undefined, Several, values}

@@ -11,27 +11,31 @@ use Rattle.zf_extent.specs.Extents.{constant_set}
 use Rattle.zf_meaning.specs.Meaning.{constant_truth}
 use Rattle.zf_meaning.specs.NumberSets.{infinite_in, unended}
 use Rattle.zf_meaning.proofs.Unique.{one_outcome}
+use Rattle.std.specs.Prelude.{◌+◌}
+use Rattle.std.proofs.lemmas.List.{length-append}
+unfoldable use Rattle.zf_meaning.specs.InRow.{IsBehind}
+use Rattle.zf_lift.specs.Lifts.{variables_of}
 use Rattle.zf_lift.proofs.Needs.{uses_no_more}
 use Rattle.zf_lift.proofs.Forms as forms
 use Rattle.zf_lift.proofs.Longer as longer_ones
 
 -- ---- in longer environments
 
-pub lift_later : (b : Bool) (f g e : Environment) (t u : ResolvedTree) → IsLonger f g → IsLift b f e t u → IsLift b g e t u
+pub lift_later : (b : ℕ) (f g e : Environment) (t u : ResolvedTree) → IsLonger f g → IsLift b f e t u → IsLift b g e t u
 unfolding IsLift
 lift_later b f g e t u h x = record { needs = x.needs; same = longer_ones.later b f g e (λ c d. IsSame c t d u) h x.same }
 
-pub range_later : (b : Bool) (f g e : Environment) (p q : ℕ × ResolvedTree) → IsLonger f g → IsRangeLift b f e p q → IsRangeLift b g e p q
+pub range_later : (b : ℕ) (f g e : Environment) (p q : ℕ × ResolvedTree) → IsLonger f g → IsRangeLift b f e p q → IsRangeLift b g e p q
 range_later b f g e p q h x = (x.0, lift_later b f g e p.1 q.1 h x.1)
 
-pub link_later : (b : Bool) (f g e : Environment) (p q : Relation × ResolvedTree) → IsLonger f g → IsLinkLift b f e p q → IsLinkLift b g e p q
+pub link_later : (b : ℕ) (f g e : Environment) (p q : Relation × ResolvedTree) → IsLonger f g → IsLinkLift b f e p q → IsLinkLift b g e p q
 link_later b f g e p q h x = (x.0, lift_later b f g e p.1 q.1 h x.1)
 
-pub ranges_later : (b : Bool) (f g e : Environment) (rs ss : Ranges) → IsLonger f g → AreRangeLifts b f e rs ss → AreRangeLifts b g e rs ss
+pub ranges_later : (b : ℕ) (f g e : Environment) (rs ss : Ranges) → IsLonger f g → AreRangeLifts b f e rs ss → AreRangeLifts b g e rs ss
 unfolding AreRangeLifts
 ranges_later b f g e rs ss h x = record { needs = x.needs; same = longer_ones.later b f g e (λ c d. AreSameRanges c rs d ss) h x.same }
 
-pub part_later : (b : Bool) (f g e : Environment) (p q : ResolvedPart) → IsLonger f g → IsPartLift b f e p q → IsPartLift b g e p q
+pub part_later : (b : ℕ) (f g e : Environment) (p q : ResolvedPart) → IsLonger f g → IsPartLift b f e p q → IsPartLift b g e p q
 unfolding IsPartLift
 part_later b f g e p q h x = record { needs = x.needs; same = longer_ones.later b f g e (λ c d. IsSamePart c p d q) h x.same }
 
@@ -43,7 +47,7 @@ same_named e g row locals (Component i) h k = refl
 same_named e g row locals (Local i) h k = refl
 same_named e g row locals (Global i) h k = ap outcome_or (longer_ones.same_outcome e g i (k i refl) h)
 
-pub name_lift : (b : Bool) (e f : Environment) (l : ℕ) (r : Reference) → ((i : ℕ) → r ≡ Global i → i < length e.outcomes) → IsLonger e f → IsLift b f e (reference l r) (reference l r)
+pub name_lift : (b : ℕ) (e f : Environment) (l : ℕ) (r : Reference) → ((i : ℕ) → r ≡ Global i → i < length e.outcomes) → IsLonger e f → IsLift b f e (reference l r) (reference l r)
 unfolding IsLift
 name_lift b e f l r k h = record {
   needs = omega arith;
@@ -62,7 +66,7 @@ global_closed e l i row locals = forms.same_reference (at e [] locals) (at e row
 
 -- ---- forms without parts
 
-pub number_lift : (b : Bool) (f e : Environment) (l n : ℕ) → IsLift b f e (number l n) (number l n)
+pub number_lift : (b : ℕ) (f e : Environment) (l n : ℕ) → IsLift b f e (number l n) (number l n)
 unfolding IsLift
 number_lift b f e l n = record { needs = omega arith; same = λ g x row locals o. forms.same_number (at g row locals) (at e row locals) l n }
 
@@ -70,7 +74,7 @@ pub number_closed : (e : Environment) (l n : ℕ) → IsClosed e (number l n)
 unfolding IsClosed
 number_closed e l n row locals = forms.same_number (at e [] locals) (at e row locals) l n
 
-pub constant_lift : (b : Bool) (f e : Environment) (l : ℕ) (k : Constant) → IsLonger e f → IsLift b f e (constant l k) (constant l k)
+pub constant_lift : (b : ℕ) (f e : Environment) (l : ℕ) (k : Constant) → IsLonger e f → IsLift b f e (constant l k) (constant l k)
 unfolding IsLift
 constant_lift b f e l k h = record {
   needs = omega arith;
@@ -82,7 +86,7 @@ pub constant_closed : (e : Environment) (l : ℕ) (k : Constant) → IsClosed e 
 unfolding IsClosed
 constant_closed e l k row locals = forms.same_constant (at e [] locals) (at e row locals) l k refl
 
-pub empty_set_lift : (b : Bool) (f e : Environment) (l : ℕ) (t u : ResolvedTree) → need t ≤ need u → IsLift b f e (empty_set l t) (empty_set l u)
+pub empty_set_lift : (b : ℕ) (f e : Environment) (l : ℕ) (t u : ResolvedTree) → need t ≤ need u → IsLift b f e (empty_set l t) (empty_set l u)
 unfolding IsLift
 empty_set_lift b f e l t u h = record { needs = h; same = λ g x row locals o. forms.same_empty_set (at g row locals) (at e row locals) l t u }
 
@@ -92,12 +96,8 @@ empty_set_closed e l t row locals = forms.same_empty_set (at e [] locals) (at e 
 
 -- ---- forms with operands
 
-pub bracket_lift : (b : Bool) (f e : Environment) (l : ℕ) (t u : ResolvedTree) → IsLift b f e t u → IsLift b f e (bracket l t) (bracket l u)
-unfolding IsLift
-bracket_lift b f e l t u h = record { needs = h.needs; same = λ g x row locals o. forms.same_bracket (at g row locals) (at e row locals) l t u (h.same g x row locals o) }
-
 -- without its brackets
-pub inner_lift : (b : Bool) (f e : Environment) (l : ℕ) (t u : ResolvedTree) → IsLift b f e t u → IsLift b f e t (bracket l u)
+pub inner_lift : (b : ℕ) (f e : Environment) (l : ℕ) (t u : ResolvedTree) → IsLift b f e t u → IsLift b f e t (bracket l u)
 unfolding IsLift
 inner_lift b f e l t u h = record { needs = h.needs; same = λ g x row locals o. let s = h.same g x row locals o in record { outcome = s.outcome; truth = s.truth; infinite = s.infinite } }
 
@@ -105,7 +105,7 @@ pub bracket_closed : (e : Environment) (l : ℕ) (t : ResolvedTree) → IsClosed
 unfolding IsClosed
 bracket_closed e l t h row locals = forms.same_bracket (at e [] locals) (at e row locals) l t t (h row locals)
 
-pub listed_lift : (b : Bool) (f e : Environment) (l : ℕ) (form : Listed) (ts us : ResolvedTrees) → AreLifts b f e ts us → IsLift b f e (listed l form ts) (listed l form us)
+pub listed_lift : (b : ℕ) (f e : Environment) (l : ℕ) (form : Listed) (ts us : ResolvedTrees) → AreLifts b f e ts us → IsLift b f e (listed l form ts) (listed l form us)
 unfolding IsLift AreLifts
 listed_lift b f e l form ts us h = record { needs = h.needs; same = λ g x row locals o. forms.same_listed (at g row locals) (at e row locals) l form ts us (h.same g x row locals o) }
 
@@ -113,7 +113,7 @@ pub listed_closed : (e : Environment) (l : ℕ) (form : Listed) (ts : ResolvedTr
 unfolding IsClosed AreClosed
 listed_closed e l form ts h row locals = forms.same_listed (at e [] locals) (at e row locals) l form ts ts (h row locals)
 
-pub unary_lift : (b : Bool) (f e : Environment) (l : ℕ) (op : Unary) (t u : ResolvedTree) → IsLift b f e t u → IsLift b f e (unary l op t) (unary l op u)
+pub unary_lift : (b : ℕ) (f e : Environment) (l : ℕ) (op : Unary) (t u : ResolvedTree) → IsLift b f e t u → IsLift b f e (unary l op t) (unary l op u)
 unfolding IsLift
 unary_lift b f e l op t u h = record { needs = h.needs; same = λ g x row locals o. forms.same_unary (at g row locals) (at e row locals) l op t u (h.same g x row locals o) }
 
@@ -121,7 +121,7 @@ pub unary_closed : (e : Environment) (l : ℕ) (op : Unary) (t : ResolvedTree) �
 unfolding IsClosed
 unary_closed e l op t h row locals = forms.same_unary (at e [] locals) (at e row locals) l op t t (h row locals)
 
-pub binary_lift : (b : Bool) (f e : Environment) (l : ℕ) (op : Operator) (t u v w : ResolvedTree) → IsLift b f e t v → IsLift b f e u w → IsLift b f e (binary l op t u) (binary l op v w)
+pub binary_lift : (b : ℕ) (f e : Environment) (l : ℕ) (op : Operator) (t u v w : ResolvedTree) → IsLift b f e t v → IsLift b f e u w → IsLift b f e (binary l op t u) (binary l op v w)
 unfolding IsLift
 binary_lift b f e l op t u v w h k = record {
   needs = omega (arith, h.needs, k.needs);
@@ -133,7 +133,7 @@ pub binary_closed : (e : Environment) (l : ℕ) (op : Operator) (t u : ResolvedT
 unfolding IsClosed
 binary_closed e l op t u h k row locals = forms.same_binary (at e [] locals) (at e row locals) l op t u t u (h row locals) (k row locals)
 
-pub chain_lift : (b : Bool) (f e : Environment) (l : ℕ) (t u : ResolvedTree) (ks ls : ResolvedLinks) → IsLift b f e t u → AreLinkLifts b f e ks ls → IsLift b f e (chain l t ks) (chain l u ls)
+pub chain_lift : (b : ℕ) (f e : Environment) (l : ℕ) (t u : ResolvedTree) (ks ls : ResolvedLinks) → IsLift b f e t u → AreLinkLifts b f e ks ls → IsLift b f e (chain l t ks) (chain l u ls)
 unfolding IsLift AreLinkLifts
 chain_lift b f e l t u ks ls h k = record {
   needs = omega (arith, h.needs, k.needs);
@@ -147,41 +147,43 @@ chain_closed e l t ks h k row locals = forms.same_chain (at e [] locals) (at e r
 
 -- ---- forms that bind
 
-not_outside : (xs : List Value) → false ≡ true → xs ≡ []
-not_outside xs h = absurd (cc)
+inside : (locals vs : List Value) (b m : ℕ) → length locals ≡ b → length vs ≡ m → length (locals ++ vs) ≡ b + m
+inside locals vs b m h k = omega (arith, length-append locals vs, h, k)
 
-pub builder_lift : (b : Bool) (f e : Environment) (l : ℕ) (rs ss : Ranges) (p q t u : ResolvedPart) → AreRangeLifts b f e rs ss → IsPartLift false f e p q
-    → IsPartLift false f e t u → IsLift b f e (builder l rs p t) (builder l ss q u)
+pub builder_lift : (b : ℕ) (f e : Environment) (l : ℕ) (rs ss : Ranges) (p q t u : ResolvedPart) → AreRangeLifts b f e rs ss
+    → IsPartLift (b + variables_of ss) f e p q → IsPartLift (b + variables_of ss) f e t u → IsLift b f e (builder l rs p t) (builder l ss q u)
 unfolding IsLift AreRangeLifts IsPartLift
 builder_lift b f e l rs ss p q t u h k m = record {
   needs = omega (arith, h.needs, k.needs, m.needs);
   same = λ g x row locals o. forms.same_builder (at g row locals) (at e row locals) l rs ss p q t u (h.same g x row locals o)
-      (λ vs. k.same g x row (locals ++ vs) (not_outside (locals ++ vs))) (λ vs. m.same g x row (locals ++ vs) (not_outside (locals ++ vs)));
+      (λ vs w. k.same g x row (locals ++ vs) (inside locals vs b (variables_of ss) o w))
+      (λ vs w. m.same g x row (locals ++ vs) (inside locals vs b (variables_of ss) o w));
 }
 
 pub builder_closed : (e : Environment) (l : ℕ) (rs : Ranges) (p t : ResolvedPart) → AreRangesClosed e rs → IsPartClosed e p → IsPartClosed e t → IsClosed e (builder l rs p t)
 unfolding IsClosed AreRangesClosed IsPartClosed
 builder_closed e l rs p t h k m row locals =
-    forms.same_builder (at e [] locals) (at e row locals) l rs rs p p t t (h row locals) (λ vs. k row (locals ++ vs)) (λ vs. m row (locals ++ vs))
+    forms.same_builder (at e [] locals) (at e row locals) l rs rs p p t t (h row locals) (λ vs w. k row (locals ++ vs)) (λ vs w. m row (locals ++ vs))
 
-pub quantified_lift : (b : Bool) (f e : Environment) (l : ℕ) (n : Quantifier) (rs ss : Ranges) (p q : ResolvedPart) (t u : ResolvedTree)
-    → AreRangeLifts b f e rs ss → IsPartLift false f e p q → IsLift false f e t u → IsLift b f e (quantified l n rs p t) (quantified l n ss q u)
+pub quantified_lift : (b : ℕ) (f e : Environment) (l : ℕ) (n : Quantifier) (rs ss : Ranges) (p q : ResolvedPart) (t u : ResolvedTree)
+    → AreRangeLifts b f e rs ss → IsPartLift (b + variables_of ss) f e p q → IsLift (b + variables_of ss) f e t u → IsLift b f e (quantified l n rs p t) (quantified l n ss q u)
 unfolding IsLift AreRangeLifts IsPartLift
 quantified_lift b f e l n rs ss p q t u h k m = record {
   needs = omega (arith, h.needs, k.needs, m.needs);
   same = λ g x row locals o. forms.same_quantified (at g row locals) (at e row locals) l n rs ss p q t u (h.same g x row locals o)
-      (λ vs. k.same g x row (locals ++ vs) (not_outside (locals ++ vs))) (λ vs. m.same g x row (locals ++ vs) (not_outside (locals ++ vs)));
+      (λ vs w. k.same g x row (locals ++ vs) (inside locals vs b (variables_of ss) o w))
+      (λ vs w. m.same g x row (locals ++ vs) (inside locals vs b (variables_of ss) o w));
 }
 
 pub quantified_closed : (e : Environment) (l : ℕ) (n : Quantifier) (rs : Ranges) (p : ResolvedPart) (t : ResolvedTree) → AreRangesClosed e rs
     → IsPartClosed e p → IsClosed e t → IsClosed e (quantified l n rs p t)
 unfolding IsClosed AreRangesClosed IsPartClosed
 quantified_closed e l n rs p t h k m row locals =
-    forms.same_quantified (at e [] locals) (at e row locals) l n rs rs p p t t (h row locals) (λ vs. k row (locals ++ vs)) (λ vs. m row (locals ++ vs))
+    forms.same_quantified (at e [] locals) (at e row locals) l n rs rs p p t t (h row locals) (λ vs w. k row (locals ++ vs)) (λ vs w. m row (locals ++ vs))
 
 -- ---- parts
 
-pub absent_lift : (b : Bool) (f e : Environment) → IsPartLift b f e absent absent
+pub absent_lift : (b : ℕ) (f e : Environment) → IsPartLift b f e absent absent
 unfolding IsPartLift
 absent_lift b f e = record { needs = omega arith; same = λ g x row locals o. forms.same_absent (at g row locals) (at e row locals) }
 
@@ -189,7 +191,7 @@ pub absent_closed : (e : Environment) → IsPartClosed e absent
 unfolding IsPartClosed
 absent_closed e row locals = forms.same_absent (at e [] locals) (at e row locals)
 
-pub present_lift : (b : Bool) (f e : Environment) (t u : ResolvedTree) → IsLift b f e t u → IsPartLift b f e (present t) (present u)
+pub present_lift : (b : ℕ) (f e : Environment) (t u : ResolvedTree) → IsLift b f e t u → IsPartLift b f e (present t) (present u)
 unfolding IsLift IsPartLift
 present_lift b f e t u h = record { needs = h.needs; same = λ g x row locals o. forms.same_present (at g row locals) (at e row locals) t u (h.same g x row locals o) }
 
@@ -199,7 +201,7 @@ present_closed e t h row locals = forms.same_present (at e [] locals) (at e row 
 
 -- ---- lists
 
-pub terms_lift : (b : Bool) (f e : Environment) (ts us : List ResolvedTree) → AreAllLifts b f e ts us → AreLifts b f e (terms ts) (terms us)
+pub terms_lift : (b : ℕ) (f e : Environment) (ts us : List ResolvedTree) → AreAllLifts b f e ts us → AreLifts b f e (terms ts) (terms us)
 unfolding IsLift AreLifts
 terms_lift b f e [] [] h = record { needs = omega arith; same = λ g x row locals o. forms.same_no_terms (at g row locals) (at e row locals) }
 terms_lift b f e [] (u ∷ us) h = absurd h
@@ -218,7 +220,7 @@ terms_closed e [] (u ∷ us) h row locals = absurd h
 terms_closed e (t ∷ ts) [] h row locals = absurd h
 terms_closed e (t ∷ ts) (u ∷ us) h row locals = forms.same_terms (at e [] locals) (at e row locals) u u (terms us) (terms us) (h.0 row locals) (terms_closed e ts us h.1 row locals)
 
-pub ranges_lift : (b : Bool) (f e : Environment) (rs ss : List (ℕ × ResolvedTree)) → AreEach (IsRangeLift b f e) rs ss → AreRangeLifts b f e (ranges rs) (ranges ss)
+pub ranges_lift : (b : ℕ) (f e : Environment) (rs ss : List (ℕ × ResolvedTree)) → AreEach (IsRangeLift b f e) rs ss → AreRangeLifts b f e (ranges rs) (ranges ss)
 unfolding IsLift AreRangeLifts
 ranges_lift b f e [] [] h = record { needs = omega arith; same = λ g x row locals o. forms.same_no_ranges (at g row locals) (at e row locals) }
 ranges_lift b f e [] (s ∷ ss) h = absurd h
@@ -238,7 +240,7 @@ ranges_closed e [] (s ∷ ss) h row locals = absurd h
 ranges_closed e (r ∷ rs) [] h row locals = absurd h
 ranges_closed e (r ∷ rs) (s ∷ ss) h row locals = forms.same_ranges (at e [] locals) (at e row locals) s.0 s.1 s.1 (ranges ss) (ranges ss) (h.0 row locals) (ranges_closed e rs ss h.1 row locals)
 
-pub links_lift : (b : Bool) (f e : Environment) (ks ls : List (Relation × ResolvedTree)) → AreEach (IsLinkLift b f e) ks ls → AreLinkLifts b f e (links ks) (links ls)
+pub links_lift : (b : ℕ) (f e : Environment) (ks ls : List (Relation × ResolvedTree)) → AreEach (IsLinkLift b f e) ks ls → AreLinkLifts b f e (links ks) (links ls)
 unfolding IsLift AreLinkLifts
 links_lift b f e [] [] h = record { needs = omega arith; same = λ g x row locals o. forms.same_no_links (at g row locals) (at e row locals) }
 links_lift b f e [] (k ∷ ls) h = absurd h
@@ -273,7 +275,7 @@ no_predicate n c (reference l r) a h = absurd (cc)
 no_predicate n c (number l v) a h = absurd (cc)
 no_predicate n c (constant l k) a h = let f = number_truth k (is_some n) h in (λ x. x ∙ f, λ x. x ∙ sym f)
 no_predicate n c (empty_set l t) a h = (λ x. x, λ x. x)
-no_predicate n c (bracket l t) a h = absurd (cc)
+no_predicate n c (bracket l t) a h = no_predicate n c t a h
 no_predicate n c (listed l form ts) a h = (λ x. x, λ x. x)
 no_predicate n c (builder l rs p t) a h = (λ x. x, λ x. x)
 no_predicate n c (unary l the_unary.Not t) a h = absurd (cc)
@@ -297,7 +299,7 @@ no_infinite e (reference l r) h = absurd (cc)
 no_infinite e (number l n) h = refl
 no_infinite e (constant l k) h = ended (constant_set k) e.numbers h
 no_infinite e (empty_set l t) h = refl
-no_infinite e (bracket l t) h = absurd (cc)
+no_infinite e (bracket l t) h = no_infinite e t h
 no_infinite e (listed l form ts) h = refl
 no_infinite e (builder l rs p t) h = refl
 no_infinite e (unary l op t) h = refl
@@ -308,17 +310,16 @@ no_infinite e (quantified l q rs p t) h = refl
 found_none : (n : Option ℕ) (o : Option Defined) → o ≡ None → unended (extent_set (extent_found o)) n ≡ None
 found_none n o h = ap (λ p. unended (extent_set (extent_found p)) n) h
 
-pub named_lift : (e f g : Environment) (l : ℕ) (t u : ResolvedTree) (x : Outcome) → IsLonger e f → length f.globals ≤ length f.outcomes → g ≡ longer f (x ∷ [])
-    → is_liftable e.numbers u ≡ true → IsClosed e u → IsLift true f e t u → HasOutcome (at f [] []) t x
-    → IsLift true g e (reference l (Global (length f.outcomes))) u
-unfolding IsLift IsClosed
-named_lift e f g l t u x e-f behind is liftable closed lift has = record {
+pub named_lift : (b : ℕ) (e f g : Environment) (l : ℕ) (t u : ResolvedTree) (x : Outcome) → IsLonger e f → length f.globals ≤ length f.outcomes
+    → g ≡ longer f (x ∷ []) → is_liftable e.numbers u ≡ true → IsClosed e u → IsLift b f e t u → IsBehind f [] b t x
+    → IsLift b g e (reference l (Global (length f.outcomes))) u
+unfolding IsLift IsClosed IsBehind
+named_lift b e f g l t u x e-f behind is liftable closed lift has = record {
   needs = omega arith;
-  same = λ h g-h row locals outside.
-      let none = outside refl in
+  same = λ h g-h row locals bound.
       let known : outcome_in (at h row locals) (Global (length f.outcomes)) ≡ x = ap outcome_or (longer_ones.new_outcome f g h x is g-h) in
-      let bare : HasOutcome (at e [] []) u x = ((lift.same f (longer_ones.itself f) [] [] (λ z. refl)).outcome x).0 has in
-      let here : HasOutcome (at e row locals) u x = subst (λ ls. HasOutcome (at e row ls) u x) (sym none) (((closed row []).outcome x).0 bare) in
+      let bare : HasOutcome (at e [] locals) u x = ((lift.same f (longer_ones.itself f) [] locals bound).outcome x).0 (has locals bound) in
+      let here : HasOutcome (at e row locals) u x = ((closed row locals).outcome x).0 bare in
       let f-h = longer_ones.further f g h (x ∷ [], is) g-h in
       record {
         outcome = λ o. (λ y. subst (λ z. HasOutcome (at e row locals) u z) (sym (y ∙ known)) here, λ y. one_outcome (at e row locals) u o x y here ∙ sym known);
@@ -328,9 +329,9 @@ named_lift e f g l t u x e-f behind is liftable closed lift has = record {
 }
 
 -- a lift outside binders has the truths of its term, and uses no more components
-pub is_lifted : (f e : Environment) (t u : ResolvedTree) → IsLift true f e t u → IsLifted f e t u
+pub is_lifted : (f e : Environment) (t u : ResolvedTree) → IsLift 0 f e t u → IsLifted f e t u
 unfolding IsLift
 is_lifted f e t u h = record {
-  same = λ row a. (h.same f (longer_ones.itself f) row [] (λ z. refl)).truth a;
+  same = λ row a. (h.same f (longer_ones.itself f) row [] refl).truth a;
   uses = uses_no_more t u h.needs;
 }

@@ -1,9 +1,9 @@
 -- Terms in which closed parts are names of what they come to, which stand behind all others. Public clauses rest on `is_liftable` alone.
-use Rattle.std.specs.Prelude.{◌≡◌, ◌≤◌, ℕ, Bool, true, false, ◌&&◌, is_some, List, [], Option}
+use Rattle.std.specs.Prelude.{◌≡◌, ◌+◌, ◌≤◌, ℕ, Bool, true, false, ◌&&◌, is_some, length, List, [], Option}
 use Rattle.zf_tree.specs.declared.operator.Operator.TheVariants as operator
 use Rattle.zf_tree.specs.declared.operator.Unary.TheVariants as the_unary
 use Rattle.zf_extent.specs.Extents.{constant_set}
-use Rattle.zf_term.specs.ResolvedTrees.{ResolvedTree, reference, number, constant, empty_set, bracket, listed, builder, unary, binary, chain, quantified, ResolvedTrees, ResolvedLinks, Ranges, ResolvedPart}
+use Rattle.zf_term.specs.ResolvedTrees.{ResolvedTree, reference, number, constant, empty_set, bracket, listed, builder, unary, binary, chain, quantified, ResolvedTrees, ResolvedLinks, Ranges, no_ranges, range, ResolvedPart}
 use Rattle.zf_value.specs.declared.plain.Value.{Value}
 use Rattle.zf_meaning.specs.Environments.{Environment, Context}
 use Rattle.zf_lift.specs.Lifted.{IsLonger}
@@ -13,9 +13,14 @@ use Rattle.zf_lift.specs.Same.{IsSame, AreSame, AreSameRanges, AreSameLinks, IsS
 abbrev pub at : Environment → List Value → List Value → Context
 at e row locals = record { environment = e; row = row; locals = locals }
 
--- in each environment longer than f as in e, whatever is bound; outside binders no variable is
-abbrev pub Wherever : Bool → Environment → Environment → (Context → Context → Type 0) → Type 0
-Wherever outside f e P = (g : Environment) → IsLonger f g → (row locals : List Value) → (outside ≡ true → locals ≡ []) → P (at g row locals) (at e row locals)
+-- in each environment longer than f as in e, behind n bound variables, whatever is bound
+abbrev pub Wherever : (n : ℕ) → Environment → Environment → (Context → Context → Type 0) → Type 0
+Wherever n f e P = (g : Environment) → IsLonger f g → (row locals : List Value) → length locals ≡ n → P (at g row locals) (at e row locals)
+
+-- how many variables ranges bind
+abbrev pub variables_of : Ranges → ℕ
+variables_of no_ranges = 0
+variables_of (range n t rs) = n + variables_of rs
 
 -- whichever components are bound as if none is
 abbrev pub Whichever : Environment → (Context → Context → Type 0) → Type 0
@@ -26,20 +31,20 @@ pub record Keeps (m n : ℕ) (P : Type 0) : Type 0 where
   pub needs : m ≤ n
   pub same : P
 
-unfoldable pub IsLift : Bool → Environment → Environment → ResolvedTree → ResolvedTree → Type 0
-IsLift outside f e t u = Keeps (need t) (need u) (Wherever outside f e (λ c d. IsSame c t d u))
+unfoldable pub IsLift : (n : ℕ) → Environment → Environment → ResolvedTree → ResolvedTree → Type 0
+IsLift n f e t u = Keeps (need t) (need u) (Wherever n f e (λ c d. IsSame c t d u))
 
-unfoldable pub AreLifts : Bool → Environment → Environment → ResolvedTrees → ResolvedTrees → Type 0
-AreLifts outside f e ts us = Keeps (all_need ts) (all_need us) (Wherever outside f e (λ c d. AreSame c ts d us))
+unfoldable pub AreLifts : (n : ℕ) → Environment → Environment → ResolvedTrees → ResolvedTrees → Type 0
+AreLifts n f e ts us = Keeps (all_need ts) (all_need us) (Wherever n f e (λ c d. AreSame c ts d us))
 
-unfoldable pub AreRangeLifts : Bool → Environment → Environment → Ranges → Ranges → Type 0
-AreRangeLifts outside f e rs ss = Keeps (ranges_need rs) (ranges_need ss) (Wherever outside f e (λ c d. AreSameRanges c rs d ss))
+unfoldable pub AreRangeLifts : (n : ℕ) → Environment → Environment → Ranges → Ranges → Type 0
+AreRangeLifts n f e rs ss = Keeps (ranges_need rs) (ranges_need ss) (Wherever n f e (λ c d. AreSameRanges c rs d ss))
 
-unfoldable pub AreLinkLifts : Bool → Environment → Environment → ResolvedLinks → ResolvedLinks → Type 0
-AreLinkLifts outside f e ks ls = Keeps (links_need ks) (links_need ls) (Wherever outside f e (λ c d. AreSameLinks c ks d ls))
+unfoldable pub AreLinkLifts : (n : ℕ) → Environment → Environment → ResolvedLinks → ResolvedLinks → Type 0
+AreLinkLifts n f e ks ls = Keeps (links_need ks) (links_need ls) (Wherever n f e (λ c d. AreSameLinks c ks d ls))
 
-unfoldable pub IsPartLift : Bool → Environment → Environment → ResolvedPart → ResolvedPart → Type 0
-IsPartLift outside f e p q = Keeps (part_need p) (part_need q) (Wherever outside f e (λ c d. IsSamePart c p d q))
+unfoldable pub IsPartLift : (n : ℕ) → Environment → Environment → ResolvedPart → ResolvedPart → Type 0
+IsPartLift n f e p q = Keeps (part_need p) (part_need q) (Wherever n f e (λ c d. IsSamePart c p d q))
 
 unfoldable pub IsClosed : Environment → ResolvedTree → Type 0
 IsClosed e t = Whichever e (λ c d. IsSame c t d t)
@@ -62,7 +67,7 @@ is_liftable n (reference l r) = false
 is_liftable n (number l v) = false
 is_liftable n (constant l k) = is_some n && is_some (constant_set k)
 is_liftable n (empty_set l t) = true
-is_liftable n (bracket l t) = false
+is_liftable n (bracket l t) = is_liftable n t
 is_liftable n (listed l form ts) = true
 is_liftable n (builder l rs p t) = true
 is_liftable n (unary l the_unary.Not t) = false

@@ -7,11 +7,15 @@ ghost use Rattle.zf_meaning.specs.Envs.{environment_of};
 ghost use Rattle.zf_lift.specs.Lifts as spec;
 
 use zf_meaning::env::Env;
-use zf_term::resolved::Resolved;
+use zf_meaning::value::value_of;
+use zf_reference::reference::Reference;
+use zf_term::resolved::{Range, Resolved};
 use zf_tree::operator::{Listed, Operator, Sign, Unary};
 use zf_tree::symbol::{Constant, Infix, Prefix, Relation};
+use zf_value::value::{Outcome, Value};
 
 /// Whether the term is of a form that builds a value in the environment.
+#[cycle(liftable)]
 #[tactic(auto, using(zf_term::proofs::ResolvedSeen::seen))]
 pub fn is_liftable(term: &Resolved<'_>, env: &Env<'_, '_>) -> bool
     ensures { result ≡ spec.is_liftable (environment_of env.now).numbers (resolved_of term.now) }
@@ -21,7 +25,7 @@ pub fn is_liftable(term: &Resolved<'_>, env: &Env<'_, '_>) -> bool
         Resolved::Number(_, _) => false,
         Resolved::Constant(_, symbol) => is_ended_set(*symbol, env),
         Resolved::EmptySet(_, _) => true,
-        Resolved::Bracket(_, _) => false,
+        Resolved::Bracket(_, inner) => is_liftable(inner.get(), env),
         Resolved::Listed(_, _, _) => true,
         Resolved::Builder(_, _, _, _) => true,
         Resolved::Unary(_, operator, _) => builds(*operator),
@@ -41,8 +45,10 @@ pub fn is_asked(relation: Relation, term: &Resolved<'_>) -> bool {
 }
 
 /// Whether the term is a set that is told by what it is made of.
+#[cycle(family)]
 fn is_family(term: &Resolved<'_>) -> bool {
     match term {
+        Resolved::Bracket(_, inner) => is_family(inner.get()),
         Resolved::Constant(_, _) => true,
         Resolved::Listed(_, Listed::Product, _) => true,
         Resolved::Unary(_, Unary::Sign(Sign::Symbol(Prefix::Power)), _) => true,
@@ -96,5 +102,43 @@ fn combines(operator: Operator) -> bool
         Operator::Generic(_) => true,
         Operator::Application => true,
         Operator::Image => true,
+    }
+}
+
+/// The most rows of a set comprehension that is worked out before a quantifier or comprehension around it asks for it.
+const MOST_ROWS: usize = 4096;
+
+/// Whether a set comprehension goes over more rows than are worked out before they are asked for.
+#[cycle(long)]
+pub(crate) fn is_long<'a>(term: &Resolved<'a>, env: &Env<'_, 'a>) -> bool {
+    match term {
+        Resolved::Bracket(_, inner) => is_long(inner.get(), env),
+        Resolved::Builder(_, variables, _, _) => rows_of(variables.as_slice(), env) > MOST_ROWS,
+        _ => false,
+    }
+}
+
+/// How many rows the ranges have, as far as it is known; more than are worked out where it is not.
+fn rows_of<'a>(variables: &[Range<'a>], env: &Env<'_, 'a>) -> usize {
+    let mut rows = 1usize;
+    for range in variables {
+        let members = members_of(&range.set, env);
+        for _ in 0..range.variables.min(64) {
+            rows = rows.saturating_mul(members);
+        }
+    }
+    rows
+}
+
+/// How many members the set has, if it was worked out; else more than are worked out.
+fn members_of<'a>(set: &Resolved<'a>, env: &Env<'_, 'a>) -> usize {
+    let Resolved::Name(_, Reference::Global(_)) = set else {
+        return MOST_ROWS + 1;
+    };
+    let none: &[Value] = &[];
+    match value_of(set, &none, env) {
+        Ok(Outcome::Is(value)) => value.members().len(),
+        Ok(_) => 0,
+        Err(_) => MOST_ROWS + 1,
     }
 }

@@ -62,11 +62,11 @@ fn all_lifted<'g, 'a>(
     own: &mut Env<'g, 'a>,
 ) -> Result<Vec<Resolved<'a>>, Unlifted>
     ensures grows { OnOk result (IsLonger (environment_of own.old) (environment_of own.new)) }
-    ensures same { IsLonger (environment_of base.now) (environment_of own.old) → IfOk result (λ ts. AreAllLifts true (environment_of own.new) (environment_of base.now) (map resolved_of ts.items) (map resolved_of terms.now)) }
+    ensures same { IsLonger (environment_of base.now) (environment_of own.old) → IfOk result (λ ts. AreAllLifts 0 (environment_of own.new) (environment_of base.now) (map resolved_of ts.items) (map resolved_of terms.now)) }
 {
     let mut all = Vec::with_capacity(alloc, terms.len())?;
     for term in terms {
-        let found = lifted(term, arena, true, base, own)?;
+        let found = lifted(term, arena, 0, base, own)?;
         all.push(found.part)?;
     }
     Ok(all)

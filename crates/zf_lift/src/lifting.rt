@@ -1,5 +1,5 @@
 //! Terms in which closed parts are names of what they come to.
-ghost use Rattle.std.specs.Prelude.{◌≡◌, ◌<◌, ℕ, true, false, IfOk, OnOk, length, map};
+ghost use Rattle.std.specs.Prelude.{◌≡◌, ◌+◌, ◌<◌, ℕ, true, IfOk, OnOk, length, map};
 ghost use Rattle.zf_reference.specs.declared.reference.Reference.TheVariants as names;
 ghost use Rattle.zf_term.specs.ResolvedTrees.{ResolvedTree, reference as reference_tree};
 ghost use Rattle.zf_term.specs.ResolvedViews.{resolved_of, resolved_link_of, range_of, terms, links, ranges, part_of};
@@ -9,17 +9,16 @@ ghost use Rattle.zf_lift.specs.Lifted.{IsLonger};
 ghost use Rattle.zf_lift.specs.Lifts as spec;
 ghost use Rattle.zf_lift.specs.Lists.{IsRangeLift, IsLinkLift, IsRangeClosed, IsLinkClosed};
 
-use crate::liftable::{is_asked, is_liftable};
+use crate::liftable::{is_asked, is_liftable, is_long};
 use crate::unlifted::Unlifted;
 use bumpalo::Bump;
 use std::alloc::AllocError;
 use zf_data::arena::{Boxed, Items};
 use zf_meaning::env::Env;
-use zf_meaning::value::value_of;
+use zf_meaning::value::value_behind;
 use zf_reference::reference::Reference;
 use zf_resolved::moving::copy;
 use zf_term::resolved::{Links, Part, Range, Resolved, ResolvedLink, Terms};
-use zf_tree::symbol::Relation;
 use zf_value::value::Value;
 
 /// A part of a predicate, and whether it names no component.
@@ -29,47 +28,51 @@ pub(crate) struct Lifting<T> {
     pub is_closed: bool,
 }
 
-/// A term in which closed parts outside binders are names, and is itself one where it is such a part.
+/// A term behind so many bound variables in which closed parts are names, and is itself one where it is such a part.
 #[cycle(lifting)]
 pub(crate) fn lifted<'g, 'a>(
     term: &Resolved<'a>,
     arena: &'a Bump,
-    outside: bool,
+    depth: usize,
     base: &Env<'g, 'a>,
     own: &mut Env<'g, 'a>,
 ) -> Result<Lifting<Resolved<'a>>, Unlifted>
     ensures grows { OnOk result (IsLonger (environment_of own.old) (environment_of own.new)) }
-    ensures same { IsLonger (environment_of base.now) (environment_of own.old) → IfOk result (λ p. spec.IsLift outside (environment_of own.new) (environment_of base.now) (resolved_of p.part) (resolved_of term.now)) }
+    ensures same { IsLonger (environment_of base.now) (environment_of own.old) → IfOk result (λ p. spec.IsLift depth (environment_of own.new) (environment_of base.now) (resolved_of p.part) (resolved_of term.now)) }
     ensures closed { IfOk result (λ p. p.is_closed ≡ true → spec.IsClosed (environment_of base.now) (resolved_of term.now)) }
 {
-    let found = rebuilt(term, arena, outside, base, own)?;
-    if !outside {
-        return Ok(found);
-    }
+    let found = rebuilt(term, arena, depth, base, own)?;
     if !found.is_closed {
         return Ok(found);
     }
     if !is_liftable(term, base) {
         return Ok(found);
     }
-    named(found, own)
+    if depth > 0 && is_long(&found.part, own) {
+        return Ok(found);
+    }
+    named(found, depth, own)
 }
 
-/// The name of what a closed part comes to, unless memory ends: it may be that nothing asks for it.
+/// The name of what a part that names no component comes to, unless it names a variable bound around it, or memory ends: it may be that nothing asks for it.
 fn named<'g, 'a>(
     found: Lifting<Resolved<'a>>,
+    depth: usize,
     own: &mut Env<'g, 'a>,
 ) -> Result<Lifting<Resolved<'a>>, Unlifted>
     ensures grows { OnOk result (IsLonger (environment_of own.old) (environment_of own.new)) }
-    ensures same { (e : Environment) (t : ResolvedTree) → IsLonger e (environment_of own.old) → spec.is_liftable e.numbers t ≡ true → spec.IsClosed e t → spec.IsLift true (environment_of own.old) e (resolved_of found.entry.part) t
-        → IfOk result (λ p. spec.IsLift true (environment_of own.new) e (resolved_of p.part) t) }
+    ensures same { (e : Environment) (t : ResolvedTree) → IsLonger e (environment_of own.old) → spec.is_liftable e.numbers t ≡ true → spec.IsClosed e t → spec.IsLift depth (environment_of own.old) e (resolved_of found.entry.part) t
+        → IfOk result (λ p. spec.IsLift depth (environment_of own.new) e (resolved_of p.part) t) }
 {
     let place = own.count();
     if place < own.globals().len() {
         return Ok(found);
     }
     let none: &[Value] = &[];
-    let Ok(outcome) = value_of(&found.part, &none, &*own) else {
+    let Ok(told) = value_behind(&found.part, &none, depth, &*own) else {
+        return Ok(found);
+    };
+    let Some(outcome) = told else {
         return Ok(found);
     };
     own.add(outcome)?;
@@ -79,17 +82,17 @@ fn named<'g, 'a>(
     })
 }
 
-/// A term of which the parts are lifted.
+/// A term of which the parts are lifted, without brackets around it.
 #[cycle(lifting)]
 fn rebuilt<'g, 'a>(
     term: &Resolved<'a>,
     arena: &'a Bump,
-    outside: bool,
+    depth: usize,
     base: &Env<'g, 'a>,
     own: &mut Env<'g, 'a>,
 ) -> Result<Lifting<Resolved<'a>>, Unlifted>
     ensures grows { OnOk result (IsLonger (environment_of own.old) (environment_of own.new)) }
-    ensures same { IsLonger (environment_of base.now) (environment_of own.old) → IfOk result (λ p. spec.IsLift outside (environment_of own.new) (environment_of base.now) (resolved_of p.part) (resolved_of term.now)) }
+    ensures same { IsLonger (environment_of base.now) (environment_of own.old) → IfOk result (λ p. spec.IsLift depth (environment_of own.new) (environment_of base.now) (resolved_of p.part) (resolved_of term.now)) }
     ensures closed { IfOk result (λ p. p.is_closed ≡ true → spec.IsClosed (environment_of base.now) (resolved_of term.now)) }
 {
     match term {
@@ -112,39 +115,34 @@ fn rebuilt<'g, 'a>(
             part: Resolved::EmptySet(*line, Boxed::new(arena, copy(of.get(), arena)?)?),
             is_closed: true,
         }),
-        Resolved::Bracket(line, inner) => {
-            let inner = lifted(inner.get(), arena, outside, base, own)?;
-            Ok(Lifting {
-                part: Resolved::Bracket(*line, Boxed::new(arena, inner.part)?),
-                is_closed: inner.is_closed,
-            })
-        }
+        Resolved::Bracket(_, inner) => rebuilt(inner.get(), arena, depth, base, own),
         Resolved::Listed(line, form, items) => {
-            let items = lifted_terms(items, arena, outside, base, own)?;
+            let items = lifted_terms(items, arena, depth, base, own)?;
             Ok(Lifting {
                 part: Resolved::Listed(*line, *form, items.part),
                 is_closed: items.is_closed,
             })
         }
         Resolved::Builder(line, variables, filter, term) => {
-            let variables = lifted_ranges(variables, arena, outside, base, own)?;
-            let filter = lifted_part(filter, arena, base, own)?;
-            let term = lifted_part(term, arena, base, own)?;
+            let inside = bound_behind(depth, variables.as_slice())?;
+            let variables = lifted_ranges(variables, arena, depth, base, own)?;
+            let filter = lifted_part(filter, arena, inside, base, own)?;
+            let term = lifted_part(term, arena, inside, base, own)?;
             Ok(Lifting {
                 part: Resolved::Builder(*line, variables.part, filter.part, term.part),
                 is_closed: are_all(variables.is_closed, filter.is_closed, term.is_closed),
             })
         }
         Resolved::Unary(line, operator, of) => {
-            let of = lifted(of.get(), arena, outside, base, own)?;
+            let of = lifted(of.get(), arena, depth, base, own)?;
             Ok(Lifting {
                 part: Resolved::Unary(*line, *operator, Boxed::new(arena, of.part)?),
                 is_closed: of.is_closed,
             })
         }
         Resolved::Binary(line, operator, left, right) => {
-            let left = lifted(left.get(), arena, outside, base, own)?;
-            let right = lifted(right.get(), arena, outside, base, own)?;
+            let left = lifted(left.get(), arena, depth, base, own)?;
+            let right = lifted(right.get(), arena, depth, base, own)?;
             let left_part = Boxed::new(arena, left.part)?;
             let right_part = Boxed::new(arena, right.part)?;
             Ok(Lifting {
@@ -153,17 +151,18 @@ fn rebuilt<'g, 'a>(
             })
         }
         Resolved::Chain(line, first, further) => {
-            let first = lifted(first.get(), arena, outside, base, own)?;
-            let further = lifted_links(further, arena, outside, base, own)?;
+            let first = lifted(first.get(), arena, depth, base, own)?;
+            let further = lifted_links(further, arena, depth, base, own)?;
             Ok(Lifting {
                 part: Resolved::Chain(*line, Boxed::new(arena, first.part)?, further.part),
                 is_closed: are_both(first.is_closed, further.is_closed),
             })
         }
         Resolved::Quantified(quantifier, line, variables, constraint, body) => {
-            let variables = lifted_ranges(variables, arena, outside, base, own)?;
-            let constraint = lifted_part(constraint, arena, base, own)?;
-            let body = lifted(body.get(), arena, false, base, own)?;
+            let inside = bound_behind(depth, variables.as_slice())?;
+            let variables = lifted_ranges(variables, arena, depth, base, own)?;
+            let constraint = lifted_part(constraint, arena, inside, base, own)?;
+            let body = lifted(body.get(), arena, inside, base, own)?;
             let is_closed = are_all(variables.is_closed, constraint.is_closed, body.is_closed);
             let body = Boxed::new(arena, body.part)?;
             Ok(Lifting {
@@ -178,6 +177,20 @@ fn rebuilt<'g, 'a>(
             })
         }
     }
+}
+
+/// How many variables are bound behind so many and those of these ranges.
+fn bound_behind(depth: usize, variables: &[Range<'_>]) -> Result<usize, Unlifted>
+    ensures { IfOk result (λ inside. inside ≡ depth + spec.variables_of (ranges (map range_of variables.now))) }
+{
+    let mut bound = depth;
+    for range in variables {
+        let Some(more) = bound.checked_add(range.variables) else {
+            return Err(Unlifted::Foreign);
+        };
+        bound = more;
+    }
+    Ok(bound)
 }
 
 /// Whether what the name stands for is no component. A name of a global that has no outcome is refused.
@@ -197,18 +210,18 @@ fn is_fixed(reference: Reference, base: &Env<'_, '_>) -> Result<bool, Unlifted>
 fn lifted_terms<'g, 'a>(
     items: &Terms<'a>,
     arena: &'a Bump,
-    outside: bool,
+    depth: usize,
     base: &Env<'g, 'a>,
     own: &mut Env<'g, 'a>,
 ) -> Result<Lifting<Terms<'a>>, Unlifted>
     ensures grows { OnOk result (IsLonger (environment_of own.old) (environment_of own.new)) }
-    ensures same { IsLonger (environment_of base.now) (environment_of own.old) → IfOk result (λ p. spec.AreLifts outside (environment_of own.new) (environment_of base.now) (terms (map resolved_of p.part)) (terms (map resolved_of items.now))) }
+    ensures same { IsLonger (environment_of base.now) (environment_of own.old) → IfOk result (λ p. spec.AreLifts depth (environment_of own.new) (environment_of base.now) (terms (map resolved_of p.part)) (terms (map resolved_of items.now))) }
     ensures closed { IfOk result (λ p. p.is_closed ≡ true → spec.AreClosed (environment_of base.now) (terms (map resolved_of items.now))) }
 {
     let mut parts = Items::with_room(arena, items.as_slice().len())?;
     let mut is_closed = true;
     for term in items.as_slice() {
-        let found = lifted(term, arena, outside, base, own)?;
+        let found = lifted(term, arena, depth, base, own)?;
         is_closed = are_both(is_closed, found.is_closed);
         parts.push(found.part)?;
     }
@@ -220,18 +233,18 @@ fn lifted_terms<'g, 'a>(
 fn lifted_links<'g, 'a>(
     further: &Links<'a>,
     arena: &'a Bump,
-    outside: bool,
+    depth: usize,
     base: &Env<'g, 'a>,
     own: &mut Env<'g, 'a>,
 ) -> Result<Lifting<Links<'a>>, Unlifted>
     ensures grows { OnOk result (IsLonger (environment_of own.old) (environment_of own.new)) }
-    ensures same { IsLonger (environment_of base.now) (environment_of own.old) → IfOk result (λ p. spec.AreLinkLifts outside (environment_of own.new) (environment_of base.now) (links (map resolved_link_of p.part)) (links (map resolved_link_of further.now))) }
+    ensures same { IsLonger (environment_of base.now) (environment_of own.old) → IfOk result (λ p. spec.AreLinkLifts depth (environment_of own.new) (environment_of base.now) (links (map resolved_link_of p.part)) (links (map resolved_link_of further.now))) }
     ensures closed { IfOk result (λ p. p.is_closed ≡ true → spec.AreLinksClosed (environment_of base.now) (links (map resolved_link_of further.now))) }
 {
     let mut parts = Items::with_room(arena, further.as_slice().len())?;
     let mut is_closed = true;
     for link in further.as_slice() {
-        let found = lifted_link(link, arena, outside, base, own)?;
+        let found = lifted_link(link, arena, depth, base, own)?;
         is_closed = are_both(is_closed, found.is_closed);
         parts.push(found.part)?;
     }
@@ -243,15 +256,15 @@ fn lifted_links<'g, 'a>(
 fn lifted_link<'g, 'a>(
     link: &ResolvedLink<'a>,
     arena: &'a Bump,
-    outside: bool,
+    depth: usize,
     base: &Env<'g, 'a>,
     own: &mut Env<'g, 'a>,
 ) -> Result<Lifting<ResolvedLink<'a>>, Unlifted>
     ensures grows { OnOk result (IsLonger (environment_of own.old) (environment_of own.new)) }
-    ensures same { IsLonger (environment_of base.now) (environment_of own.old) → IfOk result (λ p. IsLinkLift outside (environment_of own.new) (environment_of base.now) (resolved_link_of p.part) (resolved_link_of link.now)) }
+    ensures same { IsLonger (environment_of base.now) (environment_of own.old) → IfOk result (λ p. IsLinkLift depth (environment_of own.new) (environment_of base.now) (resolved_link_of p.part) (resolved_link_of link.now)) }
     ensures closed { IfOk result (λ p. p.is_closed ≡ true → IsLinkClosed (environment_of base.now) (resolved_link_of link.now)) }
 {
-    let right = lifted_right(&link.right, arena, link.relation, outside, base, own)?;
+    let right = lifted_right(link, arena, depth, base, own)?;
     Ok(Lifting {
         part: ResolvedLink {
             relation: link.relation,
@@ -261,46 +274,41 @@ fn lifted_link<'g, 'a>(
     })
 }
 
-/// What stands behind a relation. A set that is only asked for a member is not built.
+/// What stands behind the relation of a link. A set that is only asked for a member is not built.
 #[cycle(lifting)]
 fn lifted_right<'g, 'a>(
-    term: &Resolved<'a>,
+    link: &ResolvedLink<'a>,
     arena: &'a Bump,
-    relation: Relation,
-    outside: bool,
+    depth: usize,
     base: &Env<'g, 'a>,
     own: &mut Env<'g, 'a>,
 ) -> Result<Lifting<Resolved<'a>>, Unlifted>
     ensures grows { OnOk result (IsLonger (environment_of own.old) (environment_of own.new)) }
-    ensures same { IsLonger (environment_of base.now) (environment_of own.old) → IfOk result (λ p. spec.IsLift outside (environment_of own.new) (environment_of base.now) (resolved_of p.part) (resolved_of term.now)) }
-    ensures closed { IfOk result (λ p. p.is_closed ≡ true → spec.IsClosed (environment_of base.now) (resolved_of term.now)) }
+    ensures same { IsLonger (environment_of base.now) (environment_of own.old) → IfOk result (λ p. spec.IsLift depth (environment_of own.new) (environment_of base.now) (resolved_of p.part) (resolved_of link.now.right)) }
+    ensures closed { IfOk result (λ p. p.is_closed ≡ true → spec.IsClosed (environment_of base.now) (resolved_of link.now.right)) }
 {
-    if let Resolved::Bracket(_, inner) = term {
-        let bare = lifted_right(inner.get(), arena, relation, outside, base, own)?;
-        return Ok(bare);
+    if is_asked(link.relation, &link.right) {
+        return rebuilt(&link.right, arena, depth, base, own);
     }
-    if is_asked(relation, term) {
-        return rebuilt(term, arena, outside, base, own);
-    }
-    lifted(term, arena, outside, base, own)
+    lifted(&link.right, arena, depth, base, own)
 }
 
 #[cycle(lifting)]
 fn lifted_ranges<'g, 'a>(
     variables: &Boxed<'a, Items<'a, Range<'a>>>,
     arena: &'a Bump,
-    outside: bool,
+    depth: usize,
     base: &Env<'g, 'a>,
     own: &mut Env<'g, 'a>,
 ) -> Result<Lifting<Boxed<'a, Items<'a, Range<'a>>>>, Unlifted>
     ensures grows { OnOk result (IsLonger (environment_of own.old) (environment_of own.new)) }
-    ensures same { IsLonger (environment_of base.now) (environment_of own.old) → IfOk result (λ p. spec.AreRangeLifts outside (environment_of own.new) (environment_of base.now) (ranges (map range_of p.part)) (ranges (map range_of variables.now))) }
+    ensures same { IsLonger (environment_of base.now) (environment_of own.old) → IfOk result (λ p. spec.AreRangeLifts depth (environment_of own.new) (environment_of base.now) (ranges (map range_of p.part)) (ranges (map range_of variables.now))) }
     ensures closed { IfOk result (λ p. p.is_closed ≡ true → spec.AreRangesClosed (environment_of base.now) (ranges (map range_of variables.now))) }
 {
     let mut parts = Items::with_room(arena, variables.as_slice().len())?;
     let mut is_closed = true;
     for range in variables.as_slice() {
-        let found = lifted_range(range, arena, outside, base, own)?;
+        let found = lifted_range(range, arena, depth, base, own)?;
         is_closed = are_both(is_closed, found.is_closed);
         parts.push(found.part)?;
     }
@@ -312,15 +320,15 @@ fn lifted_ranges<'g, 'a>(
 fn lifted_range<'g, 'a>(
     range: &Range<'a>,
     arena: &'a Bump,
-    outside: bool,
+    depth: usize,
     base: &Env<'g, 'a>,
     own: &mut Env<'g, 'a>,
 ) -> Result<Lifting<Range<'a>>, Unlifted>
     ensures grows { OnOk result (IsLonger (environment_of own.old) (environment_of own.new)) }
-    ensures same { IsLonger (environment_of base.now) (environment_of own.old) → IfOk result (λ p. IsRangeLift outside (environment_of own.new) (environment_of base.now) (range_of p.part) (range_of range.now)) }
+    ensures same { IsLonger (environment_of base.now) (environment_of own.old) → IfOk result (λ p. IsRangeLift depth (environment_of own.new) (environment_of base.now) (range_of p.part) (range_of range.now)) }
     ensures closed { IfOk result (λ p. p.is_closed ≡ true → IsRangeClosed (environment_of base.now) (range_of range.now)) }
 {
-    let set = lifted(&range.set, arena, outside, base, own)?;
+    let set = lifted(&range.set, arena, depth, base, own)?;
     Ok(Lifting {
         part: Range {
             variables: range.variables,
@@ -335,11 +343,12 @@ fn lifted_range<'g, 'a>(
 fn lifted_part<'g, 'a>(
     part: &Part<'a>,
     arena: &'a Bump,
+    depth: usize,
     base: &Env<'g, 'a>,
     own: &mut Env<'g, 'a>,
 ) -> Result<Lifting<Part<'a>>, Unlifted>
     ensures grows { OnOk result (IsLonger (environment_of own.old) (environment_of own.new)) }
-    ensures same { IsLonger (environment_of base.now) (environment_of own.old) → IfOk result (λ p. spec.IsPartLift false (environment_of own.new) (environment_of base.now) (part_of p.part) (part_of part.now)) }
+    ensures same { IsLonger (environment_of base.now) (environment_of own.old) → IfOk result (λ p. spec.IsPartLift depth (environment_of own.new) (environment_of base.now) (part_of p.part) (part_of part.now)) }
     ensures closed { IfOk result (λ p. p.is_closed ≡ true → spec.IsPartClosed (environment_of base.now) (part_of part.now)) }
 {
     match part.get() {
@@ -348,7 +357,7 @@ fn lifted_part<'g, 'a>(
             is_closed: true,
         }),
         Some(term) => {
-            let found = lifted(term.get(), arena, false, base, own)?;
+            let found = lifted(term.get(), arena, depth, base, own)?;
             let inner = Boxed::new(arena, found.part)?;
             Ok(Lifting {
                 part: Boxed::new(arena, Some(inner))?,

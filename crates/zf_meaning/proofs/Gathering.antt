@@ -1,5 +1,5 @@
 -- Several values are gathered one after another.
-use Rattle.zf_meaning.proofs.Prelude.{◌++◌, ◌+◌, ◌<◌, ◌∙◌, ◌∷◌, ◌≡◌, ◌≤◌, [], add-one, ap, append-nil, append_assoc, arith, drop, get_or, length, List, map, refl, replicate, subst, suc, sym, take, zero, ℕ, drop_more, map-append, Bor, members, Outcome, Value, range-seen, range_of, ranges, resolved_of, terms, Range, Resolved, Context, lack_with, several_by, values_with, HasOutcome, HaveOutcomes, HaveRanges, one_more, one_out, one_undefined, repeated, Several, values, seen, sets_with, spread, Spread, Lack, Every, IsAscending}
+use Rattle.zf_meaning.proofs.Prelude.{◌++◌, ◌+◌, ◌<◌, ◌∙◌, ◌∷◌, ◌≡◌, ◌≤◌, [], add-one, ap, append-nil, append_assoc, arith, drop, get_or, length, List, map, refl, replicate, subst, suc, sym, take, zero, ℕ, drop_more, map-append, Bor, members, Outcome, Value, range-seen, range_of, ranges, resolved_of, terms, Range, Resolved, Context, lack_with, several_by, values_with, HasOutcome, HaveOutcomes, HaveRanges, one_more, one_out, one_undefined, repeated, Several, values, seen, sets_with, spread, Spread, Lack, IsAscending, AllByRecursion}
 use Rattle.zf_value.specs.declared.value.Outcome.TheVariants as outcome
 use Rattle.zf_outcome.specs.declared.gathered.Lack.TheVariants.{Nothing, Undefined, Out}
 use Rattle.zf_meaning.proofs.NextRow.{seen-append}
@@ -161,24 +161,24 @@ lists-more sets i s list now new h e l b n =
 
 -- ---- sets that ascend
 
-every-append : (P : Value → Type 0) (xs ys : List Value) → Every P xs → Every P ys → Every P (xs ++ ys)
+every-append : (P : Value → Type 0) (xs ys : List Value) → AllByRecursion P xs → AllByRecursion P ys → AllByRecursion P (xs ++ ys)
 every-append P [] ys h k = k
 every-append P (x ∷ xs) ys h k = (h.0, every-append P xs ys h.1 k)
 
-every-replicate : (P : Value → Type 0) (n : ℕ) (x : Value) → P x → Every P (replicate n x)
+every-replicate : (P : Value → Type 0) (n : ℕ) (x : Value) → P x → AllByRecursion P (replicate n x)
 every-replicate P zero x h = tt
 every-replicate P (suc n) x h = (h, every-replicate P n x h)
 
 -- of the sets so far, and of one more
 pub ascend-more : (sets : List Spread) (i : ℕ) (s : Spread) → i < length sets → s ≡ get_or sets i s → IsAscending (members s.set)
-    → Every (λ v. IsAscending (members v)) (spread (take i sets)) → Every (λ v. IsAscending (members v)) (spread (take (i + 1) sets))
+    → AllByRecursion (λ v. IsAscending (members v)) (spread (take i sets)) → AllByRecursion (λ v. IsAscending (members v)) (spread (take (i + 1) sets))
 ascend-more sets i s h e up k =
     let m : i + 1 ≡ suc i = omega arith in
-    subst (Every (λ v. IsAscending (members v))) (sym (spread-suc sets i s h e) ∙ ap (λ n. spread (take n sets)) (sym m))
+    subst (AllByRecursion (λ v. IsAscending (members v))) (sym (spread-suc sets i s h e) ∙ ap (λ n. spread (take n sets)) (sym m))
     (every-append (λ v. IsAscending (members v)) (spread (take i sets)) (replicate s.variables s.set) k (every-replicate (λ v. IsAscending (members v)) s.variables s.set up))
 
-pub ascend-all : (sets : List Spread) (i : ℕ) → length sets ≤ i → Every (λ v. IsAscending (members v)) (spread (take i sets)) → Every (λ v. IsAscending (members v)) (spread sets)
-ascend-all sets i l h = subst (λ ss. Every (λ v. IsAscending (members v)) (spread ss)) (taken sets i l) h
+pub ascend-all : (sets : List Spread) (i : ℕ) → length sets ≤ i → AllByRecursion (λ v. IsAscending (members v)) (spread (take i sets)) → AllByRecursion (λ v. IsAscending (members v)) (spread sets)
+ascend-all sets i l h = subst (λ ss. AllByRecursion (λ v. IsAscending (members v)) (spread ss)) (taken sets i l) h
   where
     taken : (xs : List Spread) (n : ℕ) → length xs ≤ n → take n xs ≡ xs
     taken [] zero l = refl

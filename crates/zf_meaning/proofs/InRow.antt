@@ -1,6 +1,12 @@
 -- Where no variable is bound, a scope is the context of its row.
 use Rattle.zf_meaning.proofs.Prelude.{◌≡◌, [], ap, List, subst, sym, IfOk-weaker, Result, IfOk, AllocError, Bor, Outcome, Truth, Value, ResolvedTree, Describes, environment_of, HasOutcome, IsTruth, seen, scope_of, Described, Env}
+use Rattle.std.specs.Prelude.{ℕ, ◌+◌, ◌≤◌, length}
+use Rattle.std.proofs.Common.{◌∙◌, arith, refl}
+use Rattle.zf_meaning.specs.Needs.{need}
 use Rattle.zf_meaning.specs.InRow.{in_row}
+unfoldable use Rattle.zf_meaning.specs.InRow.{IsBehind}
+use Rattle.zf_meaning.proofs.NextRow.{seen-length}
+use Rattle.zf_meaning.proofs.SameLocals.{same-row-outcome}
 
 none-bound : (env : Env) (row : List Value) (locals : List (Bor Value)) → locals ≡ [] → scope_of env row locals ≡ in_row (environment_of env) row
 none-bound env row locals e = ap (λ ls. record { environment = environment_of env; row = row; locals = seen ls }) e
@@ -18,3 +24,15 @@ truth-in-row env row locals t r e h = subst (λ c. IfOk r (IsTruth c t)) (none-b
 pub described-in-row : (env : Env) (row : List Value) (locals : List (Bor Value)) (t : ResolvedTree) (r : Result Described AllocError) → locals ≡ []
     → IfOk r (Describes (HasOutcome (scope_of env row locals) t)) → IfOk r (Describes (HasOutcome (in_row (environment_of env) row) t))
 described-in-row env row locals t r e h = subst (λ c. IfOk r (Describes (HasOutcome c t))) (none-bound env row locals e) h
+
+-- what an expression comes to behind some variables, it comes to behind as many others, if it names none of them
+pub outcome-behind : (env : Env) (row : List Value) (locals : List (Bor Value)) (n : ℕ) (t : ResolvedTree) (x : Outcome) (r : Result Outcome AllocError)
+    → length locals ≡ n → need n t ≡ 0 → HasOutcome (scope_of env row locals) t x → IfOk r (λ o. o ≡ x) → IfOk r (IsBehind (environment_of env) row n t)
+unfolding IsBehind
+outcome-behind env row locals n t x r l free h = IfOk-weaker r (λ o. o ≡ x) (IsBehind (environment_of env) row n t) (λ o same others k.
+    let none = in_row (environment_of env) row in
+    let lengths : length (seen locals) ≡ length others = seen-length locals ∙ l ∙ sym k in
+    let whole : 0 + length others ≡ n = omega (arith, k) in
+    let room : need (0 + length others) t ≤ 0 = subst (λ m. need m t ≤ 0) (sym whole) (omega (arith, free)) in
+    subst (HasOutcome (record { environment = environment_of env; row = row; locals = others }) t) (sym same)
+    (same-row-outcome none 0 (seen locals) others t x lengths refl room h))

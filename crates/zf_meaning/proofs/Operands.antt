@@ -1,7 +1,13 @@
 -- What is described by the values of operands is what the symbol makes of them.
-use Rattle.zf_meaning.proofs.Prelude.{◌≡◌, ◌⊎◌, subst, sym, ℕ, ⊎_elim, IfOk-weaker, Result, IfOk, AllocError, number_of, OnNumbers, IsInterval, IsCross, IsPower, members, Outcome, Is, Value, Listed, Operator, Function, Generic, Symbol, Unary, Sign, Arrow, UpTo, binary, listed, ResolvedTree, ResolvedTrees, unary, Describes, Context, HasOutcome, HaveOutcomes, OnBoth, OnOne, OnSeveral, Several, BinaryOutcome, ListedOutcome, UnaryOutcome, Described, Arrows}
+use Rattle.zf_meaning.proofs.Prelude.{◌∙◌, ◌≡◌, ◌⊎◌, ap, of-Binary, resolved_of, Resolved, subst, sym, ℕ, ⊎_elim, IfOk-weaker, Result, IfOk, AllocError, number_of, OnNumbers, IsInterval, IsCross, IsPower, members, Outcome, Is, Value, Listed, Operator, Function, Generic, Symbol, Unary, Sign, Arrow, UpTo, binary, listed, ResolvedTree, ResolvedTrees, unary, Describes, Context, HasOutcome, HaveOutcomes, OnBoth, OnOne, OnSeveral, Several, BinaryOutcome, ListedOutcome, UnaryOutcome, Described, Arrows}
 use Rattle.zf_tree.specs.declared.symbol.Prefix.TheVariants as prefix
-use Rattle.zf_tree.specs.declared.operator.Listed.TheVariants as form
+use Rattle.zf_tree.specs.declared.operator.Listed.TheVariants as several
+use Rattle.zf_term.specs.declared.resolved.Resolved.TheVariants as form
+
+-- what a symbol between two terms is seen as
+pub both-seen : (t : Resolved) (l : ℕ) (op : Operator) (a b x y : Resolved) → t ≡ form.Binary l op a b → x ≡ a → y ≡ b → binary l op (resolved_of x) (resolved_of y) ≡ resolved_of t
+both-seen t l op a b x y is left right =
+    ap (λ z. binary l op (resolved_of z) (resolved_of y)) left ∙ ap (λ z. binary l op (resolved_of a) (resolved_of z)) right ∙ sym (ap resolved_of is ∙ of-Binary l op a b)
 
 -- the sign makes a power set
 abbrev pub IsPowerSign : Unary → Type 0
@@ -36,11 +42,11 @@ unfolding Describes
 interval-told op v w d e f o q = subst (λ p. BinaryOutcome p v w o) (sym e) (f o q)
 
 -- of several
-product-one : (c : Context) (l : ℕ) (f : Listed) (ts : ResolvedTrees) (s : Several) (d : Described) → f ≡ form.Product → HaveOutcomes c ts s
+product-one : (c : Context) (l : ℕ) (f : Listed) (ts : ResolvedTrees) (s : Several) (d : Described) → f ≡ several.Product → HaveOutcomes c ts s
     → Describes (OnSeveral s IsCross) d → Describes (HasOutcome c (listed l f ts)) d
 unfolding Describes
 product-one c l f ts s d e h k o q = (s, h, subst (λ z. OnSeveral s (ListedOutcome z) o) (sym e) (k o q))
 
-pub product-told : (c : Context) (l : ℕ) (f : Listed) (ts : ResolvedTrees) (s : Several) (r : Result Described AllocError) → f ≡ form.Product
+pub product-told : (c : Context) (l : ℕ) (f : Listed) (ts : ResolvedTrees) (s : Several) (r : Result Described AllocError) → f ≡ several.Product
     → HaveOutcomes c ts s → IfOk r (Describes (OnSeveral s IsCross)) → IfOk r (Describes (HasOutcome c (listed l f ts)))
 product-told c l f ts s r e h k = IfOk-weaker r (Describes (OnSeveral s IsCross)) (Describes (HasOutcome c (listed l f ts))) (λ d p. product-one c l f ts s d e h p) k

@@ -7,7 +7,7 @@ pub use Rattle.std.proofs.lemmas.List.{drop-set, drop_more, length-map, map-appe
 pub use Rattle.std.proofs.lemmas.List.Elements.{All-cons, All-contains, All-head, All-more, All-nil, All-push, All-replicate, All-tail, Contains-append_left, Contains-append_right, Contains-push_cases}
 pub use Rattle.std.proofs.lemmas.Result.{err_from_is_err_and, IfOk-weaker}
 pub use Rattle.std.specs.Cmp.Lexicographic.{other_text}
-pub use Rattle.std.specs.List.{All, Contains, list_any}
+pub use Rattle.std.specs.List.{All, AllByRecursion, Contains, list_any}
 pub use Rattle.std.specs.Option.{IfSome}
 pub use Rattle.std.specs.Prelude.{FitsSigned, MatchOption, nat_lt, option_to_list, pos, Result, slice_get}
 pub use Rattle.std.specs.Result.{IfOk}
@@ -25,7 +25,7 @@ pub use Rattle.zf_value.specs.Numbers.{IsDifference, IsModulus, IsNegation, IsPr
 unfoldable pub use Rattle.zf_value.specs.Numbers.{IsInterval, IsQuotient}
 pub use Rattle.zf_value.specs.Operations.{AreFrom, IsApplied, IsEmptySet}
 unfoldable pub use Rattle.zf_value.specs.Operations.{AreElements, IsCross, IsDisplay, IsPower, IsSize}
-pub use Rattle.zf_value.specs.Sets.{Every, IsAscending, IsMember, members, value_order}
+pub use Rattle.zf_value.specs.Sets.{IsAscending, IsMember, members, value_order}
 unfoldable pub use Rattle.zf_value.specs.ListLaws.{HaveSameMembers}
 pub use Rattle.zf_value.specs.declared.value.Outcome.{Outcome}
 pub use Rattle.zf_value.specs.declared.value.Outcome.TheVariants.{Is, Out, Undefined}
@@ -60,13 +60,14 @@ pub use Rattle.zf_term.specs.declared.resolved.Resolved.{Resolved, size-Resolved
 pub use Rattle.zf_term.specs.declared.resolved.ResolvedLink.{ResolvedLink}
 pub use Rattle.zf_extent.specs.Extents.{is_membership}
 pub use Rattle.zf_meaning.specs.Building.{AddsRow}
-pub use Rattle.zf_meaning.specs.Carriers.{AreCarriers, IsCarrier, IsTypeSetIf}
+pub use Rattle.zf_meaning.specs.Carriers.{AreCarriers, IsCarrier}
 pub use Rattle.zf_outcome.specs.Connected.{conjunction, connected, connective_of, decided, disjunction, equivalence}
 pub use Rattle.zf_outcome.specs.Described.{IsDescribed}
 unfoldable pub use Rattle.zf_outcome.specs.Described.{Describes, IsTruthIn}
 pub use Rattle.zf_meaning.specs.Early.{AreNeutral, AreNeutralIf, IsBound, IsEarlier, IsEquation, IsOther, IsPart, IsPiece, IsVariable, IsWanted, neutral, NeedsFront, PassesBy}
 unfoldable pub use Rattle.zf_meaning.specs.Early.{ArePassed, Falsifies, IsNeutral, Refutes, Wants}
-pub use Rattle.zf_meaning.specs.Environments.{AreElementsIf, before, Context, definition_number, element_count, Environment, found_number, globally, outcome_in, type_number, value_or, within}
+pub use Rattle.zf_meaning.specs.Environments.{before, Context, definition_number, element_count, Environment, globally, outcome_in, type_number, within}
+pub use Rattle.zf_meaning.specs.Lookups.{value_or, found_number, AreElementsIf, IsTypeSetIf}
 pub use Rattle.zf_meaning.specs.Laws.{with_further}
 pub use Rattle.zf_meaning.specs.Envs.{environment_of}
 pub use Rattle.zf_outcome.specs.Found.{found_of, found_outcome}

@@ -1,5 +1,5 @@
 -- A walk over the rows of sets, with what it binds.
-use Rattle.zf_meaning.proofs.Prelude.{◌++◌, ◌∙◌, ◌∷◌, ◌≡◌, ◌≤◌, ◌⊎◌, [], ap, arith, drop, inl, inr, length, length-append, List, map, refl, subst, sym, ⊎_elim, Bor, AreFrom, Every, IsAscending, value_order, every_at, not_below_itself, members, Outcome, Truth, Value, Quantifier, resolved_of, ResolvedPart, ResolvedTree, Resolved, IsNeutral, Context, within, Builds, IsConstraint, IsTruth, seen, all_rows, ahead, IsAt, IsFirst, IsNext, IsPassed, lists_of, Passing, row_of, Skips, scope_of, IsTold, Env, Rows}
+use Rattle.zf_meaning.proofs.Prelude.{◌++◌, ◌∙◌, ◌∷◌, ◌≡◌, ◌≤◌, ◌⊎◌, [], ap, arith, drop, inl, inr, length, length-append, List, map, refl, subst, sym, ⊎_elim, Bor, AreFrom, IsAscending, value_order, every_at, not_below_itself, members, Outcome, Truth, Value, Quantifier, resolved_of, ResolvedPart, ResolvedTree, Resolved, IsNeutral, Context, within, Builds, IsConstraint, IsTruth, seen, all_rows, ahead, IsAt, IsFirst, IsNext, IsPassed, lists_of, Passing, row_of, Skips, scope_of, IsTold, Env, Rows, AllByRecursion}
 use Rattle.std.proofs.Common.{Less}
 use Rattle.zf_meaning.proofs.AllRows.{AreDistinct, HaveDistinct, IsAmong, row-among, among-row, rows-apart}
 use Rattle.zf_meaning.proofs.Midway as midway
@@ -17,12 +17,12 @@ distinct : (xs : List Value) → IsAscending xs → AreDistinct xs
 distinct [] h = tt
 distinct (x ∷ xs) h = (λ m. not_below_itself x (every_at (λ y. value_order x y ≡ Less) xs x h.0 m), distinct xs h.1)
 
-have_distinct : (ss : List Value) → Every (λ s. IsAscending (members s)) ss → HaveDistinct ss
+have_distinct : (ss : List Value) → AllByRecursion (λ s. IsAscending (members s)) ss → HaveDistinct ss
 have_distinct [] h = tt
 have_distinct (s ∷ ss) h = (distinct (members s) h.0, have_distinct ss h.1)
 
 pub walk-begun : (N : List Value → Type 0) (r : Rows) (outside ss : List Value) (lists : List (List Value)) → lists ≡ map members ss
-    → Every (λ s. IsAscending (members s)) ss → IsFirst outside lists r → WalksOver N r outside ss []
+    → AllByRecursion (λ s. IsAscending (members s)) ss → IsFirst outside lists r → WalksOver N r outside ss []
 walk-begun N r outside ss lists e h f = record {
   at = f.0;
   lists = f.1 ∙ e;

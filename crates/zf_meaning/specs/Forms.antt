@@ -1,10 +1,14 @@
 -- Which form a term has. No public clause rests on this.
 use Rattle.std.specs.Prelude.{◌≡◌, ℕ, List, Option}
+use Rattle.zf_tree.specs.declared.operator.Operator.{Operator}
 use Rattle.zf_tree.specs.declared.symbol.Quantifier.{Quantifier}
 use Rattle.zf_term.specs.declared.resolved.Resolved.{Resolved}
 use Rattle.zf_term.specs.declared.resolved.Resolved.TheVariants as form
 use Rattle.zf_term.specs.declared.resolved.ResolvedLink.{ResolvedLink}
 use Rattle.zf_term.specs.declared.resolved.Range.{Range}
+
+abbrev pub IsBinary : Resolved → Type 0
+IsBinary t = (l : ℕ) × (op : Operator) × (a b : Resolved) × (t ≡ form.Binary l op a b)
 
 abbrev pub IsChain : Resolved → Type 0
 IsChain t = (l : ℕ) × (a : Resolved) × (ks : List ResolvedLink) × (t ≡ form.Chain l a ks)

@@ -1,8 +1,14 @@
--- The context of a row.
-use Rattle.std.specs.Prelude.{List, []}
+-- The context of a row: these components are bound, and no variables; and what stands behind variables.
+use Rattle.std.specs.Prelude.{◌≡◌, ℕ, List, [], length}
+use Rattle.zf_term.specs.ResolvedTrees.{ResolvedTree}
 use Rattle.zf_value.specs.declared.plain.Value.{Value}
+use Rattle.zf_value.specs.declared.value.Outcome.{Outcome}
 use Rattle.zf_meaning.specs.Environments.{Environment, Context}
+use Rattle.zf_meaning.specs.Meaning.{HasOutcome}
 
--- where these components are bound, and no variables
 abbrev pub in_row : Environment → List Value → Context
 in_row e vs = record { environment = e; row = vs; locals = [] }
+
+-- o is the outcome of the expression behind n bound variables, whatever these are
+unfoldable pub IsBehind : Environment → List Value → ℕ → ResolvedTree → Outcome → Type 0
+IsBehind e vs n t o = (locals : List Value) → length locals ≡ n → HasOutcome (record { environment = e; row = vs; locals = locals }) t o

@@ -5,6 +5,7 @@ pub mod Sizes
 pub mod GlobalOutcomes
 pub mod Rows
 pub mod Carriers
+pub mod Lookups
 pub mod Laws
 pub mod Envs
 pub mod InRow

@@ -1,6 +1,5 @@
--- What terms mean: the outcome of an expression and the truth of a predicate, as relations.
--- They are total: an expression that typing rules out is undefined, and a predicate false.
-use Rattle.std.specs.Prelude.{◌≡◌, ◌⊎◌, ℕ, pos, if◌then◌else◌, List, [], ◌∷◌, Option, Some, None}
+-- The outcome of an expression and the truth of a predicate, as relations. What typing rules out is undefined, or false.
+use Rattle.std.specs.Prelude.{◌≡◌, ◌⊎◌, ℕ, pos, if◌then◌else◌, List, [], ◌∷◌, Option, None}
 use Rattle.zf_tree.specs.declared.symbol.Constant.{Constant}
 use Rattle.zf_tree.specs.declared.symbol.Constant.TheVariants as constants
 use Rattle.zf_tree.specs.declared.symbol.Relation.{Relation}
@@ -24,22 +23,16 @@ use Rattle.zf_outcome.specs.Outcomes.{OnOne, OnBoth, Several, values, one_undefi
 use Rattle.zf_outcome.specs.Symbols.{BinaryOutcome, UnaryOutcome, ListedOutcome}
 use Rattle.zf_outcome.specs.Truths.{IsLink, opposite, IsConjunction, IsConnected, IsTold, IsQuantified}
 
--- ---- constants
-
 -- where these are the numbers
 abbrev pub IsConstantOutcome : (numbers : Option ℕ) → Constant → Outcome → Type 0
-IsConstantOutcome n constants.True o = o ≡ Undefined
-IsConstantOutcome n constants.False o = o ≡ Undefined
 IsConstantOutcome n constants.Integers o = IsNumberSet n Num o
 IsConstantOutcome n constants.Naturals o = IsNumberSet n Nat o
 IsConstantOutcome n constants.Positives o = IsNumberSet n Nat1 o
+IsConstantOutcome n _ o = o ≡ Undefined
 
 abbrev pub constant_truth : Constant → Truth
 constant_truth constants.True = truth.True
-constant_truth constants.False = truth.False
-constant_truth constants.Integers = truth.False
-constant_truth constants.Naturals = truth.False
-constant_truth constants.Positives = truth.False
+constant_truth _ = truth.False
 
 -- ---- links of a chain
 
@@ -80,7 +73,6 @@ IsBuilt (values ss) filter outcome o = IsBuiltOver (λ vs. AreFrom vs ss) filter
 -- ---- terms
 
 abbrev mutual
-  -- o is the outcome of the expression
   pub HasOutcome : Context → ResolvedTree → Outcome → Type 0
   HasOutcome c (reference l r) o = o ≡ outcome_in c r
   HasOutcome c (number l n) o = IsNumber (pos n) o
@@ -91,10 +83,8 @@ abbrev mutual
   HasOutcome c (builder l rs p t) o = (s : Several) × HaveRanges c rs s × IsBuilt s (λ vs u. IsConstraint (within c vs) p u) (λ vs x. Builds (within c vs) vs t x) o
   HasOutcome c (unary l op t) o = (x : Outcome) × HasOutcome c t x × OnOne x (UnaryOutcome op) o
   HasOutcome c (binary l op a b) o = (x y : Outcome) × HasOutcome c a x × HasOutcome c b y × OnBoth x y (BinaryOutcome op) o
-  HasOutcome c (chain l t ks) o = o ≡ Undefined
-  HasOutcome c (quantified l q rs p t) o = o ≡ Undefined
+  HasOutcome c _ o = o ≡ Undefined
 
-  -- the terms have these values
   pub HaveOutcomes : Context → ResolvedTrees → Several → Type 0
   HaveOutcomes c no_terms s = s ≡ values []
   HaveOutcomes c (term t ts) s = (x : Outcome) × (r : Several) × HasOutcome c t x × HaveOutcomes c ts r × (s ≡ one_more x r)
@@ -114,7 +104,6 @@ abbrev mutual
   IsConstraint c absent u = u ≡ truth.True
   IsConstraint c (present t) u = IsTruth c t u
 
-  -- u is the truth of the predicate
   pub IsTruth : Context → ResolvedTree → Truth → Type 0
   IsTruth c (constant l k) u = u ≡ constant_truth k
   IsTruth c (bracket l t) u = IsTruth c t u

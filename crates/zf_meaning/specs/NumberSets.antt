@@ -22,9 +22,8 @@ IsNumberSet (Some n) s o = IsInterval (least s n) (pos n) o
 
 -- the set, if it is infinite: none is where numbers end
 abbrev pub unended : Option Infinite → (numbers : Option ℕ) → Option Infinite
-unended None n = None
 unended (Some s) None = Some s
-unended (Some s) (Some n) = None
+unended _ _ = None
 
 -- the infinite set that a term is
 abbrev pub infinite_in : Environment → ResolvedTree → Option Infinite

@@ -1,6 +1,6 @@
 -- The sizes of given sets and free types: which stated sizes are accepted, what is refused first, and what the sizes then are.
 use Rattle.std.specs.Prelude.{◌≡◌, ℕ, ◌<◌, ◌≤◌, List, [], ◌∷◌, ◌++◌, length, map, All, Contains}
-use Rattle.zf_term.specs.Definitions.{Defined, Definition, given_set, free_type, constructor, abbreviation, schema}
+use Rattle.zf_term.specs.Definitions.{Defined, Definition, given_set, free_type}
 use Rattle.zf_value.specs.declared.TheConstants.{SET_MAX}
 use Rattle.zf_meaning.specs.declared.sizes.Size.{Size}
 use Rattle.zf_meaning.specs.declared.sizes.SizeFault.{SizeFault}
@@ -9,17 +9,12 @@ use Rattle.zf_meaning.specs.declared.sizes.SizeFault.TheVariants.{NoSize, NotGiv
 -- the name of a given set, before others
 abbrev pub with_given : List ℕ → Definition → List (List ℕ) → List (List ℕ)
 with_given name (given_set n) names = name ∷ names
-with_given name (free_type n constructors) names = names
-with_given name (constructor n of_type place) names = names
-with_given name (abbreviation t r x) names = names
-with_given name (schema a) names = names
+with_given name _ names = names
 
--- the given sets, in order of definition
 abbrev pub given_sets : List Defined → List (List ℕ)
 given_sets [] = []
 given_sets (d ∷ g) = with_given d.name d.definition (given_sets g)
 
--- the names that sizes are stated for
 abbrev pub names : List Size → List (List ℕ)
 names sizes = map (λ s. s.name) sizes
 
@@ -76,7 +71,6 @@ IsRefusal sets sizes fault = RefusesSize sets sizes fault
 
 -- ---- the sizes
 
--- the size is stated for the name
 abbrev pub IsStated : List Size → List ℕ → ℕ → Type 0
 IsStated sizes name count = Contains sizes (record { name = name; count = count })
 
@@ -84,9 +78,7 @@ IsStated sizes name count = Contains sizes (record { name = name; count = count 
 abbrev pub AddsSize : List Size → List ℕ → Definition → List ℕ → List ℕ → Type 0
 AddsSize stated name (given_set n) later sizes = (count : ℕ) × IsStated stated name count × (sizes ≡ count ∷ later)
 AddsSize stated name (free_type n names) later sizes = sizes ≡ length names ∷ later
-AddsSize stated name (constructor n of_type place) later sizes = sizes ≡ later
-AddsSize stated name (abbreviation t r x) later sizes = sizes ≡ later
-AddsSize stated name (schema a) later sizes = sizes ≡ later
+AddsSize stated name _ later sizes = sizes ≡ later
 
 -- how many elements each given set and free type has, in order of definition
 abbrev pub AreSizes : List Size → List Defined → List ℕ → Type 0

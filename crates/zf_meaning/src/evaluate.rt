@@ -4,6 +4,7 @@ ghost use Rattle.zf_term.specs.ResolvedViews.{resolved_of};
 ghost use Rattle.zf_value.specs.Numbers.{IsNumber};
 ghost use Rattle.zf_value.specs.Operations.{IsEmptySet};
 ghost use Rattle.zf_meaning.specs.Environments as spec;
+ghost use Rattle.zf_meaning.specs.Lookups.{value_or, outcome_or};
 ghost use Rattle.zf_meaning.specs.Envs.{environment_of};
 ghost use Rattle.zf_outcome.specs.Found.{found_of, found_outcome};
 ghost use Rattle.zf_meaning.specs.Meaning as meaning;
@@ -31,7 +32,6 @@ use zf_outcome::found::Found;
 use zf_reference::reference::Reference;
 use zf_term::extent::Infinite;
 use zf_term::resolved::Resolved;
-use zf_tree::operator::{Operator, Unary};
 use zf_tree::symbol::Constant;
 use zf_value::lent::Lent;
 use zf_value::set;
@@ -57,9 +57,7 @@ pub(crate) fn outcome<'v, 'a, R: Row>(
         Resolved::Listed(_, form, terms) => listed(terms.as_slice(), *form, row, locals, env),
         Resolved::Builder(_, _, _, _) => builder(term, row, locals, env),
         Resolved::Unary(_, op, of) => unary(of.get(), *op, row, locals, env),
-        Resolved::Binary(_, op, left, right) => {
-            binary(term, *op, left.get(), right.get(), row, locals, env)
-        }
+        Resolved::Binary(_, _, _, _) => binary(term, row, locals, env),
         Resolved::Chain(_, _, _) => Ok(Found::Undefined),
         Resolved::Quantified(_, _, _, _, _) => Ok(Found::Undefined),
     }
@@ -80,9 +78,7 @@ pub(crate) fn truth<'v, 'a, R: Row>(
         Resolved::Constant(_, constant) => Ok(constant_truth(*constant)),
         Resolved::Bracket(_, inner) => truth(inner.get(), row, locals, env),
         Resolved::Unary(_, op, of) => not(of.get(), *op, row, locals, env),
-        Resolved::Binary(_, op, left, right) => {
-            connective(term, *op, left.get(), right.get(), row, locals, env)
-        }
+        Resolved::Binary(_, _, _, _) => connective(term, row, locals, env),
         Resolved::Chain(_, _, _) => chain(term, row, locals, env),
         Resolved::Quantified(_, _, _, _, _) => quantified(term, row, locals, env),
         Resolved::Name(_, _) => Ok(Truth::False),
@@ -109,7 +105,7 @@ fn named<'v, 'a, R: Row>(
 }
 
 fn component<R: Row>(row: &R, place: usize) -> Option<&Value>
-    ensures { found_of result ≡ spec.value_or (slice_get (R.values row.now) place) }
+    ensures { found_of result ≡ value_or (slice_get (R.values row.now) place) }
 {
     if place < row.len() {
         Some(row.get(place))
@@ -119,7 +115,7 @@ fn component<R: Row>(row: &R, place: usize) -> Option<&Value>
 }
 
 fn local<'v>(locals: &[&'v Value], place: usize) -> Option<&'v Value>
-    ensures { found_of result ≡ spec.value_or (slice_get (seen locals.now) place) }
+    ensures { found_of result ≡ value_or (slice_get (seen locals.now) place) }
 {
     if place < locals.len() {
         Some(locals[place])
@@ -129,7 +125,7 @@ fn local<'v>(locals: &[&'v Value], place: usize) -> Option<&'v Value>
 }
 
 fn global<'v>(env: &'v Env<'_, '_>, place: usize) -> Found<'v>
-    ensures { found_outcome result ≡ spec.outcome_or (slice_get (environment_of env.now).outcomes place) }
+    ensures { found_outcome result ≡ outcome_or (slice_get (environment_of env.now).outcomes place) }
 {
     match env.outcome(place) {
         Some(outcome) => Found::seen(outcome),

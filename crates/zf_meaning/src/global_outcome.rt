@@ -3,6 +3,7 @@ ghost use Rattle.std.specs.Prelude.{◌≡◌, Some, IfOk, slice_get};
 ghost use Rattle.zf_term.specs.Definitions.{Defined};
 ghost use Rattle.zf_term.specs.DefinitionViews.{definition_of};
 ghost use Rattle.zf_meaning.specs.Environments as spec;
+ghost use Rattle.zf_meaning.specs.Lookups.{AreElementsIf};
 ghost use Rattle.zf_meaning.specs.Environments.{IsTypeSet};
 ghost use Rattle.zf_meaning.specs.Envs.{environment_of};
 ghost use Rattle.zf_meaning.specs.GlobalOutcomes.{IsOutcomeOf};
@@ -48,7 +49,7 @@ pub(crate) fn type_set(env: &Env<'_, '_>, number: usize) -> Result<Outcome, Allo
 }
 
 fn elements_of(env: &Env<'_, '_>, number: u32) -> Result<Outcome, AllocError>
-    ensures { IfOk result (spec.AreElementsIf number (slice_get (environment_of env.now).sizes number)) }
+    ensures { IfOk result (AreElementsIf number (slice_get (environment_of env.now).sizes number)) }
 {
     match env.size(number) {
         Some(count) => elements(env.allocator(), number, count),

@@ -1,5 +1,5 @@
 //! Sets on the right of a membership, which need not be built.
-ghost use Rattle.std.specs.Prelude.{◌≡◌, ◌⊎◌, ◌<◌, ℕ, IfOk, IfSome, IsTrue, map};
+ghost use Rattle.std.specs.Prelude.{◌≡◌, ◌⊎◌, ℕ, IfOk, IfSome, IsTrue, map};
 ghost use Rattle.zf_tree.specs.declared.symbol.Infix.TheVariants as infixes;
 ghost use Rattle.zf_tree.specs.declared.symbol.Prefix.TheVariants as prefixes;
 ghost use Rattle.zf_tree.specs.declared.operator.Sign.TheVariants as sign;
@@ -10,9 +10,9 @@ ghost use Rattle.zf_outcome.specs.Found.{found_outcome};
 ghost use Rattle.zf_term.specs.ResolvedTrees as tree;
 ghost use Rattle.zf_term.specs.ResolvedViews as tree_views;
 ghost use Rattle.zf_term.specs.ResolvedViews.{resolved_of};
-ghost use Rattle.zf_term.specs.declared.resolved.Resolved.{size-Resolved};
 ghost use Rattle.zf_outcome.specs.Described.{Describes};
 ghost use Rattle.zf_meaning.specs.Envs.{environment_of};
+ghost use Rattle.zf_meaning.specs.Forms.{IsBinary};
 ghost use Rattle.zf_meaning.specs.Meaning.{HasOutcome, IsConstantOutcome};
 ghost use Rattle.zf_meaning.specs.Scopes.{scope_of};
 
@@ -47,9 +47,7 @@ pub(crate) fn described<'v, 'a, R: Row>(
         Resolved::Bracket(_, inner) => described(inner.get(), row, locals, env),
         Resolved::Listed(_, form, terms) => many(terms.as_slice(), *form, row, locals, env),
         Resolved::Unary(_, op, of) => of_one(of.get(), *op, row, locals, env),
-        Resolved::Binary(_, op, left, right) => {
-            of_both(term, *op, left.get(), right.get(), row, locals, env)
-        }
+        Resolved::Binary(_, _, _, _) => of_both(term, row, locals, env),
         _ => Ok(Described::Plain(outcome(term, row, locals, env)?)),
     }
 }
@@ -91,18 +89,20 @@ fn of_one<'v, 'a, R: Row>(
 #[cycle(meaning)]
 #[inline(never)]
 fn of_both<'v, 'a, R: Row>(
-    whole: &Resolved<'a>,
-    op: Operator,
-    left: &Resolved<'a>,
-    right: &Resolved<'a>,
+    term: &Resolved<'a>,
     row: &'v R,
     locals: &[&'v Value],
     env: &'v Env<'_, 'a>,
 ) -> Result<Described<'v>, AllocError>
-    requires left { size-Resolved left.now < size-Resolved whole.now }
-    requires right { size-Resolved right.now < size-Resolved whole.now }
-    ensures { (line : ℕ) → IfOk result (Describes (HasOutcome (scope_of env.now (R.values row.now) locals.now) (tree.binary line op (resolved_of left.now) (resolved_of right.now)))) }
+    requires { IsBinary term.now }
+    ensures { IfOk result (Describes (HasOutcome (scope_of env.now (R.values row.now) locals.now) (resolved_of term.now))) }
 {
+    let Resolved::Binary(_, op, left, right) = term else {
+        unreachable!();
+    };
+    let op = *op;
+    let left = left.get();
+    let right = right.get();
     let x = outcome(left, row, locals, env)?;
     let y = outcome(right, row, locals, env)?;
     let alloc = env.allocator();

@@ -1,16 +1,17 @@
 //! Comparisons of numbers, told without values round the numbers.
-ghost use Rattle.std.specs.Prelude.{◌≡◌, ◌<◌, ℕ, pos, IfSome, IsTrue, false, map, slice_get};
-ghost use Rattle.zf_tree.specs.declared.operator.Operator.TheVariants.{Application, Function};
+ghost use Rattle.std.specs.Prelude.{◌≡◌, ℕ, pos, IfSome, IsTrue, false, map, slice_get};
+ghost use Rattle.zf_tree.specs.declared.operator.Operator.TheVariants.{Application};
 ghost use Rattle.zf_extent.specs.Extents.{is_membership};
 ghost use Rattle.zf_term.specs.ResolvedTrees as tree;
 ghost use Rattle.zf_term.specs.ResolvedViews as tree_views;
 ghost use Rattle.zf_term.specs.ResolvedViews.{resolved_of, resolved_link_of};
-ghost use Rattle.zf_term.specs.declared.resolved.Resolved.{size-Resolved};
 ghost use Rattle.zf_value.specs.declared.value.Outcome.TheVariants.{Is};
 ghost use Rattle.zf_value.specs.declared.plain.Value.{Int};
 ghost use Rattle.zf_value.specs.Numbers.{IsNumber};
 ghost use Rattle.zf_meaning.specs.Environments as spec;
+ghost use Rattle.zf_meaning.specs.Lookups.{outcome_or};
 ghost use Rattle.zf_meaning.specs.Envs.{environment_of};
+ghost use Rattle.zf_meaning.specs.Forms.{IsBinary};
 ghost use Rattle.zf_meaning.specs.Meaning.{HasOutcome, IsTruth};
 ghost use Rattle.zf_meaning.specs.Scopes.{scope_of};
 ghost use Rattle.zf_outcome.specs.Symbols.{InfixOutcome};
@@ -97,9 +98,7 @@ fn number_at<'v, 'a, R: Row>(
         Resolved::Name(_, reference) => number_named(*reference, row, locals, env),
         Resolved::Number(_, value) => signed(*value),
         Resolved::Bracket(_, inner) => number_at(inner.get(), row, locals, env),
-        Resolved::Binary(_, op, left, right) => {
-            number_between(term, *op, left.get(), right.get(), row, locals, env)
-        }
+        Resolved::Binary(_, _, _, _) => number_between(term, row, locals, env),
         _ => None,
     }
 }
@@ -108,50 +107,35 @@ fn number_at<'v, 'a, R: Row>(
 #[cycle(numbers)]
 #[inline(never)]
 fn number_between<'v, 'a, R: Row>(
-    whole: &Resolved<'a>,
-    op: Operator,
-    left: &Resolved<'a>,
-    right: &Resolved<'a>,
+    term: &Resolved<'a>,
     row: &'v R,
     locals: &[&'v Value],
     env: &'v Env<'_, 'a>,
 ) -> Option<i64>
-    requires left { size-Resolved left.now < size-Resolved whole.now }
-    requires right { size-Resolved right.now < size-Resolved whole.now }
-    ensures { (line : ℕ) → IfSome result (λ n. HasOutcome (scope_of env.now (R.values row.now) locals.now) (tree.binary line op (resolved_of left.now) (resolved_of right.now)) (Is (Int n))) }
+    requires { IsBinary term.now }
+    ensures { IfSome result (λ n. HasOutcome (scope_of env.now (R.values row.now) locals.now) (resolved_of term.now) (Is (Int n))) }
 {
+    let Resolved::Binary(_, op, left, right) = term else {
+        unreachable!();
+    };
+    let left = left.get();
+    let right = right.get();
     match op {
-        Operator::Function(infix) => calculated(whole, infix, left, right, row, locals, env),
+        Operator::Function(infix) => {
+            if !is_calculated(*infix) {
+                return None;
+            }
+            let Some(m) = number_at(left, row, locals, env) else {
+                return None;
+            };
+            let Some(n) = number_at(right, row, locals, env) else {
+                return None;
+            };
+            of_numbers(*infix, m, n)
+        }
         Operator::Application => number_applied(left, right, row, locals, env),
         _ => None,
     }
-}
-
-/// What a symbol of arithmetic makes of two terms.
-#[cycle(numbers)]
-fn calculated<'v, 'a, R: Row>(
-    whole: &Resolved<'a>,
-    op: Infix,
-    left: &Resolved<'a>,
-    right: &Resolved<'a>,
-    row: &'v R,
-    locals: &[&'v Value],
-    env: &'v Env<'_, 'a>,
-) -> Option<i64>
-    requires left { size-Resolved left.now < size-Resolved whole.now }
-    requires right { size-Resolved right.now < size-Resolved whole.now }
-    ensures { (line : ℕ) → IfSome result (λ n. HasOutcome (scope_of env.now (R.values row.now) locals.now) (tree.binary line (Function op) (resolved_of left.now) (resolved_of right.now)) (Is (Int n))) }
-{
-    if !is_calculated(op) {
-        return None;
-    }
-    let Some(m) = number_at(left, row, locals, env) else {
-        return None;
-    };
-    let Some(n) = number_at(right, row, locals, env) else {
-        return None;
-    };
-    of_numbers(op, m, n)
 }
 
 fn is_calculated(op: Infix) -> bool {
@@ -261,7 +245,7 @@ fn value_named<'v, 'a, R: Row>(
 
 /// The value of a global, if it has one.
 fn global_value<'v>(env: &'v Env<'_, '_>, place: usize) -> Option<&'v Value>
-    ensures { IfSome result (λ v. Is v.now ≡ spec.outcome_or (slice_get (environment_of env.now).outcomes place)) }
+    ensures { IfSome result (λ v. Is v.now ≡ outcome_or (slice_get (environment_of env.now).outcomes place)) }
 {
     match env.outcome(place) {
         Some(outcome) => value_in(outcome),

@@ -1,11 +1,11 @@
 //! Symbols with their operands.
-ghost use Rattle.std.specs.Prelude.{◌≡◌, ◌<◌, ℕ, IfOk, map};
+ghost use Rattle.std.specs.Prelude.{ℕ, IfOk, map};
 ghost use Rattle.zf_term.specs.ResolvedTrees as tree;
 ghost use Rattle.zf_term.specs.ResolvedViews as tree_views;
 ghost use Rattle.zf_term.specs.ResolvedViews.{resolved_of};
-ghost use Rattle.zf_term.specs.declared.resolved.Resolved.{size-Resolved};
 ghost use Rattle.zf_outcome.specs.Found.{found_outcome};
 ghost use Rattle.zf_outcome.specs.Gathered.{several_of};
+ghost use Rattle.zf_meaning.specs.Forms.{IsBinary};
 ghost use Rattle.zf_meaning.specs.Meaning.{HasOutcome, HaveOutcomes, IsTruth};
 ghost use Rattle.zf_meaning.specs.Scopes.{scope_of};
 
@@ -41,21 +41,22 @@ pub(super) fn unary<'v, 'a, R: Row>(
 #[cycle(meaning)]
 #[inline(never)]
 pub(super) fn binary<'v, 'a, R: Row>(
-    whole: &Resolved<'a>,
-    op: Operator,
-    left: &Resolved<'a>,
-    right: &Resolved<'a>,
+    term: &Resolved<'a>,
     row: &'v R,
     locals: &[&'v Value],
     env: &'v Env<'_, 'a>,
 ) -> Result<Found<'v>, AllocError>
-    requires left { size-Resolved left.now < size-Resolved whole.now }
-    requires right { size-Resolved right.now < size-Resolved whole.now }
-    ensures { (line : ℕ) → IfOk result (λ o. HasOutcome (scope_of env.now (R.values row.now) locals.now) (tree.binary line op (resolved_of left.now) (resolved_of right.now)) (found_outcome o)) }
+    requires { IsBinary term.now }
+    ensures { IfOk result (λ o. HasOutcome (scope_of env.now (R.values row.now) locals.now) (resolved_of term.now) (found_outcome o)) }
 {
+    let Resolved::Binary(_, op, left, right) = term else {
+        unreachable!();
+    };
+    let left = left.get();
+    let right = right.get();
     let x = outcome(left, row, locals, env)?;
     let y = outcome(right, row, locals, env)?;
-    Ok(Found::own(on_both(env.allocator(), op, &x, &y)?))
+    Ok(Found::own(on_both(env.allocator(), *op, &x, &y)?))
 }
 
 /// What several terms make.
@@ -116,25 +117,26 @@ pub(super) fn not<'v, 'a, R: Row>(
 #[cycle(meaning)]
 #[inline(never)]
 pub(super) fn connective<'v, 'a, R: Row>(
-    whole: &Resolved<'a>,
-    op: Operator,
-    left: &Resolved<'a>,
-    right: &Resolved<'a>,
+    term: &Resolved<'a>,
     row: &'v R,
     locals: &[&'v Value],
     env: &'v Env<'_, 'a>,
 ) -> Result<Truth, AllocError>
-    requires left { size-Resolved left.now < size-Resolved whole.now }
-    requires right { size-Resolved right.now < size-Resolved whole.now }
-    ensures { (line : ℕ) → IfOk result (IsTruth (scope_of env.now (R.values row.now) locals.now) (tree.binary line op (resolved_of left.now) (resolved_of right.now))) }
+    requires { IsBinary term.now }
+    ensures { IfOk result (IsTruth (scope_of env.now (R.values row.now) locals.now) (resolved_of term.now)) }
 {
+    let Resolved::Binary(_, op, left, right) = term else {
+        unreachable!();
+    };
     let Operator::Connective(connective) = op else {
         return Ok(Truth::False);
     };
+    let left = left.get();
+    let right = right.get();
     let p = truth(left, row, locals, env)?;
-    if let Some(decided) = decided(connective, p) {
+    if let Some(decided) = decided(*connective, p) {
         return Ok(decided);
     }
     let q = truth(right, row, locals, env)?;
-    Ok(connected(connective, p, q))
+    Ok(connected(*connective, p, q))
 }

@@ -2,7 +2,8 @@
 ghost use Rattle.std.specs.Prelude.{◌≡◌, ◌++◌, [], IfOk, OnOk, map, replicate};
 ghost use Rattle.zf_term.specs.ResolvedViews as tree;
 ghost use Rattle.zf_term.specs.ResolvedViews.{range_of};
-ghost use Rattle.zf_value.specs.Sets.{Every, IsAscending, members};
+ghost use Rattle.zf_value.specs.Sets.{IsAscending, members};
+ghost use Rattle.std.specs.List.{AllByRecursion};
 ghost use Rattle.zf_meaning.specs.RangeSets as spec;
 ghost use Rattle.zf_meaning.specs.RangeSets.{spread, declared_of};
 ghost use Rattle.zf_outcome.specs.Found.{found_outcome};
@@ -77,7 +78,7 @@ pub(super) fn lists_of<'w>(
     sets: &'w [Spread<'_>],
 ) -> Result<Vec<&'w [Value]>, AllocError>
     ensures is { IfOk result (λ lists. seen lists.items ≡ map members (spread sets.now)) }
-    ensures ascending { IfOk result (λ lists. Every (λ s. IsAscending (members s)) (spread sets.now)) }
+    ensures ascending { IfOk result (λ lists. AllByRecursion (λ s. IsAscending (members s)) (spread sets.now)) }
 {
     let mut lists = Vec::new(alloc);
     for spread in sets {

@@ -34,15 +34,15 @@ rebuilt-returns-in_ok-new-in-EmptySet-clause-closed t c = let i = c.in-EmptySet 
 
 -- ---- forms with operands
 
-pub rebuilt-returns-in_ok-new-in-Bracket-clause-same : goal.rebuilt-returns-in_ok-new-in-Bracket-clause-same
-rebuilt-returns-in_ok-new-in-Bracket-clause-same t c =
-    let i = c.in-Bracket in let x = c.in_ok-inner-in-Bracket in
-    λ h. arms.bracketed _ _ _ i.line i.inner c.get-in-Bracket.result.now x.inner.part c.in_ok-new-in-Bracket.field-0 c.args.term.now i.is
-    c.get-in-Bracket.ensures c.in_ok-new-in-Bracket.ensures (x.ensures.same h)
+pub rebuilt-returns-in-Bracket-clause-same : goal.rebuilt-returns-in-Bracket-clause-same
+rebuilt-returns-in-Bracket-clause-same t c =
+    let i = c.in-Bracket in
+    λ h. IfOk-weaker c.rebuilt.result _ _ (λ p x. arms.bare _ _ _ i.field-0 i.inner c.get-in-Bracket.result.now p.part c.args.term.now i.is c.get-in-Bracket.ensures x) (c.rebuilt.ensures.same h)
 
-pub rebuilt-returns-in_ok-new-in-Bracket-clause-closed : goal.rebuilt-returns-in_ok-new-in-Bracket-clause-closed
-rebuilt-returns-in_ok-new-in-Bracket-clause-closed t c =
-    let i = c.in-Bracket in λ h. arms.bracketed_closed _ i.line i.inner c.get-in-Bracket.result.now c.args.term.now i.is c.get-in-Bracket.ensures (c.in_ok-inner-in-Bracket.ensures.closed h)
+pub rebuilt-returns-in-Bracket-clause-closed : goal.rebuilt-returns-in-Bracket-clause-closed
+rebuilt-returns-in-Bracket-clause-closed t c =
+    let i = c.in-Bracket in
+    IfOk-weaker c.rebuilt.result _ _ (λ p x h. arms.bracketed_closed _ i.field-0 i.inner c.get-in-Bracket.result.now c.args.term.now i.is c.get-in-Bracket.ensures (x h)) c.rebuilt.ensures.closed
 
 pub rebuilt-returns-in_ok-new-in-Unary-clause-same : goal.rebuilt-returns-in_ok-new-in-Unary-clause-same
 rebuilt-returns-in_ok-new-in-Unary-clause-same t c =
@@ -97,7 +97,8 @@ pub rebuilt-returns-in_ok-term-in-Builder-clause-same : goal.rebuilt-returns-in_
 rebuilt-returns-in_ok-term-in-Builder-clause-same t c =
     let i = c.in-Builder in let x = c.in_ok-variables-in-Builder in let y = c.in_ok-filter-in-Builder in let z = c.in_ok-term-in-Builder in
     λ h. let first = further _ _ _ h x.ensures.grows in
-    arms.built _ _ _ i.line x.variables.part i.variables y.filter.part i.filter z.term.part i.term c.args.term.now i.is
+    arms.built _ _ _ _ i.line x.variables.part i.variables c.as_slice.result.now y.filter.part i.filter z.term.part i.term c.args.term.now i.is
+    c.as_slice.ensures c.in_ok-inside-in-Builder.ensures
     (ranges_later _ _ _ _ _ _ (further _ _ _ y.ensures.grows z.ensures.grows) (x.ensures.same h))
     (part_later _ _ _ _ _ _ z.ensures.grows (y.ensures.same first))
     (z.ensures.same (further _ _ _ first y.ensures.grows))
@@ -113,8 +114,9 @@ pub rebuilt-returns-in_ok-body-in-Quantified-2-clause-same : goal.rebuilt-return
 rebuilt-returns-in_ok-body-in-Quantified-2-clause-same t c =
     let i = c.in-Quantified in let x = c.in_ok-variables-in-Quantified in let y = c.in_ok-constraint-in-Quantified in let z = c.in_ok-body-in-Quantified in
     λ h. let first = further _ _ _ h x.ensures.grows in
-    arms.bound _ _ _ i.line i.quantifier x.variables.part i.variables y.constraint.part i.constraint i.body c.get-in-Quantified.result.now z.body.part
+    arms.bound _ _ _ _ i.line i.quantifier x.variables.part i.variables c.as_slice-in-Quantified.result.now y.constraint.part i.constraint i.body c.get-in-Quantified.result.now z.body.part
     c.in_ok-body-in-Quantified-2.body c.args.term.now i.is c.get-in-Quantified.ensures c.in_ok-body-in-Quantified-2.ensures
+    c.as_slice-in-Quantified.ensures c.in_ok-inside-in-Quantified.ensures
     (ranges_later _ _ _ _ _ _ (further _ _ _ y.ensures.grows z.ensures.grows) (x.ensures.same h))
     (part_later _ _ _ _ _ _ z.ensures.grows (y.ensures.same first))
     (z.ensures.same (further _ _ _ first y.ensures.grows))
@@ -130,7 +132,7 @@ rebuilt-returns-in_ok-body-in-Quantified-2-clause-closed t c =
 -- ---- parts
 
 pub lifted_part-returns-in_ok-new-in-None-clause-same : goal.lifted_part-returns-in_ok-new-in-None-clause-same
-lifted_part-returns-in_ok-new-in-None-clause-same t c = λ h. arms.no_part _ _ c.in_ok-new-in-None.field-0 c.args.part.now (sym c.get.ensures ∙ c.in-None.is) c.in_ok-new-in-None.ensures
+lifted_part-returns-in_ok-new-in-None-clause-same t c = λ h. arms.no_part _ _ _ c.in_ok-new-in-None.field-0 c.args.part.now (sym c.get.ensures ∙ c.in-None.is) c.in_ok-new-in-None.ensures
 
 pub lifted_part-returns-in_ok-new-in-None-clause-closed : goal.lifted_part-returns-in_ok-new-in-None-clause-closed
 lifted_part-returns-in_ok-new-in-None-clause-closed t c = λ h. arms.no_part_closed _ c.args.part.now (sym c.get.ensures ∙ c.in-None.is)
@@ -138,7 +140,7 @@ lifted_part-returns-in_ok-new-in-None-clause-closed t c = λ h. arms.no_part_clo
 pub lifted_part-returns-in_ok-new-in-Some-clause-same : goal.lifted_part-returns-in_ok-new-in-Some-clause-same
 lifted_part-returns-in_ok-new-in-Some-clause-same t c =
     let x = c.in_ok-found-in-Some in
-    λ h. arms.some_part _ _ _ c.get-in-Some.result.now x.found.part c.in_ok-inner-in-Some.inner c.in_ok-new-in-Some.field-0 c.args.part.now
+    λ h. arms.some_part _ _ _ _ c.get-in-Some.result.now x.found.part c.in_ok-inner-in-Some.inner c.in_ok-new-in-Some.field-0 c.args.part.now
     (sym c.get.ensures ∙ c.in-Some.is) c.get-in-Some.ensures c.in_ok-inner-in-Some.ensures c.in_ok-new-in-Some.ensures (x.ensures.same h)
 
 pub lifted_part-returns-in_ok-new-in-Some-clause-closed : goal.lifted_part-returns-in_ok-new-in-Some-clause-closed
@@ -157,15 +159,6 @@ lifted_range-returns-clause-same t c = λ h. arms.one_range _ _ _ c.args.range.n
 pub lifted_range-returns-clause-closed : goal.lifted_range-returns-clause-closed
 lifted_range-returns-clause-closed t c = λ h. arms.one_range_closed _ c.args.range.now (c.in_ok-set.ensures.closed h)
 
-pub lifted_right-returns-in-Bracket-clause-same : goal.lifted_right-returns-in-Bracket-clause-same
-lifted_right-returns-in-Bracket-clause-same t c =
-    let i = c.in-Bracket in let x = c.in_ok-bare in
-    λ h. arms.bare _ _ _ i.field-0 i.inner c.get.result.now x.bare.part c.args.term.now i.is c.get.ensures (x.ensures.same h)
-
-pub lifted_right-returns-in-Bracket-clause-closed : goal.lifted_right-returns-in-Bracket-clause-closed
-lifted_right-returns-in-Bracket-clause-closed t c =
-    let i = c.in-Bracket in λ h. arms.bracketed_closed _ i.field-0 i.inner c.get.result.now c.args.term.now i.is c.get.ensures (c.in_ok-bare.ensures.closed h)
-
 pub lifted-returns-clause-grows : goal.lifted-returns-clause-grows
 lifted-returns-clause-grows t c = IfOk-weaker c.named.result (λ x. IsLonger (environment_of c.rebuilt.new.own) (environment_of c.named.new.own))
     (λ x. IsLonger (environment_of c.args.own.now) (environment_of c.named.new.own)) (λ x h. further _ _ _ c.in_ok-found.ensures.grows h) c.named.ensures.grows
@@ -175,7 +168,7 @@ lifted-returns-clause-grows t c = IfOk-weaker c.named.result (λ x. IsLonger (en
 pub lifted_terms-loop-term-init : goal.lifted_terms-loop-term-init
 lifted_terms-loop-term-init t c = (
   itself _,
-  λ h. arms.none_yet resolved_of (IsLift c.args.outside (environment_of c.args.own.now) (environment_of c.args.base.now)) c.in_ok-parts.parts
+  λ h. arms.none_yet resolved_of (IsLift c.args.depth (environment_of c.args.own.now) (environment_of c.args.base.now)) c.in_ok-parts.parts
       c.in_ok-parts.ensures,
   λ h. arms.none_yet resolved_of (λ x u. IsClosed (environment_of c.args.base.now) u) c.in_ok-parts.parts c.in_ok-parts.ensures,
 )
@@ -184,10 +177,10 @@ pub lifted_terms-loop-term-preserved : goal.lifted_terms-loop-term-preserved
 lifted_terms-loop-term-preserved t c =
     let l = c.loop-term in let x = c.in_ok-found in (
       further _ _ _ l.invariant.0 x.ensures.grows,
-      λ h. arms.one_more resolved_of (IsLift c.args.outside (environment_of l.own) (environment_of c.args.base.now))
-          (IsLift c.args.outside (environment_of c.lifted.new.own) (environment_of c.args.base.now)) l.parts c.as_slice-term-items.result.now c.push.new.self
+      λ h. arms.one_more resolved_of (IsLift c.args.depth (environment_of l.own) (environment_of c.args.base.now))
+          (IsLift c.args.depth (environment_of c.lifted.new.own) (environment_of c.args.base.now)) l.parts c.as_slice-term-items.result.now c.push.new.self
           l.term-index c.term-item.result x.found.part c.term-item.is c.loop-term-test.true c.in_ok-push.ensures.ok
-          (λ y z. lift_later c.args.outside _ _ _ y z x.ensures.grows) (l.invariant.1 h) (x.ensures.same (further _ _ _ h l.invariant.0)),
+          (λ y z. lift_later c.args.depth _ _ _ y z x.ensures.grows) (l.invariant.1 h) (x.ensures.same (further _ _ _ h l.invariant.0)),
       λ k. let both = c.are_both-is_closed.ensures k in
           arms.one_more resolved_of (λ x u. IsClosed (environment_of c.args.base.now) u)
           (λ x u. IsClosed (environment_of c.args.base.now) u) l.parts c.as_slice-term-items.result.now c.push.new.self l.term-index c.term-item.result
@@ -198,7 +191,7 @@ lifted_terms-loop-term-preserved t c =
 pub lifted_terms-returns-clause-same : goal.lifted_terms-returns-clause-same
 lifted_terms-returns-clause-same t c =
     let l = c.loop-term in
-    λ h. terms_lift c.args.outside _ _ _ _ (arms.all_done resolved_of (IsLift c.args.outside (environment_of l.own) (environment_of c.args.base.now)) l.parts
+    λ h. terms_lift c.args.depth _ _ _ _ (arms.all_done resolved_of (IsLift c.args.depth (environment_of l.own) (environment_of c.args.base.now)) l.parts
     c.in_ok-part.part c.as_slice-term-items.result.now c.args.items.now l.term-index c.in_ok-part.ensures c.as_slice-term-items.ensures
     c.loop-term-test.false (l.invariant.1 h))
 
@@ -212,7 +205,7 @@ lifted_terms-returns-clause-closed t c =
 pub lifted_links-loop-link-init : goal.lifted_links-loop-link-init
 lifted_links-loop-link-init t c = (
   itself _,
-  λ h. arms.none_yet resolved_link_of (IsLinkLift c.args.outside (environment_of c.args.own.now) (environment_of c.args.base.now))
+  λ h. arms.none_yet resolved_link_of (IsLinkLift c.args.depth (environment_of c.args.own.now) (environment_of c.args.base.now))
       c.in_ok-parts.parts c.in_ok-parts.ensures,
   λ h. arms.none_yet resolved_link_of
       (λ x u. IsLinkClosed (environment_of c.args.base.now) u) c.in_ok-parts.parts c.in_ok-parts.ensures,
@@ -222,10 +215,10 @@ pub lifted_links-loop-link-preserved : goal.lifted_links-loop-link-preserved
 lifted_links-loop-link-preserved t c =
     let l = c.loop-link in let x = c.in_ok-found in (
       further _ _ _ l.invariant.0 x.ensures.grows,
-      λ h. arms.one_more resolved_link_of (IsLinkLift c.args.outside (environment_of l.own) (environment_of c.args.base.now))
-          (IsLinkLift c.args.outside (environment_of c.lifted_link.new.own) (environment_of c.args.base.now)) l.parts c.as_slice-link-items.result.now
+      λ h. arms.one_more resolved_link_of (IsLinkLift c.args.depth (environment_of l.own) (environment_of c.args.base.now))
+          (IsLinkLift c.args.depth (environment_of c.lifted_link.new.own) (environment_of c.args.base.now)) l.parts c.as_slice-link-items.result.now
           c.push.new.self l.link-index c.link-item.result x.found.part c.link-item.is c.loop-link-test.true c.in_ok-push.ensures.ok
-          (λ y z. link_later c.args.outside _ _ _ y z x.ensures.grows) (l.invariant.1 h) (x.ensures.same (further _ _ _ h l.invariant.0)),
+          (λ y z. link_later c.args.depth _ _ _ y z x.ensures.grows) (l.invariant.1 h) (x.ensures.same (further _ _ _ h l.invariant.0)),
       λ k. let both = c.are_both-is_closed.ensures k in
           arms.one_more resolved_link_of (λ x u. IsLinkClosed (environment_of c.args.base.now) u)
           (λ x u. IsLinkClosed (environment_of c.args.base.now) u) l.parts c.as_slice-link-items.result.now c.push.new.self l.link-index c.link-item.result
@@ -236,8 +229,8 @@ lifted_links-loop-link-preserved t c =
 pub lifted_links-returns-clause-same : goal.lifted_links-returns-clause-same
 lifted_links-returns-clause-same t c =
     let l = c.loop-link in
-    λ h. links_lift c.args.outside _ _ _ _ (arms.all_done resolved_link_of
-    (IsLinkLift c.args.outside (environment_of l.own) (environment_of c.args.base.now)) l.parts c.in_ok-part.part c.as_slice-link-items.result.now
+    λ h. links_lift c.args.depth _ _ _ _ (arms.all_done resolved_link_of
+    (IsLinkLift c.args.depth (environment_of l.own) (environment_of c.args.base.now)) l.parts c.in_ok-part.part c.as_slice-link-items.result.now
     c.args.further.now l.link-index c.in_ok-part.ensures c.as_slice-link-items.ensures c.loop-link-test.false (l.invariant.1 h))
 
 pub lifted_links-returns-clause-closed : goal.lifted_links-returns-clause-closed
@@ -250,7 +243,7 @@ lifted_links-returns-clause-closed t c =
 pub lifted_ranges-loop-range-init : goal.lifted_ranges-loop-range-init
 lifted_ranges-loop-range-init t c = (
   itself _,
-  λ h. arms.none_yet range_of (IsRangeLift c.args.outside (environment_of c.args.own.now) (environment_of c.args.base.now)) c.in_ok-parts.parts
+  λ h. arms.none_yet range_of (IsRangeLift c.args.depth (environment_of c.args.own.now) (environment_of c.args.base.now)) c.in_ok-parts.parts
       c.in_ok-parts.ensures,
   λ h. arms.none_yet range_of (λ x u. IsRangeClosed (environment_of c.args.base.now) u) c.in_ok-parts.parts c.in_ok-parts.ensures,
 )
@@ -259,10 +252,10 @@ pub lifted_ranges-loop-range-preserved : goal.lifted_ranges-loop-range-preserved
 lifted_ranges-loop-range-preserved t c =
     let l = c.loop-range in let x = c.in_ok-found in (
       further _ _ _ l.invariant.0 x.ensures.grows,
-      λ h. arms.one_more range_of (IsRangeLift c.args.outside (environment_of l.own) (environment_of c.args.base.now))
-          (IsRangeLift c.args.outside (environment_of c.lifted_range.new.own) (environment_of c.args.base.now)) l.parts c.as_slice-range-items.result.now
+      λ h. arms.one_more range_of (IsRangeLift c.args.depth (environment_of l.own) (environment_of c.args.base.now))
+          (IsRangeLift c.args.depth (environment_of c.lifted_range.new.own) (environment_of c.args.base.now)) l.parts c.as_slice-range-items.result.now
           c.push.new.self l.range-index c.range-item.result x.found.part c.range-item.is c.loop-range-test.true c.in_ok-push.ensures.ok
-          (λ y z. range_later c.args.outside _ _ _ y z x.ensures.grows) (l.invariant.1 h) (x.ensures.same (further _ _ _ h l.invariant.0)),
+          (λ y z. range_later c.args.depth _ _ _ y z x.ensures.grows) (l.invariant.1 h) (x.ensures.same (further _ _ _ h l.invariant.0)),
       λ k. let both = c.are_both-is_closed.ensures k in
           arms.one_more range_of (λ x u. IsRangeClosed (environment_of c.args.base.now) u)
           (λ x u. IsRangeClosed (environment_of c.args.base.now) u) l.parts c.as_slice-range-items.result.now c.push.new.self l.range-index
@@ -273,7 +266,7 @@ lifted_ranges-loop-range-preserved t c =
 pub lifted_ranges-returns-clause-same : goal.lifted_ranges-returns-clause-same
 lifted_ranges-returns-clause-same t c =
     let l = c.loop-range in
-    λ h. ranges_lift c.args.outside _ _ _ _ (arms.all_done range_of (IsRangeLift c.args.outside (environment_of l.own) (environment_of c.args.base.now))
+    λ h. ranges_lift c.args.depth _ _ _ _ (arms.all_done range_of (IsRangeLift c.args.depth (environment_of l.own) (environment_of c.args.base.now))
     l.parts c.in_ok-part.part c.as_slice-range-items.result.now c.args.variables.now l.range-index c.in_ok-part.ensures c.as_slice-range-items.ensures
     c.loop-range-test.false (l.invariant.1 h))
 

@@ -2,18 +2,18 @@ use Rattle.zf_meaning.proofs.Prelude.{◌+◌, ◌<◌, ◌∙◌, ◌∷◌, �
 use Rattle.zf_term.specs.ResolvedTrees as tree
 use Rattle.zf_term.specs.ResolvedViews as tree_views
 use Rattle.zf_value.specs.declared.value.Outcome.TheVariants as outcome
-use Rattle.zf_value.specs.declared.value.Truth.TheVariants.{Out}
+use Rattle.zf_value.specs.declared.value.Truth.TheVariants.{False, Out}
 use Rattle.zf_term.specs.declared.resolved.Resolved.TheVariants as v
 use Rattle.zf_meaning.proofs.Binding.{same-quantifier, same-constraint, same-body, quantified-told, builder-has}
 use Rattle.zf_meaning.proofs.Builds.{nothing, built-same, built-more, built-too-many, built-out, built-all}
-use Rattle.zf_meaning.proofs.Connecting.{decided-told, told-by}
+use Rattle.zf_meaning.proofs.Connecting.{connected-told, decided-told, told-by}
 use Rattle.zf_meaning.proofs.Early.{neutral-told, neutral-built, neutral-by, neutral-other-if, itself-passed, passed-after}
 use Rattle.zf_meaning.proofs.Told.{IsTallied, none-tallied, one-more, settled-truth, all-told}
 use Rattle.zf_meaning.proofs.Turns.{fewer, adds-here, told-here, one-told, one-filter, one-term, span-bound, row-bound, next-turn, told-ended, built-ended}
 use Rattle.zf_meaning.proofs.Walking.{walk-begun, walk-row, walk-done, walk-new, no-row, none-from, bound-row, outside-bound, FilterIn, TermIn, ToldIn, NeutralIn}
 use Rattle.zf_meaning.proofs.Gathering.{gather-begun, gather-more, gather-all, ranges-begun, ranges-more, ranges-all, drop-past}
 use Rattle.zf_outcome.proofs.Tests.{plain-describes}
-use Rattle.zf_meaning.proofs.Operands.{power-told, both-told, arrows-told, interval-told, product-told}
+use Rattle.zf_meaning.proofs.Operands.{power-told, both-seen, both-told, arrows-told, interval-told, product-told}
 use Rattle.zf_meaning.proofs.Linking.{link-more, link-false, link-all, link-last, last-described, last-worked, chain-told}
 use Rattle.zf_meaning.proofs.RowValues.{seen-rest}
 use Rattle.zf_meaning.proofs.evaluate.+meaning.Goals as goal
@@ -118,15 +118,6 @@ memberships::described-returns-in-Unary g t c =
     (ap (λ x. tree.unary i.field-0 i.op (resolved_of x)) c.get-in-Unary.ensures ∙ sym (ap resolved_of i.is ∙ of-Unary i.field-0 i.op i.of))
     (c.of_one.ensures i.field-0)
 
-pub memberships::described-returns-in-Binary : goal.memberships::described-returns-in-Binary
-memberships::described-returns-in-Binary g t c =
-    let i = c.in-Binary in
-    subst (λ d. IfOk c.of_both.result (Describes (HasOutcome (scope_of c.args.env.now (g.R.Row.values c.args.row.now) c.args.locals.now) d)))
-    (ap (λ x. tree.binary i.field-0 i.op (resolved_of x) (resolved_of c.get-in-Binary-2.result.now)) c.get-in-Binary.ensures
-    ∙ ap (λ x. tree.binary i.field-0 i.op (resolved_of i.left) (resolved_of x)) c.get-in-Binary-2.ensures
-    ∙ sym (ap resolved_of i.is ∙ of-Binary i.field-0 i.op i.left i.right))
-    (c.of_both.ensures i.field-0)
-
 pub memberships::described-returns-in_ok-outcome-in_default : goal.memberships::described-returns-in_ok-outcome-in_default
 memberships::described-returns-in_ok-outcome-in_default g t c =
     let o = c.in_ok-outcome-in_default in
@@ -152,30 +143,32 @@ memberships::many-returns-in_ok-on_several-in_default g t c =
 
 pub memberships::of_both-returns-in-Generic : goal.memberships::of_both-returns-in-Generic
 memberships::of_both-returns-in-Generic g t c =
-    λ line. both-told (scope_of c.args.env.now (g.R.Row.values c.args.row.now) c.args.locals.now) line c.args.op (resolved_of c.args.left.now)
-    (resolved_of c.args.right.now) (found_outcome c.in_ok-x.x) (found_outcome c.in_ok-y.y) c.in-Some.v.now c.in-Some.w.now
-    (Arrows c.in-Generic.kind c.in_ok-copy.field-0 c.in_ok-copy-2.field-0) c.in_ok-x.ensures c.in_ok-y.ensures (search rules) (search rules)
-    (arrows-told c.args.op c.in-Generic.kind c.in-Some.v.now c.in-Some.w.now c.in_ok-copy.field-0 c.in_ok-copy-2.field-0 c.in-Generic.is c.in_ok-copy.ensures c.in_ok-copy-2.ensures)
+    let i = c.in-Binary in
+    let k = scope_of c.args.env.now (g.R.Row.values c.args.row.now) c.args.locals.now in
+    let arrows = Arrows c.in-Generic.kind c.in_ok-copy.field-0 c.in_ok-copy-2.field-0 in
+    subst (λ d. Describes (HasOutcome k d) arrows) (both-seen c.args.term.now i.field-0 i.op i.left i.right _ _ i.is c.get-left.ensures c.get-right.ensures)
+    (both-told k i.field-0 i.op (resolved_of c.get-left.result.now) (resolved_of c.get-right.result.now) (found_outcome c.in_ok-x.x) (found_outcome c.in_ok-y.y)
+    c.in-Some.v.now c.in-Some.w.now arrows c.in_ok-x.ensures c.in_ok-y.ensures (search rules) (search rules)
+    (arrows-told i.op c.in-Generic.kind c.in-Some.v.now c.in-Some.w.now c.in_ok-copy.field-0 c.in_ok-copy-2.field-0 c.in-Generic.is c.in_ok-copy.ensures c.in_ok-copy-2.ensures))
 
 pub memberships::of_both-returns-then-is_interval : goal.memberships::of_both-returns-then-is_interval
 memberships::of_both-returns-then-is_interval g t c =
-    λ line. both-told (scope_of c.args.env.now (g.R.Row.values c.args.row.now) c.args.locals.now) line c.args.op (resolved_of c.args.left.now)
-    (resolved_of c.args.right.now) (found_outcome c.in_ok-x.x) (found_outcome c.in_ok-y.y) c.in-Some.v.now c.in-Some.w.now c.interval_between.result
-    c.in_ok-x.ensures c.in_ok-y.ensures (search rules) (search rules)
-    (interval-told c.args.op c.in-Some.v.now c.in-Some.w.now c.interval_between.result (c.is_interval.ensures c.if-is_interval.true) c.interval_between.ensures)
+    let i = c.in-Binary in
+    let k = scope_of c.args.env.now (g.R.Row.values c.args.row.now) c.args.locals.now in
+    let interval = c.interval_between.result in
+    subst (λ d. Describes (HasOutcome k d) interval) (both-seen c.args.term.now i.field-0 i.op i.left i.right _ _ i.is c.get-left.ensures c.get-right.ensures)
+    (both-told k i.field-0 i.op (resolved_of c.get-left.result.now) (resolved_of c.get-right.result.now) (found_outcome c.in_ok-x.x) (found_outcome c.in_ok-y.y)
+    c.in-Some.v.now c.in-Some.w.now interval c.in_ok-x.ensures c.in_ok-y.ensures (search rules) (search rules)
+    (interval-told i.op c.in-Some.v.now c.in-Some.w.now interval (c.is_interval.ensures c.if-is_interval.true) c.interval_between.ensures))
 
 pub memberships::of_both-returns : goal.memberships::of_both-returns
 memberships::of_both-returns g t c =
-    λ line. plain-describes (HasOutcome (scope_of c.args.env.now (g.R.Row.values c.args.row.now) c.args.locals.now)
-    (tree.binary line c.args.op (resolved_of c.args.left.now) (resolved_of c.args.right.now))) c.own.result
-    (subst (HasOutcome (scope_of c.args.env.now (g.R.Row.values c.args.row.now) c.args.locals.now)
-    (tree.binary line c.args.op (resolved_of c.args.left.now) (resolved_of c.args.right.now))) (sym c.own.ensures) (
-      found_outcome c.in_ok-x.x,
-      found_outcome c.in_ok-y.y,
-      c.in_ok-x.ensures,
-      c.in_ok-y.ensures,
-      c.in_ok-on_both.ensures,
-    ))
+    let i = c.in-Binary in
+    let k = scope_of c.args.env.now (g.R.Row.values c.args.row.now) c.args.locals.now in
+    let whole = tree.binary i.field-0 i.op (resolved_of c.get-left.result.now) (resolved_of c.get-right.result.now) in
+    let told : HasOutcome k whole c.in_ok-on_both.field-0 = (found_outcome c.in_ok-x.x, found_outcome c.in_ok-y.y, c.in_ok-x.ensures, c.in_ok-y.ensures, c.in_ok-on_both.ensures) in
+    plain-describes (HasOutcome k (resolved_of c.args.term.now)) c.own.result
+    (subst (λ d. HasOutcome k d (found_outcome c.own.result)) (both-seen c.args.term.now i.field-0 i.op i.left i.right _ _ i.is c.get-left.ensures c.get-right.ensures) (subst (HasOutcome k whole) (sym c.own.ensures) told))
 
 pub memberships::of_one-returns-then-is_power : goal.memberships::of_one-returns-then-is_power
 memberships::of_one-returns-then-is_power g t c =
@@ -294,14 +287,43 @@ chains::chain-returns g t c =
     (resolved_of c.args.term.now) i.field-0 i.first c.get.result.now i.links c.as_slice.result.now (found_outcome c.in_ok-first.first) c.linked.result
     (ap resolved_of i.is ∙ of-Chain i.field-0 i.first i.links) c.get.ensures c.as_slice.ensures c.in_ok-first.ensures c.linked.ensures
 
-pub outcome-returns-in-Binary : goal.outcome-returns-in-Binary
-outcome-returns-in-Binary g t c =
+pub operands::binary-returns : goal.operands::binary-returns
+operands::binary-returns g t c =
     let i = c.in-Binary in
-    subst (λ d. IfOk c.binary.result (λ o. HasOutcome (scope_of c.args.env.now (g.R.Row.values c.args.row.now) c.args.locals.now) d (found_outcome o)))
-    (ap (λ x. tree.binary i.field-0 i.op (resolved_of x) (resolved_of c.get-in-Binary-2.result.now)) c.get-in-Binary.ensures
-    ∙ ap (λ x. tree.binary i.field-0 i.op (resolved_of i.left) (resolved_of x)) c.get-in-Binary-2.ensures
-    ∙ sym (ap resolved_of i.is ∙ of-Binary i.field-0 i.op i.left i.right))
-    (c.binary.ensures c.in-Binary.field-0)
+    let k = scope_of c.args.env.now (g.R.Row.values c.args.row.now) c.args.locals.now in
+    let told : HasOutcome k (tree.binary i.field-0 i.op (resolved_of c.get-left.result.now) (resolved_of c.get-right.result.now)) (found_outcome c.own.result) = search rules in
+    subst (λ d. HasOutcome k d (found_outcome c.own.result)) (both-seen c.args.term.now i.field-0 i.op i.left i.right _ _ i.is c.get-left.ensures c.get-right.ensures) told
+
+pub operands::connective-returns-in_default-op : goal.operands::connective-returns-in_default-op
+operands::connective-returns-in_default-op g t c =
+    let i = c.in-Binary in
+    let k = scope_of c.args.env.now (g.R.Row.values c.args.row.now) c.args.locals.now in
+    let told : IsTruth k (tree.binary i.field-0 i.op (resolved_of i.left) (resolved_of i.right)) False = search rules in
+    subst (λ d. IsTruth k d False) (both-seen c.args.term.now i.field-0 i.op i.left i.right _ _ i.is refl refl) told
+
+pub operands::connective-returns-in-Some : goal.operands::connective-returns-in-Some
+operands::connective-returns-in-Some g t c =
+    let i = c.in-Binary in
+    let k = scope_of c.args.env.now (g.R.Row.values c.args.row.now) c.args.locals.now in
+    let a = resolved_of c.get-left.result.now in
+    let b = resolved_of c.get-right.result.now in
+    let u = c.in-Some.decided in
+    let told = decided-told c.in-Connective.connective c.in_ok-p.p u (λ p. IsTruth k a p) (λ q. IsTruth k b q) c.in_ok-p.ensures (sym c.in-Some.ensures) in
+    subst (λ d. IsTruth k d u) (both-seen c.args.term.now i.field-0 i.op i.left i.right _ _ i.is c.get-left.ensures c.get-right.ensures)
+    (subst (λ op. IsTruth k (tree.binary i.field-0 op a b) u) (sym c.in-Connective.is) told)
+
+pub operands::connective-returns : goal.operands::connective-returns
+operands::connective-returns g t c =
+    let i = c.in-Binary in
+    let k = scope_of c.args.env.now (g.R.Row.values c.args.row.now) c.args.locals.now in
+    let a = resolved_of c.get-left.result.now in
+    let b = resolved_of c.get-right.result.now in
+    let con = c.in-Connective.connective in
+    let u = c.connected.result in
+    let both = connected-told con c.in_ok-p.p c.in_ok-q.q (λ p. IsTruth k a p) (λ q. IsTruth k b q) c.in_ok-p.ensures c.in_ok-q.ensures in
+    let told = subst (IsConnected con (λ p. IsTruth k a p) (λ q. IsTruth k b q)) (sym c.connected.ensures) both in
+    subst (λ d. IsTruth k d u) (both-seen c.args.term.now i.field-0 i.op i.left i.right _ _ i.is c.get-left.ensures c.get-right.ensures)
+    (subst (λ op. IsTruth k (tree.binary i.field-0 op a b) u) (sym c.in-Connective.is) told)
 
 pub outcome-returns-in-Listed : goal.outcome-returns-in-Listed
 outcome-returns-in-Listed g t c =
@@ -316,15 +338,6 @@ outcome-returns-in-Unary g t c =
     subst (λ d. IfOk c.unary.result (λ o. HasOutcome (scope_of c.args.env.now (g.R.Row.values c.args.row.now) c.args.locals.now) d (found_outcome o)))
     (ap (λ x. tree.unary i.field-0 i.op (resolved_of x)) c.get-in-Unary.ensures ∙ sym (ap resolved_of i.is ∙ of-Unary i.field-0 i.op i.of))
     (c.unary.ensures c.in-Unary.field-0)
-
-pub truth-returns-in-Binary : goal.truth-returns-in-Binary
-truth-returns-in-Binary g t c =
-    let i = c.in-Binary in
-    subst (λ d. IfOk c.connective.result (IsTruth (scope_of c.args.env.now (g.R.Row.values c.args.row.now) c.args.locals.now) d))
-    (ap (λ x. tree.binary i.field-0 i.op (resolved_of x) (resolved_of c.get-in-Binary-2.result.now)) c.get-in-Binary.ensures
-    ∙ ap (λ x. tree.binary i.field-0 i.op (resolved_of i.left) (resolved_of x)) c.get-in-Binary-2.ensures
-    ∙ sym (ap resolved_of i.is ∙ of-Binary i.field-0 i.op i.left i.right))
-    (c.connective.ensures c.in-Binary.field-0)
 
 pub truth-returns-in-Unary : goal.truth-returns-in-Unary
 truth-returns-in-Unary g t c =

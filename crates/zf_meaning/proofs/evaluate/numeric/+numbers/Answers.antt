@@ -1,33 +1,32 @@
-use Rattle.zf_meaning.proofs.Prelude.{◌∙◌, ap, rules, subst, sym, w64, IfSome, FitsSigned, Is, Int, of-Binary, binary, resolved_of, HasOutcome, scope_of, InfixOutcome}
+use Rattle.zf_meaning.proofs.Prelude.{rules, subst, sym, w64, IfSome, FitsSigned, Is, Int, binary, resolved_of, HasOutcome, scope_of, InfixOutcome}
 use Rattle.zf_meaning.proofs.Numeric.{both-numbers}
+use Rattle.zf_meaning.proofs.Operands.{both-seen}
 use Rattle.zf_outcome.proofs.Comparisons.{written-both}
 use Rattle.zf_meaning.proofs.evaluate.numeric.+numbers.Goals as goal
 
-pub calculated-returns : goal.calculated-returns
-calculated-returns g t c =
+pub number_between-returns-in-Some-number_at : goal.number_between-returns-in-Some-number_at
+number_between-returns-in-Some-number_at g t c =
+    let i = c.in-Binary in
+    let k = scope_of c.args.env.now (g.R.Row.values c.args.row.now) c.args.locals.now in
+    let a = resolved_of c.get-left.result.now in
+    let b = resolved_of c.get-right.result.now in
+    let op = c.in-Function.infix in
     let m = c.in-Some.m in
     let n = c.in-Some-number_at.n in
-    let f : FitsSigned w64 c.in-Some.m = search rules in
-    let h : FitsSigned w64 c.in-Some-number_at.n = search rules in
-    λ line. both-numbers (scope_of c.args.env.now (g.R.Row.values c.args.row.now) c.args.locals.now) line c.args.op (resolved_of c.args.left.now)
-    (resolved_of c.args.right.now) m n c.of_numbers.result c.in-Some.ensures c.in-Some-number_at.ensures
-    (written-both (λ x y. IfSome c.of_numbers.result (λ k. InfixOutcome c.args.op (Int x) (Int y) (Is (Int k)))) m n f h c.of_numbers.ensures)
-
-pub number_between-returns-in-Function : goal.number_between-returns-in-Function
-number_between-returns-in-Function g t c = λ line. subst (λ op. IfSome c.calculated.result
-    (λ n. HasOutcome (scope_of c.args.env.now (g.R.Row.values c.args.row.now) c.args.locals.now)
-    (binary line op (resolved_of c.args.left.now) (resolved_of c.args.right.now)) (Is (Int n)))) (sym c.in-Function.is) (c.calculated.ensures line)
+    let r = c.of_numbers.result in
+    let f : FitsSigned w64 m = search rules in
+    let h : FitsSigned w64 n = search rules in
+    let told = both-numbers k i.field-0 op a b m n r c.in-Some.ensures c.in-Some-number_at.ensures
+    (written-both (λ x y. IfSome r (λ q. InfixOutcome op (Int x) (Int y) (Is (Int q)))) m n f h c.of_numbers.ensures) in
+    subst (λ d. IfSome r (λ q. HasOutcome k d (Is (Int q)))) (both-seen c.args.term.now i.field-0 i.op i.left i.right _ _ i.is c.get-left.ensures c.get-right.ensures)
+    (subst (λ o. IfSome r (λ q. HasOutcome k (binary i.field-0 o a b) (Is (Int q)))) (sym c.in-Function.is) told)
 
 pub number_between-returns-in-Application : goal.number_between-returns-in-Application
-number_between-returns-in-Application g t c = λ line. subst (λ op. IfSome c.number_applied.result
-    (λ n. HasOutcome (scope_of c.args.env.now (g.R.Row.values c.args.row.now) c.args.locals.now)
-    (binary line op (resolved_of c.args.left.now) (resolved_of c.args.right.now)) (Is (Int n)))) (sym c.in-Application.is) (c.number_applied.ensures line)
-
-pub number_at-returns-in-Binary : goal.number_at-returns-in-Binary
-number_at-returns-in-Binary g t c =
+number_between-returns-in-Application g t c =
     let i = c.in-Binary in
-    subst (λ d. IfSome c.number_between.result (λ n. HasOutcome (scope_of c.args.env.now (g.R.Row.values c.args.row.now) c.args.locals.now) d (Is (Int n))))
-    (ap (λ x. binary i.field-0 i.op (resolved_of x) (resolved_of c.get-in-Binary-2.result.now)) c.get-in-Binary.ensures
-    ∙ ap (λ x. binary i.field-0 i.op (resolved_of i.left) (resolved_of x)) c.get-in-Binary-2.ensures
-    ∙ sym (ap resolved_of i.is ∙ of-Binary i.field-0 i.op i.left i.right))
-    (c.number_between.ensures i.field-0)
+    let k = scope_of c.args.env.now (g.R.Row.values c.args.row.now) c.args.locals.now in
+    let a = resolved_of c.get-left.result.now in
+    let b = resolved_of c.get-right.result.now in
+    let r = c.number_applied.result in
+    subst (λ d. IfSome r (λ q. HasOutcome k d (Is (Int q)))) (both-seen c.args.term.now i.field-0 i.op i.left i.right _ _ i.is c.get-left.ensures c.get-right.ensures)
+    (subst (λ o. IfSome r (λ q. HasOutcome k (binary i.field-0 o a b) (Is (Int q)))) (sym c.in-Application.is) (c.number_applied.ensures i.field-0))
