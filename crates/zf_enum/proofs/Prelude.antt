@@ -23,7 +23,8 @@ pub use Rattle.zf_reference.specs.declared.reference.Reference.TheVariants.{Comp
 pub use Rattle.zf_value.proofs.Among.{members-take_more, take_all}
 pub use Rattle.zf_value.proofs.Exact.{exact}
 pub use Rattle.zf_value.proofs.Seen.{members-SetOf}
-pub use Rattle.zf_value.specs.Sets.{Every, IsAscending, IsMember, members, value_order}
+pub use Rattle.zf_value.specs.Sets.{IsAscending, IsMember, members, value_order}
+pub use Rattle.std.specs.List.{AllByRecursion}
 pub use Rattle.zf_value.specs.declared.value.Outcome.{Outcome}
 pub use Rattle.zf_value.specs.declared.value.Outcome.TheVariants.{Is, Out, Undefined}
 pub use Rattle.zf_value.specs.declared.plain.Value.{Value}
@@ -38,7 +39,8 @@ pub use Rattle.zf_term.specs.References.{references}
 pub use Rattle.zf_term.specs.declared.conjunct.Conjunct.{Conjunct}
 pub use Rattle.zf_term.specs.declared.resolved.Resolved.{Resolved}
 pub use Rattle.zf_term.specs.declared.resolved.ResolvedLink.{ResolvedLink}
-pub use Rattle.zf_meaning.specs.Environments.{Environment, value_or}
+pub use Rattle.zf_meaning.specs.Environments.{Environment}
+pub use Rattle.zf_meaning.specs.Lookups.{value_or}
 pub use Rattle.zf_meaning.specs.Envs.{environment_of, longer}
 pub use Rattle.zf_meaning.specs.InRow.{in_row}
 pub use Rattle.zf_meaning.specs.Meaning.{HasOutcome, IsTruth}

@@ -1,11 +1,11 @@
 -- What a walk asks of ranges and conjuncts, of those of a schema.
-use Rattle.zf_enum.proofs.Prelude.{◌<◌, ◌∷◌, ◌≡◌, ◌≤◌, [], ap, arith, length, List, Option, refl, subst, suc, sym, zero, ℕ, ⊎_elim, AllPairs, Contains, slice_get, Less, Ahead, AreAllAhead, AreDueWithin, AreAscending, HasLength, itself, SayTheSame, Every, IsAscending, value_order, Value, Comp, ResolvedTree, Environment, NeedWithin, due_of, property, AreRanges, later_held}
+use Rattle.zf_enum.proofs.Prelude.{◌<◌, ◌∷◌, ◌≡◌, ◌≤◌, [], ap, arith, length, List, Option, refl, subst, suc, sym, zero, ℕ, ⊎_elim, AllPairs, Contains, slice_get, Less, Ahead, AreAllAhead, AreDueWithin, AreAscending, HasLength, itself, SayTheSame, IsAscending, value_order, Value, Comp, ResolvedTree, Environment, NeedWithin, due_of, property, AreRanges, later_held, AllByRecursion}
 use Rattle.zf_walk.proofs.Lists.{AllPairs-nil, AllPairs-cons, Contains-cases, Contains-nil}
 
 abbrev Below : Value → Value → Type 0
 Below v w = value_order v w ≡ Less
 
-every_contained : (P : Value → Type 0) (xs : List Value) (y : Value) → Every P xs → Contains xs y → P y
+every_contained : (P : Value → Type 0) (xs : List Value) (y : Value) → AllByRecursion P xs → Contains xs y → P y
 every_contained P [] y h m = absurd (Contains-nil y m)
 every_contained P (x ∷ xs) y h m = ⊎_elim (λ s. subst P s h.0) (λ n. every_contained P xs y h.1 n) (Contains-cases x xs y m)
 

@@ -1,7 +1,8 @@
 -- The property of a schema in an environment, as the conjuncts of a walk.
-use Rattle.std.specs.Prelude.{ℕ, ◌+◌, max, List, [], ◌∷◌, length, Option, Some, None, slice_get}
+use Rattle.std.specs.Prelude.{ℕ, ◌+◌, max, List, [], ◌∷◌, length, Option, slice_get, IsSomeAnd}
+use Rattle.std.specs.Option.{option_map_or}
 use Rattle.zf_reference.specs.declared.reference.Reference.{Reference}
-use Rattle.zf_reference.specs.declared.reference.Reference.TheVariants.{Component, Local, Global}
+use Rattle.zf_reference.specs.declared.reference.Reference.TheVariants.{Component}
 use Rattle.zf_term.specs.ResolvedTrees.{ResolvedTree}
 use Rattle.zf_term.specs.References.{references}
 use Rattle.zf_value.specs.declared.plain.Value.{Value}
@@ -14,13 +15,10 @@ use Rattle.zf_meaning.specs.Environments.{Environment}
 use Rattle.zf_meaning.specs.InRow.{in_row}
 use Rattle.zf_meaning.specs.Meaning.{IsTruth}
 
--- ---- how many first components a term needs
-
 -- the place of a component, from 1
 abbrev pub place_named : Reference → ℕ
 place_named (Component i) = i + 1
-place_named (Local i) = 0
-place_named (Global i) = 0
+place_named _ = 0
 
 abbrev pub greatest_place : List Reference → ℕ
 greatest_place [] = 0
@@ -31,14 +29,10 @@ abbrev pub due : ResolvedTree → ℕ
 due t = greatest_place (references t)
 
 abbrev pub due_of : Option ResolvedTree → ℕ
-due_of None = 0
-due_of (Some t) = due t
-
--- ---- truths
+due_of conjunct = option_map_or due conjunct 0
 
 abbrev pub HasTruth : Environment → List Value → Option ResolvedTree → Truth → Type 0
-HasTruth e row None t = ⊥
-HasTruth e row (Some p) t = IsTruth (in_row e row) p t
+HasTruth e row conjunct t = IsSomeAnd conjunct (λ p. IsTruth (in_row e row) p t)
 
 -- the truth of a predicate that a walk calls so
 abbrev pub told : walk.Truth → Truth

@@ -11,12 +11,12 @@ ghost use Rattle.zf_enum.specs.Searches.{planted_goal};
 ghost use Rattle.zf_enum.specs.PortionViews.{portion};
 ghost use Rattle.zf_enum.specs.Holding.{CanHold};
 ghost use Rattle.zf_enum.specs.Starts.{Begins};
-ghost use Rattle.zf_ranges.specs.Ranges.{Refuses};
+ghost use Rattle.zf_ranges.specs.StartFaults.{RefusesStart};
 
 use crate::lifting::lifted;
 use crate::planting::{Planting, plant_schema};
 use crate::property::Property;
-use crate::search::Search;
+use crate::search::{Passing, Search};
 use bumpalo::Bump;
 use std::alloc::{AllocError, Global};
 use zf_meaning::env::Env;
@@ -49,7 +49,7 @@ impl<'s, 'e, 'g, 'a> Instances<'s, 'e, 'g, 'a> {
         requires named { HasLength (option_copied after) (length (schema_of flat.now).comps) }
         requires due { AreDueWithin (property (environment_of env.now) (schema_of flat.now).conjuncts) (length (schema_of flat.now).comps) }
         ensures begins { IfOk result (λ i. Begins (environment_of env.now) (schema_of flat.now) (portion (option_copied after.entry) held.now) (planted_goal i.names i.search) i.search.stage) }
-        ensures refused { IfErr result (Refuses (environment_of env.now) (schema_of flat.now).comps) }
+        ensures refused { IfErr result (RefusesStart (environment_of env.now) (schema_of flat.now).comps) }
     {
         let ranges = ranges(alloc, flat.components.as_slice(), held, env)?;
         let planting = plant_schema(alloc, arena, flat)?;
@@ -112,5 +112,11 @@ impl<'s, 'e, 'g, 'a> Search for Instances<'s, 'e, 'g, 'a> {
 
     fn place(&self, i: usize) -> usize {
         self.search.place(i)
+    }
+}
+
+impl<'s, 'e, 'g, 'a> Passing for Instances<'s, 'e, 'g, 'a> {
+    fn pass(&mut self, count: usize) {
+        self.search.pass(count);
     }
 }

@@ -1,7 +1,7 @@
 //! What a search for the bindings of a schema does, whether it counts its tests or not.
-ghost use Rattle.std.specs.Prelude.{◌≡◌, ◌<◌, length, IfOk, OnOk, OnErr, IsSomeAnd, IfSome, slice_get, slice_index_or, unwrap_or, []};
+ghost use Rattle.std.specs.Prelude.{◌≡◌, ◌<◌, length, take, IfOk, OnOk, OnErr, IsSomeAnd, IfSome, slice_get, slice_index_or, unwrap_or, []};
 ghost use Rattle.zf_value.specs.Sets.{value_order};
-ghost use Rattle.zf_walk.specs.Progress.{ended, SameRanges, Advances, Stays};
+ghost use Rattle.zf_walk.specs.Progress.{ended, past, SameRanges, Advances, Stays};
 ghost use Rattle.zf_enum.specs.Searches.{conjuncts_of};
 
 use std::alloc::AllocError;
@@ -38,4 +38,13 @@ pub trait Search: Row {
         ensures { IfSome (stage self.now).last (λ row. slice_get row i ≡ slice_get (slice_index_or (stage self.now).ranges i []) result) };
 
     ghost given: { (s : Self) → Self.Row.values s ≡ unwrap_or (stage s).last [] };
+}
+
+/// A search that can pass over bindings.
+pub trait Passing: Search {
+    /// Passes over the bindings ahead that begin with as many first values as the one that the last step gave.
+    fn pass(&mut self, count: usize)
+        ensures goal { Self.Search.goal self.new ≡ Self.Search.goal self.old }
+        ensures ranges { SameRanges (Self.Search.stage self.old) (Self.Search.stage self.new) }
+        ensures passed { IfSome (Self.Search.stage self.old).last (λ row. (Self.Search.stage self.new).ahead ≡ past (take count row)) };
 }

@@ -10,7 +10,7 @@ ghost use Rattle.zf_meaning.specs.Envs.{environment_of};
 ghost use Rattle.zf_enum.specs.Property.{property};
 ghost use Rattle.zf_enum.specs.PortionViews.{portion};
 ghost use Rattle.zf_enum.specs.Starts.{BeginsCounting};
-ghost use Rattle.zf_ranges.specs.Ranges.{Refuses};
+ghost use Rattle.zf_ranges.specs.StartFaults.{RefusesStart};
 
 use crate::bindings::Bindings;
 use crate::conjuncts::Conjuncts;
@@ -40,7 +40,7 @@ impl<'s, 'e, 'g, 'a> Bindings<'s, 'e, 'g, 'a> {
         requires named { HasLength (option_copied after) (length (schema_of flat.now).comps) }
         requires due { AreDueWithin (property (environment_of env.now) (schema_of flat.now).conjuncts) (length (schema_of flat.now).comps) }
         ensures begins { IfOk result (λ b. BeginsCounting (environment_of env.now) (schema_of flat.now) (portion (option_copied after.entry) held.now) b) }
-        ensures refused { IfErr result (Refuses (environment_of env.now) (schema_of flat.now).comps) }
+        ensures refused { IfErr result (RefusesStart (environment_of env.now) (schema_of flat.now).comps) }
     {
         let ranges = ranges(alloc, flat.components.as_slice(), held, env)?;
         let all = flat.conjuncts.flat()?;

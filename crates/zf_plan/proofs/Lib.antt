@@ -14,9 +14,11 @@ pub mod Moving
 pub mod Seeing
 pub mod Marking
 pub mod Sieving
+pub mod Keying
 pub mod Stepping
 pub mod Blaming
 pub mod Jumping
+pub mod Leaving
 pub mod Alike
 pub mod Counting
 pub mod Walking

@@ -209,6 +209,10 @@ abbrev pub PassesOpen : Place → Place → Type 0
 PassesOpen old new = ((old.depth ≡ 0) × (new ≡ record old { fresh = false }))
     ⊎ (last : ℕ) × (old.depth ≡ last + 1) × (new ≡ record old { fresh = false; marks = new.marks }) × Accuses last true 0 old.marks new.marks
 
+-- as many of them stay bound as there are, but no more than so many, and the row of these is passed so
+abbrev pub Leaves : ℕ → Place → Place → Type 0
+Leaves count old new = (n : ℕ) × (((n ≡ old.depth) × (n ≤ count)) ⊎ ((n ≡ count) × (n ≤ old.depth))) × PassesOpen (record old { depth = n }) new
+
 -- the row of the bound values is passed: the last one is open from now on, or it is to be blamed on what the conjuncts use that were tested
 abbrev pub Passes : {V : Type 0} → (V → V → Ordering) → List (List V) → Option (List V) → List ℕ → Place → Place → Type 0
 Passes cmp ranges after blames old new = PassesOpen old new

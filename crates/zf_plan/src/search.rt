@@ -3,17 +3,19 @@ ghost use Rattle.std.specs.Prelude.{◌≡◌, ◌<◌, ◌≤◌, ◌+◌, ◌�
 ghost use Rattle.std.specs.Option.{option_copied};
 ghost use Rattle.zf_walk.specs.Rows.{IsRowOf};
 ghost use Rattle.zf_walk.specs.RowLaws.{TiesAreEqual, AreAscending, HasLength};
-ghost use Rattle.zf_walk.specs.Progress.{AreDueWithin, ended, AreAllAhead, Advances, Stays, AreTests, IsBounded};
+ghost use Rattle.zf_walk.specs.Progress.{AreDueWithin, ended, past, AreAllAhead, SameRanges, Advances, Stays, AreTests, IsBounded};
 ghost use Rattle.zf_plan.specs.Trees.{planted, HaveLeavesWithin, IsFlat};
 ghost use Rattle.zf_plan.specs.Groves.{trees_of};
 ghost use Rattle.zf_plan.specs.Exchanges.{exchanged};
-ghost use Rattle.zf_plan.specs.Places.{IsSound, begun};
+ghost use Rattle.zf_plan.specs.Places.{IsSound, Leaves, begun};
 ghost use Rattle.zf_plan.specs.Counts.{IsPlain};
 ghost use Rattle.zf_plan.specs.Progress.{SameProblem, counted};
+ghost use Rattle.zf_plan.specs.Keys.{AreKeyed};
 
 use crate::choice::{Choice, all_chosen};
 use crate::forest::Forest;
 use crate::guide::Guide;
+use crate::keys::{Keyed, all_keys};
 use crate::marks::Marks;
 use crate::memo::Memo;
 use crate::place::Place;
@@ -34,6 +36,8 @@ pub struct Search<'a, V: Ord, J: Guide<V>> {
     plan: Plan,
     place: Place,
     memo: Memo,
+    /// For each leaf the keys of the values of the last component that it needs, or none.
+    keys: Vec<Keyed>,
     /// For each range which of its values are tried.
     choices: Vec<Choice>,
     /// Whether the place is that of a row that the last step gave.
@@ -49,7 +53,7 @@ impl<'a, V: Ord, J: Guide<V>> Model for Search<'a, V, J> {
 
     ghost view = { λ w. view_of w.judge w.forest w.ranges.items (option_copied w.after) w.place w.memo w.given w.plan.is_plain };
 
-    ghost invariant = { λ w. IsStanding V.cmp (J.conjuncts w.judge) (J.is_used w.judge) w.forest w.ranges.items (option_copied w.after) w.plan w.place w.memo w.choices.items w.given w.plan.is_plain };
+    ghost invariant = { λ w. IsStanding V.cmp (J.conjuncts w.judge) (J.is_used w.judge) (J.is_key w.judge) w.forest w.ranges.items (option_copied w.after) w.plan w.keys.items w.place w.memo w.choices.items w.given w.plan.is_plain };
 }
 
 impl<'a, V: Ord + Drop, J: Guide<V> + Drop> Search<'a, V, J> {
@@ -135,6 +139,7 @@ impl<'a, V: Ord + Drop, J: Guide<V> + Drop> Search<'a, V, J> {
         let plain = plan.is_plain;
         let places = vec![in alloc; 0; ranges.len()]?;
         let memo = Memo::new(alloc, &judge, &ranges)?;
+        let keys = keys_by(alloc, &judge, &ranges, plain)?;
         let choices = all_chosen(alloc, ranges.len())?;
         let found = vec![in alloc; Truth::True; ranges.len()]?;
         let marks = Marks::new(alloc, ranges.len())?;
@@ -155,6 +160,7 @@ impl<'a, V: Ord + Drop, J: Guide<V> + Drop> Search<'a, V, J> {
             plan,
             place,
             memo,
+            keys,
             choices,
             given: false,
         })
@@ -178,6 +184,7 @@ impl<'a, V: Ord, J: Guide<V>> Search<'a, V, J> {
             ranges: &self.ranges,
             after: self.after,
             plan: &self.plan,
+            keys: &self.keys,
         };
         match next_answer(&problem, &mut self.place, &mut self.memo, &mut self.choices)? {
             Step::Holds => {
@@ -189,6 +196,29 @@ impl<'a, V: Ord, J: Guide<V>> Search<'a, V, J> {
                 Ok(Step::Breaks)
             }
             Step::End => Ok(Step::End),
+        }
+    }
+
+    /// Passes over the rows ahead that begin with as many first values as the one that the last step gave. From then on no tests are counted.
+    pub fn pass(&mut self, count: usize)
+        ensures problem { (self.new.judge ≡ self.old.judge) × (self.new.forest ≡ self.old.forest) × SameRanges self.old.stage self.new.stage }
+        ensures passed { IfSome self.old.stage.last (λ row. self.new.stage.ahead ≡ past (take count row)) }
+    {
+        if self.given {
+            self.given = false;
+            self.plan.is_plain = false;
+            leave(&mut self.place, count);
+        }
+    }
+
+    /// The values of a range; none where there is no such range.
+    pub fn range(&self, i: usize) -> &[V]
+        ensures values { result.now ≡ slice_index_or self.now.stage.ranges i [] }
+        ensures ascending { AreAscending V.cmp self.now.stage.ranges }
+    {
+        match self.ranges.get(i) {
+            None => &[],
+            Some(range) => &range.values,
         }
     }
 
@@ -230,6 +260,21 @@ impl<'a, V: Ord, J: Guide<V>> Row<V> for Search<'a, V, J> {
     }
 }
 
+/// Goes back past the row of the first values, the last of which is open from now on.
+fn leave(place: &mut Place, count: usize)
+    requires { place.old.depth ≤ length place.old.marks.choices.items }
+    ensures { Leaves count place.old place.new }
+{
+    place.fresh = false;
+    if count < place.depth {
+        place.depth = count;
+    }
+    if place.depth == 0 {
+        return;
+    }
+    place.marks.accuse(place.depth - 1, true, 0);
+}
+
 /// The ranges, some of them exchanged for others.
 fn with_others<V: Drop>(ranges: Vec<Range<V>>, others: Vec<Option<Range<V>>>) -> Vec<Range<V>>
     requires { length others.items ≡ length ranges.items }
@@ -253,6 +298,22 @@ fn put<V: Drop>(ranges: &mut Vec<Range<V>>, place: usize, other: Option<Range<V>
         None => {}
         Some(range) => ranges[place] = range,
     }
+}
+
+/// The keys for each leaf; none where tests are counted.
+fn keys_by<V: Ord, J: Guide<V>>(
+    alloc: Global,
+    judge: &J,
+    ranges: &[Range<V>],
+    plain: bool,
+) -> Result<Vec<Keyed>, AllocError>
+    requires { AreDueWithin (J.conjuncts judge.now) (length ranges.now) }
+    ensures { IfOk result (λ all. AreKeyed (J.conjuncts judge.now) (J.is_key judge.now) ranges.now all.items) }
+{
+    if plain {
+        return Ok(Vec::new(alloc));
+    }
+    all_keys(alloc, judge, ranges)
 }
 
 /// Whether there may be a row, or tests are counted all the same.

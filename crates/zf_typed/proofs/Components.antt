@@ -1,5 +1,5 @@
 -- The declared sets of components are sets for them, and stay so where schemas are made of others.
-use Rattle.zf_typed.proofs.Prelude.{if◌then◌else◌, ◌++◌, ◌∙◌, ◌∷◌, ◌≡◌, [], ap, Bool, false, List, map, None, Option, refl, Some, subst, suc, sym, true, zero, ℕ, none-some, same_Some, slice_get, bytes_eq, swapped, Comp, DeclaredSet, Defined, Schema, sets_of, later, or_else, Ty, joined_type, named_there, type_of_once, type_one_more, decorated_once, joined_once, type_found, type_named}
+use Rattle.zf_typed.proofs.Prelude.{if◌then◌else◌, ◌++◌, ◌∙◌, ◌∷◌, ◌≡◌, [], ap, Bool, false, List, map, None, Option, refl, Some, subst, suc, sym, true, zero, ℕ, none-some, same_Some, slice_get, bytes_eq, swapped, Comp, DeclaredSet, Defined, Schema, sets_of, later, Ty, joined_type, named_there, type_of_once, type_one_more, decorated_once, joined_once, type_found, type_named, option_or}
 use Rattle.zf_tree.specs.declared.tree.RefMark.{RefMark}
 use Rattle.zf_tree.specs.declared.tree.RefMark.TheVariants.{Plain, Delta, Xi}
 use Rattle.zf_term.proofs.Choices.{or_none}
@@ -57,7 +57,7 @@ type_agreed (Some p) c f = f p.1.type refl
 still_agrees : (cs : List Comp) (d c : Comp) → bytes_eq d.name c.name ≡ false → Agrees cs c → Agrees (with_comp cs d) c
 still_agrees cs d c apart a =
     let same : type_named c.name (with_comp cs d) ≡ type_named c.name cs =
-    type_one_more c.name cs d ∙ ap (λ b. or_else (type_named c.name cs) (if b then Some d.type else None)) apart ∙ or_none (type_named c.name cs) in
+    type_one_more c.name cs d ∙ ap (λ b. option_or (type_named c.name cs) (if b then Some d.type else None)) apart ∙ or_none (type_named c.name cs) in
     type_agreed (comp_named c.name (with_comp cs d)) c (λ u e. agreed_type (comp_named c.name cs) c a u (sym same ∙ e))
 
 all_still_agree : (cs : List Comp) (d : Comp) (ds : List Comp) → comp_named d.name ds ≡ None → Agree cs ds → Agree (with_comp cs d) ds
@@ -96,7 +96,7 @@ side_for g cs x t h same (Some p) e =
 -- a component of the one schema, or of the other, has the type that it has in both
 type_left : (cs ds : List Comp) (i : ℕ) (c : Comp) → AreOnce (with_comps cs ds) → slice_get (with_comps cs ds) i ≡ Some c → (p : ℕ × Comp) → comp_named c.name cs ≡ Some p → p.1.type ≡ c.type
 type_left cs ds i c once at p e =
-    same_Some p.1.type c.type (ap (λ o. or_else (type_found o) (type_named c.name ds)) (sym e) ∙ sym (joined_type c.name cs ds) ∙ type_of_once (with_comps cs ds) i c once at)
+    same_Some p.1.type c.type (ap (λ o. option_or (type_found o) (type_named c.name ds)) (sym e) ∙ sym (joined_type c.name cs ds) ∙ type_of_once (with_comps cs ds) i c once at)
 
 agrees_at : (cs ds : List Comp) (i : ℕ) (c : Comp) → Agree cs ds → slice_get ds i ≡ Some c → Agrees cs c
 agrees_at cs [] i c agreed e = absurd (none-some c e)
@@ -110,7 +110,7 @@ type_right cs ds i c once agree at p e =
     let agrees = subst (λ x. HasTypeOf (comp_named x cs) p.1) there.1 (agrees_at cs ds p.0 p.1 agree there.0) in
     by (comp_named c.name cs) agrees (sym (joined_type c.name cs ds) ∙ type_of_once (with_comps cs ds) i c once at)
   where
-    by : (o : Option (ℕ × Comp)) → HasTypeOf o p.1 → or_else (type_found o) (type_named c.name ds) ≡ Some c.type → p.1.type ≡ c.type
+    by : (o : Option (ℕ × Comp)) → HasTypeOf o p.1 → option_or (type_found o) (type_named c.name ds) ≡ Some c.type → p.1.type ≡ c.type
     by None a f = same_Some p.1.type c.type (ap type_found (sym e) ∙ f)
     by (Some q) a f = sym a ∙ same_Some q.1.type c.type f
 

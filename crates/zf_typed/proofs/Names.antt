@@ -1,5 +1,5 @@
 -- What a name stands for has a value of the name's type, where each value that is bound has its own.
-use Rattle.zf_typed.proofs.Prelude.{if◌then◌else◌, ◌++◌, ◌+◌, ◌∙◌, ◌∷◌, ◌≡◌, [], add-one, ap, Bool, false, List, None, Option, refl, Some, subst, suc, sym, true, zero, ℕ, none-some, same_Some, slice_get, bytes_eq, Reference, Outcome, Is, Value, Comp, Defined, first_named, later, or_else, Sort, typed, global_sort, last_named, meaning, Scope, Var, component_meaning, global_meaning, variable_meaning, types_of, named_there, Context, Environment, outcome_in, outcome_or, value_or, within, AreOfTypes, IsOfType}
+use Rattle.zf_typed.proofs.Prelude.{if◌then◌else◌, ◌++◌, ◌+◌, ◌∙◌, ◌∷◌, ◌≡◌, [], add-one, ap, Bool, false, List, None, Option, refl, Some, subst, suc, sym, true, zero, ℕ, none-some, same_Some, slice_get, bytes_eq, Reference, Outcome, Is, Value, Comp, Defined, first_named, later, Sort, typed, global_sort, last_named, meaning, Scope, Var, component_meaning, global_meaning, variable_meaning, types_of, named_there, Context, Environment, outcome_in, outcome_or, value_or, within, AreOfTypes, IsOfType, option_or}
 use Rattle.zf_reference.specs.declared.reference.Reference.TheVariants.{Component, Local, Global}
 use Rattle.zf_type.specs.Scopes as scopes
 use Rattle.zf_typed.proofs.OfTypes.{first_of_types}
@@ -15,7 +15,7 @@ last_found x [] p e = absurd (none-some p e)
 last_found x (v ∷ vs) p e = go (last_named (λ u. u.name) x vs) (bytes_eq v.name x) (last_found x vs) e
   where
     go : (o : Option (ℕ × Var)) (b : Bool) → ((q : ℕ × Var) → o ≡ Some q → slice_get vs q.0 ≡ Some q.1)
-        → or_else (later o) (if b then Some (0, v) else None) ≡ Some p → slice_get (v ∷ vs) p.0 ≡ Some p.1
+        → option_or (later o) (if b then Some (0, v) else None) ≡ Some p → slice_get (v ∷ vs) p.0 ≡ Some p.1
     go (Some q) b ih f = subst (λ (r : ℕ × Var). slice_get (v ∷ vs) r.0 ≡ Some r.1) (same_Some (q.0 + 1, q.1) p f) (further v vs q.0 q.1 (ih q refl))
     go None true ih f = subst (λ (r : ℕ × Var). slice_get (v ∷ vs) r.0 ≡ Some r.1) (same_Some (0, v) p f) refl
     go None false ih f = absurd (none-some p f)
@@ -79,12 +79,12 @@ named_typed e s c x r z v f = local (last_named (λ u. u.name) x s.locals) (last
         with_these (Global g.0) (global_sort g.1) (λ q. f.globals g.0 g.1 (Is v) (k g refl).0 (outcome_is (slice_get c.environment.outcomes g.0) v q) v refl) m p
 
     component : (o : Option (ℕ × Comp)) → ((p : ℕ × Comp) → o ≡ Some p → (slice_get s.comps p.0 ≡ Some p.1) × (p.1.name ≡ x))
-        → or_else (component_meaning o) (global_meaning (first_named (λ d. d.name) x s.globals)) ≡ meant r z → outcome_in c r ≡ Is v → IsOfSort e z v
+        → option_or (component_meaning o) (global_meaning (first_named (λ d. d.name) x s.globals)) ≡ meant r z → outcome_in c r ≡ Is v → IsOfSort e z v
     component None k m p = global (first_named (λ d. d.name) x s.globals) (named_there (λ d. d.name) x s.globals) m p
     component (Some g) k m p = with_these (Component g.0) (typed g.1.type) (λ q. f.comps g.0 g.1 v (k g refl).0 (value_is (slice_get c.row g.0) v q)) m p
 
     local : (o : Option (ℕ × Var)) → ((p : ℕ × Var) → o ≡ Some p → slice_get s.locals p.0 ≡ Some p.1)
-        → or_else (variable_meaning o) (or_else (component_meaning (first_named (λ d. d.name) x s.comps))
+        → option_or (variable_meaning o) (option_or (component_meaning (first_named (λ d. d.name) x s.comps))
         (global_meaning (first_named (λ d. d.name) x s.globals))) ≡ meant r z → outcome_in c r ≡ Is v → IsOfSort e z v
     local None k m p = component (first_named (λ d. d.name) x s.comps) (named_there (λ d. d.name) x s.comps) m p
     local (Some g) k m p = with_these (Local g.0) (typed g.1.type) (λ q. local_at e s.locals c.locals g.0 g.1 v f.locals (k g refl) (value_is (slice_get c.locals g.0) v q)) m p

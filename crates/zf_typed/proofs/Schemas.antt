@@ -1,5 +1,5 @@
 -- The declared sets of each schema that is defined are sets for its components.
-use Rattle.zf_typed.proofs.Prelude.{◌<◌, ◌∷◌, ◌≡◌, [], arith, List, refl, Some, subst, suc, sym, take, zero, ℕ, none-some, same_Some, slice_get, spelling, both, DeclTree, either, include, reference, schema_bracket, schema_text, SchemaTree, vars, Name, abbreviation, constructor, DeclaredSet, Defined, Definition, free_type, given_set, plain, Schema, schema, Ty, resolved, comp, marked, nothing, named_there, constrained_comps, reference_once, schema_once, AddsAll, Declares, DeclaresOne, IsSchema, outside, Refers, HasCompsOnce, HaveCompsOnce, AreWellTyped, IsMadeAfter}
+use Rattle.zf_typed.proofs.Prelude.{◌<◌, ◌∷◌, ◌≡◌, [], arith, List, refl, Some, subst, suc, sym, take, zero, ℕ, none-some, same_Some, slice_get, spelling, both, DeclTree, either, include, schema_reference, schema_bracket, schema_text, SchemaTree, vars, Name, abbreviation, constructor, DeclaredSet, Defined, Definition, free_type, given_set, plain, Schema, schema, Ty, resolved, comp, marked, empty_schema, named_there, constrained_comps, reference_once, schema_once, AddsAll, Declares, DeclaresOne, IsSchema, outside, Refers, HasCompsOnce, HaveCompsOnce, AreWellTyped, IsMadeAfter}
 use Rattle.std.specs.List.{AllByRecursion}
 use Rattle.zf_tree.specs.declared.tree.SchemaRef.{SchemaRef}
 use Rattle.zf_typed.proofs.DeclaredSets.{IsSetFor}
@@ -64,8 +64,8 @@ module _ (g : List Defined) (n : ℕ) (once : HaveCompsOnce (take n g)) (before 
   declared_for a (d ∷ ds) b h p = declared_for p.0 ds b (declaration_for a d p.0 h p.1) p.2
 
   schema_for : (x : SchemaTree) (c : Schema) → IsSchema (take n g) x c → AreCompsFor g c.comps
-  schema_for (schema_text ds es) c p = subst (AreCompsFor g) (sym (constrained_comps (take n g) p.0 es c p.2)) (declared_for nothing ds p.0 tt p.1)
-  schema_for (reference r) c p = reference_for r c p
+  schema_for (schema_text ds es) c p = subst (AreCompsFor g) (sym (constrained_comps (take n g) p.0 es c p.2)) (declared_for empty_schema ds p.0 tt p.1)
+  schema_for (schema_reference r) c p = reference_for r c p
   schema_for (both x y) c p =
       subst (λ v. AreCompsFor g v.comps) (sym p.5.0) (joined_for g p.0.comps p.1.comps (schema_for x p.0 p.2) (schema_for y p.1 p.3) (schema_once (take n g) y p.1 once p.3) p.4)
   schema_for (either l x y) c p =

@@ -6,7 +6,6 @@ use Rattle.zf_walk.specs.declared.judge.Truth.TheVariants.{False}
 use Rattle.zf_walk.specs.Conjuncts.{Conjuncts, IsTruthOf}
 use Rattle.zf_walk.specs.Rows.{IsRowOf, IsLater}
 
--- a row with its truth
 pub record Event (V : Type 0) : Type 0 where
   pub row : List V
   pub truth : Truth

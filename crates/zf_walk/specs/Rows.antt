@@ -1,8 +1,9 @@
 -- Rows of values: their order, and the rows that ranges have.
-use Rattle.std.specs.Prelude.{◌≡◌, List, [], ◌∷◌, length, take, Option, Some, None, Contains}
+use Rattle.std.specs.Prelude.{◌≡◌, List, length, take, Option, Contains, IfSome}
 use Rattle.std.specs.declared.cmp.Ordering.{Ordering}
 use Rattle.std.specs.declared.cmp.Ordering.TheVariants.{Less}
 use Rattle.std.specs.Cmp.Lexicographic.{slice_cmp}
+use Rattle.std.specs.List.{AllZip}
 
 -- the second row is the greater one, lexicographically
 abbrev pub ComesAfter : {V : Type 0} → (V → V → Ordering) → List V → List V → Type 0
@@ -10,15 +11,11 @@ ComesAfter cmp named row = slice_cmp cmp named row ≡ Less
 
 -- the row is greater than the named one, if one is named
 abbrev pub IsLater : {V : Type 0} → (V → V → Ordering) → Option (List V) → List V → Type 0
-IsLater cmp None row = Unit {0}
-IsLater cmp (Some named) row = ComesAfter cmp named row
+IsLater cmp after row = IfSome after (λ named. ComesAfter cmp named row)
 
 -- a value of each range
 abbrev pub IsRowOf : {V : Type 0} → List (List V) → List V → Type 0
-IsRowOf [] [] = Unit {0}
-IsRowOf [] (v ∷ row) = ⊥
-IsRowOf (range ∷ ranges) [] = ⊥
-IsRowOf (range ∷ ranges) (v ∷ row) = Contains range v × IsRowOf ranges row
+IsRowOf = AllZip Contains
 
 -- a value of each of the first ranges
 abbrev pub IsFrontOf : {V : Type 0} → List (List V) → List V → Type 0

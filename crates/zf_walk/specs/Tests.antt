@@ -1,5 +1,5 @@
 -- The tests of a walk: pairs of a row of the first ranges and a conjunct that is due there.
-use Rattle.std.specs.Prelude.{◌≡◌, ◌≢◌, ◌↔◌, ℕ, ◌-◌, ◌<◌, ◌^◌, min, List, length, take, Option, Some, None, Contains, AllPairs}
+use Rattle.std.specs.Prelude.{◌≡◌, ◌≢◌, ◌↔◌, ℕ, ◌-◌, ◌<◌, ◌^◌, min, List, length, take, Option, Contains, AllPairs, IfSome}
 use Rattle.std.specs.declared.cmp.Ordering.{Ordering}
 use Rattle.std.specs.declared.cmp.Ordering.TheVariants.{Less, Greater}
 use Rattle.std.specs.Cmp.Lexicographic.{slice_cmp}
@@ -20,8 +20,7 @@ pub record IsDueTest {V : Type 0} (s : Conjuncts V) (ranges : List (List V)) (pa
 
 -- the row is not less than as many first values of the named one; where it has all n values it is greater
 abbrev pub IsReached : {V : Type 0} → (V → V → Ordering) → Option (List V) → ℕ → List V → Type 0
-IsReached cmp None n row = Unit {0}
-IsReached cmp (Some named) n row = (slice_cmp cmp (take (length row) named) row ≢ Greater) × (length row ≡ n → ComesAfter cmp named row)
+IsReached cmp after n row = IfSome after (λ named. (slice_cmp cmp (take (length row) named) row ≢ Greater) × (length row ≡ n → ComesAfter cmp named row))
 
 -- a pair that is tested: no conjunct before it that is due at the row too is False there
 pub record IsWalked {V : Type 0} (cmp : V → V → Ordering) (s : Conjuncts V) (ranges : List (List V)) (after : Option (List V)) (pair : List V × ℕ) : Type 0 where
@@ -31,10 +30,8 @@ pub record IsWalked {V : Type 0} (cmp : V → V → Ordering) (s : Conjuncts V) 
 
 -- the row is not greater than as many first values of the whole row, if there is one
 abbrev pub IsUpTo : {V : Type 0} → (V → V → Ordering) → Option (List V) → List V → Type 0
-IsUpTo cmp None row = Unit {0}
-IsUpTo cmp (Some whole) row = slice_cmp cmp (take (length row) whole) row ≢ Less
+IsUpTo cmp last row = IfSome last (λ whole. slice_cmp cmp (take (length row) whole) row ≢ Less)
 
--- how many pairs there are
 pub record IsCount {V : Type 0} (P : List V × ℕ → Type 0) (number : ℕ) : Type 0 where
   pub pairs : List (List V × ℕ)
   pub distinct : AllPairs (λ p q. p ≢ q) pairs
