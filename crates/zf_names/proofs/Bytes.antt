@@ -3,7 +3,8 @@ use Rattle.zf_names.proofs.Prelude.{◌++◌, ◌∙◌, ◌∷◌, ◌≡◌, [
 use Rattle.std.proofs.lemmas.List.Folds.{list_all-append}
 use Rattle.zf_scan.specs.declared.pieces.Run.{Run}
 use Rattle.zf_scan.specs.declared.pieces.Run.TheVariants.{Base, Strokes}
-use Rattle.zf_scan.specs.Pieces.{is_letter, is_digit, is_one, is_two, is_run, is_base}
+use Rattle.zf_scan.specs.Pieces.{is_letter, is_one, is_two, is_run, is_base}
+use Rattle.std.specs.Char.{is_ascii_digit}
 use Rattle.zf_scan.proofs.Longest.{either}
 
 -- one of seven, of which the first or the second holds
@@ -17,10 +18,10 @@ second_of_seven false true a b c e f h = refl
 second_of_seven false false a b c e f h = absurd (cc)
 
 letter_named : (b : ℕ) → is_letter b ≡ true → is_in_name b ≡ true
-letter_named b h = first_of_seven (is_letter b) (is_digit b) (b == 33) (b == 39) (b == 63) (b == 92) (b == 95) h
+letter_named b h = first_of_seven (is_letter b) (is_ascii_digit b) (b == 33) (b == 39) (b == 63) (b == 92) (b == 95) h
 
-digit_named : (b : ℕ) → is_digit b ≡ true → is_in_name b ≡ true
-digit_named b h = second_of_seven (is_letter b) (is_digit b) (b == 33) (b == 39) (b == 63) (b == 92) (b == 95) h
+digit_named : (b : ℕ) → is_ascii_digit b ≡ true → is_in_name b ≡ true
+digit_named b h = second_of_seven (is_letter b) (is_ascii_digit b) (b == 33) (b == 39) (b == 63) (b == 92) (b == 95) h
 
 -- this byte is that of a name, and so is an equal one
 byte_named : (b c : ℕ) → is_in_name c ≡ true → (b == c) ≡ true → is_in_name b ≡ true
@@ -34,7 +35,7 @@ record IsNamed (run : Run) : Type 0 where
 base_named : IsNamed Base
 base_named =
     record {
-      one = λ b h. either (is_letter b) (is_digit b) h (letter_named b) (digit_named b);
+      one = λ b h. either (is_letter b) (is_ascii_digit b) h (letter_named b) (digit_named b);
       two = λ b c h. (byte_named b 92 refl (and_left (b == 92) (c == 95) h), byte_named c 95 refl (and_right (b == 92) (c == 95) h));
     }
 
@@ -42,7 +43,7 @@ strokes_named : IsNamed Strokes
 strokes_named =
     record {
       one = λ b h. either (b == 39) (b == 63 || b == 33) h (byte_named b 39 refl) (λ h. either (b == 63) (b == 33) h (byte_named b 63 refl) (byte_named b 33 refl));
-      two = λ b c h. (byte_named b 95 refl (and_left (b == 95) (is_digit c) h), digit_named c (and_right (b == 95) (is_digit c) h));
+      two = λ b c h. (byte_named b 95 refl (and_left (b == 95) (is_ascii_digit c) h), digit_named c (and_right (b == 95) (is_ascii_digit c) h));
     }
 
 pub both_true : (a b : Bool) → a ≡ true → b ≡ true → (a && b) ≡ true

@@ -1,5 +1,5 @@
 -- What a tree spells is a front of the symbols: the rest stands behind it.
-use Rattle.zf_names.proofs.Prelude.{◌++◌, ◌∙◌, ◌∷◌, ◌≡◌, [], ap, append_assoc, List, sym, DeclTree, include, reference, SchemaTree, Tree, vars, Name, separator, Symbol, symbol, Kind, Next, PartedBy, Spells, SpellsDecl, SpellsMarked, SpellsName, SpellsPredicates, SpellsSchema}
+use Rattle.zf_names.proofs.Prelude.{◌++◌, ◌∙◌, ◌∷◌, ◌≡◌, [], ap, append_assoc, List, sym, DeclTree, include, schema_reference, SchemaTree, Tree, vars, Name, separator, Symbol, symbol, Kind, Next, PartedBy, Spells, SpellsDecl, SpellsMarked, SpellsName, SpellsPredicates, SpellsSchema}
 use Rattle.zf_tree.specs.declared.symbol.Connective.TheVariants.{And, Or}
 use Rattle.zf_scan.specs.declared.token.Kind.TheVariants as k
 use Rattle.zf_tree.specs.declared.tree.RefMark.{RefMark}
@@ -61,7 +61,7 @@ predicates_behind kind (p ∷ ps) {us = us} h = then (next_behind {kind = kind} 
 pub schema_behind : (x : SchemaTree) {ts us : List Symbol} → SpellsSchema x ts us → Behind ts us
 schema_behind (shape.schema_text ds ps) h =
     then (next_behind {kind = k.OpenSquare} h.3) (then (decls_behind ds h.4) (then (predicates_behind k.Bar ps h.5) (next_behind {kind = k.CloseSquare} h.6)))
-schema_behind (reference r) {ts = ts} {us = us} h = marked_behind r.mark r.name ts us h
+schema_behind (schema_reference r) {ts = ts} {us = us} h = marked_behind r.mark r.name ts us h
 schema_behind (shape.both x y) h = then (schema_behind x h.2) (then (next_behind {kind = k.Connective And} h.3) (schema_behind y h.4))
 schema_behind (shape.either l x y) h = then (schema_behind x h.3) (then (next_behind {kind = k.Connective Or} h.4) (schema_behind y h.5))
 schema_behind (shape.schema_bracket x) h = then (next_behind {kind = k.OpenRound} h.2) (then (schema_behind x h.3) (next_behind {kind = k.CloseRound} h.4))

@@ -7,7 +7,7 @@ use Rattle.zf_term.specs.Definitions.{DeclaredSet, plain, Schema}
 use Rattle.zf_term.specs.FirstNamed.{first_named, later}
 use Rattle.zf_term.specs.Types.{Ty}
 use Rattle.zf_type.specs.Resolving.{resolved}
-use Rattle.zf_calculus.specs.Calculus.{comp, marked, nothing}
+use Rattle.zf_calculus.specs.Calculus.{comp, marked, empty_schema}
 use Rattle.zf_term.specs.Faults.{Fault}
 use Rattle.zf_schema.specs.Checking.{Item, a_paragraph, a_box, items, next_number, with_global, Gives, Constructs, DefinesParagraph, Defines, ChecksOne, ChecksAll, IsChecked}
 use Rattle.zf_schema.specs.Expressions.{AddsAll, Declares, DeclaresOne, IsSchema, IsText, outside, Refers}
@@ -68,11 +68,11 @@ declared_named g a [] b known p names all = subst (λ v. HaveNames v.comps) (sym
 declared_named g a (d ∷ ds) b known p names all = declared_named g p.0 ds b known p.2 names.1 (declaration_named g a d p.0 known p.1 names.0 all)
 
 text_named : (g : List Defined) (ds : List DeclTree) (es : List Tree) (b : Schema) → AreNamed g → IsText g ds es b → AllByRecursion IsDeclSpelled ds → HaveNames b.comps
-text_named g ds es b known p names = subst HaveNames (sym (constrained_comps g p.0 es b p.2)) (declared_named g nothing ds p.0 known p.1 names tt)
+text_named g ds es b known p names = subst HaveNames (sym (constrained_comps g p.0 es b p.2)) (declared_named g empty_schema ds p.0 known p.1 names tt)
 
 schema_named : (g : List Defined) (x : SchemaTree) (c : Schema) → AreNamed g → IsSchema g x c → IsSchemaSpelled x → HaveNames c.comps
 schema_named g (text.schema_text ds ps) c known p names = text_named g ds ps c known p names
-schema_named g (text.reference r) c known p names = reference_named g r c known p names
+schema_named g (text.schema_reference r) c known p names = reference_named g r c known p names
 schema_named g (text.both x y) c known p names =
     subst (λ v. HaveNames v.comps) (sym p.5.0) (joined_named p.0.comps p.1.comps (schema_named g x p.0 known p.2 names.0) (schema_named g y p.1 known p.3 names.1))
 schema_named g (text.either l x y) c known p names =

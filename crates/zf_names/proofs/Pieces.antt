@@ -4,7 +4,7 @@ use Rattle.zf_scan.specs.declared.pieces.Piece.TheVariants.{Plain, Symbol, Refus
 use Rattle.zf_scan.specs.declared.pieces.Place.{Place}
 use Rattle.zf_scan.specs.declared.pieces.Place.TheVariants as places
 use Rattle.zf_scan.specs.declared.token.Kind.TheVariants as k
-use Rattle.zf_scan.specs.Pieces.{look_up, symbols, openings, number_max, value, is_directive, InsideKind, fixed, closing, remark, name, numeral, unknown, SpellsInside, OutsideKind, opening, schema, escape, informal, SpellsOutside}
+use Rattle.zf_scan.specs.Pieces.{look_up, symbols, openings, number_max, value, is_directive, InsideKind, fixed, closing, remark, name, digits, unknown, SpellsInside, OutsideKind, opening, schema_opening, escape, informal, SpellsOutside}
 use Rattle.zf_names.proofs.Bytes.{spelled_name}
 
 -- if it is a name, it has the bytes of one
@@ -68,12 +68,12 @@ inside_spelled end fixed piece p h = other_piece piece (passes is_other_piece sy
 inside_spelled end closing piece p h = as_piece piece (Symbol k.EndBox) h.1 (other_spelled k.EndBox refl)
 inside_spelled end remark piece p h = other_piece piece (ap is_other_piece h.1 ∙ pick (λ piece. is_other_piece piece ≡ true) (is_directive p) _ _ (λ _. refl) (λ _. refl))
 inside_spelled end name piece p h = as_piece piece (Symbol (k.Name h.0 h.1)) h.6 (named_spelled h.0 h.1 (spelled_name h.0 h.1 h.3 h.4))
-inside_spelled end numeral piece p h = other_piece piece (ap is_other_piece h.1 ∙ pick (λ piece. is_other_piece piece ≡ true) (nat_le (value p) number_max) _ _ (λ _. refl) (λ _. refl))
+inside_spelled end digits piece p h = other_piece piece (ap is_other_piece h.1 ∙ pick (λ piece. is_other_piece piece ≡ true) (nat_le (value p) number_max) _ _ (λ _. refl) (λ _. refl))
 inside_spelled end unknown piece p h = other_piece piece (ap is_other_piece h.2)
 
 outside_spelled : (i : OutsideKind) (piece : Piece) (p : List ℕ) → SpellsOutside i piece p → IsPieceSpelled piece
 outside_spelled opening piece p h = other_piece piece (passes is_other_piece openings p piece openings_other h)
-outside_spelled schema piece p h = other_piece piece (ap is_other_piece h.4)
+outside_spelled schema_opening piece p h = other_piece piece (ap is_other_piece h.4)
 outside_spelled escape piece p h = other_piece piece (ap is_other_piece h.1)
 outside_spelled remark piece p h = other_piece piece (ap is_other_piece h.1 ∙ pick (λ piece. is_other_piece piece ≡ true) (is_directive p) _ _ (λ _. refl) (λ _. refl))
 outside_spelled informal piece p h = other_piece piece (ap is_other_piece h.1)

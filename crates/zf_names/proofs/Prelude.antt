@@ -5,7 +5,7 @@ pub use Rattle.std.specs.List.{list_all}
 pub use Rattle.std.specs.Prelude.{if◌then◌else◌, ◌&&◌, ◌==◌, ◌||◌, codes, nat_le}
 pub use Rattle.std.specs.Str.{bytes_eq}
 pub use Rattle.zf_tree.specs.Names.{spelling}
-pub use Rattle.zf_tree.specs.Trees.{BoxTree, DeclTree, free, given, include, ParagraphTree, reference, SchemaTree, Tree, vars}
+pub use Rattle.zf_tree.specs.Trees.{BoxTree, DeclTree, free, given, include, ParagraphTree, schema_reference, SchemaTree, Tree, vars}
 pub use Rattle.zf_tree.specs.declared.tree.Name.{Name}
 pub use Rattle.zf_scan.proofs.Runs.{and_left, and_right}
 pub use Rattle.zf_scan.proofs.Texts.{both, eq_is, pick}

@@ -6,9 +6,9 @@ use Rattle.std.specs.List.{AllByRecursion}
 use Rattle.zf_tree.specs.declared.symbol.Connective.TheVariants.{And, Or}
 use Rattle.zf_tree.specs.declared.tree.RefMark.{RefMark}
 use Rattle.zf_tree.specs.declared.tree.RefMark.TheVariants.{Plain, Delta, Xi}
-use Rattle.zf_tree.specs.Trees.{ParagraphTree, given, free, abbreviation, definition, BoxTree, zed, schema_box, DeclTree, vars, include, SchemaTree, schema_text, reference, both, either, schema_bracket}
+use Rattle.zf_tree.specs.Trees.{ParagraphTree, given, free, abbreviation, definition, BoxTree, zed, schema_box, DeclTree, vars, include, SchemaTree, schema_text, schema_reference, both, either, schema_bracket}
 use Rattle.zf_text.specs.Spelling.{SpellsDecl, SpellsMarked, SpellsSchema}
-use Rattle.zf_schema.specs.Checking.{elements}
+use Rattle.zf_schema.specs.SchemaLaws.{elements}
 use Rattle.zf_names.proofs.Fronts.{Behind, next_behind, name_behind, then, term_behind, decl_behind, decls_behind, predicates_behind, schema_behind}
 use Rattle.zf_names.proofs.Tokens.{AreSpelled, symbols_spelled}
 
@@ -54,7 +54,7 @@ IsDeclSpelled (include r) = IsName (spelling r.name)
 
 abbrev pub IsSchemaSpelled : SchemaTree → Type 0
 IsSchemaSpelled (schema_text ds ps) = AllByRecursion IsDeclSpelled ds
-IsSchemaSpelled (reference r) = IsName (spelling r.name)
+IsSchemaSpelled (schema_reference r) = IsName (spelling r.name)
 IsSchemaSpelled (both x y) = IsSchemaSpelled x × IsSchemaSpelled y
 IsSchemaSpelled (either l x y) = IsSchemaSpelled x × IsSchemaSpelled y
 IsSchemaSpelled (schema_bracket x) = IsSchemaSpelled x
@@ -83,7 +83,7 @@ decls_spelled (d ∷ (e ∷ ds)) ts us h s =
 
 schema_spelled : (x : SchemaTree) (ts us : List Symbol) → SpellsSchema x ts us → AreSpelled ts → IsSchemaSpelled x
 schema_spelled (schema_text ds ps) ts us h s = decls_spelled ds h.0 h.1 h.4 (rest_spelled (next_behind {kind = k.OpenSquare} h.3) s)
-schema_spelled (reference r) ts us h s = marked_spelled r.mark r.name ts us h s
+schema_spelled (schema_reference r) ts us h s = marked_spelled r.mark r.name ts us h s
 schema_spelled (both x y) ts us h s = (
   schema_spelled x ts h.0 h.2 s,
   schema_spelled y h.1 us h.4 (rest_spelled (then (schema_behind x h.2) (next_behind {kind = k.Connective And} h.3)) s),

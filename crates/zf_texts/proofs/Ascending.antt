@@ -1,22 +1,22 @@
 -- When a list stays ascending with one more value behind it.
-use Rattle.zf_texts.proofs.Prelude.{◌++◌, ◌-◌, ◌↔◌, ◌∙◌, ◌∷◌, ◌≡◌, [], ap, arith, Bool, Equal, Greater, is_lt, IsTrue, length, Less, List, Ordering, refl, Some, sym, true, slice_get, Every, IsAscending, value_order, Value}
+use Rattle.zf_texts.proofs.Prelude.{◌++◌, ◌-◌, ◌↔◌, ◌∙◌, ◌∷◌, ◌≡◌, [], ap, arith, Bool, Equal, Greater, is_lt, IsTrue, length, Less, List, Ordering, refl, Some, sym, true, slice_get, IsAscending, value_order, Value, AllByRecursion}
 use Rattle.zf_value.specs.contracts.plain.ValueOrd.TheImpl.Laws.{total-law}
 
 abbrev last_of : Value → List Value → Value
 last_of x [] = x
 last_of x (y ∷ ys) = last_of y ys
 
-below_last : (x : Value) (xs : List Value) (v : Value) → IsAscending (x ∷ xs) → value_order (last_of x xs) v ≡ Less → Every (λ y. value_order y v ≡ Less) (x ∷ xs)
+below_last : (x : Value) (xs : List Value) (v : Value) → IsAscending (x ∷ xs) → value_order (last_of x xs) v ≡ Less → AllByRecursion (λ y. value_order y v ≡ Less) (x ∷ xs)
 below_last x [] v h l = (l, tt)
 below_last x (y ∷ ys) v h l =
     let rest = below_last y ys v h.1 l in
     (total-law.trans x y v h.0.0 rest.0, rest)
 
-every_push : (P : Value → Type 0) (xs : List Value) (v : Value) → Every P xs → P v → Every P (xs ++ v ∷ [])
+every_push : (P : Value → Type 0) (xs : List Value) (v : Value) → AllByRecursion P xs → P v → AllByRecursion P (xs ++ v ∷ [])
 every_push P [] v h p = (p, tt)
 every_push P (x ∷ xs) v h p = (h.0, every_push P xs v h.1 p)
 
-ascending_push : (xs : List Value) (v : Value) → IsAscending xs → Every (λ y. value_order y v ≡ Less) xs → IsAscending (xs ++ v ∷ [])
+ascending_push : (xs : List Value) (v : Value) → IsAscending xs → AllByRecursion (λ y. value_order y v ≡ Less) xs → IsAscending (xs ++ v ∷ [])
 ascending_push [] v h b = (tt, tt)
 ascending_push (x ∷ xs) v h b = (every_push _ xs v h.0 b.0, ascending_push xs v h.1 b.1)
 

@@ -1,5 +1,5 @@
 -- A text begins with the text of one value of a type alone.
-use Rattle.zf_texts.proofs.Prelude.{◌++◌, ◌<◌, ◌^◌, ◌∙◌, ◌∷◌, ◌≡◌, [], ap, arith, codes, false, List, map, negsuc, None, Option, pos, refl, Some, subst, sym, true, ℕ, ℤ, decimal_nonempty, signed_decimal_injective, append_assoc, signed_decimal, w64, FitsSigned, slice_get, Every, Elem, Int, SetOf, Tuple, Value, basic, int, no_types, power, product, Ty, type, Tys, Environment, type_number, AreOfTypes, IsExistingElement, IsOfType, AreClear, Ends, is_in_word, spelled, spelled_if, Closes, EndsAs, is_opening, later_parts, parted, value_in, element_in, set_in, tuple_in, string_text, Format, Lines, Objects, Spelling}
+use Rattle.zf_texts.proofs.Prelude.{◌++◌, ◌<◌, ◌^◌, ◌∙◌, ◌∷◌, ◌≡◌, [], ap, arith, codes, false, List, map, negsuc, None, Option, pos, refl, Some, subst, sym, true, ℕ, ℤ, decimal_nonempty, signed_decimal_injective, append_assoc, signed_decimal, w64, FitsSigned, slice_get, Elem, Int, SetOf, Tuple, Value, basic, int, no_types, power, product, Ty, type, Tys, Environment, type_number, AreOfTypes, IsExistingElement, IsOfType, AreClear, Ends, is_in_word, spelled, spelled_if, Closes, EndsAs, is_opening, later_parts, parted, value_in, element_in, set_in, tuple_in, string_text, Format, Lines, Objects, Spelling, AllByRecursion}
 use Rattle.zf_texts.proofs.TextsSeen.{of-Int, of-Elem, of-Tuple, of-SetOf}
 use Rattle.zf_texts.proofs.WordRuns.{one_run, never, signed_in_word}
 use Rattle.std.specs.Int.Signed.{mag}
@@ -155,7 +155,7 @@ abbrev pub OneAt : Format → List Spelling → Environment → Ty → Type 0
 OneAt f ss e t = (v w : Value) (r s : List ℕ) → IsOfType e t v → IsOfType e t w → EndsAs t r → EndsAs t s → value_in f ss v ++ r ≡ value_in f ss w ++ s → (v ≡ w) × (r ≡ s)
 
 pub one_later : (f : Format) (ss : List Spelling) (e : Environment) (t : Ty) (one : OneAt f ss e t) (c : AreClear ss e.sizes) (xs ys : List Value)
-    (r s : List ℕ) → Every (λ z. IsOfType e t z) xs → Every (λ z. IsOfType e t z) ys → Closes r → Closes s
+    (r s : List ℕ) → AllByRecursion (λ z. IsOfType e t z) xs → AllByRecursion (λ z. IsOfType e t z) ys → Closes r → Closes s
     → later_parts (map (value_in f ss) xs) ++ r ≡ later_parts (map (value_in f ss) ys) ++ s → (xs ≡ ys) × (r ≡ s)
 one_later f ss e t one c [] [] r s h g a b q = (refl, q)
 one_later f ss e t one c [] (y ∷ ys) r s h g a b q = absurd (later_no_closing (value_in f ss y) (map (value_in f ss) ys) r s a (sym q))
@@ -168,7 +168,7 @@ one_later f ss e t one c (x ∷ xs) (y ∷ ys) r s h g a b q =
     ((cc), others.1)
 
 pub one_members : (f : Format) (ss : List Spelling) (e : Environment) (t : Ty) (one : OneAt f ss e t) (c : AreClear ss e.sizes) (xs ys : List Value)
-    (r s : List ℕ) → Every (λ z. IsOfType e t z) xs → Every (λ z. IsOfType e t z) ys → Closes r → Closes s
+    (r s : List ℕ) → AllByRecursion (λ z. IsOfType e t z) xs → AllByRecursion (λ z. IsOfType e t z) ys → Closes r → Closes s
     → parted (map (value_in f ss) xs) ++ r ≡ parted (map (value_in f ss) ys) ++ s → (xs ≡ ys) × (r ≡ s)
 one_members f ss e t one c [] [] r s h g a b q = (refl, q)
 one_members f ss e t one c [] (y ∷ ys) r s h g a b q = absurd (begins_no_closing f ss e t y r _ c g.0 a (sym (append_assoc (value_in f ss y) _ s) ∙ sym q))

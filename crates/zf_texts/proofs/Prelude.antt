@@ -6,14 +6,14 @@ pub use Rattle.std.proofs.lemmas.List.{append-nil, append_assoc, drop_more, leng
 pub use Rattle.std.proofs.lemmas.Slice.Eq.{slice_eq-Decides, strip_prefix_is}
 pub use Rattle.std.specs.Fmt.{signed_decimal}
 pub use Rattle.std.specs.Int.{IsInRange, w64}
-pub use Rattle.std.specs.List.{list_all}
+pub use Rattle.std.specs.List.{list_all, AllByRecursion}
 pub use Rattle.std.specs.Prelude.{decimal, FitsSigned, IsErrAnd, IsUtf8, MatchBool, MatchOption, slice_get}
 pub use Rattle.std.specs.Str.Parse.{AllDigits, ParsesSigned, ParsesUnsigned}
 pub use Rattle.zf_format.specs.declared.format.Format.{Format}
 pub use Rattle.zf_format.specs.declared.format.Format.TheVariants.{Lines, Objects}
 unfoldable pub use Rattle.zf_format.specs.Strings.{string_text}
 pub use Rattle.zf_value.proofs.Exactly.{same}
-pub use Rattle.zf_value.specs.Sets.{Every, IsAscending, value_order}
+pub use Rattle.zf_value.specs.Sets.{IsAscending, value_order}
 pub use Rattle.zf_value.specs.declared.TheConstants.{SET_MAX}
 pub use Rattle.zf_value.specs.declared.plain.Value.{Elem, fold-roll-Value, Int, map-Value, roll-Value, SetOf, Tuple, Value}
 pub use Rattle.zf_term.specs.Definitions.{Comp, Defined}
@@ -23,10 +23,11 @@ pub use Rattle.zf_term.specs.FirstNamed.{first_named}
 pub use Rattle.zf_term.specs.Types.{basic, int, no_types, power, product, Ty, type, types, Tys}
 pub use Rattle.zf_term.specs.TypeViews.{type_of}
 pub use Rattle.zf_term.specs.declared.schema.Component.{Component}
-pub use Rattle.zf_meaning.specs.Environments.{Environment, found_number, type_number}
+pub use Rattle.zf_meaning.specs.Environments.{Environment, type_number}
+pub use Rattle.zf_meaning.specs.Lookups.{found_number}
 pub use Rattle.zf_meaning.specs.Envs.{environment_of}
 pub use Rattle.zf_meaning.specs.Rows.{AreOfTypes, IsExistingElement, IsOfType, IsRow}
-pub use Rattle.zf_texts.specs.BindingTexts.{binding_text, component_in, component_text, component_texts, components_in, name_in, row_text}
+pub use Rattle.zf_texts.specs.BindingTexts.{binding_text, component_in, components_in, name_in, row_text}
 pub use Rattle.zf_texts.specs.Clear.{AreApart, AreClear, AreNames, IsClear, IsName, IsNoneOf}
 pub use Rattle.zf_texts.specs.Words.{Ends, is_in_name, is_in_word}
 pub use Rattle.zf_texts.specs.HeldLines.{held_comps, held_values}
@@ -34,25 +35,11 @@ pub use Rattle.zf_texts.specs.Held.{HoldNext, IsHeldLine, IsNamedNext}
 unfoldable pub use Rattle.zf_texts.specs.HeldLaws.{IsNoHeldLine}
 pub use Rattle.zf_texts.specs.Readings.{IfMisfit, IsLineOf}
 unfoldable pub use Rattle.zf_texts.specs.Readings.{IsNoLine}
-pub use Rattle.zf_texts.specs.Spellings.{element_text, or_empty, spelled, spelled_if, spellings, with_spelling}
-pub use Rattle.zf_texts.specs.Steps.{AreMembers, AreMembersAt, ArePartsAt, BeginsWithName, Closes, EndsAs, goes_on, HoldsIfNamed, is_opening, IsComponentAt, IsHeldAt, IsItem, IsNamedAt, IsNext, IsSpelledType, IsValueAt, IsWordAt}
-unfoldable pub use Rattle.zf_texts.specs.Steps.{
-  AreNoMembers,
-  AreNoParts,
-  BeginsWithoutName,
-  GoesOn,
-  HasNoElements,
-  HoldsNothing,
-  IsNoComponent,
-  IsNoItem,
-  IsNoNext,
-  IsNoRest,
-  IsNoSpelledType,
-  IsNotNamed,
-  IsNoValue,
-  SpellsNone,
-}
-pub use Rattle.zf_texts.specs.ValueTexts.{comma_before, element_in, later_parts, parted, set_in, tuple_in, value_step, value_text}
+pub use Rattle.zf_texts.specs.Spellings.{element_text, spelled, spellings, with_spelling}
+pub use Rattle.zf_texts.specs.Steps.{AreMembers, AreMembersAt, ArePartsAt, BeginsWithName, Closes, EndsAs, goes_on, HoldsIfNamed, is_opening, IsComponentAt, IsHeldAt, IsItem, IsNamedAt, IsNext, IsSpelledType, IsValueAt, IsWordAt, or_empty, spelled_if}
+unfoldable pub use Rattle.zf_texts.specs.Steps.{AreNoMembers, AreNoParts, BeginsWithoutName, GoesOn, HasNoElements, HoldsNothing, IsNoComponent, IsNoItem, IsNoNext, IsNoRest, IsNoSpelledType, IsNotNamed, IsNoValue, SpellsNone}
+pub use Rattle.zf_texts.specs.ValueTexts.{element_in, later_parts, parted, set_in, tuple_in, value_step, value_text}
+pub use Rattle.zf_texts.specs.LineTexts.{comma_before, component_text, component_texts}
 unfoldable pub use Rattle.zf_texts.specs.ValueTexts.{value_in}
 pub use Rattle.zf_texts.specs.declared.spelling.Spelling.{Spelling}
 pub use Rattle.zf_texts.specs.declared.spelling.Spelling.TheVariants.{Named, Numbered}

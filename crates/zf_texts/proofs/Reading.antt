@@ -1,5 +1,5 @@
 -- What follows a part that was read, of a tuple or of a set.
-use Rattle.zf_texts.proofs.Prelude.{Lines, ◌++◌, ◌+◌, ◌∙◌, ◌∷◌, ◌≡◌, [], ap, arith, codes, length, Less, List, map, refl, subst, suc, sym, ℕ, append_assoc, length-append, Every, IsAscending, value_order, SET_MAX, Value, no_types, Ty, type, Tys, Environment, IsOfType, AreMembers, EndsAs, goes_on, AreNoMembers, AreNoParts, IsNoItem, IsNoNext, IsNoValue, later_parts, comma_before, value_text, Spelling}
+use Rattle.zf_texts.proofs.Prelude.{Lines, ◌++◌, ◌+◌, ◌∙◌, ◌∷◌, ◌≡◌, [], ap, arith, codes, length, Less, List, map, refl, subst, suc, sym, ℕ, append_assoc, length-append, IsAscending, value_order, SET_MAX, Value, no_types, Ty, type, Tys, Environment, IsOfType, AreMembers, EndsAs, goes_on, AreNoMembers, AreNoParts, IsNoItem, IsNoNext, IsNoValue, later_parts, comma_before, value_text, Spelling, AllByRecursion}
 use Rattle.zf_texts.proofs.OneFront.{ends_as, ends_later, one_front}
 use Rattle.zf_texts.proofs.Printing.{goes_on-nil, front, goes_on-later}
 use Rattle.zf_texts.proofs.Spelled.{cancel}
@@ -60,7 +60,7 @@ module _ (ss : List Spelling) (e : Environment) where
       let long : length (vs ++ w ∷ ws) ≡ length vs + length (w ∷ ws) = length-append vs (w ∷ ws) in
       absurd (omega arith)
 
-  ordered_front : (vs ws : List Value) (v : Value) → Every (λ y. value_order v y ≡ Less) (vs ++ ws) → Every (λ y. value_order v y ≡ Less) vs
+  ordered_front : (vs ws : List Value) (v : Value) → AllByRecursion (λ y. value_order v y ≡ Less) (vs ++ ws) → AllByRecursion (λ y. value_order v y ≡ Less) vs
   ordered_front [] ws v h = tt
   ordered_front (x ∷ vs) ws v h = (h.0, ordered_front vs ws v h.1)
 
@@ -68,7 +68,7 @@ module _ (ss : List Spelling) (e : Environment) where
   ascending_front [] ws h = tt
   ascending_front (v ∷ vs) ws h = (ordered_front vs ws v h.0, ascending_front vs ws h.1)
 
-  every_behind : (t : Ty) (vs ws : List Value) → Every (λ z. IsOfType e t z) (vs ++ ws) → Every (λ z. IsOfType e t z) ws
+  every_behind : (t : Ty) (vs ws : List Value) → AllByRecursion (λ z. IsOfType e t z) (vs ++ ws) → AllByRecursion (λ z. IsOfType e t z) ws
   every_behind t [] ws h = h
   every_behind t (v ∷ vs) ws h = every_behind t vs ws h.1
 

@@ -1,5 +1,5 @@
 -- What is read so far of the components of a line, the parts of a tuple, the members of a set.
-use Rattle.zf_texts.proofs.Prelude.{Lines, ◌++◌, ◌+◌, ◌<◌, ◌∙◌, ◌∷◌, ◌≡◌, [], ap, arith, codes, length, List, map, refl, subst, suc, sym, ℕ, append-nil, append_assoc, length-append, Every, IsAscending, SET_MAX, Value, Comp, no_types, Ty, type, Tys, Environment, AreOfTypes, IsOfType, IsRow, binding_text, component_text, component_texts, IsNoLine, AreMembers, EndsAs, goes_on, AreNoMembers, AreNoParts, IsNoComponent, IsNoItem, IsNoRest, later_parts, parted, comma_before, value_text, Spelling}
+use Rattle.zf_texts.proofs.Prelude.{Lines, ◌++◌, ◌+◌, ◌<◌, ◌∙◌, ◌∷◌, ◌≡◌, [], ap, arith, codes, length, List, map, refl, subst, suc, sym, ℕ, append-nil, append_assoc, length-append, IsAscending, SET_MAX, Value, Comp, no_types, Ty, type, Tys, Environment, AreOfTypes, IsOfType, IsRow, binding_text, component_text, component_texts, IsNoLine, AreMembers, EndsAs, goes_on, AreNoMembers, AreNoParts, IsNoComponent, IsNoItem, IsNoRest, later_parts, parted, comma_before, value_text, Spelling, AllByRecursion}
 use Rattle.zf_texts.proofs.OneFront.{ends_as}
 use Rattle.zf_texts.proofs.OneRow.{one_component, ends_parts}
 use Rattle.zf_texts.proofs.Printing.{goes_on-nil, goes_on-first, front, goes_on-later}
@@ -92,7 +92,7 @@ module _ (ss : List Spelling) (e : Environment) where
   pub members_begun : (t : Ty) (bytes : List ℕ) → MembersSoFar t bytes [] bytes
   members_begun t bytes = record { members = record { ascending = tt; few = omega arith; values = tt }; whole = λ ws rest q. q; none = λ h. h }
 
-  every_push : (P : Value → Type 0) (xs : List Value) (v : Value) → Every P xs → P v → Every P (xs ++ v ∷ [])
+  every_push : (P : Value → Type 0) (xs : List Value) (v : Value) → AllByRecursion P xs → P v → AllByRecursion P (xs ++ v ∷ [])
   every_push P [] v h p = (p, tt)
   every_push P (x ∷ xs) v h p = (h.0, every_push P xs v h.1 p)
 

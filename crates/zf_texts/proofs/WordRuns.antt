@@ -1,8 +1,7 @@
 -- Words, and where they end.
 use Rattle.zf_texts.proofs.Prelude.{◌&&◌, ◌++◌, ◌<◌, ◌^◌, ◌||◌, ◌∙◌, ◌∷◌, ◌≡◌, [], ap, arith, Bool, false, List, negsuc, pos, refl, suc, sym, true, ℕ, ℤ, decimal_is_IsNumeral, signed_decimal, IsInRange, w64, list_all, decimal, FitsSigned, AllDigits, Ends, is_in_name, is_in_word}
-use Rattle.std.specs.Char.{digit_value}
+use Rattle.std.specs.Char.{digit_value, is_ascii_digit}
 use Rattle.std.proofs.lemmas.Str.Parse.{digit_from_value}
-use Rattle.zf_scan.specs.Pieces.{is_digit}
 
 abbrev pub AreInWord : List ℕ → Type 0
 AreInWord w = list_all is_in_word w ≡ true
@@ -25,10 +24,10 @@ both_of : (a b : Bool) → (a && b) ≡ true → (a ≡ true) × (b ≡ true)
 both_of true b e = (refl, e)
 both_of false b e = (cc)
 
-digit_in_range : (b : ℕ) → IsInRange 48 57 b → is_digit b ≡ true
+digit_in_range : (b : ℕ) → IsInRange 48 57 b → is_ascii_digit b ≡ true
 digit_in_range b h = grind arith
 
-digit_in_name : (b : ℕ) → is_digit b ≡ true → is_in_name b ≡ true
+digit_in_name : (b : ℕ) → is_ascii_digit b ≡ true → is_in_name b ≡ true
 digit_in_name b h = left_true _ _ (left_true _ _ (left_true _ _ (left_true _ _ (left_true _ _ (right_true _ _ h)))))
 
 name_byte_in_word : (b : ℕ) → is_in_name b ≡ true → is_in_word b ≡ true

@@ -18,30 +18,16 @@ component_in f ss c v = name_in f c.name ++ value_in f ss v
 
 -- of each component with its value
 abbrev pub components_in : Format → List Spelling → List Comp → List Value → List (List ℕ)
-components_in f ss [] vs = []
-components_in f ss (c ∷ cs) [] = []
 components_in f ss (c ∷ cs) (v ∷ vs) = component_in f ss c v ∷ components_in f ss cs vs
+components_in f ss _ _ = []
 
 -- the components in their order, each with its value
 abbrev pub row_text : Format → List Spelling → List Comp → List Value → List ℕ
 row_text Lines ss cs vs = parted (components_in Lines ss cs vs)
 row_text Objects ss cs vs = codes "{" ++ parted (components_in Objects ss cs vs) ++ codes "}"
 
--- ---- of a line
-
-abbrev pub component_text : List Spelling → Comp → Value → List ℕ
-component_text = component_in Lines
-
-abbrev pub component_texts : List Spelling → List Comp → List Value → List (List ℕ)
-component_texts = components_in Lines
-
 abbrev pub binding_text : List Spelling → List Comp → List Value → List ℕ
 binding_text = row_text Lines
-
--- ---- of an object
-
-abbrev pub component_object : List Spelling → Comp → Value → List ℕ
-component_object = component_in Objects
 
 abbrev pub binding_object : List Spelling → List Comp → List Value → List ℕ
 binding_object = row_text Objects

@@ -5,8 +5,7 @@ use Rattle.zf_value.specs.declared.plain.Value.{Value}
 use Rattle.zf_meaning.specs.Environments.{Environment}
 use Rattle.zf_meaning.specs.Rows.{IsOfType}
 use Rattle.zf_texts.specs.declared.spelling.Spelling.{Spelling}
-use Rattle.zf_texts.specs.ValueTexts.{comma_before}
-use Rattle.zf_texts.specs.BindingTexts.{component_text}
+use Rattle.zf_texts.specs.LineTexts.{comma_before, component_text}
 use Rattle.zf_texts.specs.Words.{Ends}
 
 -- behind n components the bytes go on with the name of this one, and no word goes on behind it

@@ -1,6 +1,7 @@
 pub mod Spellings
 pub mod ValueTexts
 pub mod BindingTexts
+pub mod LineTexts
 pub mod Words
 pub mod Clear
 pub mod Held

@@ -1,17 +1,18 @@
 -- What the steps of printing and reading say. No public clause rests on this file.
-use Rattle.std.specs.Prelude.{◌≡◌, ℕ, suc, zero, ◌+◌, ◌≤◌, Bool, true, false, ◌||◌, ◌<◌, ◌==◌, List, [], ◌∷◌, ◌++◌, length, map, drop, codes, Option, Some, None, slice_get}
-use Rattle.std.specs.List.{list_all}
+use Rattle.std.specs.Prelude.{◌≡◌, ℕ, suc, zero, ◌+◌, ◌≤◌, Bool, true, false, ◌||◌, ◌<◌, ◌==◌, List, [], ◌∷◌, ◌++◌, length, map, drop, codes, Option, Some, None, slice_get, unwrap_or}
+use Rattle.std.specs.List.{list_all, AllByRecursion}
+use Rattle.std.specs.Option.{option_map_or}
 use Rattle.zf_term.specs.Definitions.{Comp}
 use Rattle.zf_term.specs.Types.{Ty, int, basic, power, product, Tys}
 use Rattle.zf_value.specs.declared.TheConstants.{SET_MAX}
 use Rattle.zf_value.specs.declared.plain.Value.{Value}
-use Rattle.zf_value.specs.Sets.{Every, IsAscending}
+use Rattle.zf_value.specs.Sets.{IsAscending}
 use Rattle.zf_meaning.specs.Environments.{Environment, type_number}
 use Rattle.zf_meaning.specs.Rows.{IsExistingElement, IsOfType, AreOfTypes, IsRow}
 use Rattle.zf_texts.specs.declared.spelling.Spelling.{Spelling}
 use Rattle.zf_texts.specs.Spellings.{spelled}
-use Rattle.zf_texts.specs.ValueTexts.{parted, later_parts, comma_before, value_text}
-use Rattle.zf_texts.specs.BindingTexts.{component_text, component_texts}
+use Rattle.zf_texts.specs.ValueTexts.{parted, later_parts, value_text}
+use Rattle.zf_texts.specs.LineTexts.{comma_before, component_text, component_texts}
 use Rattle.zf_texts.specs.Words.{is_in_word, Ends}
 use Rattle.zf_texts.specs.Clear.{IsClear, AreClear}
 use Rattle.zf_texts.specs.Held.{IsNamedNext}
@@ -103,7 +104,7 @@ AreNoParts ss e ts n bytes = AreClear ss e.sizes → (vs : List Value) (rest : L
 pub record AreMembers (e : Environment) (t : Ty) (vs : List Value) : Type 0 where
   pub ascending : IsAscending vs
   pub few : length vs ≤ SET_MAX
-  pub values : Every (λ v. IsOfType e t v) vs
+  pub values : AllByRecursion (λ v. IsOfType e t v) vs
 
 -- the value is one more member
 pub record IsNext (ss : List Spelling) (e : Environment) (t : Ty) (vs : List Value) (bytes : List ℕ) (place : ℕ) (v : Value) (end : ℕ) : Type 0 where
@@ -170,3 +171,11 @@ HoldsIfNamed ss e c bytes n place (Some (v, end)) = IsHeldAt ss e c bytes n plac
 -- the component is named next, and no value of it follows
 unfoldable pub HoldsNothing : List Spelling → Environment → Comp → ℕ → List ℕ → Type 0
 HoldsNothing ss e c n bytes = (mid : List ℕ) × (bytes ≡ comma_before n ++ mid) × BeginsWithName c.name mid × IsNoComponent ss e c mid
+
+-- ---- what is looked up
+
+abbrev pub or_empty : Option (List ℕ) → List ℕ
+or_empty found = unwrap_or found []
+
+abbrev pub spelled_if : Option Spelling → ℕ → List ℕ
+spelled_if found i = option_map_or (λ s. spelled s i) found []

@@ -1,6 +1,7 @@
 -- The texts of values: as lines have them, and as objects have them, where elements are strings, and tuples and sets are arrays.
-use Rattle.std.specs.Prelude.{ℕ, zero, suc, List, [], ◌∷◌, ◌++◌, codes}
+use Rattle.std.specs.Prelude.{ℕ, List, [], ◌∷◌, ◌++◌, codes}
 use Rattle.std.specs.Fmt.{signed_decimal}
+use Rattle.std.specs.List.{flat_map}
 use Rattle.zf_format.specs.declared.format.Format.{Format}
 use Rattle.zf_format.specs.declared.format.Format.TheVariants.{Lines, Objects}
 use Rattle.zf_format.specs.Strings.{string_text}
@@ -11,20 +12,12 @@ use Rattle.zf_texts.specs.Spellings.{element_text}
 
 -- each with a comma and a space before it
 abbrev pub later_parts : List (List ℕ) → List ℕ
-later_parts [] = []
-later_parts (t ∷ ts) = codes ", " ++ t ++ later_parts ts
+later_parts = flat_map (λ t. codes ", " ++ t)
 
 -- with a comma and a space between each two
 abbrev pub parted : List (List ℕ) → List ℕ
 parted [] = []
 parted (t ∷ ts) = t ++ later_parts ts
-
--- what stands before a part behind n others
-abbrev pub comma_before : ℕ → List ℕ
-comma_before zero = []
-comma_before (suc n) = codes ", "
-
--- ---- in each format
 
 abbrev pub element_in : Format → List ℕ → List ℕ
 element_in Lines name = name

@@ -4,10 +4,11 @@ ghost use Rattle.zf_meaning.specs.Environments.{type_number};
 ghost use Rattle.zf_meaning.specs.Envs.{environment_of};
 ghost use Rattle.zf_term.specs.Types.{basic};
 ghost use Rattle.zf_texts.specs.Readings.{IfMisfit};
-ghost use Rattle.zf_texts.specs.Spellings.{spelled, or_empty};
-ghost use Rattle.zf_texts.specs.Steps.{IsValueAt, IsNoValue, IsSpelledType, IsNoSpelledType, HasNoElements, SpellsNone};
+ghost use Rattle.zf_texts.specs.Spellings.{spelled};
+ghost use Rattle.zf_texts.specs.Steps.{IsValueAt, IsNoValue, IsSpelledType, IsNoSpelledType, HasNoElements, SpellsNone, or_empty};
 
 use crate::fault::AfterFault;
+use crate::read::Line;
 use crate::spelling::Spelling;
 use crate::words::{behind, unsigned, word_at};
 use zf_data::Text;
@@ -17,26 +18,24 @@ use zf_value::value::{Form, Value};
 
 /// The element of the type of this name at the place.
 pub(crate) fn read_element(
-    text: &[u8],
+    line: &Line<'_, '_, '_, '_>,
     place: usize,
     name: &[u8],
-    env: &Env<'_, '_>,
-    spellings: &[Spelling],
 ) -> Result<(Value, usize), AfterFault>
-    requires { place ≤ length text.now }
-    ensures read { IfOk result (λ p. IsValueAt spellings.now (environment_of env.now) (basic name.now) text.now place p.0 p.1) }
-    ensures refused { IfErr result (IfMisfit (IsNoValue spellings.now (environment_of env.now) (basic name.now) (drop place text.now))) }
+    requires { place ≤ length line.now.text.now }
+    ensures read { IfOk result (λ p. IsValueAt line.now.spellings.now (environment_of line.now.env.now) (basic name.now) line.now.text.now place p.0 p.1) }
+    ensures refused { IfErr result (IfMisfit (IsNoValue line.now.spellings.now (environment_of line.now.env.now) (basic name.now) (drop place line.now.text.now))) }
 {
-    let Some((number, count, spelling)) = spelled_type(name, env, spellings) else {
+    let Some((number, count, spelling)) = spelled_type(name, line.env, line.spellings) else {
         return Err(AfterFault::NotABinding(place));
     };
-    let word = word_at(text, place);
+    let word = word_at(line.text, place);
     match place_among(word, spelling, count) {
         Some(index) => {
             let form = Form::Elem(number, index);
             Ok((Value { form }, place + word.len()))
         }
-        None => Err(AfterFault::NotABinding(misfit(text, place, word, spelling))),
+        None => Err(AfterFault::NotABinding(misfit(line.text, place, word, spelling))),
     }
 }
 

@@ -7,10 +7,10 @@ ghost use Rattle.zf_texts.specs.Held.{IsHeldLine};
 ghost use Rattle.zf_texts.specs.HeldLaws.{IsNoHeldLine};
 ghost use Rattle.zf_texts.specs.Readings.{IfMisfit};
 ghost use Rattle.zf_texts.specs.Steps.{HoldsIfNamed, HoldsNothing, IsItem, IsNamedAt, IsNoItem, BeginsWithoutName, IsNotNamed, BeginsWithName, GoesOn};
-ghost use Rattle.zf_texts.specs.ValueTexts.{comma_before};
+ghost use Rattle.zf_texts.specs.LineTexts.{comma_before};
 
 use crate::fault::AfterFault;
-use crate::read::read_component;
+use crate::read::{Line, read_component};
 use crate::spelling::Spelling;
 use crate::words::{behind, is_in_word, stands};
 use std::alloc::Global;
@@ -29,13 +29,18 @@ pub fn read_held(
     ensures read { IfOk result (λ held. IsHeldLine spellings.now (environment_of env.now) (schema_of flat.now).comps text.now held.items) }
     ensures refused { IfErr result (IfMisfit (IsNoHeldLine spellings.now (environment_of env.now) (schema_of flat.now).comps text.now)) }
 {
+    let line = Line {
+        text,
+        env,
+        spellings,
+    };
     let components = flat.components.as_slice();
     let mut held = Vec::new(alloc);
     let mut place = 0;
     let mut count = 0;
     let mut later = 0;
     for next in 0..components.len() {
-        match held_next(alloc, text, place, count, &components[next], env, spellings)? {
+        match held_next(alloc, &line, place, count, &components[next])? {
             Some((value, end)) => {
                 held.push(Some(value))?;
                 place = end;
@@ -55,20 +60,18 @@ pub fn read_held(
 /// The value that is held of the component, and the place behind it, if it is named next.
 fn held_next(
     alloc: Global,
-    text: &[u8],
+    line: &Line<'_, '_, '_, '_>,
     place: usize,
     count: usize,
     component: &Component<'_>,
-    env: &Env<'_, '_>,
-    spellings: &[Spelling],
 ) -> Result<Option<(Value, usize)>, AfterFault>
-    requires { place ≤ length text.now }
-    ensures read { IfOk result (HoldsIfNamed spellings.now (environment_of env.now) (comp_of component.now) text.now count place) }
-    ensures refused { IfErr result (IfMisfit (HoldsNothing spellings.now (environment_of env.now) (comp_of component.now) count (drop place text.now))) }
+    requires { place ≤ length line.now.text.now }
+    ensures read { IfOk result (HoldsIfNamed line.now.spellings.now (environment_of line.now.env.now) (comp_of component.now) line.now.text.now count place) }
+    ensures refused { IfErr result (IfMisfit (HoldsNothing line.now.spellings.now (environment_of line.now.env.now) (comp_of component.now) count (drop place line.now.text.now))) }
 {
-    match named_at(text, place, count, component) {
+    match named_at(line.text, place, count, component) {
         Some(start) => {
-            let (value, end) = read_component(alloc, text, start, component, env, spellings)?;
+            let (value, end) = read_component(alloc, line, start, component)?;
             Ok(Some((value, end)))
         }
         None => Ok(None),

@@ -3,8 +3,10 @@ ghost use Rattle.std.specs.Prelude.{◌≡◌, ◌<◌, ◌∷◌, ◌++◌, [],
 ghost use Rattle.std.specs.Fmt.{decimal, signed_decimal};
 ghost use Rattle.zf_term.specs.SchemaViews.{comp_of, schema_of};
 ghost use Rattle.zf_texts.specs.BindingTexts.{component_in, components_in, name_in, row_text};
-ghost use Rattle.zf_texts.specs.Spellings.{spelled, spelled_if, element_text};
-ghost use Rattle.zf_texts.specs.ValueTexts.{comma_before, element_in, parted, set_in, tuple_in, value_in};
+ghost use Rattle.zf_texts.specs.Spellings.{spelled, element_text};
+ghost use Rattle.zf_texts.specs.Steps.{spelled_if};
+ghost use Rattle.zf_texts.specs.ValueTexts.{element_in, parted, set_in, tuple_in, value_in};
+ghost use Rattle.zf_texts.specs.LineTexts.{comma_before};
 
 use crate::spelling::Spelling;
 use itoa::Buffer;

@@ -20,6 +20,14 @@ use zf_value::SET_MAX;
 use zf_value::items::Items;
 use zf_value::value::{Form, Value};
 
+/// A line that is read, the types that its elements are of, and how these are spelled.
+#[derive(Drop)]
+pub(crate) struct Line<'t, 'e, 'g, 'a> {
+    pub text: &'t [u8],
+    pub env: &'e Env<'g, 'a>,
+    pub spellings: &'t [Spelling],
+}
+
 /// The row whose line the text is.
 pub fn read_binding(
     alloc: Global,
@@ -31,12 +39,17 @@ pub fn read_binding(
     ensures read { IfOk result (λ row. IsLineOf spellings.now (environment_of env.now) (schema_of flat.now).comps text.now row.items) }
     ensures refused { IfErr result (IfMisfit (IsNoLine spellings.now (environment_of env.now) (schema_of flat.now).comps text.now)) }
 {
+    let line = Line {
+        text,
+        env,
+        spellings,
+    };
     let components = flat.components.as_slice();
     let mut row = Vec::new(alloc);
     let mut place = 0;
     for count in 0..components.len() {
         let start = separated(text, place, count)?;
-        let (value, end) = read_component(alloc, text, start, &components[count], env, spellings)?;
+        let (value, end) = read_component(alloc, &line, start, &components[count])?;
         row.push(value)?;
         place = end;
     }
@@ -49,28 +62,19 @@ pub fn read_binding(
 /// The value of the component at the place, and the place behind it.
 pub(crate) fn read_component(
     alloc: Global,
-    text: &[u8],
+    line: &Line<'_, '_, '_, '_>,
     place: usize,
     component: &Component<'_>,
-    env: &Env<'_, '_>,
-    spellings: &[Spelling],
 ) -> Result<(Value, usize), AfterFault>
-    requires { place ≤ length text.now }
-    ensures read { IfOk result (λ p. IsComponentAt spellings.now (environment_of env.now) (comp_of component.now) text.now place p.0 p.1) }
-    ensures refused { IfErr result (IfMisfit (IsNoComponent spellings.now (environment_of env.now) (comp_of component.now) (drop place text.now))) }
+    requires { place ≤ length line.now.text.now }
+    ensures read { IfOk result (λ p. IsComponentAt line.now.spellings.now (environment_of line.now.env.now) (comp_of component.now) line.now.text.now place p.0 p.1) }
+    ensures refused { IfErr result (IfMisfit (IsNoComponent line.now.spellings.now (environment_of line.now.env.now) (comp_of component.now) (drop place line.now.text.now))) }
 {
-    let behind_name = item(text, place, component.name.as_slice())?;
-    if !stands(text, behind_name, b" == ") {
-        return Err(AfterFault::NotABinding(misfit(text, place, behind_name)));
+    let behind_name = item(line.text, place, component.name.as_slice())?;
+    if !stands(line.text, behind_name, b" == ") {
+        return Err(AfterFault::NotABinding(misfit(line.text, place, behind_name)));
     }
-    read_value(
-        alloc,
-        text,
-        behind_name + 4,
-        &component.ztype,
-        env,
-        spellings,
-    )
+    read_value(alloc, line, behind_name + 4, &component.ztype)
 }
 
 /// The place of a name that goes on behind it, or else of what follows it.
@@ -88,61 +92,50 @@ fn misfit(text: &[u8], place: usize, behind_name: usize) -> usize
 #[tactic(auto, using(zf_term::proofs::TypesSeen::seen))]
 fn read_value(
     alloc: Global,
-    text: &[u8],
+    line: &Line<'_, '_, '_, '_>,
     place: usize,
     ztype: &ZType<'_>,
-    env: &Env<'_, '_>,
-    spellings: &[Spelling],
 ) -> Result<(Value, usize), AfterFault>
-    requires { place ≤ length text.now }
-    ensures read { IfOk result (λ p. IsValueAt spellings.now (environment_of env.now) (type_of ztype.now) text.now place p.0 p.1) }
-    ensures refused { IfErr result (IfMisfit (IsNoValue spellings.now (environment_of env.now) (type_of ztype.now) (drop place text.now))) }
+    requires { place ≤ length line.now.text.now }
+    ensures read { IfOk result (λ p. IsValueAt line.now.spellings.now (environment_of line.now.env.now) (type_of ztype.now) line.now.text.now place p.0 p.1) }
+    ensures refused { IfErr result (IfMisfit (IsNoValue line.now.spellings.now (environment_of line.now.env.now) (type_of ztype.now) (drop place line.now.text.now))) }
 {
     match ztype {
-        ZType::Int => read_number(text, place, env, spellings),
-        ZType::Basic(name) => read_element(text, place, name.as_slice(), env, spellings),
-        ZType::Power(member) => read_set(alloc, text, place, member.get(), env, spellings),
-        ZType::Product(parts) => {
-            read_tuple(alloc, text, place, parts.get().as_slice(), env, spellings)
-        }
+        ZType::Int => read_number(line, place),
+        ZType::Basic(name) => read_element(line, place, name.as_slice()),
+        ZType::Power(member) => read_set(alloc, line, place, member.get()),
+        ZType::Product(parts) => read_tuple(alloc, line, place, parts.get().as_slice()),
     }
 }
 
-fn read_number(
-    text: &[u8],
-    place: usize,
-    env: &Env<'_, '_>,
-    spellings: &[Spelling],
-) -> Result<(Value, usize), AfterFault>
-    requires { place ≤ length text.now }
-    ensures read { IfOk result (λ p. IsValueAt spellings.now (environment_of env.now) int text.now place p.0 p.1) }
-    ensures refused { IfErr result (IfMisfit (IsNoValue spellings.now (environment_of env.now) int (drop place text.now))) }
+fn read_number(line: &Line<'_, '_, '_, '_>, place: usize) -> Result<(Value, usize), AfterFault>
+    requires { place ≤ length line.now.text.now }
+    ensures read { IfOk result (λ p. IsValueAt line.now.spellings.now (environment_of line.now.env.now) int line.now.text.now place p.0 p.1) }
+    ensures refused { IfErr result (IfMisfit (IsNoValue line.now.spellings.now (environment_of line.now.env.now) int (drop place line.now.text.now))) }
 {
-    let word = word_at(text, place);
+    let word = word_at(line.text, place);
     match signed(word) {
         Some(number) => {
             let form = Form::Int(number);
             Ok((Value { form }, place + word.len()))
         }
-        None => Err(AfterFault::NotABinding(crate::words::misfit(text, place, b"-"))),
+        None => Err(AfterFault::NotABinding(crate::words::misfit(line.text, place, b"-"))),
     }
 }
 
 #[cycle(read)]
 fn read_tuple(
     alloc: Global,
-    text: &[u8],
+    line: &Line<'_, '_, '_, '_>,
     place: usize,
     parts: &[ZType<'_>],
-    env: &Env<'_, '_>,
-    spellings: &[Spelling],
 ) -> Result<(Value, usize), AfterFault>
-    requires { place ≤ length text.now }
-    ensures read { IfOk result (λ p. IsValueAt spellings.now (environment_of env.now) (product (types (map type_of parts.now))) text.now place p.0 p.1) }
-    ensures refused { IfErr result (IfMisfit (IsNoValue spellings.now (environment_of env.now) (product (types (map type_of parts.now))) (drop place text.now))) }
+    requires { place ≤ length line.now.text.now }
+    ensures read { IfOk result (λ p. IsValueAt line.now.spellings.now (environment_of line.now.env.now) (product (types (map type_of parts.now))) line.now.text.now place p.0 p.1) }
+    ensures refused { IfErr result (IfMisfit (IsNoValue line.now.spellings.now (environment_of line.now.env.now) (product (types (map type_of parts.now))) (drop place line.now.text.now))) }
 {
-    let start = item(text, place, b"(")?;
-    let (values, end) = read_parts(alloc, text, start, parts, env, spellings)?;
+    let start = item(line.text, place, b"(")?;
+    let (values, end) = read_parts(alloc, line, start, parts)?;
     let form = Form::Tuple(Items::of(alloc, values)?);
     Ok((Value { form }, end))
 }
@@ -151,43 +144,39 @@ fn read_tuple(
 #[cycle(read)]
 fn read_parts(
     alloc: Global,
-    text: &[u8],
+    line: &Line<'_, '_, '_, '_>,
     place: usize,
     parts: &[ZType<'_>],
-    env: &Env<'_, '_>,
-    spellings: &[Spelling],
 ) -> Result<(Vec<Value>, usize), AfterFault>
-    requires { place ≤ length text.now }
-    ensures read { IfOk result (λ p. ArePartsAt spellings.now (environment_of env.now) (types (map type_of parts.now)) text.now place p.0.items p.1) }
-    ensures refused { IfErr result (IfMisfit (AreNoParts spellings.now (environment_of env.now) (types (map type_of parts.now)) 0 (drop place text.now))) }
+    requires { place ≤ length line.now.text.now }
+    ensures read { IfOk result (λ p. ArePartsAt line.now.spellings.now (environment_of line.now.env.now) (types (map type_of parts.now)) line.now.text.now place p.0.items p.1) }
+    ensures refused { IfErr result (IfMisfit (AreNoParts line.now.spellings.now (environment_of line.now.env.now) (types (map type_of parts.now)) 0 (drop place line.now.text.now))) }
 {
     let mut values = Vec::new(alloc);
     let mut at = place;
     for count in 0..parts.len() {
-        let start = separated(text, at, count)?;
-        let (value, end) = read_value(alloc, text, start, &parts[count], env, spellings)?;
+        let start = separated(line.text, at, count)?;
+        let (value, end) = read_value(alloc, line, start, &parts[count])?;
         values.push(value)?;
         at = end;
     }
-    let end = item(text, at, b")")?;
+    let end = item(line.text, at, b")")?;
     Ok((values, end))
 }
 
 #[cycle(read)]
 fn read_set(
     alloc: Global,
-    text: &[u8],
+    line: &Line<'_, '_, '_, '_>,
     place: usize,
     member: &ZType<'_>,
-    env: &Env<'_, '_>,
-    spellings: &[Spelling],
 ) -> Result<(Value, usize), AfterFault>
-    requires { place ≤ length text.now }
-    ensures read { IfOk result (λ p. IsValueAt spellings.now (environment_of env.now) (power (type_of member.now)) text.now place p.0 p.1) }
-    ensures refused { IfErr result (IfMisfit (IsNoValue spellings.now (environment_of env.now) (power (type_of member.now)) (drop place text.now))) }
+    requires { place ≤ length line.now.text.now }
+    ensures read { IfOk result (λ p. IsValueAt line.now.spellings.now (environment_of line.now.env.now) (power (type_of member.now)) line.now.text.now place p.0 p.1) }
+    ensures refused { IfErr result (IfMisfit (IsNoValue line.now.spellings.now (environment_of line.now.env.now) (power (type_of member.now)) (drop place line.now.text.now))) }
 {
-    let start = item(text, place, b"{")?;
-    let (members, end) = read_members(alloc, text, start, member, env, spellings)?;
+    let start = item(line.text, place, b"{")?;
+    let (members, end) = read_members(alloc, line, start, member)?;
     let form = Form::SetOf(Items::of(alloc, members)?);
     Ok((Value { form }, end))
 }
@@ -196,28 +185,26 @@ fn read_set(
 #[cycle(read)]
 fn read_members(
     alloc: Global,
-    text: &[u8],
+    line: &Line<'_, '_, '_, '_>,
     place: usize,
     member: &ZType<'_>,
-    env: &Env<'_, '_>,
-    spellings: &[Spelling],
 ) -> Result<(Vec<Value>, usize), AfterFault>
-    requires { place ≤ length text.now }
-    ensures read { IfOk result (λ p. AreMembersAt spellings.now (environment_of env.now) (type_of member.now) text.now place p.0.items p.1) }
-    ensures refused { IfErr result (IfMisfit (AreNoMembers spellings.now (environment_of env.now) (type_of member.now) [] (drop place text.now))) }
+    requires { place ≤ length line.now.text.now }
+    ensures read { IfOk result (λ p. AreMembersAt line.now.spellings.now (environment_of line.now.env.now) (type_of member.now) line.now.text.now place p.0.items p.1) }
+    ensures refused { IfErr result (IfMisfit (AreNoMembers line.now.spellings.now (environment_of line.now.env.now) (type_of member.now) [] (drop place line.now.text.now))) }
 {
     let mut members = Vec::new(alloc);
     let mut at = place;
     for count in 0..SET_MAX {
-        if stands(text, at, b"}") {
+        if stands(line.text, at, b"}") {
             return Ok((members, at + 1));
         }
-        let start = separated(text, at, count)?;
-        let (value, end) = read_next(alloc, text, start, member, &members, env, spellings)?;
+        let start = separated(line.text, at, count)?;
+        let (value, end) = read_next(alloc, line, start, member, &members)?;
         members.push(value)?;
         at = end;
     }
-    let end = item(text, at, b"}")?;
+    let end = item(line.text, at, b"}")?;
     Ok((members, end))
 }
 
@@ -225,19 +212,17 @@ fn read_members(
 #[cycle(read)]
 fn read_next(
     alloc: Global,
-    text: &[u8],
+    line: &Line<'_, '_, '_, '_>,
     place: usize,
     member: &ZType<'_>,
     members: &[Value],
-    env: &Env<'_, '_>,
-    spellings: &[Spelling],
 ) -> Result<(Value, usize), AfterFault>
-    requires place { place ≤ length text.now }
+    requires place { place ≤ length line.now.text.now }
     requires ascending { IsAscending members.now }
-    ensures read { IfOk result (λ p. IsNext spellings.now (environment_of env.now) (type_of member.now) members.now text.now place p.0 p.1) }
-    ensures refused { IfErr result (IfMisfit (IsNoNext spellings.now (environment_of env.now) (type_of member.now) members.now (drop place text.now))) }
+    ensures read { IfOk result (λ p. IsNext line.now.spellings.now (environment_of line.now.env.now) (type_of member.now) members.now line.now.text.now place p.0 p.1) }
+    ensures refused { IfErr result (IfMisfit (IsNoNext line.now.spellings.now (environment_of line.now.env.now) (type_of member.now) members.now (drop place line.now.text.now))) }
 {
-    let (value, end) = read_value(alloc, text, place, member, env, spellings)?;
+    let (value, end) = read_value(alloc, line, place, member)?;
     if is_above(members, &value) {
         Ok((value, end))
     } else {

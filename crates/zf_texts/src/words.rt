@@ -5,7 +5,7 @@ ghost use Rattle.std.specs.Int.{w64};
 ghost use Rattle.zf_texts.specs.Words as spec;
 ghost use Rattle.zf_texts.specs.Readings.{IfMisfit};
 ghost use Rattle.zf_texts.specs.Steps.{IsItem, IsNoItem, IsWordAt};
-ghost use Rattle.zf_texts.specs.ValueTexts.{comma_before};
+ghost use Rattle.zf_texts.specs.LineTexts.{comma_before};
 
 use crate::fault::AfterFault;
 use itoa::Buffer;
