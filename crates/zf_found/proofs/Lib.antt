@@ -1,5 +1,4 @@
 mod Prelude
-pub mod Rows
 pub mod Tests
 pub mod Cuts
 pub mod Typed

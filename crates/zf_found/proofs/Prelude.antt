@@ -15,13 +15,15 @@ pub use Rattle.zf_walk.specs.Tests.{cut, IsCount, IsNumberOfTests, IsDueTest, Is
 pub use Rattle.zf_walk.specs.TestBounds.{IsBound}
 pub use Rattle.zf_walk.specs.declared.judge.Truth.{Truth}
 pub use Rattle.zf_walk.specs.declared.judge.Truth.TheVariants.{False, Out, True}
-pub use Rattle.zf_value.specs.Sets.{Every, IsAscending, IsMember, members, value_order}
+pub use Rattle.zf_value.specs.Sets.{IsAscending, IsMember, members, value_order}
+pub use Rattle.std.specs.List.{AllByRecursion}
 pub use Rattle.zf_value.specs.SetLaws.{parts}
 pub use Rattle.zf_value.specs.declared.plain.Value.{Elem, Int, SetOf, Tuple, Value}
 pub use Rattle.zf_term.specs.Definitions.{carrier, Comp, DeclaredSet, DeclaredSets, no_sets, plain, Schema, set, sets_of, sides}
 pub use Rattle.zf_term.specs.ResolvedTrees.{ResolvedTree}
 pub use Rattle.zf_term.specs.Types.{basic, has_numbers, int, no_types, power, product, Ty, type, Tys}
-pub use Rattle.zf_finite.specs.Finite.{bounds, is_none, one_bounds}
+pub use Rattle.zf_finite.specs.Finite.{bounds, one_bounds}
+pub use Rattle.std.specs.Option.{is_none}
 pub use Rattle.zf_meaning.specs.Environments.{Environment, globally, type_number}
 pub use Rattle.zf_meaning.specs.Meaning.{HasOutcome, IsTruth}
 pub use Rattle.zf_total.proofs.Listed.{Decided, decided_all, decided_both, decided_either, decided_in, decided_lists, decided_not, decided_same, decided_some, decided_then, HasSome, Listed, listed_either, listed_image, listed_kept, listed_none, listed_one, listed_pairs, listed_same, one_or_all, swapped}

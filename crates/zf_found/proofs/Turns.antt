@@ -18,12 +18,13 @@ use Rattle.zf_enum.specs.Property.{property}
 use Rattle.zf_graph.proofs.SomeSearch.{somehow_searched}
 use Rattle.zf_graph.proofs.Having.{AreListed, each_turn, IsStrayTold}
 use Rattle.zf_graph.specs.Laws.{EachNodeHasTurn}
-use Rattle.zf_graph.specs.Seeking.{EachIsTold}
+use Rattle.zf_graph.specs.SeekingLaws.{EachIsTold}
 use Rattle.zf_steps.specs.contracts.node.NodePartialEq.TheImpl as nodes
 use Rattle.zf_steps.specs.declared.node.Node.{Node}
 use Rattle.zf_steps.specs.declared.node.Node.TheVariants.{Root, State}
 use Rattle.zf_steps.proofs.Satisfying as steps
-use Rattle.zf_steps.specs.Explored.{CanExplore, explored_in, sought_in}
+use Rattle.zf_steps.specs.Explored.{explored_in, sought_in}
+use Rattle.zf_steps.specs.StepGraphs.{CanExplore}
 use Rattle.zf_steps.specs.Shapes.{sources_of}
 use Rattle.zf_steps.specs.Steps.{held_by, IsEventOf, IsFirstOf, parts_of, searched, stop, values_of}
 use Rattle.zf_steps.specs.SystemLaws.{orderly}

@@ -1,13 +1,13 @@
 -- Whether a value is of a type is decided.
-use Rattle.zf_found.proofs.Prelude.{◌<◌, ◌∙◌, ◌∷◌, ◌≡◌, ◌≤◌, [], ap, inl, inr, length, List, None, Option, refl, Some, subst, sym, ℕ, ℤ, FitsSigned, slice_get, Less, Every, IsAscending, members, parts, value_order, Elem, Int, SetOf, Tuple, Value, basic, int, no_types, power, product, Ty, type, Tys, Environment, type_number, Decided, decided_both, decided_same, decided_some, decided_le, listed_below, same_row, same_value}
+use Rattle.zf_found.proofs.Prelude.{◌<◌, ◌∙◌, ◌∷◌, ◌≡◌, ◌≤◌, [], ap, inl, inr, length, List, None, Option, refl, Some, subst, sym, ℕ, ℤ, FitsSigned, slice_get, Less, IsAscending, members, parts, value_order, Elem, Int, SetOf, Tuple, Value, basic, int, no_types, power, product, Ty, type, Tys, Environment, type_number, Decided, decided_both, decided_same, decided_some, decided_le, listed_below, same_row, same_value, AllByRecursion}
 use Rattle.std.specs.Int.{w64}
 use Rattle.zf_value.specs.declared.TheConstants.{SET_MAX}
 use Rattle.zf_value.proofs.Seen.{members-SetOf, parts-Tuple, same_number}
 use Rattle.zf_meaning.specs.Rows.{IsExistingElement, IsOfType, AreOfTypes}
 use Rattle.zf_total.proofs.Numbers.{decided_fits, number_or_not}
-use Rattle.zf_found.proofs.Rows.{same_ordering}
+use Rattle.zf_total.proofs.Rows.{same_ordering}
 
-decided_every : (P : Value → Type 0) → ((v : Value) → Decided (P v)) → (xs : List Value) → Decided (Every P xs)
+decided_every : (P : Value → Type 0) → ((v : Value) → Decided (P v)) → (xs : List Value) → Decided (AllByRecursion P xs)
 decided_every P d [] = inl tt
 decided_every P d (x ∷ xs) = decided_both (d x) (decided_every P d xs)
 
@@ -32,10 +32,10 @@ decided_element e None v = inr (λ h. h)
 decided_element e (Some n) v = element_of (slice_get e.sizes n) n v
 
 -- the value is the set of its members, with these
-set_that : (P : Value → Type 0) → ((v : Value) → Decided (P v)) → (v : Value) → Decided ((xs : List Value) × (v ≡ SetOf xs) × IsAscending xs × (length xs ≤ SET_MAX) × Every P xs)
+set_that : (P : Value → Type 0) → ((v : Value) → Decided (P v)) → (v : Value) → Decided ((xs : List Value) × (v ≡ SetOf xs) × IsAscending xs × (length xs ≤ SET_MAX) × AllByRecursion P xs)
 set_that P d v = elim (same_value v (SetOf (members v))) [
   | inl e ↦
-      decided_same (λ h. (members v, e, h.0, h.1.0, h.1.1)) (λ h. subst (λ xs. IsAscending xs × ((length xs ≤ SET_MAX) × Every P xs)) (the_members h.0 h.1) (h.2, (h.3, h.4)))
+      decided_same (λ h. (members v, e, h.0, h.1.0, h.1.1)) (λ h. subst (λ xs. IsAscending xs × ((length xs ≤ SET_MAX) × AllByRecursion P xs)) (the_members h.0 h.1) (h.2, (h.3, h.4)))
       (decided_both (decided_ascending (members v)) (decided_both (decided_le (length (members v)) SET_MAX) (decided_every P d (members v))))
   | inr n ↦ inr (λ h. n (h.1 ∙ ap SetOf (the_members h.0 h.1)))
 ]

@@ -12,9 +12,10 @@ use Rattle.zf_enum.specs.EventLaws.{AreEvents, IsBoundOf}
 use Rattle.zf_enum.specs.Portions.{Portion}
 use Rattle.zf_ranges.specs.Ranges.{AreRanges, IsNoneOut, IsFirstOut}
 use Rattle.zf_graph.specs.Laws.{EachNodeHasTurn}
-use Rattle.zf_graph.specs.Seeking.{EachIsTold, IsSomehowSearched}
+use Rattle.zf_graph.specs.SeekingLaws.{EachIsTold, IsSomehowSearched}
 use Rattle.zf_steps.specs.declared.node.Node.TheVariants.{State}
-use Rattle.zf_steps.specs.Explored.{CanExplore, explored_in, IsOther, IsSought, sought_in}
+use Rattle.zf_steps.specs.Explored.{explored_in, IsOther, IsSought, sought_in}
+use Rattle.zf_steps.specs.StepGraphs.{CanExplore}
 use Rattle.zf_steps.specs.Satisfying.{HasRow, Satisfies}
 use Rattle.zf_steps.specs.Shapes.{test_in}
 use Rattle.zf_steps.specs.Systems.{System}

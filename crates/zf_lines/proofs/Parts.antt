@@ -1,7 +1,8 @@
 -- Parts of lines, and columns of them.
 use Rattle.zf_lines.proofs.Prelude.{◌++◌, ◌+◌, ◌<◌, ◌∙◌, ◌∷◌, ◌≡◌, ◌≤◌, [], ap, append_assoc, arith, codes, drop, get_or, inl, inr, length, length-append, List, map, None, Option, refl, Some, subst, suc, sym, take, zero, ℕ, set, length-map, length-set, length-take-le, map_more, take_all, get_or_from_slice_get, slice_get_read, IfSome, IsSomeAnd, option_map, slice_get, slice_index_or, unwrap_or, Value, Comp, comp_of, ahead-further, texts-drop, component_in, components_in, goes_on, Format, name_in, Spelling, AreColumns, head_of, Keeps, part_at}
 use Rattle.zf_term.specs.declared.schema.Component.{Component}
-use Rattle.zf_texts.specs.ValueTexts.{comma_before, value_in}
+use Rattle.zf_texts.specs.ValueTexts.{value_in}
+use Rattle.zf_texts.specs.LineTexts.{comma_before}
 use Rattle.zf_lines.specs.declared.column.Column.{Column}
 use Rattle.zf_lines.proofs.Keeping.{at_push, at_set}
 

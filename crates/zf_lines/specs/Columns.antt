@@ -5,7 +5,8 @@ use Rattle.zf_term.specs.Definitions.{Comp}
 use Rattle.zf_value.specs.declared.plain.Value.{Value}
 use Rattle.zf_texts.specs.declared.spelling.Spelling.{Spelling}
 use Rattle.zf_texts.specs.BindingTexts.{name_in}
-use Rattle.zf_texts.specs.ValueTexts.{comma_before, value_in}
+use Rattle.zf_texts.specs.ValueTexts.{value_in}
+use Rattle.zf_texts.specs.LineTexts.{comma_before}
 use Rattle.zf_lines.specs.declared.column.Column.{Column}
 use Rattle.zf_lines.specs.declared.column.Kept.{Kept}
 

@@ -1,5 +1,5 @@
 -- What is written of a search for bindings: the lines of its events up to the last one that is written, and how it ends there.
-use Rattle.std.specs.Prelude.{◌≡◌, ◌↔◌, ℕ, Bool, true, false, ◌<◌, ◌≤◌, List, [], ◌∷◌, ◌++◌, length, codes, Option, Some, None, Contains, All, AllPairs}
+use Rattle.std.specs.Prelude.{◌≡◌, ◌↔◌, ℕ, Bool, true, false, ◌<◌, ◌≤◌, List, [], ◌∷◌, ◌++◌, length, Option, Some, None, Contains, All, AllPairs, IfSome}
 use Rattle.std.specs.List.{flat_map}
 use Rattle.std.specs.declared.cmp.Ordering.{Ordering}
 use Rattle.zf_walk.specs.declared.judge.Truth.TheVariants.{True, Out}
@@ -37,23 +37,19 @@ pub record Wording (V : Type 0) : Type 0 where
   pub end : List ℕ
   pub tests : ℕ → List ℕ
 
--- that of the rows of a schema's components
 abbrev pub row_wording : Format → List Spelling → List Comp → Wording Value
 row_wording f ss comps = record { line = row_line f ss comps; out = out_line f ss comps; more = more_line f; end = end_line f; tests = tests_line f }
 
--- one line an event
 abbrev pub lines : {V : Type 0} → Wording V → List (Event V) → List ℕ
 lines w events = flat_map (λ e. w.line e.row) events
 
 -- a limit is at least 1
 abbrev pub HasLimit : Option ℕ → Type 0
-HasLimit None = Unit {0}
-HasLimit (Some limit) = 0 < limit
+HasLimit limit = IfSome limit (λ n. 0 < n)
 
 -- so many are fewer than the limit, if there is one
 abbrev pub IsBelow : Option ℕ → ℕ → Type 0
-IsBelow None n = Unit {0}
-IsBelow (Some limit) n = n < limit
+IsBelow limit n = IfSome limit (λ most. n < most)
 
 -- The text and the status of events up to the last one that is written: the limit is reached, or the last one is out, or no event is left.
 pub data IsWritten {V : Type 0} (w : Wording V) (limit : Option ℕ) (events : List (Event V)) (last : Option (List V)) (text : List ℕ) (status : Status) : Type 0 where
@@ -66,8 +62,7 @@ pub data IsWritten {V : Type 0} (w : Wording V) (limit : Option ℕ) (events : L
 
 -- the first lines of it: those of events up to a row, all of which hold and are no more than the limit
 abbrev pub IsNotAbove : Option ℕ → ℕ → Type 0
-IsNotAbove None n = Unit {0}
-IsNotAbove (Some limit) n = n ≤ limit
+IsNotAbove limit n = IfSome limit (λ most. n ≤ most)
 
 pub record IsBegun {V : Type 0} (w : Wording V) (limit : Option ℕ) (events : List (Event V)) (last : Option (List V)) (text : List ℕ) : Type 0 where
   pub front : List (Event V)
@@ -77,8 +72,6 @@ pub record IsBegun {V : Type 0} (w : Wording V) (limit : Option ℕ) (events : L
   pub hold : Hold events
   pub within : IsNotAbove limit (length events)
   pub written : text ≡ lines w events
-
--- ---- of a schema
 
 -- the events of a schema up to a whole row, or all of them
 pub record HasEvents (e : Environment) (a : Schema) (p : Portion) (whole : Option (List Value)) (events : List (Event Value)) : Type 0 where

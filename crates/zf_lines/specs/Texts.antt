@@ -10,12 +10,6 @@ use Rattle.zf_texts.specs.BindingTexts.{row_text}
 abbrev pub row_line : Format → List Spelling → List Comp → List Value → List ℕ
 row_line f ss comps row = row_text f ss comps row ++ codes "\n"
 
-abbrev pub binding_line : List Spelling → List Comp → List Value → List ℕ
-binding_line = row_line Lines
-
-abbrev pub object_line : List Spelling → List Comp → List Value → List ℕ
-object_line = row_line Objects
-
 -- ---- the last line: the limit is reached, no row is left, or the next one is out of bounds
 
 abbrev pub more_line : Format → List ℕ

@@ -3,7 +3,7 @@ ghost use Rattle.std.specs.Prelude.{◌≡◌, ◌<◌, ◌++◌, ℕ, List, len
 ghost use Rattle.zf_lines.specs.Columns.{AreColumns, Keeps};
 ghost use Rattle.zf_term.specs.SchemaViews.{schema_of};
 ghost use Rattle.zf_texts.specs.BindingTexts.{name_in};
-ghost use Rattle.zf_texts.specs.ValueTexts.{comma_before};
+ghost use Rattle.zf_texts.specs.LineTexts.{comma_before};
 ghost use Rattle.zf_value.specs.declared.plain.Value as value;
 
 use crate::style::Style;

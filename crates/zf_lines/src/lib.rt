@@ -12,6 +12,7 @@ mod style;
 mod texts;
 pub mod writing;
 
+pub use column::columns_of;
 pub use style::Style;
 pub use texts::{
     append_end_line, append_more_line, append_out_line, append_row_line, append_tests_line,

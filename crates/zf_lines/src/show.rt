@@ -111,8 +111,8 @@ fn write_lines<S: Search, W: Write>(
     }
 }
 
-/// Writes the line of the row that the last step gave.
-fn write_row<S: Search, W: Write>(
+/// Writes the line of the row that the last step gave, or of its first values, if there are no components for the others.
+pub fn write_row<S: Search, W: Write>(
     line: &mut Vec<u8>,
     columns: &mut Vec<Column>,
     style: &Style<'_>,

@@ -11,3 +11,9 @@ pub mod Stepping
 pub mod Writing
 pub mod Answering
 pub mod Results
+pub mod SoFar
+pub mod Told
+pub mod Fewer
+pub mod Fronting
+pub mod Passing
+pub mod FrontLines

@@ -118,7 +118,7 @@ one_text_of_parts w limit parts text other status last h k =
     (ap (λ (r : List ℕ × Status). r.0) same, ap (λ (r : List ℕ × Status). r.1) same)
 
 -- the truth of what is no False event
-true_or_out : (t : Truth) → (t ≡ False → ⊥) → (t ≡ True) ⊎ (t ≡ Out)
+pub true_or_out : (t : Truth) → (t ≡ False → ⊥) → (t ≡ True) ⊎ (t ≡ Out)
 true_or_out True h = inl refl
 true_or_out False h = absurd (h refl)
 true_or_out Out h = inr refl

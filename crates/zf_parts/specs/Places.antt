@@ -1,5 +1,5 @@
 -- What stands at places of a row or of a schema.
-use Rattle.std.specs.Prelude.{ℕ, List, slice_get}
+use Rattle.std.specs.Prelude.{◌≡◌, ℕ, ◌<◌, List, length, slice_get, slice_index}
 use Rattle.std.specs.List.{filter_map}
 use Rattle.zf_term.specs.Definitions.{Comp}
 use Rattle.zf_value.specs.declared.plain.Value.{Value}
@@ -11,3 +11,7 @@ values_at places row = filter_map (slice_get row) places
 -- the components at these places
 abbrev pub comps_at : List Comp → (places : List ℕ) → List Comp
 comps_at comps places = filter_map (slice_get comps) places
+
+-- they are the first places, in their order
+abbrev pub AreFirst : (places : List ℕ) → Type 0
+AreFirst places = (i : ℕ) → i < length places → slice_index places i ≡ i

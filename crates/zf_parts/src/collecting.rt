@@ -67,7 +67,7 @@ fn add<S: Search>(
 }
 
 /// Whether values come after the named ones, if some are named.
-fn is_later(after: Option<&[Value]>, values: &[Value]) -> bool
+pub fn is_later(after: Option<&[Value]>, values: &[Value]) -> bool
     ensures { MatchBool result (IsLater value_order (option_copied after.entry) values.now) (IsLater value_order (option_copied after.entry) values.now → ⊥) }
 {
     match after {

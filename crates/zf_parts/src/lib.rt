@@ -3,6 +3,8 @@
 
 mod asked;
 mod collecting;
+mod fronts;
+mod last;
 pub mod laws;
 mod places;
 mod showing;

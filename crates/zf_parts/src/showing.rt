@@ -7,8 +7,7 @@ ghost use Rattle.zf_lines.specs.FaultViews.{AppendsFront};
 ghost use Rattle.zf_lines.specs.Faults.{read_failures, write_failures};
 ghost use Rattle.zf_lines.specs.Searches.{HasLimit};
 ghost use Rattle.zf_lines.specs.Shown.{IsAtStart};
-ghost use Rattle.zf_lines.specs.declared.fault.Status.TheVariants.{Done, PastBounds};
-ghost use Rattle.zf_lines.specs.Texts.{end_line, more_line, out_line, row_line};
+ghost use Rattle.zf_lines.specs.Texts.{row_line};
 ghost use Rattle.zf_parts.specs.Collected.{StopsKept, WritesKept};
 ghost use Rattle.zf_parts.specs.Shown.{StopsParts, WritesParts};
 ghost use Rattle.zf_parts.specs.Written.{part_wording};
@@ -16,19 +15,20 @@ ghost use Rattle.zf_term.specs.SchemaViews.{schema_of};
 
 use crate::asked::Parts;
 use crate::collecting::{Collected, collect};
-use std::alloc::AllocError;
+use crate::fronts::{are_first, show_fronts};
+use crate::last::{write_last, write_out};
 use std::io::Write;
-use zf_enum::Search;
+use zf_enum::Passing;
 use zf_lines::counted::Counted;
 use zf_lines::fault::{RunFault, Status};
 use zf_lines::limit::{is_spent, one_less};
 use zf_lines::writing::write_text;
-use zf_lines::{Style, append_end_line, append_more_line, append_out_line, append_row_line};
+use zf_lines::{Style, append_row_line};
 use zf_term::schema::Flat;
 use zf_value::value::Value;
 
 /// Writes the lines of the parts that the bindings ahead have, and the last line.
-pub fn show_parts<S: Search, W: Write>(
+pub fn show_parts<S: Passing, W: Write>(
     style: &Style<'_>,
     parts: Parts<'_, '_>,
     search: &mut S,
@@ -36,13 +36,16 @@ pub fn show_parts<S: Search, W: Write>(
     writer: &mut Counted<W>,
 ) -> Result<Status, RunFault>
     requires unfailed { failures_of writer.old ≡ 0 }
-    requires start { IsAtStart (schema_of parts.flat.now) (S.goal search.old) (S.stage search.old) }
+    requires start { IsAtStart (schema_of parts.flat.now) (S.Search.goal search.old) (S.Search.stage search.old) }
     requires limited { HasLimit limit }
-    ensures ok { IfOk result (λ status. (text : List ℕ) × WritesParts (part_wording style.now.format style.now.elements.now (schema_of parts.entry.schema.now).comps (schema_of parts.entry.flat.now).comps) limit (S.goal search.old).environment (schema_of parts.entry.flat.now) (S.stage search.old) parts.entry.places.now (option_copied parts.entry.after) text status × Appends (W.contents (device_of writer.old)) (W.contents (device_of writer.new)) text) }
-    ensures err { OnErr result (StopsParts (part_wording style.now.format style.now.elements.now (schema_of parts.entry.schema.now).comps (schema_of parts.entry.flat.now).comps) limit (S.goal search.old).environment (schema_of parts.entry.flat.now) (S.stage search.old) parts.entry.places.now (option_copied parts.entry.after) (W.contents (device_of writer.old)) (W.contents (device_of writer.new))) }
+    ensures ok { IfOk result (λ status. (text : List ℕ) × WritesParts (part_wording style.now.format style.now.elements.now (schema_of parts.entry.schema.now).comps (schema_of parts.entry.flat.now).comps) limit (S.Search.goal search.old).environment (schema_of parts.entry.flat.now) (S.Search.stage search.old) parts.entry.places.now (option_copied parts.entry.after) text status × Appends (W.contents (device_of writer.old)) (W.contents (device_of writer.new)) text) }
+    ensures err { OnErr result (StopsParts (part_wording style.now.format style.now.elements.now (schema_of parts.entry.schema.now).comps (schema_of parts.entry.flat.now).comps) limit (S.Search.goal search.old).environment (schema_of parts.entry.flat.now) (S.Search.stage search.old) parts.entry.places.now (option_copied parts.entry.after) (W.contents (device_of writer.old)) (W.contents (device_of writer.new))) }
     ensures count { failures_of writer.new ≡ write_failures result }
     ensures unread { read_failures result ≡ 0 }
 {
+    if are_first(parts.places, parts.schema.components.len()) {
+        return show_fronts(style, parts, search, limit, writer);
+    }
     let collected = collect(style.alloc, parts, search)?;
     write_parts(style, parts, &collected, limit, writer)
 }
@@ -66,15 +69,15 @@ fn write_parts<W: Write>(
     let mut left = limit;
     for (values, row) in collected.iter() {
         match row {
-            Some(row) => return write_out(&mut line, style, parts.flat, row.as_slice(), writer),
+            Some(row) => return write_out(&mut line, style, parts.flat, &row.as_slice(), writer),
             None => write_part(&mut line, style, parts.schema, values.as_slice(), writer)?,
         }
         left = one_less(left);
         if is_spent(left) {
-            return write_more(&mut line, style, writer);
+            return write_last(&mut line, style, true, writer);
         }
     }
-    write_end(&mut line, style, writer)
+    write_last(&mut line, style, false, writer)
 }
 
 /// Writes the line of a part.
@@ -94,63 +97,4 @@ fn write_part<W: Write>(
     line.clear();
     append_row_line(line, style.format, schema, style.elements, &values)?;
     write_text(writer, line)
-}
-
-/// Writes that a row is out of bounds.
-fn write_out<W: Write>(
-    line: &mut Vec<u8>,
-    style: &Style<'_>,
-    flat: &Flat<'_>,
-    row: &[Value],
-    writer: &mut Counted<W>,
-) -> Result<Status, RunFault>
-    requires unfailed { failures_of writer.old ≡ 0 }
-    ensures ok { OnOk result (Appends (W.contents (device_of writer.old)) (W.contents (device_of writer.new)) (out_line style.now.format style.now.elements.now (schema_of flat.now).comps row.now)) }
-    ensures status { IfOk result (λ status. status ≡ PastBounds) }
-    ensures err { OnErr result (AppendsFront (W.contents (device_of writer.old)) (W.contents (device_of writer.new)) (out_line style.now.format style.now.elements.now (schema_of flat.now).comps row.now)) }
-    ensures count { failures_of writer.new ≡ write_failures result }
-    ensures unread { read_failures result ≡ 0 }
-{
-    line.clear();
-    append_out_line(line, style.format, flat, style.elements, &row)?;
-    write_text(writer, line)?;
-    Ok(Status::PastBounds)
-}
-
-/// Writes that the limit is reached.
-fn write_more<W: Write>(
-    line: &mut Vec<u8>,
-    style: &Style<'_>,
-    writer: &mut Counted<W>,
-) -> Result<Status, RunFault>
-    requires unfailed { failures_of writer.old ≡ 0 }
-    ensures ok { OnOk result (Appends (W.contents (device_of writer.old)) (W.contents (device_of writer.new)) (more_line style.now.format)) }
-    ensures status { IfOk result (λ status. status ≡ Done) }
-    ensures err { OnErr result (AppendsFront (W.contents (device_of writer.old)) (W.contents (device_of writer.new)) (more_line style.now.format)) }
-    ensures count { failures_of writer.new ≡ write_failures result }
-    ensures unread { read_failures result ≡ 0 }
-{
-    line.clear();
-    append_more_line(line, style.format)?;
-    write_text(writer, line)?;
-    Ok(Status::Done)
-}
-
-/// Writes that no part is left.
-fn write_end<W: Write>(
-    line: &mut Vec<u8>,
-    style: &Style<'_>,
-    writer: &mut Counted<W>,
-) -> Result<Status, RunFault>
-    requires unfailed { failures_of writer.old ≡ 0 }
-    ensures ok { OnOk result (Appends (W.contents (device_of writer.old)) (W.contents (device_of writer.new)) (end_line style.now.format)) }
-    ensures status { IfOk result (λ status. status ≡ Done) }
-    ensures err { OnErr result (AppendsFront (W.contents (device_of writer.old)) (W.contents (device_of writer.new)) (end_line style.now.format)) }
-    ensures count { failures_of writer.new ≡ write_failures result }
-    ensures unread { read_failures result ≡ 0 }
-{
-    line.clear();
-    append_end_line(line, style.format)?;
-    write_text(writer, line)?;
-    Ok(Status::Done)
 }

@@ -3,6 +3,7 @@ pub mod Listed
 pub mod Orders
 pub mod Naturals
 pub mod Values
+pub mod Rows
 pub mod Sets
 pub mod Numbers
 pub mod Operations

@@ -8,34 +8,9 @@ pub use Rattle.zf_value.proofs.Among.{ascending-take, contained, every-take, eve
 pub use Rattle.zf_value.proofs.Exact.{exact}
 pub use Rattle.zf_value.proofs.Seen.{is_Int, no_Int, parts-Tuple, same_number}
 pub use Rattle.zf_value.specs.Operations.{AreFrom, IsBetween, IsFunctional, IsInDomain, IsInjective, IsInRange, IsPairOf, IsRelationThat, IsTotal, pair, Relates}
-unfoldable pub use Rattle.zf_value.specs.Operations.{
-  AreElements,
-  ArePartialFunctions,
-  ArePartialInjections,
-  AreRelations,
-  AreTotalFunctions,
-  AreTotalInjections,
-  IsApplied,
-  IsComposition,
-  IsCross,
-  IsDisplay,
-  IsDomain,
-  IsDomainRestriction,
-  IsDomainSubtraction,
-  IsElement,
-  IsImage,
-  IsIntersection,
-  IsInverse,
-  IsOverriding,
-  IsPower,
-  IsRange,
-  IsRangeRestriction,
-  IsRangeSubtraction,
-  IsSetDifference,
-  IsSize,
-  IsUnion,
-}
-pub use Rattle.zf_value.specs.Sets.{Every, IsAscending, IsMember, IsSetOf, members, value_order}
+unfoldable pub use Rattle.zf_value.specs.Operations.{AreElements, ArePartialFunctions, ArePartialInjections, AreRelations, AreTotalFunctions, AreTotalInjections, IsApplied, IsComposition, IsCross, IsDisplay, IsDomain, IsDomainRestriction, IsDomainSubtraction, IsElement, IsImage, IsIntersection, IsInverse, IsOverriding, IsPower, IsRange, IsRangeRestriction, IsRangeSubtraction, IsSetDifference, IsSize, IsUnion}
+pub use Rattle.zf_value.specs.Sets.{IsAscending, IsMember, IsSetOf, members, value_order}
+pub use Rattle.std.specs.List.{AllByRecursion}
 pub use Rattle.zf_value.specs.SetLaws.{parts}
 unfoldable pub use Rattle.zf_value.specs.Sets.{AreAmong}
 pub use Rattle.zf_value.specs.declared.TheConstants.{SET_MAX}
@@ -44,7 +19,8 @@ pub use Rattle.zf_value.specs.declared.value.Outcome.TheVariants.{Is, Out, Undef
 pub use Rattle.zf_value.specs.declared.value.Truth.{Truth}
 pub use Rattle.zf_value.specs.declared.plain.Value.{Elem, Int, SetOf, Tuple, Value}
 pub use Rattle.zf_term.specs.Definitions.{abbreviation, constructor, Defined, Definition, free_type, given_set, schema}
-pub use Rattle.zf_meaning.specs.Environments.{AreElementsIf, Context, element, element_count, Environment, globally, IsTypeSet, outcome_in, type_number, within}
+pub use Rattle.zf_meaning.specs.Environments.{Context, element, element_count, Environment, globally, IsTypeSet, outcome_in, type_number, within}
+pub use Rattle.zf_meaning.specs.Lookups.{AreElementsIf}
 pub use Rattle.zf_meaning.specs.Meaning.{AreLinked, Builds, constant_truth, HasOutcome, HaveOutcomes, HaveRanges, infinite_right, IsBuilt, IsBuiltBy, IsBuiltOver, IsConstraint, IsOutOfBounds, IsTruth, IsWithinBounds, row_value}
 pub use Rattle.zf_outcome.specs.Outcomes.{OnBoth, one_more, one_out, one_undefined, OnOne, OnSeveral, repeated, Several, values}
 pub use Rattle.zf_meaning.specs.Sizes.{AddsSize, AreAccepted, AreComplete, AreSizes, given_sets, IsAccepted, IsRefusal, IsStated, names, IsSizeFault, with_given}

@@ -1,5 +1,5 @@
 -- Sets: what a list has is a set, or is out.
-use Rattle.zf_total.proofs.Prelude.{◌+◌, ◌↔◌, ◌∷◌, ◌≡◌, ◌≤◌, ◌⊎◌, [], ap, arith, inl, inr, length, length-take, Less, List, refl, subst, sym, take, ℕ, ⊎_elim, cases_lt, AllPairs, AllPairs-head, AllPairs-tail, ascending-take, contained, every-take, every_at, every_from, member, not_below_itself, exact, Every, IsAscending, IsMember, IsSetOf, value_order, AreAmong, SET_MAX, Is, Out, SetOf, Value}
+use Rattle.zf_total.proofs.Prelude.{◌+◌, ◌↔◌, ◌∷◌, ◌≡◌, ◌≤◌, ◌⊎◌, [], ap, arith, inl, inr, length, length-take, Less, List, refl, subst, sym, take, ℕ, ⊎_elim, cases_lt, AllPairs, AllPairs-head, AllPairs-tail, ascending-take, contained, every-take, every_at, every_from, member, not_below_itself, exact, IsAscending, IsMember, IsSetOf, value_order, AreAmong, SET_MAX, Is, Out, SetOf, Value, AllByRecursion}
 use Rattle.zf_value.specs.contracts.plain.ValueOrd.TheImpl.Laws.{total-law}
 use Rattle.zf_total.proofs.Listed.{HasSome, Listed, listed_same, listed_one, listed_either, listed_image}
 use Rattle.zf_total.proofs.Orders.{in_order}
@@ -28,7 +28,7 @@ ordered h =
 -- ---- sets
 
 -- a list is no longer than the limit, or its front is one longer
-pub front : (P : Value → Type 0) (n : ℕ) (xs : List Value) → IsAscending xs → Every P xs → (length xs ≤ n) ⊎ ((ys : List Value) × IsAscending ys × (length ys ≡ n + 1) × Every P ys)
+pub front : (P : Value → Type 0) (n : ℕ) (xs : List Value) → IsAscending xs → AllByRecursion P xs → (length xs ≤ n) ⊎ ((ys : List Value) × IsAscending ys × (length ys ≡ n + 1) × AllByRecursion P ys)
 front P n xs h e = elim (cases_lt n (length xs)) [
   | inl l ↦ inr (take (n + 1) xs, ascending-take (n + 1) xs h, omega (arith, length-take (n + 1) xs), every-take P (n + 1) xs e)
   | inr l ↦ inl l

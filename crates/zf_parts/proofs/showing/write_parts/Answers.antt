@@ -41,7 +41,7 @@ returns-then-is_spent-clause-ok g c =
     let next = c.in-Some.ensures.steps ∙ ap (λ o. (c.in-Some.values.now, o) ∷ c.next.new.self) c.in-None-row.is in
     let more = one_line w _ _ _ _ _ _ c.loop-values.invariant.0 c.loop-values.invariant.1 _ _ next _ _ c.one_less-left.ensures
     (rw c.as_slice-in-None-row.ensures at c.in_ok-write_part-in-None-row.ensures.ok) in
-    known_if_ok _ _ (λ status is appends. ends_at_limit w _ _ _ _ _ _ more c.if-is_spent.ensures _ status is appends) c.write_more.ensures.ok c.write_more.ensures.status
+    known_if_ok _ _ (λ status is appends. ends_at_limit w _ _ _ _ _ _ more c.if-is_spent.ensures _ status is appends) c.write_last.ensures.ok c.write_last.ensures.status
 
 pub returns-then-is_spent-clause-err : goal.returns-then-is_spent-clause-err
 returns-then-is_spent-clause-err g c =
@@ -49,7 +49,7 @@ returns-then-is_spent-clause-err g c =
     let next = c.in-Some.ensures.steps ∙ ap (λ o. (c.in-Some.values.now, o) ∷ c.next.new.self) c.in-None-row.is in
     let more = one_line w _ _ _ _ _ _ c.loop-values.invariant.0 c.loop-values.invariant.1 _ _ next _ _ c.one_less-left.ensures
     (rw c.as_slice-in-None-row.ensures at c.in_ok-write_part-in-None-row.ensures.ok) in
-    weaker_on_err _ (stops_in_more w _ _ _ _ _ _ more c.if-is_spent.ensures _) c.write_more.ensures.err
+    weaker_on_err _ (stops_in_more w _ _ _ _ _ _ more c.if-is_spent.ensures _) c.write_last.ensures.err
 
 pub loop-values-preserved : goal.loop-values-preserved
 loop-values-preserved g c =
@@ -65,9 +65,9 @@ pub returns-clause-ok : goal.returns-clause-ok
 returns-clause-ok g c =
     let w = part_wording c.args.style.now.format c.args.style.now.elements.now (schema_of c.args.parts.schema.now).comps (schema_of c.args.parts.flat.now).comps in
     known_if_ok _ _ (λ status is appends. ends w _ _ _ _ _ _ c.loop-values.invariant.0 c.loop-values.invariant.1 c.in-None.ensures.steps.0 _ status is appends)
-    c.write_end.ensures.ok c.write_end.ensures.status
+    c.write_last-2.ensures.ok c.write_last-2.ensures.status
 
 pub returns-clause-err : goal.returns-clause-err
 returns-clause-err g c =
     let w = part_wording c.args.style.now.format c.args.style.now.elements.now (schema_of c.args.parts.schema.now).comps (schema_of c.args.parts.flat.now).comps in
-    weaker_on_err _ (stops_in_end w _ _ _ _ _ _ c.loop-values.invariant.0 c.loop-values.invariant.1 c.in-None.ensures.steps.0 _) c.write_end.ensures.err
+    weaker_on_err _ (stops_in_end w _ _ _ _ _ _ c.loop-values.invariant.0 c.loop-values.invariant.1 c.in-None.ensures.steps.0 _) c.write_last-2.ensures.err

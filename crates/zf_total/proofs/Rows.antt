@@ -1,5 +1,17 @@
 -- Rows of finite ranges, the truth of each, and the list of the events.
-use Rattle.zf_found.proofs.Prelude.{◌<◌, ◌↔◌, ◌∷◌, ◌≡◌, ◌⊎◌, [], ap, inl, inr, List, map, None, Option, refl, Some, subst, sym, ℕ, ⊎_elim, IsTotalOrder, lists_total, slice_cmp, ◌≢◌, Contains, Ordering, Equal, Greater, Less, Conjuncts, IsTruthOf, Event, IsEvent, IsEvents, ComesAfter, IsFrontOf, IsLater, IsRowOf, TiesAreEqual, Truth, False, Out, True, Decided, decided_not, HasSome, Listed, listed_either, listed_image, listed_kept, listed_one, listed_pairs, listed_same, one_or_all, swapped, listed_below, AllPairs-mapped, Contains-map, Contains-mapped, in_order}
+use Rattle.zf_total.proofs.Prelude.{◌<◌, ◌↔◌, ◌∷◌, ◌≡◌, ◌⊎◌, [], ap, inl, inr, List, map, None, Option, refl, Some, subst, sym, ℕ, ⊎_elim, ◌≢◌, Contains, Ordering, Equal, Greater, Less}
+use Rattle.std.specs.Cmp.{IsTotalOrder}
+use Rattle.std.specs.Cmp.Lexicographic.{lists_total, slice_cmp}
+use Rattle.zf_walk.specs.Conjuncts.{Conjuncts, IsTruthOf}
+use Rattle.zf_walk.specs.Events.{Event, IsEvent}
+use Rattle.zf_walk.specs.EventLists.{IsEvents}
+use Rattle.zf_walk.specs.Rows.{ComesAfter, IsFrontOf, IsLater, IsRowOf}
+use Rattle.zf_walk.specs.RowLaws.{TiesAreEqual}
+use Rattle.zf_walk.specs.declared.judge.Truth.{Truth}
+use Rattle.zf_walk.specs.declared.judge.Truth.TheVariants.{False, Out, True}
+use Rattle.zf_total.proofs.Listed.{Decided, decided_not, HasSome, Listed, listed_either, listed_image, listed_kept, listed_one, listed_pairs, listed_same, one_or_all, swapped}
+use Rattle.zf_total.proofs.Naturals.{listed_below}
+use Rattle.zf_total.proofs.Orders.{AllPairs-mapped, Contains-map, Contains-mapped, in_order}
 use Rattle.zf_walk.proofs.Order.{slice-ties}
 
 -- ---- what is decided

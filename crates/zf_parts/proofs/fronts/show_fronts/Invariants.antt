@@ -1,0 +1,21 @@
+-- What is ahead has the parts that are left, and the lines of the others are written.
+use Rattle.zf_parts.proofs.Prelude.{◌≡◌, value_order}
+use Rattle.std.specs.Option.{option_copied}
+use Rattle.zf_lines.proofs.Fewer.{ahead_count}
+use Rattle.zf_lines.specs.Columns.{AreColumns}
+use Rattle.zf_lines.specs.Counts.{device_of, failures_of}
+use Rattle.zf_parts.specs.Written.{part_wording}
+use Rattle.zf_term.specs.SchemaViews.{schema_of}
+use Rattle.zf_parts.proofs.Fronting.{Fronting}
+use Rattle.zf_parts.proofs.fronts.show_fronts.Given as goal
+
+abbrev pub invariant-parts : goal.invariant-parts
+invariant-parts g l =
+    Fronting (part_wording l.style.format l.style.elements.now (schema_of l.parts.schema.now).comps (schema_of l.parts.flat.now).comps) l.fn.limit
+    l.parts.places.now (option_copied l.parts.after) (schema_of l.parts.flat.now) (g.S.Search.goal l.initial.search) (g.S.Search.stage l.initial.search)
+    (g.S.Search.goal l.search) (g.S.Search.stage l.search) l.left (g.W.Write.contents (device_of l.initial.writer)) (g.W.Write.contents (device_of l.writer))
+    × AreColumns l.style.format l.style.elements.now (schema_of l.parts.schema.now).comps (g.S.Search.stage l.search).ranges l.columns.items
+    × (failures_of l.writer ≡ 0)
+
+abbrev pub decreases-parts : goal.decreases-parts
+decreases-parts g l = ahead_count value_order (g.S.Search.stage l.search).ranges (g.S.Search.stage l.search).ahead
