@@ -3,7 +3,8 @@ use Rattle.std.proofs.Common.{◌++◌, ◌∙◌, ◌∷◌, ◌≡◌, ◌⊎�
 use Rattle.std.proofs.lemmas.List.{append-nil}
 use Rattle.std.specs.Prelude.{AllPairs, Contains}
 use Rattle.zf_walk.proofs.Lists.{AllPairs-across, AllPairs-head, AllPairs-tail, Contains-cases, Contains-head, Contains-later, Contains-right}
-use Rattle.zf_graph.specs.Parts.{AllHold, AreFinds, AreFirst, IsOrderly, Searched}
+use Rattle.zf_graph.specs.Parts.{EachHolds, AreFinds, AreFirst, Searched}
+use Rattle.zf_graph.specs.PartLaws.{IsOrderly}
 
 abbrev pub IsFront : {X : Type 0} → List X → List X → Type 0
 IsFront {X} xs ys = (more : List X) × (ys ≡ xs ++ more)
@@ -85,12 +86,12 @@ module _ {N L O X : Type 0} (s : Searched N L O X) (orderly : IsOrderly s) (a : 
       sym (f.1 ∙ ap (λ w. xs ++ w) none ∙ append-nil xs)
 
   -- where what can't be told is found first, not all hold
-  pub all_or_out : (xs ys : List X) (x : X) → AreFinds s a o xs → AllHold s xs → AreFirst s a o (ys ++ x ∷ []) → s.IsOut x → ⊥
+  pub all_or_out : (xs ys : List X) (x : X) → AreFinds s a o xs → EachHolds s xs → AreFirst s a o (ys ++ x ∷ []) → s.IsOut x → ⊥
   all_or_out xs ys x h hold k out =
       orderly.told x (hold x ((h.members x).1 (k.are x (Contains-right ys (x ∷ []) x (Contains-head x []))))) out
 
   -- of what holds and of what can't be told, the lists before the first that can't be told are one
-  pub before_out : (xs ys : List X) (x y : X) → AllHold s ys → s.IsOut x → IsFront (xs ++ x ∷ []) (ys ++ y ∷ []) → (xs ≡ ys) × (x ≡ y)
+  pub before_out : (xs ys : List X) (x y : X) → EachHolds s ys → s.IsOut x → IsFront (xs ++ x ∷ []) (ys ++ y ∷ []) → (xs ≡ ys) × (x ≡ y)
   before_out xs ys x y hold out f = go xs ys hold f where
     head : {X : Type 0} → X → List X → X
     head d [] = d
@@ -105,7 +106,7 @@ module _ {N L O X : Type 0} (s : Searched N L O X) (orderly : IsOrderly s) (a : 
     empty [] more e (u ∷ us) d = cc
     empty (z ∷ zs) more e us d = cc
 
-    go : (xs ys : List X) → AllHold s ys → IsFront (xs ++ x ∷ []) (ys ++ y ∷ []) → (xs ≡ ys) × (x ≡ y)
+    go : (xs ys : List X) → EachHolds s ys → IsFront (xs ++ x ∷ []) (ys ++ y ∷ []) → (xs ≡ ys) × (x ≡ y)
     go [] [] hold (more, e) = (refl, sym (ap (head y) e))
     go [] (z ∷ ys) hold (more, e) = absurd (orderly.told x (subst s.Holds (ap (head z) e) (hold z (Contains-head z ys))) out)
     go (w ∷ xs) [] hold (more, e) = absurd (empty (xs ++ x ∷ []) more (ap tail e) xs refl)

@@ -4,7 +4,7 @@ use Rattle.zf_graph.proofs.Prelude.{◌++◌, ◌+◌, ◌∙◌, ◌∷◌, ◌
 use Rattle.zf_graph.proofs.Places.{one_at}
 use Rattle.zf_graph.proofs.Writing.{nodes_of-arrive_all}
 use Rattle.zf_graph.proofs.OneWay.{all, compare, full, IsCompared, IsLonger, last_of, longer, not_longer, one_way, open_after, out, same, shorter, Stop, stop_of, Tail, too_many}
-use Rattle.zf_graph.specs.Texts.{begun_text, broken, edge_text, edges_text, Ending, inner_edges, IsBegun, IsWritten, no_turn, paused, stuck_text, text_up_to, turns_text, Words}
+use Rattle.zf_graph.specs.Texts.{begun_text, broken, edge_text, edges_text, Ending, inner_edges, IsPartlyExplored, IsExplored, no_turn, paused, stuck_text, text_up_to, turns_text, Words}
 use Rattle.zf_graph.specs.Laws.{IsFrontTurn, IsSure, PartsAreFronts}
 
 -- the second text is the front of the first
@@ -59,7 +59,7 @@ module _ {N L : Type 0} where
     begun_front from nodes now u (inl f) = begun_text-front w p.eq from nodes now u f
     begun_front from nodes now u (inr none) = (begun_text w p.eq from nodes u, ap (λ t. begun_text w p.eq from nodes t ++ begun_text w p.eq from nodes u) (sym none))
 
-    module _ (first : List ℕ) (b : IsBegun p w limit first) where
+    module _ (first : List ℕ) (b : IsPartlyExplored p w limit first) where
       -- with the same turns before
       front_here : (u : Turn N L) (more : List ℕ) → IsFrontTurn b.now u ⊎ (b.now ≡ no_turn) → IsTextFront (text_up_to p w b.turns b.met u ++ more) first
       front_here u more f =
@@ -150,8 +150,8 @@ module _ {N L : Type 0} where
       begun_is_front_by e text g (shorter l) = longer_front text (w.head ++ turns_text w p.eq 0 (p.root ∷ []) g.turns) (turns_first e text g.turns g.met g.tail) (front_longer g.turns g.met l)
       begun_is_front_by e text g (longer l) = absurd (not_longer p w limit sure g.turns g.met e text b.turns b.met g.tail l b.few)
 
-    parts_are_fronts_by : (e : Ending) (part text : List ℕ) → (part ≡ []) ⊎ (IsBegun p w limit part ⊎ ((ending : Ending) × IsWritten p w limit ending part))
-        → IsWritten p w limit e text → IsTextFront text part
+    parts_are_fronts_by : (e : Ending) (part text : List ℕ) → (part ≡ []) ⊎ (IsPartlyExplored p w limit part ⊎ ((ending : Ending) × IsExplored p w limit ending part))
+        → IsExplored p w limit e text → IsTextFront text part
     parts_are_fronts_by e part text (inl none) h = (text, ap (λ t. t ++ text) (sym none))
     parts_are_fronts_by e part text (inr (inl b)) h =
         let g = stop_of p w limit e text h in

@@ -2,9 +2,9 @@
 use Rattle.std.proofs.Common.{◌++◌, ◌+◌, ◌∙◌, ◌∷◌, ◌≡◌, [], ap, arith, inl, inr, List, map, refl, Some, subst, suc, sym, take, zero, ℕ}
 use Rattle.std.proofs.lemmas.List.{append-nil, append_assoc}
 use Rattle.std.specs.Prelude.{Contains, slice_get}
-use Rattle.zf_graph.specs.Graphs.{Edge}
+use Rattle.zf_graph.specs.Edges.{Edge}
 use Rattle.zf_graph.proofs.Places.{none_some, one_some}
-use Rattle.zf_graph.specs.Parts.{AllHold, AreFinds, AreFirst, BeginsParts, BreaksParts, HasParts, Searched}
+use Rattle.zf_graph.specs.Parts.{EachHolds, AreFinds, AreFirst, BeginsParts, BreaksParts, HasParts, Searched}
 
 module _ {N L O X : Type 0} (s : Searched N L O X) (a : N) where
   abbrev Edges : Type 0
@@ -17,7 +17,7 @@ module _ {N L O X : Type 0} (s : Searched N L O X) (a : N) where
   parted (p ∷ os) (suc k) o at = ap (λ q. p ∷ q) (parted os k o at)
 
   -- one more whole part
-  pub one_more_part : (n : ℕ) (os : List O) (k : ℕ) (o : O) (es : Edges) (xs : List X) → slice_get os k ≡ Some o → HasParts s a n (take k os) es → AreFinds s a o xs → AllHold s xs
+  pub one_more_part : (n : ℕ) (os : List O) (k : ℕ) (o : O) (es : Edges) (xs : List X) → slice_get os k ≡ Some o → HasParts s a n (take k os) es → AreFinds s a o xs → EachHolds s xs
       → HasParts s a n (take (suc k) os) (es ++ map (s.edge (n + k) o) xs)
   one_more_part n [] k o es xs at h all hold = absurd (none_some o at)
   one_more_part n (p ∷ os) zero o es xs at h all hold =
@@ -42,7 +42,7 @@ module _ {N L O X : Type 0} (s : Searched N L O X) (a : N) where
       )
 
   -- the parts before a place, and the first edges of that which stands there, begin the turn
-  pub begins_in_part : (n : ℕ) (os : List O) (k : ℕ) (o : O) (es : Edges) (xs : List X) → slice_get os k ≡ Some o → HasParts s a n (take k os) es → AreFirst s a o xs → AllHold s xs
+  pub begins_in_part : (n : ℕ) (os : List O) (k : ℕ) (o : O) (es : Edges) (xs : List X) → slice_get os k ≡ Some o → HasParts s a n (take k os) es → AreFirst s a o xs → EachHolds s xs
       → BeginsParts s a n os (es ++ map (s.edge (n + k) o) xs)
   begins_in_part n [] k o es xs at h first hold = absurd (none_some o at)
   begins_in_part n (p ∷ os) zero o es xs at h first hold =
@@ -62,7 +62,7 @@ module _ {N L O X : Type 0} (s : Searched N L O X) (a : N) where
 
   -- the same where the next can't be told
   pub breaks_in_part : (n : ℕ) (os : List O) (k : ℕ) (o : O) (es : Edges) (xs : List X) (x : X) → slice_get os k ≡ Some o → HasParts s a n (take k os) es
-      → AreFirst s a o (xs ++ x ∷ []) → AllHold s xs → s.IsOut x → BreaksParts s a n os (es ++ map (s.edge (n + k) o) xs) (s.stop o x)
+      → AreFirst s a o (xs ++ x ∷ []) → EachHolds s xs → s.IsOut x → BreaksParts s a n os (es ++ map (s.edge (n + k) o) xs) (s.stop o x)
   breaks_in_part n [] k o es xs x at h first hold out = absurd (none_some o at)
   breaks_in_part n (p ∷ os) zero o es xs x at h first hold out =
       let same : o ≡ p = sym (one_some p o at) in

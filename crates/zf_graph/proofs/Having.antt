@@ -5,9 +5,10 @@ use Rattle.std.specs.Prelude.{AllPairs, Contains}
 use Rattle.zf_walk.proofs.Lists.{AllPairs-across, AllPairs-cons, AllPairs-head, AllPairs-nil, AllPairs-tail, Contains-cases, Contains-either, Contains-head, Contains-later, Contains-left, Contains-nil}
 use Rattle.zf_graph.proofs.Finds.{first_of_all}
 use Rattle.zf_graph.specs.Explorations.{Turn}
-use Rattle.zf_graph.specs.Graphs.{Edge}
+use Rattle.zf_graph.specs.Edges.{Edge}
 use Rattle.zf_graph.specs.Laws.{Begins, EachNodeHasTurn}
-use Rattle.zf_graph.specs.Parts.{AllHold, AreFinds, AreFirst, BeginsParts, BreaksParts, BreaksTurn, explored_of, HasParts, HasTurn, IsOrderly, Searched}
+use Rattle.zf_graph.specs.Parts.{EachHolds, AreFinds, AreFirst, BeginsParts, BreaksParts, BreaksTurn, explored_of, HasParts, HasTurn, Searched}
+use Rattle.zf_graph.specs.PartLaws.{IsOrderly}
 use Rattle.zf_graph.specs.Texts.{no_turn}
 
 -- ---- fronts of lists
@@ -68,7 +69,7 @@ module _ {N L O X : Type 0} (s : Searched N L O X) (orderly : IsOrderly s) (a : 
     ];
   }
 
-  front_holds : (xs ys zs : List X) → xs ≡ ys ++ zs → AllHold s xs → AllHold s ys
+  front_holds : (xs ys zs : List X) → xs ≡ ys ++ zs → EachHolds s xs → EachHolds s ys
   front_holds xs ys zs is hold = λ x m. hold x (subst (λ w. Contains w x) (sym is) (Contains-left ys zs x m))
 
   -- ---- the edges of parts
@@ -77,7 +78,7 @@ module _ {N L O X : Type 0} (s : Searched N L O X) (orderly : IsOrderly s) (a : 
   abbrev Fronts : (number : ℕ) → List O → Edges → Type 0
   Fronts number os es = (fs more : Edges) → es ≡ fs ++ more → BeginsParts s a number os fs
 
-  fronts_behind : (n : ℕ) (o : O) (os : List O) (xs : List X) (rest : Edges) → AreFinds s a o xs → AllHold s xs → Fronts (n + 1) os rest → Fronts n (o ∷ os) (map (s.edge n o) xs ++ rest)
+  fronts_behind : (n : ℕ) (o : O) (os : List O) (xs : List X) (rest : Edges) → AreFinds s a o xs → EachHolds s xs → Fronts (n + 1) os rest → Fronts n (o ∷ os) (map (s.edge n o) xs ++ rest)
   fronts_behind n o os xs rest all hold later fs more is = elim (cuts fs more (map (s.edge n o) xs) rest (sym is)) [
     | inl c ↦
         let r = mapped (s.edge n o) xs fs c.0 c.1 in
@@ -85,7 +86,7 @@ module _ {N L O X : Type 0} (s : Searched N L O X) (orderly : IsOrderly s) (a : 
     | inr c ↦ inr (xs, c.0, all, hold, later c.0 more c.2, c.1)
   ]
 
-  fronts_here : (n : ℕ) (o : O) (os : List O) (xs rest : List X) → AreFirst s a o (xs ++ rest) → AllHold s xs → Fronts n (o ∷ os) (map (s.edge n o) xs)
+  fronts_here : (n : ℕ) (o : O) (os : List O) (xs rest : List X) → AreFirst s a o (xs ++ rest) → EachHolds s xs → Fronts n (o ∷ os) (map (s.edge n o) xs)
   fronts_here n o os xs rest are hold fs more is =
       let r = mapped (s.edge n o) xs fs more is in
       let whole : xs ++ rest ≡ r.0 ++ (r.1 ++ rest) = ap (λ w. w ++ rest) r.2 ∙ append_assoc r.0 r.1 rest in
@@ -98,19 +99,19 @@ module _ {N L O X : Type 0} (s : Searched N L O X) (orderly : IsOrderly s) (a : 
     pub find : X
     pub rest : List X
     pub split : xs ≡ front ++ find ∷ rest
-    pub hold : AllHold s front
+    pub hold : EachHolds s front
     pub out : s.IsOut find
 
-  none_hold : AllHold s []
+  none_hold : EachHolds s []
   none_hold x m = absurd (Contains-nil x m)
 
-  one_more_holds : (x : X) (xs : List X) → s.Holds x → AllHold s xs → AllHold s (x ∷ xs)
+  one_more_holds : (x : X) (xs : List X) → s.Holds x → EachHolds s xs → EachHolds s (x ∷ xs)
   one_more_holds x xs h hold y m = elim (Contains-cases x xs y m) [ inl e ↦ subst s.Holds e h | inr n ↦ hold y n ]
 
-  cut : (xs : List X) → ((x : X) → Contains xs x → s.Holds x ⊎ s.IsOut x) → AllHold s xs ⊎ IsCut xs
+  cut : (xs : List X) → ((x : X) → Contains xs x → s.Holds x ⊎ s.IsOut x) → EachHolds s xs ⊎ IsCut xs
   cut [] told = inl none_hold
   cut (x ∷ xs) told = by (told x (Contains-head x xs)) (cut xs (λ y m. told y (Contains-later x xs y m))) where
-    by : s.Holds x ⊎ s.IsOut x → AllHold s xs ⊎ IsCut xs → AllHold s (x ∷ xs) ⊎ IsCut (x ∷ xs)
+    by : s.Holds x ⊎ s.IsOut x → EachHolds s xs ⊎ IsCut xs → EachHolds s (x ∷ xs) ⊎ IsCut (x ∷ xs)
     by (inr out) later = inr (record { front = []; find = x; rest = xs; split = refl; hold = none_hold; out = out })
     by (inl h) (inl hold) = inl (one_more_holds x xs h hold)
     by (inl h) (inr c) = inr (record { front = x ∷ c.front; find = c.find; rest = c.rest; split = ap (λ w. x ∷ w) c.split; hold = one_more_holds x c.front h c.hold; out = c.out })
@@ -123,7 +124,7 @@ module _ {N L O X : Type 0} (s : Searched N L O X) (orderly : IsOrderly s) (a : 
 
   one_part : (n : ℕ) (o : O) (os : List O) → AreListed o → IsWhole (n + 1) os ⊎ IsBroken (n + 1) os → IsWhole n (o ∷ os) ⊎ IsBroken n (o ∷ os)
   one_part n o os l later = by (cut l.finds l.told) later where
-    by : AllHold s l.finds ⊎ IsCut l.finds → IsWhole (n + 1) os ⊎ IsBroken (n + 1) os → IsWhole n (o ∷ os) ⊎ IsBroken n (o ∷ os)
+    by : EachHolds s l.finds ⊎ IsCut l.finds → IsWhole (n + 1) os ⊎ IsBroken (n + 1) os → IsWhole n (o ∷ os) ⊎ IsBroken n (o ∷ os)
     by (inr c) later =
         let split : l.finds ≡ (c.front ++ c.find ∷ []) ++ c.rest = c.split ∙ sym (append_assoc c.front (c.find ∷ []) c.rest) in
         let are = front_first o (c.front ++ c.find ∷ []) c.rest (subst (AreFirst s a o) split (first_of_all s orderly a o l.finds l.are)) in

@@ -2,7 +2,7 @@
 use Rattle.std.proofs.lemmas.Bool.{cond-false, cond-true}
 use Rattle.std.specs.List.{position_or_len}
 use Rattle.std.specs.Prelude.{not}
-use Rattle.zf_graph.proofs.Prelude.{◌++◌, ◌+◌, ◌<◌, ◌∙◌, ◌∷◌, ◌≡◌, ◌⊎◌, [], ap, append-nil, append_assoc, arith, arrive_all, Bool, cases_Bool, Edge, end_of, Explored, ExploresUpTo, false, Graph, inl, inr, IsOf, length, List, Met, nodes_of, number_of, refl, slice_get, Some, subst, suc, sym, true, Turn, zero, ℕ}
+use Rattle.zf_graph.proofs.Prelude.{◌++◌, ◌+◌, ◌<◌, ◌∙◌, ◌∷◌, ◌≡◌, ◌⊎◌, [], ap, append-nil, append_assoc, arith, arrive_all, Bool, cases_Bool, Edge, end_of, Explored, ExploresUpTo, false, Graph, inl, inr, IsOf, length, List, Met, nodes_of, number_in, refl, slice_get, Some, subst, suc, sym, true, Turn, zero, ℕ}
 use Rattle.zf_graph.proofs.Places.{map_at, none_some, one_some}
 use Rattle.zf_graph.proofs.Standing.{Stands, Stands-arrive_all, Stands-from_root}
 use Rattle.zf_graph.specs.Seeking.{way_text}
@@ -51,10 +51,10 @@ module _ {N L : Type 0} (g : Graph N L) (p : Explored N L) (of : IsOf p g) where
 module _ {N L : Type 0} (w : Words N L) (eq : N → N → Bool) (nodes : List N) where
   -- the lines of a way with one more edge
   pub way_text-push : (a : N) (es : List (Edge N L)) (e : Edge N L) → way_text w eq nodes a (es ++ e ∷ [])
-      ≡ way_text w eq nodes a es ++ (w.node (number_of eq nodes (end_of a es)) (number_of eq nodes e.to) e.to ++ w.edge (number_of eq nodes (end_of a es)) e.label (number_of eq nodes e.to))
-  way_text-push a [] e = append-nil (w.node (number_of eq nodes a) (number_of eq nodes e.to) e.to ++ w.edge (number_of eq nodes a) e.label (number_of eq nodes e.to))
+      ≡ way_text w eq nodes a es ++ (w.node (number_in eq nodes (end_of a es)) (number_in eq nodes e.to) e.to ++ w.edge (number_in eq nodes (end_of a es)) e.label (number_in eq nodes e.to))
+  way_text-push a [] e = append-nil (w.node (number_in eq nodes a) (number_in eq nodes e.to) e.to ++ w.edge (number_in eq nodes a) e.label (number_in eq nodes e.to))
   way_text-push a (d ∷ es) e =
-      let here = w.node (number_of eq nodes a) (number_of eq nodes d.to) d.to ++ w.edge (number_of eq nodes a) d.label (number_of eq nodes d.to) in
+      let here = w.node (number_in eq nodes a) (number_in eq nodes d.to) d.to ++ w.edge (number_in eq nodes a) d.label (number_in eq nodes d.to) in
       ap (λ t. here ++ t) (way_text-push d.to es e)
-      ∙ sym (append_assoc here (way_text w eq nodes d.to es) (w.node (number_of eq nodes (end_of d.to es)) (number_of eq nodes e.to) e.to
-      ++ w.edge (number_of eq nodes (end_of d.to es)) e.label (number_of eq nodes e.to)))
+      ∙ sym (append_assoc here (way_text w eq nodes d.to es) (w.node (number_in eq nodes (end_of d.to es)) (number_in eq nodes e.to) e.to
+      ++ w.edge (number_in eq nodes (end_of d.to es)) e.label (number_in eq nodes e.to)))

@@ -8,7 +8,8 @@ use Rattle.zf_graph.proofs.Deciding.{at-more, Decides, decides_once, IsClear, Is
 use Rattle.zf_graph.proofs.OneWay.{compare, IsCompared, IsLonger, last_of, longer, same, shorter}
 use Rattle.zf_graph.specs.Texts.{inner_edges, no_turn, Words}
 use Rattle.zf_graph.specs.Laws.{IsFrontTurn, IsSure}
-use Rattle.zf_graph.specs.Seeking.{breaks, doubts, finds, found, IsDecisive, IsSearched, IsSearchedInOneWay, misses, missing, open_ended, pauses, Result, Sought, untold, way_text}
+use Rattle.zf_graph.specs.Seeking.{breaks, doubts, finds, found, IsSearched, misses, missing, open_ended, pauses, Result, Sought, untold, way_text}
+use Rattle.zf_graph.specs.SeekingLaws.{IsDecisive, IsSearchedInOneWay}
 
 module _ {N L : Type 0} (p : Explored N L) (s : Sought N) (w : Words N L) (last : Result → (nodes edges : ℕ) → List ℕ) (limit : ℕ) where
   -- what is written before the last words of a search that ends with this edge

@@ -6,7 +6,7 @@ use Rattle.zf_graph.proofs.Prelude.{◌++◌, ◌+◌, ◌∙◌, ◌∷◌, ◌
 use Rattle.zf_graph.proofs.Places.{one_at}
 use Rattle.zf_graph.proofs.Growing.{longer-arrive_all, longer-Explores, longer-more}
 use Rattle.zf_graph.proofs.Writing.{arrive_all-push}
-use Rattle.zf_graph.specs.Texts.{broken, ended, Ending, ends, breaks, pauses, inner_edges, IsWritten, no_turn, paused, text_up_to, Words}
+use Rattle.zf_graph.specs.Texts.{broken, ended, Ending, ends, breaks, pauses, inner_edges, IsExplored, no_turn, paused, text_up_to, Words}
 use Rattle.zf_graph.specs.Laws.{IsFrontTurn, IsSure, IsWrittenInOneWay}
 
 module _ {N L : Type 0} where
@@ -100,7 +100,7 @@ module _ {N L : Type 0} where
     pub few : length met ≤ limit
     pub tail : Tail p w limit turns met ending text
 
-  pub stop_of : (p : Explored N L) (w : Words N L) (limit : ℕ) (ending : Ending) (text : List ℕ) → IsWritten p w limit ending text → Stop p w limit ending text
+  pub stop_of : (p : Explored N L) (w : Words N L) (limit : ℕ) (ending : Ending) (text : List ℕ) → IsExplored p w limit ending text → Stop p w limit ending text
   stop_of p w limit ending text (ends turns met h few e t) = record { turns = turns; met = met; explores = h.explores; few = few; tail = all h.each e t }
   stop_of p w limit ending text (pauses turns met a now e h begun many fresh is t) = record {
     turns = turns;

@@ -8,7 +8,8 @@ use Rattle.zf_graph.proofs.Growing.{longer-arrive_all}
 use Rattle.zf_graph.proofs.Places.{at_push, none_some, one_some, some_at}
 use Rattle.zf_graph.proofs.Writing.{arrive_all-push, Explores-push}
 use Rattle.zf_graph.specs.Laws.{Begins, EachNodeHasTurn}
-use Rattle.zf_graph.specs.Seeking.{AreOthers, breaks, doubts, EachIsTold, finds, found, IsSomehowSearched, misses, missing, open_ended, pauses, Result, Sought, untold, way_text}
+use Rattle.zf_graph.specs.Seeking.{AreOthers, breaks, doubts, finds, found, misses, missing, open_ended, pauses, Result, Sought, untold, way_text}
+use Rattle.zf_graph.specs.SeekingLaws.{EachIsTold, IsSomehowSearched}
 use Rattle.zf_graph.specs.Texts.{inner_edges, no_turn, Words}
 
 module _ {N L : Type 0} (p : Explored N L) (s : Sought N) where

@@ -3,7 +3,7 @@ use Rattle.std.proofs.lemmas.List.{length-append, length-map, same_from_push}
 use Rattle.zf_graph.proofs.Prelude.{◌++◌, ◌+◌, ◌<◌, ◌∙◌, ◌∷◌, ◌≡◌, ◌≤◌, ◌⊎◌, [], ap, arith, Bool, cond, false, inl, inr, length, List, refl, Some, subst, sym, ℕ, append_assoc, append-nil, slice_get, slice_get_within, Edge, Turn, Explored, with_node, Met, nodes_of, at_first, is_met, arrive_all, with_edge}
 use Rattle.std.specs.Prelude.{◌-◌}
 use Rattle.std.specs.List.{list_any}
-use Rattle.zf_graph.specs.Texts.{begun_text, broken, edge_text, edges_in, ended, ends, breaks, pauses, inner_edges, IsBegun, IsWritten, no_turn, paused, stuck_text, text_up_to, turns_text, Words}
+use Rattle.zf_graph.specs.Texts.{begun_text, broken, edge_text, edges_in, ended, ends, breaks, pauses, inner_edges, IsPartlyExplored, IsExplored, no_turn, paused, stuck_text, text_up_to, turns_text, Words}
 use Rattle.zf_graph.specs.Stages.{StandsBefore, StandsIn}
 use Rattle.zf_graph.proofs.Places.{at_map, map_at}
 use Rattle.zf_graph.proofs.Growing.{at-arrive_all, longer-arrive_all, longer-more}
@@ -125,7 +125,7 @@ module _ {N L : Type 0} (p : Explored N L) (w : Words N L) (limit : ℕ) where
 
     -- as many nodes are met as are asked for
     pub ends_paused : (e : Edge N L) (next : ℕ) → p.BeginsTurn node (with_edge now e) → length nodes ≡ limit → is_met p.eq (arrive_all p.eq s.item s.met now.edges) e.to ≡ false
-        → (place ≡ 0 → next ≡ inner) → (0 < place → next ≡ inner + 1) → IsWritten p w limit paused ((text ++ edge_text w p.eq place nodes e) ++ w.last paused limit next)
+        → (place ≡ 0 → next ≡ inner) → (0 < place → next ≡ inner + 1) → IsExplored p w limit paused ((text ++ edge_text w p.eq place nodes e) ++ w.last paused limit next)
     ends_paused e next begun full fresh none some =
         pauses s.turns s.met s.item now e s.up_to (subst (λ n. p.BeginsTurn n (with_edge now e)) (sym s.of_node) begun) (sym length_nodes ∙ full) fresh refl
         (ap (λ t. t ++ w.last paused limit next) (text_with_edge e) ∙ ap (λ k. text_up_to p w s.turns s.met (with_edge now e) ++ w.last paused limit k)
@@ -133,14 +133,14 @@ module _ {N L : Type 0} (p : Explored N L) (w : Words N L) (limit : ℕ) where
         (λ l. some (subst (λ k. 0 < k) s.placed l) ∙ ap (λ n. n + 1) s.counted)))
 
     -- the search for an edge breaks off
-    pub ends_broken : (at : List ℕ) → p.BreaksTurn node now at → IsWritten p w limit (broken at) (text ++ w.last (broken at) (length nodes - 1) inner)
+    pub ends_broken : (at : List ℕ) → p.BreaksTurn node now at → IsExplored p w limit (broken at) (text ++ w.last (broken at) (length nodes - 1) inner)
     ends_broken at break =
         breaks s.turns s.met s.item now at s.up_to (subst (λ n. p.BreaksTurn n now at) (sym s.of_node) break) s.within refl
         (ap (λ t. t ++ w.last (broken at) (length nodes - 1) inner) s.written ∙ ap (λ k. text_up_to p w s.turns s.met now ++ w.last (broken at) (k - 1) inner) length_nodes
         ∙ ap (λ k. text_up_to p w s.turns s.met now ++ w.last (broken at) (length (arrive_all p.eq s.item s.met now.edges) - 1) k) s.counted)
 
     -- what is written so far
-    pub begins_in : p.BeginsTurn node now ⊎ (now ≡ no_turn) → IsBegun p w limit text
+    pub begins_in : p.BeginsTurn node now ⊎ (now ≡ no_turn) → IsPartlyExplored p w limit text
     begins_in begun = record { turns = s.turns; met = s.met; item = s.item; now = now; up_to = s.up_to; begins = by begun; few = few; within = within; written = s.written }
       where
         few : length s.met ≤ limit
@@ -158,7 +158,7 @@ module _ {N L : Type 0} (p : Explored N L) (w : Words N L) (limit : ℕ) where
         by (inr n) = inr n
 
     -- the same with one more edge
-    pub begins_with : (e : Edge N L) → p.BeginsTurn node (with_edge now e) → IsBegun p w limit (text ++ edge_text w p.eq place nodes e)
+    pub begins_with : (e : Edge N L) → p.BeginsTurn node (with_edge now e) → IsPartlyExplored p w limit (text ++ edge_text w p.eq place nodes e)
     begins_with e begun = record {
       turns = s.turns;
       met = s.met;
@@ -193,13 +193,13 @@ module _ {N L : Type 0} (p : Explored N L) (w : Words N L) (limit : ℕ) where
     place_within = slice_get_within nodes place node node_at
 
   -- before a turn: what is written so far
-  pub begins_before : (nodes : List N) (place inner : ℕ) (text : List ℕ) (b : N) → StandsBefore p w limit nodes place inner text → slice_get nodes place ≡ Some b → IsBegun p w limit text
+  pub begins_before : (nodes : List N) (place inner : ℕ) (text : List ℕ) (b : N) → StandsBefore p w limit nodes place inner text → slice_get nodes place ≡ Some b → IsPartlyExplored p w limit text
   begins_before nodes place inner text b s at =
-      subst (IsBegun p w limit) (append-nil text) (begins_in b no_turn nodes place inner (text ++ []) (stands_begun nodes place inner text b false s at) (inr refl))
+      subst (IsPartlyExplored p w limit) (append-nil text) (begins_in b no_turn nodes place inner (text ++ []) (stands_begun nodes place inner text b false s at) (inr refl))
 
   -- each node has had its turn
   pub ends_ended : (nodes : List N) (place inner : ℕ) (text : List ℕ) → StandsBefore p w limit nodes place inner text → length nodes ≤ place → place ≤ length nodes
-      → IsWritten p w limit ended (text ++ w.last ended (length nodes - 1) inner)
+      → IsExplored p w limit ended (text ++ w.last ended (length nodes - 1) inner)
   ends_ended nodes place inner text s all more =
       ends s.turns s.met (record { explores = s.explores; each = (let t = s.placed in omega (arith, t, all, more, lengths)) }) s.within refl
       (ap (λ t. t ++ w.last ended (length nodes - 1) inner) (s.written ∙ sym (append-nil (w.head ++ turns_text w p.eq 0 (p.root ∷ []) s.turns)))

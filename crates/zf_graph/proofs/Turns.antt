@@ -3,12 +3,13 @@ use Rattle.std.proofs.Common.{◌++◌, ◌+◌, ◌∙◌, ◌∷◌, ◌≡◌
 use Rattle.std.proofs.lemmas.List.{append-nil, append_assoc, map-append}
 use Rattle.std.specs.Prelude.{Contains, slice_get}
 use Rattle.zf_graph.specs.Explorations.{Turn}
-use Rattle.zf_graph.specs.Graphs.{Edge}
+use Rattle.zf_graph.specs.Edges.{Edge}
 use Rattle.zf_graph.specs.Laws.{IsFrontTurn, IsOf, IsSure}
 use Rattle.zf_graph.proofs.Places.{none_some, one_some}
 use Rattle.zf_walk.proofs.Lists.{Contains-cases, Contains-either, Contains-head, Contains-later, Contains-left, Contains-nil, Contains-right}
 use Rattle.zf_graph.proofs.Finds.{all_or_out, before_out, first_in_all, IsFront, one_all, one_first}
-use Rattle.zf_graph.specs.Parts.{AllHold, AreFirst, BeginsParts, BreaksParts, explored_of, graph_of, HasParts, IsFound, IsOrderly, Searched}
+use Rattle.zf_graph.specs.Parts.{EachHolds, AreFirst, BeginsParts, BreaksParts, explored_of, HasParts, Searched}
+use Rattle.zf_graph.specs.PartLaws.{graph_of, IsFound, IsOrderly}
 
 -- ---- lists
 
@@ -26,7 +27,7 @@ module _ {N L O X : Type 0} (s : Searched N L O X) (orderly : IsOrderly s) (a : 
   Edges = List (Edge N L)
 
   -- what is found first, or what holds, beside what can't be told
-  first_or_out : (o : O) (xs ys : List X) (x : X) → AreFirst s a o xs → AllHold s xs → AreFirst s a o (ys ++ x ∷ []) → s.IsOut x → IsFront xs ys
+  first_or_out : (o : O) (xs ys : List X) (x : X) → AreFirst s a o xs → EachHolds s xs → AreFirst s a o (ys ++ x ∷ []) → s.IsOut x → IsFront xs ys
   first_or_out o xs ys x h hold k out = elim (one_first s orderly a o xs (ys ++ x ∷ []) h k) [
     | inl f ↦ shorter xs ys f.0 hold f.1
     | inr f ↦ absurd (orderly.told x (hold x (subst (λ w. Contains w x) (sym f.1) (Contains-left (ys ++ x ∷ []) f.0 x (Contains-right ys (x ∷ []) x (Contains-head x []))))) out)
@@ -43,7 +44,7 @@ module _ {N L O X : Type 0} (s : Searched N L O X) (orderly : IsOrderly s) (a : 
     none [] more e = refl
     none (w ∷ xs) more e = cc
 
-    shorter : (xs ys more : List X) → AllHold s xs → ys ++ x ∷ [] ≡ xs ++ more → IsFront xs ys
+    shorter : (xs ys more : List X) → EachHolds s xs → ys ++ x ∷ [] ≡ xs ++ more → IsFront xs ys
     shorter [] ys more hold e = (ys, refl)
     shorter (w ∷ xs) [] more hold e = absurd (orderly.told x (subst s.Holds (sym (ap (head x) e)) (hold w (Contains-head w xs))) out)
     shorter (w ∷ xs) (y ∷ ys) more hold e =
@@ -154,7 +155,7 @@ module _ {N L O X : Type 0} (s : Searched N L O X) (orderly : IsOrderly s) (a : 
     | inr n ↦ Contains-later (f z) (map f xs) (f x) (in_map f xs x n)
   ]
 
-  here_in : (n : ℕ) (o : O) (os : List O) (xs : List X) (e : Edge N L) → ((x : X) → Contains xs x → s.Has a o x) → AllHold s xs → Contains (map (s.edge n o) xs) e → IsIn n (o ∷ os) e
+  here_in : (n : ℕ) (o : O) (os : List O) (xs : List X) (e : Edge N L) → ((x : X) → Contains xs x → s.Has a o x) → EachHolds s xs → Contains (map (s.edge n o) xs) e → IsIn n (o ∷ os) e
   here_in n o os xs e are hold m = let r = map_in (s.edge n o) xs e m in record {
     place = zero;
     part = o;

@@ -1,7 +1,7 @@
 -- A breadth-first exploration: the turns of the nodes of a graph, in the order in which the nodes are met.
 use Rattle.std.specs.Prelude.{◌≡◌, ℕ, ◌+◌, Bool, cond, List, [], ◌∷◌, ◌++◌, length, map, Some, slice_get}
 use Rattle.std.specs.List.{list_any, position_or_len}
-use Rattle.zf_graph.specs.Graphs.{Edge}
+use Rattle.zf_graph.specs.Edges.{Edge}
 
 -- The turn of a node: whether it is a stray, and its edges in their order.
 pub record Turn (N L : Type 0) : Type 0 where
@@ -29,8 +29,8 @@ with_ends eq nodes [] = nodes
 with_ends eq nodes (e ∷ es) = with_ends eq (with_node eq nodes e.to) es
 
 -- the number of a node among them, or that which it gets where it is new
-abbrev pub number_of : {N : Type 0} → (N → N → Bool) → List N → N → ℕ
-number_of eq nodes b = position_or_len (eq b) nodes
+abbrev pub number_in : {N : Type 0} → (N → N → Bool) → List N → N → ℕ
+number_in eq nodes b = position_or_len (eq b) nodes
 
 -- ---- with the ways to them
 

@@ -1,10 +1,6 @@
 -- Graphs with a root, what is reachable in them, and ways from the root.
 use Rattle.std.specs.Prelude.{◌≡◌, ◌≤◌, List, [], ◌∷◌, length}
-
--- an edge from a node: what it is labelled by, and the node that it leads to
-pub record Edge (N L : Type 0) : Type 0 where
-  pub label : L
-  pub to : N
+use Rattle.zf_graph.specs.Edges.{Edge}
 
 pub record Graph (N L : Type 0) : Type 1 where
   pub root : N

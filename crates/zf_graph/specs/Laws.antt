@@ -1,8 +1,9 @@
 -- What is claimed of breadth-first explorations.
 use Rattle.std.specs.Prelude.{◌≡◌, ◌⊎◌, ◌↔◌, ℕ, true, List, [], ◌∷◌, ◌++◌, Contains, Some, slice_get}
 use Rattle.zf_graph.specs.Explorations.{arrive_all, beyond, Explored, ExploresAll, ExploresUpTo, IsMet, Met, Turn}
-use Rattle.zf_graph.specs.Graphs.{Edge, Graph, IsReachable, IsShortest}
-use Rattle.zf_graph.specs.Texts.{Ending, IsPart, IsWritten, with_edge, Words}
+use Rattle.zf_graph.specs.Graphs.{Graph, IsReachable, IsShortest}
+use Rattle.zf_graph.specs.Edges.{Edge}
+use Rattle.zf_graph.specs.Texts.{Ending, IsExplored, IsPartlyExplored, with_edge, Words}
 
 -- What is explored is this graph: the test tells which nodes are one, a turn of a node has exactly its edges, and the beginning of one has edges of it.
 pub record IsOf {N L : Type 0} (p : Explored N L) (g : Graph N L) : Type 0 where
@@ -55,14 +56,18 @@ pub record IsSure {N L : Type 0} (p : Explored N L) : Type 0 where
   pub begins_broken : (a : N) (t u : Turn N L) (x : List ℕ) → p.BeginsTurn a t → p.BreaksTurn a u x → IsFrontTurn t u
   pub begins_both : (a : N) (t u : Turn N L) → p.BeginsTurn a t → p.BeginsTurn a u → IsFrontTurn t u ⊎ IsFrontTurn u t
 
+-- What is written where it stops early: nothing, or the front of a first text, or of the whole.
+abbrev pub IsPart : {N L : Type 0} → Explored N L → Words N L → (limit : ℕ) → List ℕ → Type 0
+IsPart p w limit text = (text ≡ []) ⊎ (IsPartlyExplored p w limit text ⊎ ((ending : Ending) × IsExplored p w limit ending text))
+
 module _ {N L : Type 0} (p : Explored N L) (w : Words N L) (limit : ℕ) where
   -- Two texts of one exploration are one, and end alike.
   abbrev pub IsWrittenInOneWay : Type 0
-  IsWrittenInOneWay = (e f : Ending) (s t : List ℕ) → IsWritten p w limit e s → IsWritten p w limit f t → (e ≡ f) × (s ≡ t)
+  IsWrittenInOneWay = (e f : Ending) (s t : List ℕ) → IsExplored p w limit e s → IsExplored p w limit f t → (e ≡ f) × (s ≡ t)
 
   -- What is written where an exploration stops early is the front of its text.
   abbrev pub PartsAreFronts : Type 0
-  PartsAreFronts = (e : Ending) (part text : List ℕ) → IsPart p w limit part → IsWritten p w limit e text → (rest : List ℕ) × (text ≡ part ++ rest)
+  PartsAreFronts = (e : Ending) (part text : List ℕ) → IsPart p w limit part → IsExplored p w limit e text → (rest : List ℕ) × (text ≡ part ++ rest)
 
 -- ---- there is a text
 
@@ -76,4 +81,4 @@ EachNodeHasTurn {N} {L} p = (a : N) → ((t : Turn N L) × p.HasTurn a t × Begi
 module _ {N L : Type 0} (p : Explored N L) (w : Words N L) (limit : ℕ) where
   -- Then each exploration has a text.
   abbrev pub IsSomehowWritten : Type 0
-  IsSomehowWritten = (ending : Ending) × (text : List ℕ) × IsWritten p w limit ending text
+  IsSomehowWritten = (ending : Ending) × (text : List ℕ) × IsExplored p w limit ending text

@@ -1,7 +1,10 @@
+pub mod Edges
 pub mod Graphs
 pub mod Explorations
 pub mod Texts
 pub mod Laws
 pub mod Stages
 pub mod Seeking
+pub mod SeekingLaws
 pub mod Parts
+pub mod PartLaws

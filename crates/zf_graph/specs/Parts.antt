@@ -1,7 +1,7 @@
 -- Graphs whose edges are searched for: those of a node in parts, one after another, and those of a part in the order in which a search comes to them.
-use Rattle.std.specs.Prelude.{◌≡◌, ◌⊎◌, ◌↔◌, ℕ, ◌+◌, Bool, List, [], ◌∷◌, ◌++◌, map, Some, slice_get, AllPairs, Contains}
+use Rattle.std.specs.Prelude.{◌≡◌, ◌⊎◌, ◌↔◌, ℕ, ◌+◌, Bool, List, [], ◌∷◌, ◌++◌, map, AllPairs, Contains}
 use Rattle.zf_graph.specs.Explorations.{Explored, Turn}
-use Rattle.zf_graph.specs.Graphs.{Edge, Graph}
+use Rattle.zf_graph.specs.Edges.{Edge}
 use Rattle.zf_graph.specs.Texts.{no_turn}
 
 -- What is searched: for nodes, in parts, for finds of which each is an edge, or can't be told.
@@ -23,21 +23,8 @@ pub record Searched (N L O X : Type 0) : Type 1 where
   pub IsDoubtful : N → List ℕ → Type 0
 
 module _ {N L O X : Type 0} (s : Searched N L O X) where
-  -- an edge is found in a part
-  pub record IsFound (a : N) (e : Edge N L) : Type 0 where
-    pub number : ℕ
-    pub part : O
-    pub find : X
-    pub stands : slice_get (s.parts a) number ≡ Some part
-    pub has : s.Has a part find
-    pub holds : s.Holds find
-    pub is : s.edge number part find ≡ e
-
-  abbrev pub graph_of : Graph N L
-  graph_of = record { root = s.root; IsEdge = IsFound }
-
-  abbrev pub AllHold : List X → Type 0
-  AllHold xs = (x : X) → Contains xs x → s.Holds x
+  abbrev pub EachHolds : List X → Type 0
+  EachHolds xs = (x : X) → Contains xs x → s.Holds x
 
   module _ (a : N) where
     -- all that is found in a part
@@ -54,21 +41,21 @@ module _ {N L O X : Type 0} (s : Searched N L O X) where
     -- the edges of these parts, the first of which has this number
     abbrev pub HasParts : (number : ℕ) → List O → List (Edge N L) → Type 0
     HasParts number [] es = es ≡ []
-    HasParts number (o ∷ os) es = (xs : List X) × (rest : List (Edge N L)) × AreFinds o xs × AllHold xs × HasParts (number + 1) os rest × (es ≡ map (s.edge number o) xs ++ rest)
+    HasParts number (o ∷ os) es = (xs : List X) × (rest : List (Edge N L)) × AreFinds o xs × EachHolds xs × HasParts (number + 1) os rest × (es ≡ map (s.edge number o) xs ++ rest)
 
     -- the first of them
     abbrev pub BeginsParts : (number : ℕ) → List O → List (Edge N L) → Type 0
     BeginsParts number [] es = es ≡ []
     BeginsParts number (o ∷ os) es =
-        ((xs : List X) × AreFirst o xs × AllHold xs × (es ≡ map (s.edge number o) xs))
-        ⊎ ((xs : List X) × (rest : List (Edge N L)) × AreFinds o xs × AllHold xs × BeginsParts (number + 1) os rest × (es ≡ map (s.edge number o) xs ++ rest))
+        ((xs : List X) × AreFirst o xs × EachHolds xs × (es ≡ map (s.edge number o) xs))
+        ⊎ ((xs : List X) × (rest : List (Edge N L)) × AreFinds o xs × EachHolds xs × BeginsParts (number + 1) os rest × (es ≡ map (s.edge number o) xs ++ rest))
 
     -- those before the first that can't be told
     abbrev pub BreaksParts : (number : ℕ) → List O → List (Edge N L) → (at : List ℕ) → Type 0
     BreaksParts number [] es at = ⊥
     BreaksParts number (o ∷ os) es at =
-        ((xs : List X) × (x : X) × AreFirst o (xs ++ x ∷ []) × AllHold xs × s.IsOut x × (es ≡ map (s.edge number o) xs) × (at ≡ s.stop o x))
-        ⊎ ((xs : List X) × (rest : List (Edge N L)) × AreFinds o xs × AllHold xs × BreaksParts (number + 1) os rest at × (es ≡ map (s.edge number o) xs ++ rest))
+        ((xs : List X) × (x : X) × AreFirst o (xs ++ x ∷ []) × EachHolds xs × s.IsOut x × (es ≡ map (s.edge number o) xs) × (at ≡ s.stop o x))
+        ⊎ ((xs : List X) × (rest : List (Edge N L)) × AreFinds o xs × EachHolds xs × BreaksParts (number + 1) os rest at × (es ≡ map (s.edge number o) xs ++ rest))
 
   abbrev pub HasTurn : N → Turn N L → Type 0
   HasTurn a t = s.IsStray a t.stray × HasParts a 0 (s.parts a) t.edges
@@ -81,14 +68,3 @@ module _ {N L O X : Type 0} (s : Searched N L O X) where
 
   abbrev pub explored_of : Explored N L
   explored_of = record { root = s.root; eq = s.eq; HasTurn = HasTurn; BeginsTurn = BeginsTurn; BreaksTurn = BreaksTurn }
-
-  -- The order tells what is found in a part apart, nothing both holds and can't be told, and no node both is a stray and is none.
-  pub record IsOrderly : Type 0 where
-    pub sound : (a b : N) → s.eq a b ≡ Bool.true → a ≡ b
-    pub itself : (a : N) → s.eq a a ≡ Bool.true
-    pub never_both : (x y : X) → s.IsBefore x y → s.IsBefore y x → ⊥
-    pub linear : (a : N) (o : O) (x y : X) → s.Has a o x → s.Has a o y → (x ≡ y) ⊎ s.IsBefore x y ⊎ s.IsBefore y x
-    pub told : (x : X) → s.Holds x → s.IsOut x → ⊥
-    pub one_stray : (a : N) (b c : Bool) → s.IsStray a b → s.IsStray a c → b ≡ c
-    pub one_doubt : (a : N) (at by : List ℕ) → s.IsDoubtful a at → s.IsDoubtful a by → at ≡ by
-    pub no_doubt : (a : N) (b : Bool) (at : List ℕ) → s.IsStray a b → s.IsDoubtful a at → ⊥

@@ -1,6 +1,6 @@
 -- Where an exploration that is written stands, and a search. No public clause rests on this file.
 use Rattle.std.specs.Prelude.{◌≡◌, ℕ, ◌≤◌, List, [], ◌∷◌, ◌++◌, length, Some, slice_get}
-use Rattle.zf_graph.specs.Explorations.{arrive_all, at_first, Explored, Explores, ExploresUpTo, Met, nodes_of, number_of, Turn}
+use Rattle.zf_graph.specs.Explorations.{arrive_all, at_first, Explored, Explores, ExploresUpTo, Met, nodes_of, number_in, Turn}
 use Rattle.zf_graph.specs.Graphs.{end_of}
 use Rattle.zf_graph.specs.Seeking.{AreOthers, Sought}
 use Rattle.zf_graph.specs.Texts.{inner_edges, no_turn, text_up_to, turns_text, Words}
@@ -53,4 +53,4 @@ pub record SeeksIn {N L : Type 0} (p : Explored N L) (s : Sought N) (limit : ℕ
 
 -- each node has its place as its number, and its way leads to it
 abbrev pub IsNumbered : {N L : Type 0} → Explored N L → List (Met N L) → Type 0
-IsNumbered {N} {L} p met = (i : ℕ) (x : Met N L) → slice_get met i ≡ Some x → (number_of p.eq (nodes_of met) x.node ≡ i) × (end_of p.root x.way ≡ x.node)
+IsNumbered {N} {L} p met = (i : ℕ) (x : Met N L) → slice_get met i ≡ Some x → (number_in p.eq (nodes_of met) x.node ≡ i) × (end_of p.root x.way ≡ x.node)

@@ -1,8 +1,8 @@
 -- The text of an exploration: what is written of each turn, in the words of a writer.
 use Rattle.std.specs.Prelude.{◌≡◌, ◌⊎◌, ℕ, ◌+◌, ◌-◌, ◌≤◌, Bool, false, cond, List, [], ◌∷◌, ◌++◌, length}
 use Rattle.std.specs.List.{list_any}
-use Rattle.zf_graph.specs.Explorations.{arrive_all, Explored, ExploresAll, ExploresUpTo, is_met, Met, nodes_of, number_of, Turn, with_ends, with_node}
-use Rattle.zf_graph.specs.Graphs.{Edge}
+use Rattle.zf_graph.specs.Explorations.{arrive_all, Explored, ExploresAll, ExploresUpTo, is_met, Met, nodes_of, number_in, Turn, with_ends, with_node}
+use Rattle.zf_graph.specs.Edges.{Edge}
 
 -- How an exploration ends: each node that is met has had its turn, or as many are met as are asked for, or the search for an edge broke off at what this text says.
 pub data Ending : Type 0 where
@@ -23,7 +23,7 @@ pub record Words (N L : Type 0) : Type 0 where
 module _ {N L : Type 0} (w : Words N L) (eq : N → N → Bool) where
   -- an edge of the node of this number, where these nodes are met: the node that it leads to where that is new, and the edge
   abbrev pub edge_text : (from : ℕ) → List N → Edge N L → List ℕ
-  edge_text from nodes e = cond (list_any (eq e.to) nodes) [] (w.node from (length nodes) e.to) ++ w.edge from e.label (number_of eq nodes e.to)
+  edge_text from nodes e = cond (list_any (eq e.to) nodes) [] (w.node from (length nodes) e.to) ++ w.edge from e.label (number_in eq nodes e.to)
 
   abbrev pub edges_text : (from : ℕ) → List N → List (Edge N L) → List ℕ
   edges_text from nodes [] = []
@@ -66,18 +66,18 @@ module _ {N L : Type 0} (p : Explored N L) (w : Words N L) where
   text_up_to turns met now = (w.head ++ turns_text w p.eq 0 (p.root ∷ []) turns) ++ begun_text w p.eq (length turns) (nodes_of met) now
 
 -- The text of an exploration, with so many nodes beside the root as a limit.
-pub data IsWritten {N L : Type 0} (p : Explored N L) (w : Words N L) (limit : ℕ) (ending : Ending) (text : List ℕ) : Type 0 where
+pub data IsExplored {N L : Type 0} (p : Explored N L) (w : Words N L) (limit : ℕ) (ending : Ending) (text : List ℕ) : Type 0 where
   ends : (turns : List (Turn N L)) (met : List (Met N L)) → ExploresAll p turns met → length met ≤ limit
-      → ending ≡ ended → text ≡ text_up_to p w turns met no_turn ++ w.last ended (length met - 1) (inner_edges turns no_turn) → IsWritten p w limit ending text
+      → ending ≡ ended → text ≡ text_up_to p w turns met no_turn ++ w.last ended (length met - 1) (inner_edges turns no_turn) → IsExplored p w limit ending text
   pauses : (turns : List (Turn N L)) (met : List (Met N L)) (a : Met N L) (now : Turn N L) (e : Edge N L) → ExploresUpTo p turns met a → p.BeginsTurn a.node (with_edge now e)
       → length (arrive_all p.eq a met now.edges) ≡ limit → is_met p.eq (arrive_all p.eq a met now.edges) e.to ≡ false
-      → ending ≡ paused → text ≡ text_up_to p w turns met (with_edge now e) ++ w.last paused limit (inner_edges turns (with_edge now e)) → IsWritten p w limit ending text
+      → ending ≡ paused → text ≡ text_up_to p w turns met (with_edge now e) ++ w.last paused limit (inner_edges turns (with_edge now e)) → IsExplored p w limit ending text
   breaks : (turns : List (Turn N L)) (met : List (Met N L)) (a : Met N L) (now : Turn N L) (at : List ℕ) → ExploresUpTo p turns met a → p.BreaksTurn a.node now at
       → length (arrive_all p.eq a met now.edges) ≤ limit
-      → ending ≡ broken at → text ≡ text_up_to p w turns met now ++ w.last (broken at) (length (arrive_all p.eq a met now.edges) - 1) (inner_edges turns now) → IsWritten p w limit ending text
+      → ending ≡ broken at → text ≡ text_up_to p w turns met now ++ w.last (broken at) (length (arrive_all p.eq a met now.edges) - 1) (inner_edges turns now) → IsExplored p w limit ending text
 
 -- The first text of it: some turns, and the beginning of the next one, which brings no more nodes than the limit has before its last edge.
-pub record IsBegun {N L : Type 0} (p : Explored N L) (w : Words N L) (limit : ℕ) (text : List ℕ) : Type 0 where
+pub record IsPartlyExplored {N L : Type 0} (p : Explored N L) (w : Words N L) (limit : ℕ) (text : List ℕ) : Type 0 where
   pub turns : List (Turn N L)
   pub met : List (Met N L)
   pub item : Met N L
@@ -87,7 +87,3 @@ pub record IsBegun {N L : Type 0} (p : Explored N L) (w : Words N L) (limit : �
   pub few : length met ≤ limit
   pub within : (es : List (Edge N L)) (e : Edge N L) → now.edges ≡ es ++ e ∷ [] → length (arrive_all p.eq item met es) ≤ limit
   pub written : text ≡ text_up_to p w turns met now
-
--- What is written where it stops early: nothing, or the front of a first text, or of the whole.
-abbrev pub IsPart : {N L : Type 0} → Explored N L → Words N L → (limit : ℕ) → List ℕ → Type 0
-IsPart p w limit text = (text ≡ []) ⊎ (IsBegun p w limit text ⊎ ((ending : Ending) × IsWritten p w limit ending text))

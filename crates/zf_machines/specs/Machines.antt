@@ -3,7 +3,7 @@ use Rattle.std.specs.Prelude.{◌≡◌, ◌⊎◌, ℕ, List, ◌∷◌, ◌++�
 use Rattle.std.specs.List.{AllByRecursion}
 use Rattle.zf_meaning.specs.Environments.{Environment}
 use Rattle.zf_steps.specs.declared.form.Form.{Form}
-use Rattle.zf_steps.specs.Shapes.{both, CanBeSought, HasAll, IsInit, LacksInit, LacksSought, LacksStep, operation_in, test_in, with_strokes}
+use Rattle.zf_steps.specs.Shapes.{both_states, CanBeSought, HasAll, IsInit, LacksInit, LacksSought, LacksStep, operation_in, test_in, with_strokes}
 use Rattle.zf_steps.specs.Systems.{System}
 use Rattle.zf_term.specs.Definitions.{Comp, Schema}
 use Rattle.zf_texts.specs.declared.spelling.Spelling.{Spelling}
@@ -38,7 +38,7 @@ CanBeInitial state a = HasAll a.comps (with_strokes state) ⊎ HasAll a.comps st
 
 -- each operation those of the state before and after,
 abbrev pub CanStep : (state : List Comp) → Named → Type 0
-CanStep state o = HasAll o.schema.comps (both state)
+CanStep state o = HasAll o.schema.comps (both_states state)
 
 -- and what is sought shares with the state only components of its types.
 abbrev pub AllowsSought : (state : List Comp) → Option Named → Type 0

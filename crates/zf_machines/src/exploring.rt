@@ -2,7 +2,7 @@
 ghost use Rattle.std.specs.Prelude.{◌≡◌, ◌≤◌, ◌⊎◌, ℕ, List, [], IfOk, OnErr};
 ghost use Rattle.std.specs.List.{AllByRecursion};
 ghost use Rattle.std.specs.Io.KnownBytes.{Appends};
-ghost use Rattle.zf_graph.specs.Texts.{IsWritten};
+ghost use Rattle.zf_graph.specs.Texts.{IsExplored};
 ghost use Rattle.zf_lines.specs.Counts.{device_of, failures_of};
 ghost use Rattle.zf_lines.specs.Faults.{read_failures, write_failures};
 ghost use Rattle.zf_machines.specs.Machines.{all_of, HasShape, IsMachineOf};
@@ -48,7 +48,7 @@ pub fn explore_schemas<W: Write>(
     requires limited { 1 ≤ limit }
     requires shape { HasShape (schemas_of specification.now.schemas.now) }
     requires searchable { AllByRecursion (λ n. CanSearch (environment_of specification.now.env.now) n.schema) (all_of (schemas_of specification.now.schemas.now)) }
-    ensures ok { IfOk result (λ ending. (m : System) × IsMachineOf (environment_of specification.now.env.now) specification.now.elements.now specification.now.form (schemas_of specification.now.schemas.now) m × (at text : List ℕ) × IsWritten (explored_in m) (words m) limit (ending_of ending at) text × Appends (W.contents (device_of writer.old)) (W.contents (device_of writer.new)) text) }
+    ensures ok { IfOk result (λ ending. (m : System) × IsMachineOf (environment_of specification.now.env.now) specification.now.elements.now specification.now.form (schemas_of specification.now.schemas.now) m × (at text : List ℕ) × IsExplored (explored_in m) (words m) limit (ending_of ending at) text × Appends (W.contents (device_of writer.old)) (W.contents (device_of writer.new)) text) }
     ensures err { OnErr result (Appends (W.contents (device_of writer.old)) (W.contents (device_of writer.new)) [] ⊎ ((m : System) × IsMachineOf (environment_of specification.now.env.now) specification.now.elements.now specification.now.form (schemas_of specification.now.schemas.now) m × StopsEarly (explored_in m) (words m) limit (W.contents (device_of writer.old)) (W.contents (device_of writer.new)))) }
     ensures count { failures_of writer.new ≡ write_failures result }
     ensures unread { read_failures result ≡ 0 }

@@ -5,7 +5,7 @@ ghost use Rattle.zf_meaning.specs.Environments.{Environment};
 ghost use Rattle.zf_machines.specs.SchemaViews.{named_of, schemas_of};
 ghost use Rattle.zf_steps.specs.Shapes as shapes;
 ghost use Rattle.zf_steps.specs.States.{AreStates, before_of};
-ghost use Rattle.zf_steps.specs.Systems.{operation_of, system_of};
+ghost use Rattle.zf_steps.specs.SystemViews.{operation_of, system_of};
 ghost use Rattle.zf_term.specs.SchemaViews.{schema_of};
 
 use crate::schemas::{Named, Schemas};

@@ -7,9 +7,10 @@ pub use Rattle.std.specs.Io.KnownBytes.{Appends}
 pub use Rattle.std.specs.List.{list_any}
 pub use Rattle.std.specs.Prelude.{min, slice_get}
 pub use Rattle.zf_graph.specs.Explorations.{arrive_all, Explored, is_met, Turn, with_node}
-pub use Rattle.zf_graph.specs.Graphs.{Edge}
+pub use Rattle.zf_graph.specs.Edges.{Edge}
 pub use Rattle.zf_graph.specs.Stages.{StandsBefore, StandsIn}
-pub use Rattle.zf_graph.specs.Texts.{begun_text, broken, edge_text, ended, Ending, IsBegun, IsPart, IsWritten, no_turn, paused, stuck_text, with_edge, Words}
+pub use Rattle.zf_graph.specs.Texts.{begun_text, broken, edge_text, ended, Ending, IsPartlyExplored, IsExplored, no_turn, paused, stuck_text, with_edge, Words}
+pub use Rattle.zf_graph.specs.Laws.{IsPart}
 pub use Rattle.zf_graph.proofs.Places.{some_at}
 pub use Rattle.zf_graph.proofs.Stages.{begins_before, begins_in, begins_with, ends_broken, ends_ended, ends_paused, few_nodes, is_new, node_at, place_within, stands_begun, stands_first, stands_over, stands_passed}
 pub use Rattle.zf_lines.specs.Counts.{device_of, failures_of}

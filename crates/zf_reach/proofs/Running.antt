@@ -1,5 +1,5 @@
 -- How a run goes on, where it stops and how it ends.
-use Rattle.zf_reach.proofs.Prelude.{◌++◌, ◌+◌, ◌-◌, ◌<◌, ◌^◌, ◌∙◌, ◌∷◌, ◌≡◌, ◌≤◌, ◌⊎◌, [], ap, arith, Bool, cond, eqb, false, inl, inr, length, length-append, List, Option, refl, Some, subst, sym, true, ℕ, min, Appends-nil, Appends-trans, Appends, cases_eq, cases_lt, cond-false, cond-true, eq-eqb, ne_eqb, list_any, slice_get, Explored, Turn, with_node, Edge, StandsBefore, broken, edge_text, ended, Ending, IsWritten, paused, stuck_text, with_edge, Words, begins_before, begins_in, begins_with, ends_broken, ends_ended, ends_paused, few_nodes, is_new, place_within, some_at, stands_begun, stands_first, stands_over, stands_passed, AppendsFront, AtTurn, Closes, counted, cut, InTurn, IsFull, IsStuck, StopsEarly}
+use Rattle.zf_reach.proofs.Prelude.{◌++◌, ◌+◌, ◌-◌, ◌<◌, ◌^◌, ◌∙◌, ◌∷◌, ◌≡◌, ◌≤◌, ◌⊎◌, [], ap, arith, Bool, cond, eqb, false, inl, inr, length, length-append, List, Option, refl, Some, subst, sym, true, ℕ, min, Appends-nil, Appends-trans, Appends, cases_eq, cases_lt, cond-false, cond-true, eq-eqb, ne_eqb, list_any, slice_get, Explored, Turn, with_node, Edge, StandsBefore, broken, edge_text, ended, Ending, IsExplored, paused, stuck_text, with_edge, Words, begins_before, begins_in, begins_with, ends_broken, ends_ended, ends_paused, few_nodes, is_new, place_within, some_at, stands_begun, stands_first, stands_over, stands_passed, AppendsFront, AtTurn, Closes, counted, cut, InTurn, IsFull, IsStuck, StopsEarly}
 use Rattle.zf_reach.proofs.Fronts.{front_behind, front_longer, front_whole}
 
 -- ---- counting
@@ -91,7 +91,7 @@ module _ {N L : Type 0} (p : Explored N L) (w : Words N L) (limit : ℕ) (origin
     closes_paused e new begun full more = record {
       inner = next_count place t.inner;
       text = t.text ++ edge_text w p.eq place nodes e;
-      ends = subst (λ k. IsWritten p w limit paused ((t.text ++ edge_text w p.eq place nodes e) ++ w.last paused k (next_count place t.inner))) states
+      ends = subst (λ k. IsExplored p w limit paused ((t.text ++ edge_text w p.eq place nodes e) ++ w.last paused k (next_count place t.inner))) states
           (ends_paused p w limit node now nodes place t.inner t.text t.stands e (next_count place t.inner) begun full.1
           (is_new p w limit node now nodes place t.inner t.text t.stands e.to full.0) (none_at_root place t.inner) (one_beyond place t.inner));
       count = counted_cut place edges t.inner t.count;
@@ -168,7 +168,7 @@ module _ {N L : Type 0} (p : Explored N L) (w : Words N L) (limit : ℕ) (origin
       front_behind origin old new c.text (w.last ending (length nodes - 1) c.inner) c.written front,
     )
 
-    pub writes_last : (new : Option (List ℕ)) → Appends old new (w.last ending (length nodes - 1) c.inner) → (text : List ℕ) × IsWritten p w limit ending text × Appends origin new text
+    pub writes_last : (new : Option (List ℕ)) → Appends old new (w.last ending (length nodes - 1) c.inner) → (text : List ℕ) × IsExplored p w limit ending text × Appends origin new text
     writes_last new more = (c.text ++ w.last ending (length nodes - 1) c.inner, c.ends, Appends-trans origin old new c.text (w.last ending (length nodes - 1) c.inner) c.written more)
 
     -- the same of what is seen afterwards
@@ -176,7 +176,7 @@ module _ {N L : Type 0} (p : Explored N L) (w : Words N L) (limit : ℕ) (origin
     stops_in_seen shown new is front = stops_in_last new (subst (AppendsFront old new) is front)
 
     pub writes_seen : (shown : List ℕ) (new : Option (List ℕ)) → shown ≡ w.last ending (length nodes - 1) c.inner → Appends old new shown → (text : List ℕ)
-        × IsWritten p w limit ending text × Appends origin new text
+        × IsExplored p w limit ending text × Appends origin new text
     writes_seen shown new is more = writes_last new (subst (Appends old new) is more)
 
 module _ {N L : Type 0} (p : Explored N L) (w : Words N L) (limit : ℕ) (origin : Option (List ℕ)) where

@@ -1,7 +1,7 @@
 -- The way to a node that is met, backwards along the trail.
 use Rattle.zf_graph.proofs.Numbers.{way_text-push}
 use Rattle.zf_graph.proofs.Places.{at_map, one_at}
-use Rattle.zf_graph.specs.Explorations.{Met, number_of}
+use Rattle.zf_graph.specs.Explorations.{Met, number_in}
 use Rattle.zf_graph.specs.Graphs.{end_of}
 use Rattle.zf_graph.specs.Seeking.{way_text}
 use Rattle.zf_reach.proofs.Prelude.{◌++◌, ◌-◌, ◌<◌, ◌∙◌, ◌∷◌, ◌≡◌, [], ap, append-nil, append_assoc, arith, Explored, length, List, refl, slice_get, Some, subst, sym, Words, ℕ}
@@ -56,7 +56,7 @@ module _ {N L : Type 0} (p : Explored N L) (w : Words N L) (nodes : List N) (tra
       ∙ append_assoc (first ++ text) (w.node arrival.from number x.node) (w.edge arrival.from arrival.label number)
       ∙ append_assoc first text (w.node arrival.from number x.node ++ w.edge arrival.from arrival.label number)
       ∙ ap (λ t. first ++ t) (ap (λ n. text ++ (w.node n number x.node ++ w.edge n arrival.label number)) (sym number_from)
-      ∙ ap (λ n. text ++ (w.node (number_of p.eq nodes (end_of p.root r.from.way)) n x.node ++ w.edge (number_of p.eq nodes (end_of p.root r.from.way)) arrival.label n)) (sym number_to)
+      ∙ ap (λ n. text ++ (w.node (number_in p.eq nodes (end_of p.root r.from.way)) n x.node ++ w.edge (number_in p.eq nodes (end_of p.root r.from.way)) arrival.label n)) (sym number_to)
       ∙ sym (way_text-push w p.eq nodes p.root r.from.way (edge arrival.label x.node))
       ∙ ap (λ es. way_text w p.eq nodes p.root es) (ap (λ (a : Arrival L). r.from.way ++ edge a.label x.node ∷ []) (sym same) ∙ sym r.way))
     where
@@ -78,9 +78,9 @@ module _ {N L : Type 0} (p : Explored N L) (w : Words N L) (nodes : List N) (tra
       nodes_at : (i : ℕ) (y : Met N L) → slice_get met i ≡ Some y → slice_get nodes i ≡ Some y.node
       nodes_at i y h = subst (λ ns. slice_get ns i ≡ Some y.node) (sym shown.of_nodes) (at_map (λ (z : Met N L). z.node) met i y h)
 
-      number_to : number_of p.eq nodes x.node ≡ number
-      number_to = ap (λ ns. number_of p.eq ns x.node) shown.of_nodes ∙ (shown.numbered number x at).0
+      number_to : number_in p.eq nodes x.node ≡ number
+      number_to = ap (λ ns. number_in p.eq ns x.node) shown.of_nodes ∙ (shown.numbered number x at).0
 
-      number_from : number_of p.eq nodes (end_of p.root r.from.way) ≡ arrival.from
-      number_from = ap (λ b. number_of p.eq nodes b) (shown.numbered arrival.from r.from from_at).1 ∙ ap (λ ns. number_of p.eq ns r.from.node) shown.of_nodes
+      number_from : number_in p.eq nodes (end_of p.root r.from.way) ≡ arrival.from
+      number_from = ap (λ b. number_in p.eq nodes b) (shown.numbered arrival.from r.from from_at).1 ∙ ap (λ ns. number_in p.eq ns r.from.node) shown.of_nodes
           ∙ (shown.numbered arrival.from r.from from_at).0

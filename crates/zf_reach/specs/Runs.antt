@@ -3,10 +3,12 @@ use Rattle.std.specs.Prelude.{◌≡◌, ℕ, ◌+◌, ◌-◌, ◌^◌, ◌≤�
 use Rattle.std.specs.List.{list_any}
 use Rattle.std.specs.Io.KnownBytes.{Appends}
 use Rattle.zf_graph.specs.Explorations.{Explored, Turn, with_node}
-use Rattle.zf_graph.specs.Graphs.{Edge}
-use Rattle.zf_graph.specs.Seeking.{IsSearchedPart, Result, Sought}
+use Rattle.zf_graph.specs.Edges.{Edge}
+use Rattle.zf_graph.specs.Seeking.{Result, Sought}
+use Rattle.zf_graph.specs.SeekingLaws.{IsSearchedPart}
 use Rattle.zf_graph.specs.Stages.{StandsBefore, StandsIn}
-use Rattle.zf_graph.specs.Texts.{Ending, IsPart, IsWritten, Words}
+use Rattle.zf_graph.specs.Texts.{Ending, IsExplored, Words}
+use Rattle.zf_graph.specs.Laws.{IsPart}
 use Rattle.zf_lines.specs.FaultViews.{AppendsFront}
 use Rattle.zf_reach.specs.declared.ending.Ending as code
 use Rattle.zf_reach.specs.Machines.{ending_of}
@@ -67,7 +69,7 @@ module _ {N L : Type 0} (p : Explored N L) (w : Words N L) (limit : ℕ) where
   pub record Closes (ending : Ending) (origin contents : Option (List ℕ)) (nodes : List N) (edges : ℕ) : Type 0 where
     pub inner : ℕ
     pub text : List ℕ
-    pub ends : IsWritten p w limit ending (text ++ w.last ending (length nodes - 1) inner)
+    pub ends : IsExplored p w limit ending (text ++ w.last ending (length nodes - 1) inner)
     pub count : edges ≡ cut inner
     pub written : Appends origin contents text
 

@@ -2,7 +2,7 @@
 ghost use Rattle.std.specs.Prelude.{◌≡◌, ◌<◌, ◌≤◌, ◌+◌, ◌∷◌, [], ℕ, List, Option, IfOk, MatchBool, OnErr, OnOk};
 ghost use Rattle.std.specs.Io.KnownBytes.{Appends};
 ghost use Rattle.indexmap.specs.IndexSet.{index_set_len};
-ghost use Rattle.zf_graph.specs.Texts.{broken, IsWritten};
+ghost use Rattle.zf_graph.specs.Texts.{broken, IsExplored};
 ghost use Rattle.zf_lines.specs.Counts.{device_of, failures_of};
 ghost use Rattle.zf_lines.specs.FaultViews.{AppendsFront};
 ghost use Rattle.zf_lines.specs.Faults.{read_failures, write_failures};
@@ -29,7 +29,7 @@ pub fn explore<M: Machine, W: Write>(
     requires unfailed { failures_of writer.old ≡ 0 }
     requires limited { 1 ≤ limit }
     requires fits { M.Fits machine.now cursor }
-    ensures ok { IfOk result (λ ending. (at text : List ℕ) × IsWritten (M.explored machine.now) (M.words machine.now) limit (ending_of ending at) text × Appends (W.contents (device_of writer.old)) (W.contents (device_of writer.new)) text) }
+    ensures ok { IfOk result (λ ending. (at text : List ℕ) × IsExplored (M.explored machine.now) (M.words machine.now) limit (ending_of ending at) text × Appends (W.contents (device_of writer.old)) (W.contents (device_of writer.new)) text) }
     ensures err { OnErr result (StopsEarly (M.explored machine.now) (M.words machine.now) limit (W.contents (device_of writer.old)) (W.contents (device_of writer.new))) }
     ensures count { failures_of writer.new ≡ write_failures result }
     ensures unread { read_failures result ≡ 0 }

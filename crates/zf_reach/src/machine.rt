@@ -3,7 +3,8 @@ ghost use Rattle.std.specs.Prelude.{◌≡◌, ◌<◌, ◌+◌, ◌-◌, ◌^�
 ghost use Rattle.zf_graph.specs.Explorations.{Explored, Turn};
 ghost use Rattle.zf_graph.specs.Graphs.{Graph};
 ghost use Rattle.zf_graph.specs.Laws.{IsOf, IsSure};
-ghost use Rattle.zf_graph.specs.Seeking.{IsDecisive, Result, Sought};
+ghost use Rattle.zf_graph.specs.Seeking.{Result, Sought};
+ghost use Rattle.zf_graph.specs.SeekingLaws.{IsDecisive};
 ghost use Rattle.zf_graph.specs.Texts.{Words};
 ghost use Rattle.zf_reach.specs.Machines.{AdvancesTo, BeginsAs, ending_of, HasFewer, IsSeenAs, result_of, UnlessOut};
 

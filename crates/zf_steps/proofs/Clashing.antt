@@ -6,7 +6,7 @@ use Rattle.zf_term.specs.declared.schema.Component.{Component}
 use Rattle.zf_term.specs.FirstNamed.{first_named}
 use Rattle.zf_term.specs.SchemaViews.{comp_of}
 use Rattle.zf_steps.proofs.Shapes.{ahead_got, nothing_ahead}
-use Rattle.zf_steps.specs.Shapes.{Allows, AllowsAll, Clashes}
+use Rattle.zf_steps.specs.Shapes.{Allows, AllowsAll, StateClashes}
 
 pub found_allows : (comps : List Comp) (c d : Comp) (place : ℕ) (b : Bool) → Some (place, d) ≡ first_named (λ e. e.name) c.name comps → IsTrue b ↔ (d.type ≡ c.type) → IsTrue b ↔ Allows comps c
 found_allows comps c d place b at same = (
@@ -22,7 +22,7 @@ none_allows comps c at = (λ t other e there. absurd (none_some (other, e) (at �
 -- what is still ahead decides
 pub record IsAhead (comps all rest : List Comp) : Type 0 where
   pub allows : AllowsAll comps rest → AllowsAll comps all
-  pub clashes : (name : List ℕ) → Clashes comps rest name → Clashes comps all name
+  pub clashes : (name : List ℕ) → StateClashes comps rest name → StateClashes comps all name
 
 pub at_first : (comps all : List Comp) → IsAhead comps all all
 at_first comps all = record { allows = λ h. h; clashes = λ name h. h }
@@ -34,11 +34,11 @@ module _ (comps all : List Comp) (xs : List Component) (i : ℕ) (x : Component)
   pub passed : Allows comps (comp_of x) → IsAhead comps all (map comp_of (drop (i + 1) xs))
   passed allows = record {
     allows = λ rest. h.allows (subst (AllowsAll comps) (sym here) (allows, rest));
-    clashes = λ name rest. h.clashes name (subst (λ cs. Clashes comps cs name) (sym here) (inr (allows, rest)));
+    clashes = λ name rest. h.clashes name (subst (λ cs. StateClashes comps cs name) (sym here) (inr (allows, rest)));
   }
 
-  pub clashed : (name : List ℕ) → (Allows comps (comp_of x) → ⊥) → name ≡ (comp_of x).name → Clashes comps all name
-  clashed name none is = h.clashes name (subst (λ cs. Clashes comps cs name) (sym here) (inl (none, is)))
+  pub clashed : (name : List ℕ) → (Allows comps (comp_of x) → ⊥) → name ≡ (comp_of x).name → StateClashes comps all name
+  clashed name none is = h.clashes name (subst (λ cs. StateClashes comps cs name) (sym here) (inl (none, is)))
 
 pub all_passed : (comps all : List Comp) (xs : List Component) (n : ℕ) → length xs ≤ n → IsAhead comps all (map comp_of (drop n xs)) → AllowsAll comps all
 all_passed comps all xs n l h = h.allows (subst (AllowsAll comps) (sym (ap (map comp_of) (nothing_ahead xs n l))) tt)

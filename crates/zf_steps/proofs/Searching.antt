@@ -3,7 +3,7 @@ use Rattle.std.proofs.Common.{◌++◌, ◌+◌, ◌∙◌, ◌∷◌, ◌≡◌
 use Rattle.std.proofs.lemmas.List.{append-nil, append_assoc, map-append}
 use Rattle.std.specs.Prelude.{slice_get}
 use Rattle.zf_graph.specs.Explorations.{Turn}
-use Rattle.zf_graph.specs.Parts.{AllHold, AreFinds, AreFirst, BeginsParts, BeginsTurn, BreaksParts, BreaksTurn, HasParts}
+use Rattle.zf_graph.specs.Parts.{EachHolds, AreFinds, AreFirst, BeginsParts, BeginsTurn, BreaksParts, BreaksTurn, HasParts}
 use Rattle.zf_graph.specs.Texts.{with_edge}
 use Rattle.zf_graph.proofs.Going.{begins_in_part, breaks_in_part, one_more_part}
 use Rattle.zf_value.specs.contracts.plain.ValueOrd.TheImpl.Laws as order_laws
@@ -82,7 +82,7 @@ module _ (m : System) (eq : Node → Node → Bool) (a : Node) (number : ℕ) (o
     taken_of : (e : Event Value) → Takes value_order conjuncts b.ranges b.after b.ahead e d.ahead → Takes value_order conjuncts b.ranges None b.ahead e d.ahead
     taken_of e t = subst (λ n. Takes value_order conjuncts b.ranges n b.ahead e d.ahead) h.named t
 
-    holds_more : (x : Event Value) → x.truth ≡ True → AllHold (searched m eq) (h.found ++ x ∷ [])
+    holds_more : (x : Event Value) → x.truth ≡ True → EachHolds (searched m eq) (h.found ++ x ∷ [])
     holds_more x is y i = elim (Contains-either h.found (x ∷ []) y i) [
       | inl k ↦ h.hold y k
       | inr k ↦ elim (Contains-cases x [] y k) [ inl e ↦ ap (λ (z : Event Value). z.truth) (sym e) ∙ is | inr n ↦ absurd (Contains-nil y n) ]

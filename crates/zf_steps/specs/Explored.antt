@@ -1,7 +1,5 @@
 -- What is explored of a specification, with nodes that are one where they are equal, and which states are sought.
 use Rattle.std.specs.Prelude.{Bool}
-use Rattle.std.specs.List.{AllByRecursion}
-use Rattle.zf_finite.specs.Finite.{IsFinite}
 use Rattle.zf_graph.specs.Explorations.{Explored}
 use Rattle.zf_graph.specs.Seeking.{Sought}
 use Rattle.zf_steps.specs.contracts.node.NodePartialEq.TheImpl as nodes
@@ -26,9 +24,3 @@ module _ (m : System) where
 
   abbrev pub sought_in : Sought Node
   sought_in = record { IsSought = IsSought; IsOther = IsOther; IsUntold = IsDoubtful m }
-
--- each of its schemas is finite
-pub record CanExplore (m : System) : Type 0 where
-  pub test : IsFinite m.environment.numbers m.environment.globals m.test.schema
-  pub init : IsFinite m.environment.numbers m.environment.globals m.init.schema
-  pub operations : AllByRecursion (λ o. IsFinite m.environment.numbers m.environment.globals o.schema) m.operations

@@ -1,11 +1,10 @@
 -- The labels of a graph for Graphviz, between quotes.
-use Rattle.std.specs.Prelude.{ℕ, ◌++◌, List, [], ◌∷◌, codes, cond, eqb, flat_map}
-use Rattle.zf_term.specs.Definitions.{Comp}
-use Rattle.zf_texts.specs.BindingTexts.{binding_object, binding_text, component_texts}
-use Rattle.zf_texts.specs.declared.spelling.Spelling.{Spelling}
+use Rattle.std.specs.Prelude.{ℕ, List, [], ◌∷◌, codes, cond, eqb, flat_map, ◌++◌}
+use Rattle.zf_format.specs.declared.format.Format.TheVariants.{Lines}
 use Rattle.zf_value.specs.declared.plain.Value.{Value}
-use Rattle.zf_steps.specs.declared.layout.Layout.{Layout}
-use Rattle.zf_steps.specs.declared.layout.Layout.TheVariants.{Column, Line, Object}
+use Rattle.zf_texts.specs.declared.spelling.Spelling.{Spelling}
+use Rattle.zf_texts.specs.BindingTexts.{components_in}
+use Rattle.zf_term.specs.Definitions.{Comp}
 
 -- each text on a line of its own
 abbrev pub column : List (List ℕ) → List ℕ
@@ -13,13 +12,7 @@ column texts = flat_map (λ t. t ++ codes "\n") texts
 
 -- each component with its value
 abbrev pub column_text : List Spelling → List Comp → List Value → List ℕ
-column_text ss cs vs = column (component_texts ss cs vs)
-
--- on one line, a column, or an object
-abbrev pub laid_out : List Spelling → Layout → List Comp → List Value → List ℕ
-laid_out ss Line cs vs = binding_text ss cs vs
-laid_out ss Column cs vs = column_text ss cs vs
-laid_out ss Object cs vs = binding_object ss cs vs
+column_text ss cs vs = column (components_in Lines ss cs vs)
 
 -- What stands for a byte in a label: a quote and a backslash have a backslash before them, an end of line is `\l`, by which the line before it begins at the left, and `&` begins no name of a character.
 abbrev pub label_byte : ℕ → List ℕ

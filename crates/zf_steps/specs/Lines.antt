@@ -54,8 +54,8 @@ module _ (m : System) where
   step_line from label number =
       cond (eqb from 0) [] (codes "step " ++ decimal from ++ codes " " ++ operation_text (slice_get m.operations label.operation) number label.values ++ codes "\n")
 
-  abbrev pub lines : Words Node Label
-  lines = record {
+  abbrev pub line_words : Words Node Label
+  line_words = record {
     head = [];
     node = state_line;
     edge = step_line;

@@ -1,8 +1,8 @@
 -- Where the search for the steps of a node stands. No public clause rests on this file.
 use Rattle.std.specs.Prelude.{◌≡◌, ℕ, Bool, List, ◌++◌, map, take, None, Some, slice_get}
 use Rattle.zf_graph.specs.Explorations.{Turn}
-use Rattle.zf_graph.specs.Graphs.{Edge}
-use Rattle.zf_graph.specs.Parts.{AllHold, HasParts}
+use Rattle.zf_graph.specs.Edges.{Edge}
+use Rattle.zf_graph.specs.Parts.{EachHolds, HasParts}
 use Rattle.zf_value.specs.declared.plain.Value.{Value}
 use Rattle.zf_value.specs.Sets.{value_order}
 use Rattle.zf_walk.specs.Events.{Event}
@@ -29,6 +29,6 @@ module _ (m : System) (eq : Node → Node → Bool) where
     pub whole : HasParts (searched m eq) a 0 (take number (parts_of m a)) done
     pub found : List (Event Value)
     pub behind : Behind value_order (property m.environment o.schema.conjuncts) b.ranges None b.ahead found
-    pub hold : AllHold (searched m eq) found
+    pub hold : EachHolds (searched m eq) found
     pub stray : IsStray m a now.stray
     pub edges : now.edges ≡ done ++ map (step m number o) found

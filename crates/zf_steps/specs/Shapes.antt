@@ -65,16 +65,16 @@ abbrev pub AllowsAll : List Comp → (state : List Comp) → Type 0
 AllowsAll comps state = AllByRecursion (Allows comps) state
 
 -- the first component of the state whose name is there at another type has this name
-abbrev pub Clashes : List Comp → (state : List Comp) → (name : List ℕ) → Type 0
-Clashes comps [] name = ⊥
-Clashes comps (c ∷ cs) name = ((Allows comps c → ⊥) × (name ≡ c.name)) ⊎ (Allows comps c × Clashes comps cs name)
+abbrev pub StateClashes : List Comp → (state : List Comp) → (name : List ℕ) → Type 0
+StateClashes comps [] name = ⊥
+StateClashes comps (c ∷ cs) name = ((Allows comps c → ⊥) × (name ≡ c.name)) ⊎ (Allows comps c × StateClashes comps cs name)
 
 -- What is sought shares with the state only components that have the state's types.
 abbrev pub CanBeSought : (state : List Comp) → Schema → Type 0
 CanBeSought state a = AllowsAll a.comps state
 
 abbrev pub LacksSought : (state : List Comp) → Schema → (name : List ℕ) → Type 0
-LacksSought state a name = Clashes a.comps state name
+LacksSought state a name = StateClashes a.comps state name
 
 -- ---- the schemas of a machine
 
@@ -95,8 +95,8 @@ abbrev pub LacksInit : (state : List Comp) → Schema → (name : List ℕ) → 
 LacksInit state a name = (HasAll a.comps (with_strokes state) → ⊥) × Lacks a.comps state name
 
 -- an operation has the components of both states
-abbrev pub both : (state : List Comp) → List Comp
-both state = state ++ with_strokes state
+abbrev pub both_states : (state : List Comp) → List Comp
+both_states state = state ++ with_strokes state
 
 abbrev pub operation_in : (state : List Comp) → (name : List ℕ) → Schema → Operation
 operation_in state name a = record {
@@ -108,8 +108,5 @@ operation_in state name a = record {
   label = comps_at a.comps (others_from state 0 a.comps);
 }
 
-abbrev pub IsOperation : (state : List Comp) → (name : List ℕ) → Schema → Operation → Type 0
-IsOperation state name a o = HasAll a.comps (both state) × (o ≡ operation_in state name a)
-
 abbrev pub LacksStep : (state : List Comp) → Schema → (name : List ℕ) → Type 0
-LacksStep state a name = Lacks a.comps (both state) name
+LacksStep state a name = Lacks a.comps (both_states state) name

@@ -5,7 +5,7 @@ use Rattle.zf_value.specs.declared.plain.Value.{Value}
 use Rattle.zf_steps.specs.declared.node.Label.{Label}
 use Rattle.zf_steps.specs.declared.node.Node.{Node}
 use Rattle.zf_steps.specs.declared.node.Node.TheVariants.{Root, State}
-use Rattle.zf_steps.specs.Labels.{column_text, label_of}
+use Rattle.zf_steps.specs.Labels.{label_of, column_text}
 use Rattle.zf_steps.specs.Lines.{count_line, ending_line, label_text}
 use Rattle.zf_steps.specs.Systems.{Operation, System}
 

@@ -2,7 +2,7 @@
 use Rattle.std.specs.Prelude.{◌≡◌, ◌⊎◌, ℕ, ◌++◌, Bool, List, [], ◌∷◌, codes, map, Option, None, Some, slice_get}
 use Rattle.std.specs.List.{filter_map}
 use Rattle.zf_format.specs.Strings.{string_text}
-use Rattle.zf_graph.specs.Graphs.{Edge, Graph}
+use Rattle.zf_graph.specs.Edges.{Edge}
 use Rattle.zf_graph.specs.Explorations.{Explored}
 use Rattle.zf_term.specs.Definitions.{Schema}
 use Rattle.zf_texts.specs.BindingTexts.{binding_object, binding_text}
@@ -20,7 +20,7 @@ use Rattle.zf_steps.specs.declared.form.Form.TheVariants as forms
 use Rattle.zf_steps.specs.declared.node.Label.{Label}
 use Rattle.zf_steps.specs.declared.node.Node.{Node}
 use Rattle.zf_steps.specs.declared.node.Node.TheVariants.{Root, State}
-use Rattle.zf_graph.specs.Parts.{explored_of, graph_of, Searched}
+use Rattle.zf_graph.specs.Parts.{explored_of, Searched}
 use Rattle.zf_steps.specs.Systems.{Operation, System}
 
 -- ---- rows in parts
@@ -112,10 +112,6 @@ module _ (m : System) where
     IsStray = IsStray;
     IsDoubtful = IsDoubtful;
   }
-
-  -- A step from a state leads by a binding of an operation that has the state's values; what is before leads to the initial states.
-  abbrev pub steps : (Node → Node → Bool) → Graph Node Label
-  steps eq = graph_of (searched eq)
 
   abbrev pub exploration : (Node → Node → Bool) → Explored Node Label
   exploration eq = explored_of (searched eq)

@@ -9,8 +9,9 @@ use Rattle.std.specs.declared.cmp.Ordering.{Ordering}
 use Rattle.std.specs.declared.cmp.Ordering.TheVariants.{Equal, Greater, Less}
 use Rattle.std.specs.Ordering.{is_eq, ordering_reverse}
 use Rattle.zf_graph.specs.Explorations.{Turn}
-use Rattle.zf_graph.specs.Parts.{HasParts, HasTurn, IsOrderly}
-use Rattle.zf_graph.specs.Seeking.{IsDecisive}
+use Rattle.zf_graph.specs.Parts.{HasParts, HasTurn}
+use Rattle.zf_graph.specs.PartLaws.{IsOrderly}
+use Rattle.zf_graph.specs.SeekingLaws.{IsDecisive}
 use Rattle.zf_term.specs.Definitions.{Schema}
 use Rattle.zf_value.specs.contracts.plain.ValueOrd.TheImpl.Laws as order_laws
 use Rattle.zf_value.specs.contracts.plain.ValuePartialEq.TheImpl as equality

@@ -1,11 +1,9 @@
 -- What is explored of a specification: the schema of the state, one by which states are tested, that of the initial states, and the operations.
-use Rattle.std.specs.Prelude.{ℕ, List, [], Option, None, map}
+use Rattle.std.specs.Prelude.{ℕ, List, Option}
 use Rattle.zf_term.specs.Definitions.{Comp, Schema}
 use Rattle.zf_texts.specs.declared.spelling.Spelling.{Spelling}
 use Rattle.zf_meaning.specs.Environments.{Environment}
 use Rattle.zf_steps.specs.declared.form.Form.{Form}
-use Rattle.zf_steps.specs.declared.system.Operation as code
-use Rattle.zf_steps.specs.declared.system.System as codes
 
 -- A schema whose bindings are steps: of each of its components, which one of the state before it is, if it is one; the places of those of the state after, and those of the others, with the others themselves.
 pub record Operation : Type 0 where
@@ -25,23 +23,3 @@ pub record System : Type 0 where
   pub test : Operation
   pub init : Operation
   pub operations : List Operation
-
--- an environment of nothing
-abbrev pub no_environment : Environment
-no_environment = record { globals = []; sizes = []; outcomes = []; numbers = None }
-
--- ---- as the program has them
-
-abbrev pub operation_of : {F : Type 0} → (F → Schema) → code.Operation F → Operation
-operation_of schema o = record { name = o.name.now; schema = schema o.schema.now; sources = o.sources.items; after = o.after.items; others = o.others.items; label = (schema o.label.now).comps }
-
-abbrev pub system_of : {F : Type 0} → Environment → (F → Schema) → codes.System F → System
-system_of environment schema s = record {
-  environment = environment;
-  elements = s.elements.now;
-  form = s.form;
-  state = schema s.test.label.now;
-  test = operation_of schema s.test;
-  init = operation_of schema s.init;
-  operations = map (operation_of schema) s.operations.items;
-}

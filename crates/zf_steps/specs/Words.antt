@@ -6,13 +6,13 @@ use Rattle.zf_steps.specs.declared.form.Form.{Form}
 use Rattle.zf_steps.specs.declared.form.Form.TheVariants as forms
 use Rattle.zf_steps.specs.declared.node.Label.{Label}
 use Rattle.zf_steps.specs.declared.node.Node.{Node}
-use Rattle.zf_steps.specs.Lines.{count_line, lines, result_line}
+use Rattle.zf_steps.specs.Lines.{count_line, line_words, result_line}
 use Rattle.zf_steps.specs.Objects.{count_object, objects, result_object}
 use Rattle.zf_steps.specs.Statements.{graph, graph_last}
 use Rattle.zf_steps.specs.Systems.{System}
 
 abbrev pub words_in : Form → System → Words Node Label
-words_in forms.Lines m = lines m
+words_in forms.Lines m = line_words m
 words_in forms.Graph m = graph m
 words_in forms.Objects m = objects m
 

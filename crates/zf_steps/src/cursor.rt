@@ -8,7 +8,7 @@ ghost use Rattle.zf_steps.specs.Explored.{sought_in};
 ghost use Rattle.zf_steps.specs.Finders.{BeginsFor, IsForIn, stage_in};
 ghost use Rattle.zf_steps.specs.Machines.{BeginsState, begun_as, GoesOn, IsFound, IsSight, rows_ahead};
 ghost use Rattle.zf_steps.specs.Steps.{held_by};
-ghost use Rattle.zf_steps.specs.Systems.{operation_of, system_of};
+ghost use Rattle.zf_steps.specs.SystemViews.{operation_of, system_of};
 ghost use Rattle.zf_term.specs.Definitions.{Schema};
 
 use crate::finder::{Finder, advance, begin};

@@ -1,7 +1,7 @@
 //! The text of what a specification can reach.
 ghost use Rattle.std.specs.Prelude.{◌≡◌, ◌≤◌, ℕ, List, IfOk, OnErr};
 ghost use Rattle.std.specs.Io.KnownBytes.{Appends};
-ghost use Rattle.zf_graph.specs.Texts.{IsWritten};
+ghost use Rattle.zf_graph.specs.Texts.{IsExplored};
 ghost use Rattle.zf_lines.specs.Counts.{device_of, failures_of};
 ghost use Rattle.zf_lines.specs.Faults.{read_failures, write_failures};
 ghost use Rattle.zf_reach.specs.Machines.{ending_of};
@@ -9,7 +9,7 @@ ghost use Rattle.zf_reach.specs.Runs.{StopsEarly};
 ghost use Rattle.zf_steps.specs.Explored.{explored_in};
 ghost use Rattle.zf_steps.specs.Finders.{IsForIn};
 ghost use Rattle.zf_steps.specs.Machines.{Fits};
-ghost use Rattle.zf_steps.specs.Systems.{system_of};
+ghost use Rattle.zf_steps.specs.SystemViews.{system_of};
 ghost use Rattle.zf_steps.specs.Words.{words};
 
 use crate::cursor::Cursor;
@@ -34,7 +34,7 @@ pub fn explore_by<E: Surrounding + Drop, F: Schematic + Drop, S: Finder + Drop, 
     requires unfailed { failures_of writer.old ≡ 0 }
     requires limited { 1 ≤ limit }
     requires fits { Fits (IsForIn S.place) (system_of E.environment F.schema system.now) cursor.state cursor.init cursor.operations.items cursor.part }
-    ensures ok { IfOk result (λ ending. (at text : List ℕ) × IsWritten (explored_in (system_of E.environment F.schema system.now)) (words (system_of E.environment F.schema system.now)) limit (ending_of ending at) text × Appends (W.contents (device_of writer.old)) (W.contents (device_of writer.new)) text) }
+    ensures ok { IfOk result (λ ending. (at text : List ℕ) × IsExplored (explored_in (system_of E.environment F.schema system.now)) (words (system_of E.environment F.schema system.now)) limit (ending_of ending at) text × Appends (W.contents (device_of writer.old)) (W.contents (device_of writer.new)) text) }
     ensures err { OnErr result (StopsEarly (explored_in (system_of E.environment F.schema system.now)) (words (system_of E.environment F.schema system.now)) limit (W.contents (device_of writer.old)) (W.contents (device_of writer.new))) }
     ensures count { failures_of writer.new ≡ write_failures result }
     ensures unread { read_failures result ≡ 0 }

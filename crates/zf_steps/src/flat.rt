@@ -1,7 +1,7 @@
 //! What flat schemas can reach in an environment.
 ghost use Rattle.std.specs.Prelude.{◌≡◌, ◌≤◌, ℕ, List, IfOk, OnErr};
 ghost use Rattle.std.specs.Io.KnownBytes.{Appends};
-ghost use Rattle.zf_graph.specs.Texts.{IsWritten};
+ghost use Rattle.zf_graph.specs.Texts.{IsExplored};
 ghost use Rattle.zf_lines.specs.Counts.{device_of, failures_of};
 ghost use Rattle.zf_lines.specs.Faults.{read_failures, write_failures};
 ghost use Rattle.zf_meaning.specs.Envs.{environment_of};
@@ -10,7 +10,7 @@ ghost use Rattle.zf_reach.specs.Runs.{StopsEarly};
 ghost use Rattle.zf_steps.specs.Explored.{explored_in};
 ghost use Rattle.zf_steps.specs.Machines.{Fits};
 ghost use Rattle.zf_steps.specs.Renewing.{CanSearchAll, IsFor};
-ghost use Rattle.zf_steps.specs.Systems.{system_of};
+ghost use Rattle.zf_steps.specs.SystemViews.{system_of};
 ghost use Rattle.zf_steps.specs.Words.{words};
 ghost use Rattle.zf_term.specs.SchemaViews.{schema_of};
 
@@ -37,7 +37,7 @@ pub fn explore_flat<'p, 'e, 'g, 'a, W: Write>(
     requires unfailed { failures_of writer.old ≡ 0 }
     requires limited { 1 ≤ limit }
     requires searchable { CanSearchAll (system_of (environment_of env.now) schema_of system.now) }
-    ensures ok { IfOk result (λ ending. (at text : List ℕ) × IsWritten (explored_in (system_of (environment_of env.now) schema_of system.now)) (words (system_of (environment_of env.now) schema_of system.now)) limit (ending_of ending at) text × Appends (W.contents (device_of writer.old)) (W.contents (device_of writer.new)) text) }
+    ensures ok { IfOk result (λ ending. (at text : List ℕ) × IsExplored (explored_in (system_of (environment_of env.now) schema_of system.now)) (words (system_of (environment_of env.now) schema_of system.now)) limit (ending_of ending at) text × Appends (W.contents (device_of writer.old)) (W.contents (device_of writer.new)) text) }
     ensures err { OnErr result (StopsEarly (explored_in (system_of (environment_of env.now) schema_of system.now)) (words (system_of (environment_of env.now) schema_of system.now)) limit (W.contents (device_of writer.old)) (W.contents (device_of writer.new))) }
     ensures count { failures_of writer.new ≡ write_failures result }
     ensures unread { read_failures result ≡ 0 }
@@ -56,7 +56,7 @@ fn explore_all<'p, 'e, 'g, 'a, W: Write>(
     requires unfailed { failures_of writer.old ≡ 0 }
     requires limited { 1 ≤ limit }
     requires fits { Fits IsFor (system_of (environment_of cursor.state.env.now) schema_of system.now) cursor.state cursor.init cursor.operations.items cursor.part }
-    ensures ok { IfOk result (λ ending. (at text : List ℕ) × IsWritten (explored_in (system_of (environment_of cursor.entry.state.env.now) schema_of system.now)) (words (system_of (environment_of cursor.entry.state.env.now) schema_of system.now)) limit (ending_of ending at) text × Appends (W.contents (device_of writer.old)) (W.contents (device_of writer.new)) text) }
+    ensures ok { IfOk result (λ ending. (at text : List ℕ) × IsExplored (explored_in (system_of (environment_of cursor.entry.state.env.now) schema_of system.now)) (words (system_of (environment_of cursor.entry.state.env.now) schema_of system.now)) limit (ending_of ending at) text × Appends (W.contents (device_of writer.old)) (W.contents (device_of writer.new)) text) }
     ensures err { OnErr result (StopsEarly (explored_in (system_of (environment_of cursor.entry.state.env.now) schema_of system.now)) (words (system_of (environment_of cursor.entry.state.env.now) schema_of system.now)) limit (W.contents (device_of writer.old)) (W.contents (device_of writer.new))) }
     ensures count { failures_of writer.new ≡ write_failures result }
     ensures unread { read_failures result ≡ 0 }

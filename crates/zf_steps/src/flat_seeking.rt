@@ -10,7 +10,7 @@ ghost use Rattle.zf_reach.specs.Runs.{StopsSearch};
 ghost use Rattle.zf_steps.specs.Explored.{explored_in, sought_in};
 ghost use Rattle.zf_steps.specs.Machines.{Fits};
 ghost use Rattle.zf_steps.specs.Renewing.{CanSearchAll, IsFor};
-ghost use Rattle.zf_steps.specs.Systems.{system_of};
+ghost use Rattle.zf_steps.specs.SystemViews.{system_of};
 ghost use Rattle.zf_steps.specs.Words.{verdict, words};
 ghost use Rattle.zf_term.specs.SchemaViews.{schema_of};
 

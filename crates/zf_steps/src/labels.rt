@@ -2,7 +2,7 @@
 ghost use Rattle.std.specs.Prelude.{◌≡◌, ◌++◌, OnOk, codes};
 ghost use Rattle.zf_steps.specs.Labels.{column_text, label_byte, label_of};
 ghost use Rattle.zf_term.specs.SchemaViews.{comp_of, schema_of};
-ghost use Rattle.zf_texts.specs.BindingTexts.{component_text};
+ghost use Rattle.zf_texts.specs.LineTexts.{component_text};
 
 use std::alloc::AllocError;
 use zf_format::Format;

@@ -1,9 +1,10 @@
 //! Laws of what is explored of a specification.
 ghost use Rattle.std.specs.Prelude.{ℕ};
 ghost use Rattle.zf_graph.specs.Laws.{IsOf, IsSure};
-ghost use Rattle.zf_graph.specs.Seeking.{IsDecisive, IsSearchedInOneWay};
+ghost use Rattle.zf_graph.specs.SeekingLaws.{IsDecisive, IsSearchedInOneWay};
 ghost use Rattle.zf_steps.specs.Explored.{explored_in, sought_in};
-ghost use Rattle.zf_steps.specs.Steps.{exploration, steps};
+ghost use Rattle.zf_steps.specs.Steps.{exploration};
+ghost use Rattle.zf_steps.specs.StepGraphs.{steps};
 ghost use Rattle.zf_steps.specs.Systems.{System};
 ghost use Rattle.zf_steps.specs.Words.{verdict, words};
 ghost use Rattle.zf_steps.specs.contracts.node.NodePartialEq.TheImpl as nodes;

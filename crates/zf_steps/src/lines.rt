@@ -4,7 +4,7 @@ ghost use Rattle.zf_graph.specs.Texts.{broken};
 ghost use Rattle.zf_reach.specs.Machines.{ending_of};
 ghost use Rattle.zf_steps.specs.declared.node.Node.TheVariants.{State};
 ghost use Rattle.zf_steps.specs.Lines.{count_line, ending_line, label_text, operation_text, state_line, step_line, stuck_line};
-ghost use Rattle.zf_steps.specs.Systems.{operation_of, system_of};
+ghost use Rattle.zf_steps.specs.SystemViews.{operation_of, system_of};
 
 use crate::given::{Schematic, Surrounding};
 use crate::layout::Layout;

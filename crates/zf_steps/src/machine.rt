@@ -39,9 +39,10 @@ impl<'m, 's, 'p, E: Surrounding + Drop, F: Schematic + Drop, S: Finder + Drop> M
     ghost use Rattle.zf_steps.specs.Finders.{IsForIn, stage_in};
     ghost use Rattle.zf_steps.specs.Machines.{Fits, number_of, rows_ahead_at, search_of, Stands};
     ghost use Rattle.zf_steps.specs.Searching.{HasPassed};
-    ghost use Rattle.zf_steps.specs.Steps.{exploration, parts_of, searched, steps};
+    ghost use Rattle.zf_steps.specs.Steps.{exploration, parts_of, searched};
+    ghost use Rattle.zf_steps.specs.StepGraphs.{steps};
     ghost use Rattle.zf_steps.specs.SystemLaws.{all_parts, decisive, orderly};
-    ghost use Rattle.zf_steps.specs.Systems.{system_of};
+    ghost use Rattle.zf_steps.specs.SystemViews.{system_of};
     ghost use Rattle.zf_steps.specs.Words.{verdict, words};
 
     type Node = Node;

@@ -2,7 +2,8 @@
 ghost use Rattle.std.specs.Prelude.{◌≡◌, ◌≢◌, IfOk, IfSome, OnOk, List, [], None, map, true, unwrap_or};
 ghost use Rattle.std.specs.List.{AllByRecursion};
 ghost use Rattle.std.specs.Option.{is_some};
-ghost use Rattle.zf_ranges.specs.Ranges.{IsNoneOut, Refuses};
+ghost use Rattle.zf_ranges.specs.Ranges.{IsNoneOut};
+ghost use Rattle.zf_ranges.specs.StartFaults.{RefusesStart};
 ghost use Rattle.zf_meaning.specs.Environments.{Environment};
 ghost use Rattle.zf_meaning.specs.Envs.{environment_of};
 ghost use Rattle.zf_steps.specs.Fitting.{AreFor};
@@ -15,7 +16,7 @@ ghost use Rattle.zf_enum.specs.Starts.{Begins};
 ghost use Rattle.zf_ranges.specs.Components.{held_at};
 ghost use Rattle.zf_steps.specs.Finders.{BeginsFor};
 ghost use Rattle.zf_steps.specs.Renewing.{AreMarkedHeld, CanSearch, CanSearchAll, IsFor, stage_at};
-ghost use Rattle.zf_steps.specs.Systems.{operation_of, system_of};
+ghost use Rattle.zf_steps.specs.SystemViews.{operation_of, system_of};
 ghost use Rattle.zf_term.specs.Definitions.{Comp, Schema};
 ghost use Rattle.zf_term.specs.SchemaViews.{schema_of};
 ghost use Rattle.zf_value.specs.Sets.{value_order};
@@ -238,7 +239,7 @@ fn is_held(held: &[Option<Value>], place: usize) -> bool
 
 /// Where no declared set is out, what is missing is memory.
 fn no_memory(fault: StartFault) -> AllocError
-    requires { (e : Environment) × (cs : List Comp) × IsNoneOut e cs × Refuses e cs fault }
+    requires { (e : Environment) × (cs : List Comp) × IsNoneOut e cs × RefusesStart e cs fault }
 {
     match fault {
         StartFault::DeclaredOut(_) => unreachable!(),

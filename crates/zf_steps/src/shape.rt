@@ -3,7 +3,7 @@ ghost use Rattle.std.specs.Prelude.{◌≡◌, ◌⊎◌, ◌++◌, ◌∷◌, �
 ghost use Rattle.std.specs.List.{filter_map};
 ghost use Rattle.zf_steps.specs.Shapes as spec;
 ghost use Rattle.zf_steps.specs.States.{AreStates, before_of, after_of};
-ghost use Rattle.zf_steps.specs.Systems.{operation_of};
+ghost use Rattle.zf_steps.specs.SystemViews.{operation_of};
 ghost use Rattle.zf_term.specs.SchemaViews.{comp_of, schema_of};
 
 use crate::system::Operation;
@@ -64,7 +64,7 @@ pub fn init_lacks<'a>(states: States<'_, 'a>, schema: &Flat<'a>) -> Option<&'a [
 /// The name of a component that the schema lacks to be an operation.
 pub fn step_lacks<'a>(states: States<'_, 'a>, schema: &Flat<'a>) -> Option<&'a [u8]>
     requires { AreStates states }
-    ensures { MatchOption result (spec.HasAll (schema_of schema.now).comps (spec.both (before_of states.entry))) (λ name. spec.LacksStep (before_of states.entry) (schema_of schema.now) name.now) }
+    ensures { MatchOption result (spec.HasAll (schema_of schema.now).comps (spec.both_states (before_of states.entry))) (λ name. spec.LacksStep (before_of states.entry) (schema_of schema.now) name.now) }
 {
     let components = schema.components.as_slice();
     match lacking(components, states.before) {
@@ -82,7 +82,7 @@ pub fn sought_lacks<'a>(state: &[Component<'a>], schema: &Flat<'a>) -> Option<&'
 
 /// The name of the first component of the state whose name one of these has at another type.
 fn clashing<'a>(components: &[Component<'a>], state: &[Component<'a>]) -> Option<&'a [u8]>
-    ensures { MatchOption result (spec.AllowsAll (map comp_of components.now) (map comp_of state.now)) (λ name. spec.Clashes (map comp_of components.now) (map comp_of state.now) name.now) }
+    ensures { MatchOption result (spec.AllowsAll (map comp_of components.now) (map comp_of state.now)) (λ name. spec.StateClashes (map comp_of components.now) (map comp_of state.now) name.now) }
 {
     for component in state {
         if !allows(components, component) {

@@ -2,10 +2,10 @@
 ghost use Rattle.std.specs.Prelude.{◌≡◌, ◌-◌, ◌^◌, ◌++◌, ℕ, OnOk, Some, codes, decimal, min, slice_get};
 ghost use Rattle.zf_reach.specs.Machines.{ending_of, result_of};
 ghost use Rattle.zf_steps.specs.declared.node.Node.TheVariants.{State};
-ghost use Rattle.zf_steps.specs.Labels.{column_text, label_of};
+ghost use Rattle.zf_steps.specs.Labels.{label_of, column_text};
 ghost use Rattle.zf_steps.specs.Lines.{count_line, ending_line, result_line};
 ghost use Rattle.zf_steps.specs.Statements.{edge_statement, frame_text, graph_head, graph_last, node_statement, step_text, stray_statement, stuck_statement};
-ghost use Rattle.zf_steps.specs.Systems.{operation_of, system_of};
+ghost use Rattle.zf_steps.specs.SystemViews.{operation_of, system_of};
 
 use crate::given::{Schematic, Surrounding};
 use crate::labels::append_as_label;

@@ -1,7 +1,7 @@
 -- Where a search over some predicates can begin, so can one over some of them.
 use Rattle.zf_why.proofs.Prelude.{◌++◌, ◌<◌, ◌∷◌, ◌≡◌, ◌≤◌, [], arith, Bool, length, List, Some, subst, suc, sym, zero, ℕ, AllByRecursion, slice_get, Comp, sets_of, ResolvedTree, Environment, property, IsNoneOut, chosen_of, CanAsk, CanBegin, schema_with}
-use Rattle.zf_extent.specs.Extents.{offending}
-use Rattle.zf_finite.specs.Finite.{all_set_offenders, IsFinite, one_bounds, unless_ended}
+use Rattle.zf_extent.specs.Extents.{offending, unless}
+use Rattle.zf_finite.specs.Finite.{all_set_offenders, IsFinite, one_bounds}
 use Rattle.zf_walk.specs.Progress.{AreDueWithin}
 use Rattle.zf_enum.specs.Property.{due_of}
 use Rattle.zf_ranges.specs.DeclaredSets.{IsOneOut}
@@ -11,7 +11,7 @@ use Rattle.zf_why.proofs.Lists.{all_at}
 use Rattle.zf_cores.proofs.Choosing.{all_chosen_of}
 
 module _ (e : Environment) (cs : List Comp) where
-  finite_each : (ps : List ResolvedTree) → AllByRecursion (CanAsk e (length cs)) ps → AllByRecursion (λ t. unless_ended e.numbers (offending e.globals t) ≡ []) ps
+  finite_each : (ps : List ResolvedTree) → AllByRecursion (CanAsk e (length cs)) ps → AllByRecursion (λ t. unless e.numbers (offending e.globals t) ≡ []) ps
   finite_each [] h = tt
   finite_each (p ∷ ps) h = (h.0.finite, finite_each ps h.1)
 
@@ -26,7 +26,7 @@ module _ (e : Environment) (cs : List Comp) where
   pub are_due : (ps : List ResolvedTree) → CanBegin e cs ps → AreDueWithin (property e ps) (length cs)
   are_due ps h = due_each ps h.predicates
 
-  each_asked : (ps : List ResolvedTree) → AllByRecursion (λ t. unless_ended e.numbers (offending e.globals t) ≡ []) ps
+  each_asked : (ps : List ResolvedTree) → AllByRecursion (λ t. unless e.numbers (offending e.globals t) ≡ []) ps
       → ((c : ℕ) → c < length ps → due_of (slice_get ps c) ≤ length cs) → AllByRecursion (CanAsk e (length cs)) ps
   each_asked [] f d = tt
   each_asked (p ∷ ps) f d = (record { finite = f.0; due = d zero (omega arith) }, each_asked ps f.1 (λ c l. d (suc c) (omega arith)))
@@ -49,7 +49,7 @@ module _ (e : Environment) (cs : List Comp) where
   one_component i c at h = record {
     ranges = record {
       bounded = (all_at (λ d. IsTrue (one_bounds e.numbers e.globals (sets_of d.sets))) cs i c at h.ranges.bounded, tt);
-      sets = (all_at (λ d. unless_ended e.numbers (all_set_offenders e.globals (sets_of d.sets)) ≡ []) cs i c at h.ranges.sets, tt);
+      sets = (all_at (λ d. unless e.numbers (all_set_offenders e.globals (sets_of d.sets)) ≡ []) cs i c at h.ranges.sets, tt);
       none_out = λ place out. never place out;
     };
     predicates = tt;

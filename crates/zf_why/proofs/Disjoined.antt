@@ -15,8 +15,7 @@ use Rattle.zf_term.specs.ShapeViews.{numbering}
 use Rattle.zf_term.proofs.ConjunctsSeen.{of-Either}
 use Rattle.zf_term.proofs.Renumbered.{same_line}
 use Rattle.zf_extent.specs.declared.offender.Offender.{Offender}
-use Rattle.zf_finite.specs.Finite.{unless_ended}
-use Rattle.zf_extent.specs.Extents.{offending}
+use Rattle.zf_extent.specs.Extents.{offending, unless}
 use Rattle.zf_value.specs.declared.value.Truth.{Truth}
 use Rattle.zf_value.specs.declared.value.Truth.TheVariants as truth
 use Rattle.zf_meaning.specs.InRow.{in_row}
@@ -113,11 +112,11 @@ empty_behind : (xs ys : List Offender) → xs ++ ys ≡ [] → ys ≡ []
 empty_behind [] ys h = h
 empty_behind (x ∷ xs) ys h = absurd (cc)
 
-front_ended : (n : Option ℕ) (xs ys : List Offender) → unless_ended n (xs ++ ys) ≡ [] → unless_ended n xs ≡ []
+front_ended : (n : Option ℕ) (xs ys : List Offender) → unless n (xs ++ ys) ≡ [] → unless n xs ≡ []
 front_ended None xs ys h = empty_front xs ys h
 front_ended (Some n) xs ys h = refl
 
-behind_ended : (n : Option ℕ) (xs ys : List Offender) → unless_ended n (xs ++ ys) ≡ [] → unless_ended n ys ≡ []
+behind_ended : (n : Option ℕ) (xs ys : List Offender) → unless n (xs ++ ys) ≡ [] → unless n ys ≡ []
 behind_ended None xs ys h = empty_behind xs ys h
 behind_ended (Some n) xs ys h = refl
 

@@ -20,7 +20,8 @@ pub use Rattle.zf_enum.specs.Property.{HasTruth, property, told}
 pub use Rattle.zf_ranges.specs.Ranges.{AreRanges, first_held, IsNoneOut, later_held}
 pub use Rattle.zf_enum.specs.Searches.{conjuncts_of, Goal}
 pub use Rattle.zf_enum.specs.Starts.{Begins}
-pub use Rattle.zf_why.specs.Rows.{HasRow, IsAllowed, IsInRange, IsRowOf, RuleOut}
-pub use Rattle.zf_cores.specs.Choices.{chosen_of, HasChosen, IsChosen, IsFewer, IsLeft, IsMinimal, OneOf}
+pub use Rattle.zf_why.specs.Rows.{HasRow, IsAllowed, IsInHeldRange, IsHeldRow, RuleOut}
+pub use Rattle.zf_cores.specs.Choices.{chosen_of, HasChosen, IsChosen, IsLeft, IsMinimal}
+pub use Rattle.zf_cores.specs.Trials.{IsFewer, OneOf}
 pub use Rattle.zf_why.specs.Cores.{AreAlone, AreEmpty, ArePicked, HasNoValue, HasValue, IsCore}
 pub use Rattle.zf_why.specs.Searching.{CanAsk, CanBegin, Decides, HaveRanges, schema_with}

@@ -7,7 +7,7 @@ use Rattle.zf_term.specs.declared.conjunct.Conjunct.TheVariants as conjunct
 use Rattle.zf_term.specs.declared.resolved.Resolved.{Resolved}
 use Rattle.zf_cores.proofs.Choosing.{beside, seen_chosen}
 use Rattle.zf_why.specs.Disjunctions.{disjunction_at, has_sides, is_disjunction, is_one}
-use Rattle.zf_why.specs.Told.{AreSidesOf, AreTellings, HasSides, IsTold}
+use Rattle.zf_why.specs.Told.{AreSidesOf, AreTellings, HasSides, IsTelling}
 use Rattle.zf_why.specs.declared.told.Sides.{Sides}
 use Rattle.zf_why.specs.declared.told.Told.{Told}
 use Rattle.zf_why.proofs.Beginning.{each_begins}
@@ -102,10 +102,10 @@ module _ (e : Environment) (cs : List Comp) (held : List (Option Value)) where
   -- whether the conjunct at a place is a disjunction
   pub told_at :
       (details : Bool) (xs : List Conjunct) (i : ℕ) (x : Conjunct) (given others : List ResolvedTree) (told : Told) → slice_get xs i ≡ Some x → others ≡ given
-      → IsTold e cs held details others (is_disjunction x) (conjunct_of x) told → IsTold e cs held details given (disjunction_at xs i) (conjunct_of x) told
+      → IsTelling e cs held details others (is_disjunction x) (conjunct_of x) told → IsTelling e cs held details given (disjunction_at xs i) (conjunct_of x) told
   told_at details xs i x given others told at same is =
-      subst (λ (b : Bool). IsTold e cs held details given b (conjunct_of x) told) (sym (ap is_one at))
-      (subst (λ (qs : List ResolvedTree). IsTold e cs held details qs (is_disjunction x) (conjunct_of x) told) same is)
+      subst (λ (b : Bool). IsTelling e cs held details given b (conjunct_of x) told) (sym (ap is_one at))
+      (subst (λ (qs : List ResolvedTree). IsTelling e cs held details qs (is_disjunction x) (conjunct_of x) told) same is)
 
 -- ---- which conjuncts are disjunctions
 

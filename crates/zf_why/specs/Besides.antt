@@ -1,7 +1,8 @@
 -- That what is possible beside some predicates with more others is possible with fewer. No public clause rests on this.
 use Rattle.std.specs.Prelude.{Bool, List, ◌++◌, Option}
 use Rattle.zf_cores.proofs.Choosing.{all_fewer}
-use Rattle.zf_cores.specs.Choices.{IsFewer, chosen_of}
+use Rattle.zf_cores.specs.Choices.{chosen_of}
+use Rattle.zf_cores.specs.Trials.{IsFewer}
 use Rattle.zf_term.specs.Definitions.{Comp}
 use Rattle.zf_term.specs.ResolvedTrees.{ResolvedTree}
 use Rattle.zf_value.specs.declared.plain.Value.{Value}

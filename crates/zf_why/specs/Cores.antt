@@ -6,7 +6,7 @@ use Rattle.zf_term.specs.ResolvedTrees.{ResolvedTree}
 use Rattle.zf_value.specs.declared.plain.Value.{Value}
 use Rattle.zf_meaning.specs.Environments.{Environment}
 use Rattle.zf_ranges.specs.Ranges.{first_held}
-use Rattle.zf_why.specs.Rows.{IsInRange, HasRow, RuleOut}
+use Rattle.zf_why.specs.Rows.{IsInHeldRange, HasRow, RuleOut}
 
 -- P holds of what is chosen, and Q of what is left
 pub record ArePicked {A : Type 0} (P Q : ℕ → A → Type 0) (xs : List A) (chosen : List Bool) : Type 0 where
@@ -22,10 +22,10 @@ abbrev pub AreAlone : Environment → List Comp → (held : List (Option Value))
 AreAlone e cs held = ArePicked (λ i p. RuleOut e cs held (p ∷ [])) (λ i p. HasRow e cs held (p ∷ []))
 
 abbrev pub HasNoValue : Environment → (held : List (Option Value)) → ℕ → Comp → Type 0
-HasNoValue e held i c = (v : Value) → IsInRange e c (first_held (drop i held)) v → ⊥
+HasNoValue e held i c = (v : Value) → IsInHeldRange e c (first_held (drop i held)) v → ⊥
 
 abbrev pub HasValue : Environment → (held : List (Option Value)) → ℕ → Comp → Type 0
-HasValue e held i c = (v : Value) × IsInRange e c (first_held (drop i held)) v
+HasValue e held i c = (v : Value) × IsInHeldRange e c (first_held (drop i held)) v
 
 -- chosen are exactly the components whose range is empty
 abbrev pub AreEmpty : Environment → List Comp → (held : List (Option Value)) → (chosen : List Bool) → Type 0

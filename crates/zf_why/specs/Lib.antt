@@ -4,6 +4,7 @@ pub mod Disjunctions
 pub mod Operands
 pub mod Told
 pub mod Causes
+pub mod Explaining
 pub mod Searching
 pub mod Besides
 pub mod Unheld

@@ -12,15 +12,15 @@ use Rattle.zf_ranges.specs.DeclaredSets.{IsInSets}
 use Rattle.zf_ranges.specs.Ranges.{IsHeld, first_held, later_held}
 
 -- the value is in the component's range: it is a member of all its declared sets, and the one that is held, if one is
-abbrev pub IsInRange : Environment → Comp → (held : Option Value) → Value → Type 0
-IsInRange e c held v = IsInSets e (sets_of c.sets) v × IsHeld held v
+abbrev pub IsInHeldRange : Environment → Comp → (held : Option Value) → Value → Type 0
+IsInHeldRange e c held v = IsInSets e (sets_of c.sets) v × IsHeld held v
 
 -- a value of the range of each component
-abbrev pub IsRowOf : Environment → List Comp → (held : List (Option Value)) → List Value → Type 0
-IsRowOf e [] held [] = Unit {0}
-IsRowOf e [] held (v ∷ row) = ⊥
-IsRowOf e (c ∷ cs) held [] = ⊥
-IsRowOf e (c ∷ cs) held (v ∷ row) = IsInRange e c (first_held held) v × IsRowOf e cs (later_held held) row
+abbrev pub IsHeldRow : Environment → List Comp → (held : List (Option Value)) → List Value → Type 0
+IsHeldRow e [] held [] = Unit {0}
+IsHeldRow e [] held (v ∷ row) = ⊥
+IsHeldRow e (c ∷ cs) held [] = ⊥
+IsHeldRow e (c ∷ cs) held (v ∷ row) = IsInHeldRange e c (first_held held) v × IsHeldRow e cs (later_held held) row
 
 -- the predicate is not False in the row: it is True, or out of bounds
 abbrev pub IsAllowed : Environment → (row : List Value) → ResolvedTree → Type 0
@@ -29,7 +29,7 @@ IsAllowed e row p = IsTruth (in_row e row) p True ⊎ IsTruth (in_row e row) p O
 -- some row makes all of these predicates other than False
 pub record HasRow (e : Environment) (cs : List Comp) (held : List (Option Value)) (ps : List ResolvedTree) : Type 0 where
   pub row : List Value
-  pub within : IsRowOf e cs held row
+  pub within : IsHeldRow e cs held row
   pub allowed : AllByRecursion (IsAllowed e row) ps
 
 -- they rule out everything

@@ -3,13 +3,13 @@ use Rattle.std.specs.Prelude.{◌≡◌, ◌≤◌, Bool, List, [], length, IsTr
 use Rattle.std.specs.List.{AllByRecursion}
 use Rattle.zf_term.specs.Definitions.{Comp, Schema, sets_of}
 use Rattle.zf_term.specs.ResolvedTrees.{ResolvedTree}
-use Rattle.zf_extent.specs.Extents.{offending}
-use Rattle.zf_finite.specs.Finite.{all_set_offenders, one_bounds, unless_ended}
+use Rattle.zf_extent.specs.Extents.{offending, unless}
+use Rattle.zf_finite.specs.Finite.{all_set_offenders, one_bounds}
 use Rattle.zf_value.specs.declared.plain.Value.{Value}
 use Rattle.zf_meaning.specs.Environments.{Environment}
 use Rattle.zf_enum.specs.Property.{due}
 use Rattle.zf_ranges.specs.Ranges.{IsNoneOut}
-use Rattle.zf_cores.specs.Choices.{OneOf}
+use Rattle.zf_cores.specs.Trials.{OneOf}
 use Rattle.zf_why.specs.Rows.{HasRow, RuleOut}
 
 abbrev pub schema_with : List Comp → List ResolvedTree → Schema
@@ -18,12 +18,12 @@ schema_with cs ps = record { comps = cs; conjuncts = ps }
 -- the components have ranges
 pub record HaveRanges (e : Environment) (cs : List Comp) : Type 0 where
   pub bounded : AllByRecursion (λ c. IsTrue (one_bounds e.numbers e.globals (sets_of c.sets))) cs
-  pub sets : AllByRecursion (λ c. unless_ended e.numbers (all_set_offenders e.globals (sets_of c.sets)) ≡ []) cs
+  pub sets : AllByRecursion (λ c. unless e.numbers (all_set_offenders e.globals (sets_of c.sets)) ≡ []) cs
   pub none_out : IsNoneOut e cs
 
 -- the predicate can be asked for rows of so many values
 pub record CanAsk (e : Environment) (values : ℕ) (p : ResolvedTree) : Type 0 where
-  pub finite : unless_ended e.numbers (offending e.globals p) ≡ []
+  pub finite : unless e.numbers (offending e.globals p) ≡ []
   pub due : due p ≤ values
 
 -- a search over these predicates can begin

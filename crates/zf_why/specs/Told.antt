@@ -32,7 +32,7 @@ AreSidesOf e cs held given p false (Some sides) = ⊥
 AreSidesOf e cs held given p false None = Unit {0}
 
 -- what is told of a predicate that can't hold together with the given ones
-pub record IsTold (e : Environment) (cs : List Comp) (held : List (Option Value)) (details : Bool) (given : List ResolvedTree) (is_disjunction : Bool) (p : ResolvedTree) (told : Told) : Type 0 where
+pub record IsTelling (e : Environment) (cs : List Comp) (held : List (Option Value)) (details : Bool) (given : List ResolvedTree) (is_disjunction : Bool) (p : ResolvedTree) (told : Told) : Type 0 where
   pub line : told.line ≡ term_line p
   pub sides : AreSidesOf e cs held given p is_disjunction told.sides
   pub operands : AreOperands e held details p told.operands
@@ -47,7 +47,7 @@ AreTellings R i (p ∷ ps) (true ∷ chosen) (t ∷ told) = R i p t × AreTellin
 
 -- what is told of each predicate that is chosen, beside others, where these places have disjunctions
 abbrev pub AreTold : Environment → List Comp → (held : List (Option Value)) → (details : Bool) → (beside : ℕ → List ResolvedTree) → (disjunctions : ℕ → Bool) → List ResolvedTree → (chosen : List Bool) → List Told → Type 0
-AreTold e cs held details beside disjunctions = AreTellings (λ i p told. IsTold e cs held details (beside i) (disjunctions i) p told) 0
+AreTold e cs held details beside disjunctions = AreTellings (λ i p told. IsTelling e cs held details (beside i) (disjunctions i) p told) 0
 
 -- each is told by itself
 abbrev pub nothing_beside : ℕ → List ResolvedTree

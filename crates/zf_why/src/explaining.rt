@@ -6,10 +6,11 @@ ghost use Rattle.zf_walk.specs.Progress.{AreDueWithin};
 ghost use Rattle.zf_meaning.specs.Envs.{environment_of};
 ghost use Rattle.zf_enum.specs.Property.{property};
 ghost use Rattle.zf_ranges.specs.Ranges.{IsNoneOut};
-ghost use Rattle.zf_cores.specs.Choices.{HasChosen, OneOf};
+ghost use Rattle.zf_cores.specs.Choices.{HasChosen};
+ghost use Rattle.zf_cores.specs.Trials.{OneOf};
 ghost use Rattle.zf_why.specs.Rows.{RuleOut};
 ghost use Rattle.zf_why.specs.Cores.{AreAlone, AreEmpty, IsCore};
-ghost use Rattle.zf_why.specs.Causes.{Explains};
+ghost use Rattle.zf_why.specs.Explaining.{Explains};
 ghost use Rattle.zf_why.specs.Disjunctions.{disjunction_at};
 ghost use Rattle.zf_why.specs.Searching.{CanBegin};
 

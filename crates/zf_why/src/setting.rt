@@ -6,9 +6,11 @@ ghost use Rattle.zf_value.specs.declared.plain.Value as value;
 ghost use Rattle.zf_meaning.specs.Environments.{Environment};
 ghost use Rattle.zf_meaning.specs.Envs.{environment_of};
 ghost use Rattle.zf_enum.specs.PortionViews.{portion};
-ghost use Rattle.zf_ranges.specs.Ranges.{IsNoneOut, Refuses};
+ghost use Rattle.zf_ranges.specs.Ranges.{IsNoneOut};
+ghost use Rattle.zf_ranges.specs.StartFaults.{RefusesStart};
 ghost use Rattle.zf_enum.specs.Starts.{Begins};
-ghost use Rattle.zf_cores.specs.Choices.{OneOf, chosen_of};
+ghost use Rattle.zf_cores.specs.Choices.{chosen_of};
+ghost use Rattle.zf_cores.specs.Trials.{OneOf};
 ghost use Rattle.zf_why.specs.Cores.{HasNoValue, HasValue};
 ghost use Rattle.zf_why.specs.Searching.{CanBegin, Decides};
 
@@ -171,7 +173,7 @@ fn finds<S: Search>(search: &mut S) -> Result<bool, AllocError>
 
 /// Where no declared set is out, what is missing is memory.
 fn no_memory(fault: StartFault) -> AllocError
-    requires { (e : Environment) × (cs : List Comp) × IsNoneOut e cs × Refuses e cs fault }
+    requires { (e : Environment) × (cs : List Comp) × IsNoneOut e cs × RefusesStart e cs fault }
 {
     match fault {
         StartFault::DeclaredOut(_) => unreachable!(),

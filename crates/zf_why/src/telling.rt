@@ -9,7 +9,7 @@ ghost use Rattle.zf_why.specs.Rows.{RuleOut};
 ghost use Rattle.zf_why.specs.Cores.{AreAlone, IsCore};
 ghost use Rattle.zf_why.specs.Disjunctions.{disjunction_at, is_disjunction};
 ghost use Rattle.zf_why.specs.Operands.{AreOperands};
-ghost use Rattle.zf_why.specs.Told.{AreBlamed, AreSidesOf, AreTold, IsTold, nothing_beside, others_beside};
+ghost use Rattle.zf_why.specs.Told.{AreBlamed, AreSidesOf, AreTold, IsTelling, nothing_beside, others_beside};
 ghost use Rattle.zf_why.specs.Searching.{CanBegin};
 
 use crate::explaining::core;
@@ -89,7 +89,7 @@ fn told_of<'t, 's, 'g, 'a>(
 ) -> Result<Told, AllocError>
     requires begins { CanBegin (environment_of setting.now.env.now) (map comp_of setting.now.components.now) (map conjunct_of given.now ++ conjunct_of conjunct.now ∷ []) }
     requires none { RuleOut (environment_of setting.now.env.now) (map comp_of setting.now.components.now) setting.now.held.now (map conjunct_of given.now ++ conjunct_of conjunct.now ∷ []) }
-    ensures { IfOk result (λ told. IsTold (environment_of setting.now.env.now) (map comp_of setting.now.components.now) setting.now.held.now setting.now.details (map conjunct_of given.now) (is_disjunction conjunct.now) (conjunct_of conjunct.now) told) }
+    ensures { IfOk result (λ told. IsTelling (environment_of setting.now.env.now) (map comp_of setting.now.components.now) setting.now.held.now setting.now.details (map conjunct_of given.now) (is_disjunction conjunct.now) (conjunct_of conjunct.now) told) }
 {
     let line = conjunct.line();
     let sides = sides_told(&*setting, &*given, &*conjunct)?;

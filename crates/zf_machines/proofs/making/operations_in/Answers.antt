@@ -5,7 +5,7 @@ use Rattle.zf_machines.specs.SchemaViews.{named_of}
 use Rattle.zf_steps.proofs.Shapes.{mapped_push}
 use Rattle.zf_steps.specs.Shapes.{operation_in}
 use Rattle.zf_steps.specs.States.{before_of}
-use Rattle.zf_steps.specs.Systems.{operation_of}
+use Rattle.zf_steps.specs.SystemViews.{operation_of}
 use Rattle.zf_term.specs.SchemaViews.{schema_of}
 use Rattle.zf_machines.proofs.making.operations_in.Goals as goal
 

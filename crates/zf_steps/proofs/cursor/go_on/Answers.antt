@@ -4,7 +4,7 @@ use Rattle.zf_steps.proofs.Moving.{weaker_if_ok}
 use Rattle.zf_steps.proofs.cursor.go_on.Goals as goal
 use Rattle.zf_steps.specs.contracts.node.NodePartialEq.TheImpl as nodes
 use Rattle.zf_steps.specs.Finders.{stage_in}
-use Rattle.zf_steps.specs.Systems.{operation_of, system_of}
+use Rattle.zf_steps.specs.SystemViews.{operation_of, system_of}
 
 pub returns-clause-answer : goal.returns-clause-answer
 returns-clause-answer g c =

@@ -1,7 +1,7 @@
 -- The searches are in the environment.
 use Rattle.std.proofs.Common.{IfOk, List, OnErr, subst, sym, ℕ}
 use Rattle.std.specs.Io.KnownBytes.{Appends}
-use Rattle.zf_graph.specs.Texts.{IsWritten}
+use Rattle.zf_graph.specs.Texts.{IsExplored}
 use Rattle.zf_lines.specs.Counts.{device_of}
 use Rattle.zf_reach.proofs.Fronts.{always_on_err}
 use Rattle.zf_reach.proofs.Running.{stops_at_once}
@@ -11,7 +11,7 @@ use Rattle.zf_steps.proofs.flat.explore_flat.Goals as goal
 use Rattle.zf_steps.specs.Explored.{explored_in}
 use Rattle.zf_steps.specs.Machines.{Fits}
 use Rattle.zf_steps.specs.Renewing.{IsFor}
-use Rattle.zf_steps.specs.Systems.{system_of}
+use Rattle.zf_steps.specs.SystemViews.{system_of}
 use Rattle.zf_steps.specs.Words.{words}
 use Rattle.zf_term.specs.SchemaViews.{schema_of}
 
@@ -25,7 +25,7 @@ explore_all-requires-clause-fits g c =
 
 pub returns-clause-ok : goal.returns-clause-ok
 returns-clause-ok g c =
-    subst (λ e. IfOk c.explore_all.result (λ ending. (at text : List ℕ) × IsWritten (explored_in (system_of e schema_of c.args.system.now))
+    subst (λ e. IfOk c.explore_all.result (λ ending. (at text : List ℕ) × IsExplored (explored_in (system_of e schema_of c.args.system.now))
     (words (system_of e schema_of c.args.system.now)) c.args.limit (ending_of ending at) text
     × Appends (g.W.Write.contents (device_of c.args.writer.now)) (g.W.Write.contents (device_of c.explore_all.new.writer)) text)) c.in_ok-cursor.ensures.of_state.environment c.explore_all.ensures.ok
 

@@ -11,7 +11,7 @@ use Rattle.zf_steps.proofs.Stopping.{stops_at_once}
 use Rattle.zf_steps.specs.Explored.{explored_in, sought_in}
 use Rattle.zf_steps.specs.Machines.{Fits}
 use Rattle.zf_steps.specs.Renewing.{IsFor}
-use Rattle.zf_steps.specs.Systems.{system_of}
+use Rattle.zf_steps.specs.SystemViews.{system_of}
 use Rattle.zf_steps.specs.Words.{verdict, words}
 use Rattle.zf_term.specs.SchemaViews.{schema_of}
 

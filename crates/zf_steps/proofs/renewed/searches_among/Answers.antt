@@ -6,7 +6,7 @@ use Rattle.zf_steps.specs.Fitting.{AreFor}
 use Rattle.zf_steps.specs.Renewing.{CanSearch, IsFor}
 use Rattle.zf_meaning.specs.Envs.{environment_of}
 use Rattle.zf_term.specs.SchemaViews.{schema_of}
-use Rattle.zf_steps.specs.Systems.{operation_of}
+use Rattle.zf_steps.specs.SystemViews.{operation_of}
 
 pub loop-operation-preserved : goal.loop-operation-preserved
 loop-operation-preserved c =

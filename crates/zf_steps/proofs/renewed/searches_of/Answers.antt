@@ -7,7 +7,8 @@ use Rattle.zf_steps.specs.Fitting.{AreFor}
 use Rattle.zf_steps.specs.Renewing.{CanSearch, IsFor}
 use Rattle.zf_meaning.specs.Envs.{environment_of}
 use Rattle.zf_term.specs.SchemaViews.{schema_of}
-use Rattle.zf_steps.specs.Systems.{Operation, operation_of, system_of}
+use Rattle.zf_steps.specs.Systems.{Operation}
+use Rattle.zf_steps.specs.SystemViews.{operation_of, system_of}
 
 pub searches_among-requires : goal.searches_among-requires
 searches_among-requires c =

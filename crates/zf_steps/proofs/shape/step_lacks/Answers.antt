@@ -1,7 +1,7 @@
 use Rattle.std.proofs.Common.{map, subst}
 use Rattle.std.specs.Prelude.{MatchOption}
 use Rattle.zf_term.specs.SchemaViews.{comp_of, schema_of}
-use Rattle.zf_steps.specs.Shapes.{both, HasAll, Lacks, LacksStep, with_strokes}
+use Rattle.zf_steps.specs.Shapes.{both_states, HasAll, Lacks, LacksStep, with_strokes}
 use Rattle.zf_steps.specs.States.{before_of}
 use Rattle.zf_steps.proofs.Shapes.{has_both, lacks_behind, lacks_front, match_option}
 use Rattle.zf_steps.proofs.shape.step_lacks.Goals as goal
@@ -21,5 +21,5 @@ returns-in-None c =
     let told = subst (λ ws. MatchOption c.lacking-in-None.result (HasAll a.comps ws) (λ name. Lacks a.comps ws name.now)) c.requires
     (subst (λ ks. MatchOption c.lacking-in-None.result (HasAll (map comp_of ks) (map comp_of c.args.states.after.now))
     (λ name. Lacks (map comp_of ks) (map comp_of c.args.states.after.now) name.now)) whole c.lacking-in-None.ensures) in
-    match_option c.lacking-in-None.result (HasAll a.comps (with_strokes cs)) (HasAll a.comps (both cs)) (λ name. Lacks a.comps (with_strokes cs) name.now) (λ name. LacksStep cs a name.now)
+    match_option c.lacking-in-None.result (HasAll a.comps (with_strokes cs)) (HasAll a.comps (both_states cs)) (λ name. Lacks a.comps (with_strokes cs) name.now) (λ name. LacksStep cs a name.now)
     (λ all. has_both a.comps cs (with_strokes cs) has all) (λ name lacks. lacks_behind a.comps cs (with_strokes cs) name.now has lacks) told

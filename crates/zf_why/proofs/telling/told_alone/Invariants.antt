@@ -1,6 +1,6 @@
 use Rattle.zf_why.proofs.Prelude.{map, comp_of, conjunct_of, environment_of, ResolvedTree, ℕ}
 use Rattle.zf_why.specs.Disjunctions.{disjunction_at}
-use Rattle.zf_why.specs.Told.{IsTold, nothing_beside}
+use Rattle.zf_why.specs.Told.{IsTelling, nothing_beside}
 use Rattle.zf_why.specs.declared.told.Told.{Told}
 use Rattle.zf_why.proofs.Tellings.{AreToldUpTo}
 use Rattle.zf_why.proofs.telling.told_alone.Given as goal
@@ -8,6 +8,6 @@ use Rattle.zf_why.proofs.telling.told_alone.Given as goal
 abbrev pub invariant-loop-place : goal.invariant-loop-place
 invariant-loop-place l =
     let ps = map conjunct_of l.conjuncts in
-    AreToldUpTo (λ (i : ℕ) (p : ResolvedTree) (t : Told). IsTold (environment_of l.setting.env.now)
+    AreToldUpTo (λ (i : ℕ) (p : ResolvedTree) (t : Told). IsTelling (environment_of l.setting.env.now)
     (map comp_of l.setting.components.now) l.setting.held.now l.setting.details (nothing_beside i) (disjunction_at l.conjuncts i) p t) ps l.chosen l.place
     l.told.items

@@ -1,6 +1,6 @@
 use Rattle.zf_why.proofs.Prelude.{map, comp_of, conjunct_of, environment_of, ResolvedTree, ℕ}
 use Rattle.zf_why.specs.Disjunctions.{disjunction_at}
-use Rattle.zf_why.specs.Told.{IsTold, others_beside}
+use Rattle.zf_why.specs.Told.{IsTelling, others_beside}
 use Rattle.zf_why.specs.declared.told.Told.{Told}
 use Rattle.zf_why.proofs.Tellings.{AreToldUpTo}
 use Rattle.zf_why.proofs.telling.told_together.Given as goal
@@ -8,6 +8,6 @@ use Rattle.zf_why.proofs.telling.told_together.Given as goal
 abbrev pub invariant-loop-place : goal.invariant-loop-place
 invariant-loop-place l =
     let ps = map conjunct_of l.conjuncts in
-    AreToldUpTo (λ (i : ℕ) (p : ResolvedTree) (t : Told). IsTold (environment_of l.setting.env.now)
+    AreToldUpTo (λ (i : ℕ) (p : ResolvedTree) (t : Told). IsTelling (environment_of l.setting.env.now)
     (map comp_of l.setting.components.now) l.setting.held.now l.setting.details (others_beside ps l.chosen i) (disjunction_at l.conjuncts i) p t) ps
     l.chosen l.place l.told.items

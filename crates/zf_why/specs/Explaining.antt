@@ -1,0 +1,17 @@
+-- What a cause, as the program has it, says. No answer rests on this file.
+use Rattle.std.specs.Prelude.{ℕ, Bool, List, Option}
+use Rattle.zf_term.specs.Definitions.{Schema}
+use Rattle.zf_value.specs.declared.plain.Value.{Value}
+use Rattle.zf_meaning.specs.Environments.{Environment}
+use Rattle.zf_why.specs.declared.cause.Cause.{Cause}
+use Rattle.zf_why.specs.declared.cause.Cause.TheVariants.{Empty, Alone, Together}
+use Rattle.zf_why.specs.Told.{AreTold, nothing_beside, others_beside}
+use Rattle.zf_why.specs.Causes.{EmptiedBy, RefutedBy, RefutedTogetherBy}
+
+-- Where a range is empty, the components of all such ranges; else, where a conjunct rules out everything alone, what is told of all that do; else what is told of a minimal set
+-- of conjuncts that can't hold together, of each beside the others. These places of the conjuncts have disjunctions of schemas.
+abbrev pub Explains : Environment → Schema → (held : List (Option Value)) → (details : Bool) → (disjunctions : ℕ → Bool) → Cause → Type 0
+Explains e a held details disjunctions (Empty empty) = EmptiedBy e a held empty.items
+Explains e a held details disjunctions (Alone told) = (alone : List Bool) × RefutedBy e a held alone × AreTold e a.comps held details nothing_beside disjunctions a.conjuncts alone told.items
+Explains e a held details disjunctions (Together told) =
+    (core : List Bool) × RefutedTogetherBy e a held core × AreTold e a.comps held details (others_beside a.conjuncts core) disjunctions a.conjuncts core told.items
