@@ -12,7 +12,7 @@ use Rattle.zf_steps.proofs.Sure.{is_searched_once, is_sure}
 use Rattle.zf_steps.specs.Explored.{explored_in, sought_in}
 use Rattle.zf_steps.specs.Systems.{System}
 use Rattle.zf_steps.specs.Words.{verdict, words}
-use Rattle.zf_engine.specs.Explorations.{TellsMachine, AreSchemasOf, ending_status, Explores, ExplorationAnswer, form_of, HasInfinite, HasOut, HasSchemas, IsBounded, IsOfSchema, IsSchemaOf, IsSettled, LacksComponent, LacksSchema, names_of, RefusesExploration, result_status, Seeks, states_limit}
+use Rattle.zf_engine.specs.Explorations.{TellsMachine, AreSchemasOf, ending_status, ExploresMachine, ExplorationAnswer, form_of, HasInfinite, HasOut, HasSchemas, IsBounded, IsOfSchema, IsSchemaOf, IsSettled, HasLacking, LacksSchema, names_of, RefusesExploration, result_status, Seeks, states_limit}
 use Rattle.zf_engine.specs.Settings.{TellsFaults, TellsInfinite, TellsMisfit, TellsNoSchema, TellsNumbers, TellsOut}
 use Rattle.zf_messages.specs.Texts.{no_component_line}
 use Rattle.zf_answers.proofs.Machines.{not_all_and_first, not_shape_and_lack, one_first, one_lacking}
@@ -47,7 +47,7 @@ module _ (x : Exploration) (file source text : List ℕ) (status : Status) where
   AtNumbers g p = Refused (TellsNumbers (numbers_of x.setting)) ⊎ (AreSmall (numbers_of x.setting) × AtSizes g p)
 
   abbrev pub AtShape : List Defined → Schemas → Type 0
-  AtShape g p = Refused (LacksComponent p) ⊎ (HasShape p × AtNumbers g p)
+  AtShape g p = Refused (HasLacking p) ⊎ (HasShape p × AtNumbers g p)
 
   abbrev pub AtSchemas : List Defined → Type 0
   AtSchemas g = Refused (LacksSchema x g) ⊎ ((p : Schemas) × AreSchemasOf g x p × AtShape g p)
@@ -142,10 +142,10 @@ no_schema_apart details g text status name told named = told.none named.0 named.
 -- ---- two answers
 
 -- the machine of the schemas has one text
-one_explored : (x : Exploration) (g : List Defined) (p : Schemas) (e : Environment) (one two : List ℕ) (s t : Status) → Explores x g p e one s → Explores x g p e two t → (s ≡ t) × (one ≡ two)
+one_explored : (x : Exploration) (g : List Defined) (p : Schemas) (e : Environment) (one two : List ℕ) (s t : Status) → ExploresMachine x g p e one s → ExploresMachine x g p e two t → (s ≡ t) × (one ≡ two)
 one_explored x g p e one two s t u v =
     let same = one_machine e (spellings g) (form_of x) p u.machine v.machine u.is_of v.is_of in
-    let written = subst (λ (m : System). graph.IsWritten (explored_in m) (words m) (states_limit x) u.ending one) same u.written in
+    let written = subst (λ (m : System). graph.IsExplored (explored_in m) (words m) (states_limit x) u.ending one) same u.written in
     let both = one_way (explored_in v.machine) (words v.machine) (states_limit x) (is_sure v.machine) u.ending v.ending one two written v.written in
     (u.ends ∙ ap ending_status both.0 ∙ sym v.ends, both.1)
 
@@ -187,7 +187,7 @@ module _ (x : Exploration) (file source one two : List ℕ) (s t : Status) where
       let fault = one_refusal (given_sets g) (stated g x.setting) u.0 v.0 u.2.0 v.2.0 u.1 v.1 in
       same_messages (u.2.2 ∙ sym v.2.2) (u.2.1 ∙ ap (size_fault_lines x.details g (stated g x.setting)) fault ∙ sym v.2.1)
 
-  one_lack : (p : Schemas) → LacksComponent p one s → LacksComponent p two t → AreOne
+  one_lack : (p : Schemas) → HasLacking p one s → HasLacking p two t → AreOne
   one_lack p (n, c, u, told, bad) (m, d, v, also_told, also_bad) =
       let same = one_lacking p n c m d u v in
       same_messages (bad ∙ sym also_bad) (told ∙ ap (λ (l : List ℕ). no_component_line l c) same.0 ∙ ap (no_component_line m) same.1 ∙ sym also_told)

@@ -3,7 +3,7 @@ use Rattle.zf_answers.proofs.Prelude.{◌∙◌, ◌∷◌, ◌≡◌, ◌⊎◌
 use Rattle.zf_machines.specs.Firsts.{FirstFails}
 use Rattle.zf_machines.specs.Machines.{AllowsSought, CanBeInitial, CanStep, HasShape, IsMachineOf, LacksBehind, LacksFirst, LacksStepFirst, Named, Schemas, SoughtLacks, state_of, test_of}
 use Rattle.zf_steps.specs.declared.form.Form.{Form}
-use Rattle.zf_steps.specs.Shapes.{Allows, AllowsAll, both, Clashes, Has, HasAll, init_in, IsInit, Lacks, LacksInit, LacksStep, operation_in, test_in, with_strokes}
+use Rattle.zf_steps.specs.Shapes.{Allows, AllowsAll, both_states, StateClashes, Has, HasAll, init_in, IsInit, Lacks, LacksInit, LacksStep, operation_in, test_in, with_strokes}
 use Rattle.zf_steps.specs.Systems.{Operation, System}
 use Rattle.zf_term.specs.FirstNamed.{first_named}
 use Rattle.zf_texts.specs.declared.spelling.Spelling.{Spelling}
@@ -83,21 +83,21 @@ allows_or_not comps c = by (first_named (λ d. d.name) c.name comps) refl
         of (inl same) = inl (λ place component also. subst (λ (q : ℕ × Comp). q.1.type ≡ c.type) (same_Some p (place, component) (sym found ∙ also)) same)
         of (inr other) = inr (λ h. other (h p.0 p.1 found))
 
-all_or_clash : (comps state : List Comp) → AllowsAll comps state ⊎ ((name : List ℕ) × Clashes comps state name)
+all_or_clash : (comps state : List Comp) → AllowsAll comps state ⊎ ((name : List ℕ) × StateClashes comps state name)
 all_or_clash comps [] = inl tt
 all_or_clash comps (c ∷ cs) = by (allows_or_not comps c) (all_or_clash comps cs)
   where
-    by : Allows comps c ⊎ (Allows comps c → ⊥) → AllowsAll comps cs ⊎ ((name : List ℕ) × Clashes comps cs name) → AllowsAll comps (c ∷ cs) ⊎ ((name : List ℕ) × Clashes comps (c ∷ cs) name)
+    by : Allows comps c ⊎ (Allows comps c → ⊥) → AllowsAll comps cs ⊎ ((name : List ℕ) × StateClashes comps cs name) → AllowsAll comps (c ∷ cs) ⊎ ((name : List ℕ) × StateClashes comps (c ∷ cs) name)
     by (inr clash) others = inr (c.name, inl (clash, refl))
     by (inl h) (inl all) = inl (h, all)
     by (inl h) (inr clashes) = inr (clashes.0, inr (h, clashes.1))
 
-not_all_and_clash : (comps state : List Comp) (name : List ℕ) → AllowsAll comps state → Clashes comps state name → ⊥
+not_all_and_clash : (comps state : List Comp) (name : List ℕ) → AllowsAll comps state → StateClashes comps state name → ⊥
 not_all_and_clash comps [] name all clashes = clashes
 not_all_and_clash comps (c ∷ cs) name all (inl clash) = clash.0 all.0
 not_all_and_clash comps (c ∷ cs) name all (inr clashes) = not_all_and_clash comps cs name all.1 clashes.1
 
-one_clash : (comps state : List Comp) (x y : List ℕ) → Clashes comps state x → Clashes comps state y → x ≡ y
+one_clash : (comps state : List Comp) (x y : List ℕ) → StateClashes comps state x → StateClashes comps state y → x ≡ y
 one_clash comps [] x y p q = absurd p
 one_clash comps (c ∷ cs) x y (inl p) (inl q) = p.1 ∙ sym q.1
 one_clash comps (c ∷ cs) x y (inl p) (inr q) = absurd (p.0 q.0)
@@ -110,7 +110,7 @@ sought_or_lacks : (state : List Comp) (o : Option Named) → AllowsSought state 
 sought_or_lacks state None = inl tt
 sought_or_lacks state (Some o) = by (all_or_clash o.schema.comps state)
   where
-    by : AllowsAll o.schema.comps state ⊎ ((name : List ℕ) × Clashes o.schema.comps state name) → AllowsSought state (Some o) ⊎ ((name component : List ℕ) × SoughtLacks state (Some o) name component)
+    by : AllowsAll o.schema.comps state ⊎ ((name : List ℕ) × StateClashes o.schema.comps state name) → AllowsSought state (Some o) ⊎ ((name component : List ℕ) × SoughtLacks state (Some o) name component)
     by (inl all) = inl all
     by (inr clashes) = inr (o.name, clashes.0, (refl, clashes.1))
 
@@ -138,9 +138,9 @@ not_initial_and_lack state a name (inl all) lacks = lacks.0 all
 not_initial_and_lack state a name (inr all) lacks = not_all_and_lack a.comps state name all lacks.1
 
 steps_or_lack : (state : List Comp) (o : Named) → CanStep state o ⊎ ((b : List ℕ × List ℕ) × ((b.0 ≡ o.name) × LacksStep state o.schema b.1))
-steps_or_lack state o = by (all_or_lack o.schema.comps (both state))
+steps_or_lack state o = by (all_or_lack o.schema.comps (both_states state))
   where
-    by : HasAll o.schema.comps (both state) ⊎ ((name : List ℕ) × Lacks o.schema.comps (both state) name) → CanStep state o ⊎ ((b : List ℕ × List ℕ) × ((b.0 ≡ o.name) × LacksStep state o.schema b.1))
+    by : HasAll o.schema.comps (both_states state) ⊎ ((name : List ℕ) × Lacks o.schema.comps (both_states state) name) → CanStep state o ⊎ ((b : List ℕ × List ℕ) × ((b.0 ≡ o.name) × LacksStep state o.schema b.1))
     by (inl all) = inl all
     by (inr lacks) = inr ((o.name, lacks.0), (refl, lacks.1))
 
@@ -160,7 +160,7 @@ shape_or_lack p = by (initial_or_lack (state_of p) p.init.schema)
 
 module _ (p : Schemas) where
   step_apart : (name component : List ℕ) (o : Named) → (name ≡ o.name) × LacksStep (state_of p) o.schema component → CanStep (state_of p) o → ⊥
-  step_apart name component o lacks can = not_all_and_lack o.schema.comps (both (state_of p)) component can lacks.1
+  step_apart name component o lacks can = not_all_and_lack o.schema.comps (both_states (state_of p)) component can lacks.1
 
   pub not_shape_and_lack : (name component : List ℕ) → HasShape p → LacksFirst p name component → ⊥
   not_shape_and_lack name component shape (inl lacks) = not_initial_and_lack (state_of p) p.init.schema component shape.init lacks.1
@@ -171,7 +171,7 @@ module _ (p : Schemas) where
   one_behind : (n c m d : List ℕ) → LacksBehind (state_of p) p n c → LacksBehind (state_of p) p m d → (n ≡ m) × (c ≡ d)
   one_behind n c m d (inl x) (inl y) =
       one_first (CanStep (state_of p)) (λ o. (n ≡ o.name) × LacksStep (state_of p) o.schema c) (λ o. (m ≡ o.name) × LacksStep (state_of p) o.schema d) (step_apart n c) (step_apart m d)
-      (λ o f g. (f.0 ∙ sym g.0, one_lack o.schema.comps (both (state_of p)) c d f.1 g.1)) p.operations x y
+      (λ o f g. (f.0 ∙ sym g.0, one_lack o.schema.comps (both_states (state_of p)) c d f.1 g.1)) p.operations x y
   one_behind n c m d (inl x) (inr y) =
       absurd (not_all_and_first (CanStep (state_of p)) (λ o. (n ≡ o.name) × LacksStep (state_of p) o.schema c) (step_apart n c) p.operations y.0 x)
   one_behind n c m d (inr x) (inl y) =

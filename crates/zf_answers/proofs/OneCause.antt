@@ -3,7 +3,7 @@ use Rattle.zf_answers.proofs.Prelude.{◌<◌, ◌∙◌, ◌∷◌, ◌≡◌, 
 use Rattle.std.proofs.lemmas.Option.{slice_get_within}
 use Rattle.zf_ranges.specs.Ranges.{first_held, later_held}
 use Rattle.zf_cores.specs.Choices.{HasChosen}
-use Rattle.zf_why.specs.Rows.{HasRow, IsInRange, IsRowOf, RuleOut}
+use Rattle.zf_why.specs.Rows.{HasRow, IsInHeldRange, IsHeldRow, RuleOut}
 use Rattle.zf_why.specs.Cores.{ArePicked, HasNoValue, HasValue}
 use Rattle.zf_why.specs.Causes.{EmptiedBy, RefutedBy, RefutedTogetherBy}
 use Rattle.zf_why.proofs.Explained.{held_later}
@@ -42,13 +42,13 @@ module _ {A : Type 0} (P Q : ℕ → A → Type 0) (xs : List A) where
 -- ---- the causes exclude each other
 
 -- in a row each component has a value
-has_value : (e : Environment) (cs : List Comp) (held : List (Option Value)) (row : List Value) (i : ℕ) (c : Comp) → IsRowOf e cs held row → slice_get cs i ≡ Some c → HasValue e held i c
+has_value : (e : Environment) (cs : List Comp) (held : List (Option Value)) (row : List Value) (i : ℕ) (c : Comp) → IsHeldRow e cs held row → slice_get cs i ≡ Some c → HasValue e held i c
 has_value e [] held row i c within at = absurd (cc)
 has_value e (d ∷ cs) held [] i c within at = absurd within
-has_value e (d ∷ cs) held (v ∷ row) zero c within at = let same : d ≡ c = cc in (v, subst (λ z. IsInRange e z (first_held held) v) same within.0)
+has_value e (d ∷ cs) held (v ∷ row) zero c within at = let same : d ≡ c = cc in (v, subst (λ z. IsInHeldRange e z (first_held held) v) same within.0)
 has_value e (d ∷ cs) held (v ∷ row) (suc i) c within at =
     let w = has_value e cs (later_held held) row i c within.1 at in
-    (w.0, subst (λ o. IsInRange e c o w.0) (sym (held_later i held)) w.1)
+    (w.0, subst (λ o. IsInHeldRange e c o w.0) (sym (held_later i held)) w.1)
 
 module _ (e : Environment) (a : Schema) (held : List (Option Value)) where
   pub no_row_when_empty : (m : List Bool) → EmptiedBy e a held m → HasRow e a.comps held [] → ⊥

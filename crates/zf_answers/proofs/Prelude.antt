@@ -46,7 +46,8 @@ pub use Rattle.zf_meaning.specs.declared.sizes.SizeFault.{SizeFault}
 pub use Rattle.zf_total.proofs.Listed.{Decided, decided_lists, decided_same, decided_some, HasSome, Listed, listed_either, listed_image, listed_kept, listed_none, listed_one, listed_pairs, listed_same}
 pub use Rattle.zf_total.proofs.Orders.{AllPairs-mapped, Contains-map, Contains-mapped}
 pub use Rattle.zf_texts.proofs.OneRow.{one_row}
-pub use Rattle.zf_texts.specs.BindingTexts.{binding_text, component_text}
+pub use Rattle.zf_texts.specs.BindingTexts.{binding_text}
+pub use Rattle.zf_texts.specs.LineTexts.{component_text}
 pub use Rattle.zf_texts.specs.Clear.{AreClear}
 pub use Rattle.zf_texts.specs.Words.{Ends, is_in_word}
 pub use Rattle.zf_texts.specs.Spellings.{spellings}
@@ -64,8 +65,9 @@ pub use Rattle.zf_lines.specs.Faults.{IsFront}
 pub use Rattle.zf_lines.specs.Searches.{AreEventsUpTo, HasEvents, Hold, IsBegun, IsBelow, IsTestsLine, IsNotAbove, IsWritten, lines, HasLimit, row_wording, Wording}
 pub use Rattle.zf_lines.specs.declared.fault.Status.{Status}
 pub use Rattle.zf_lines.specs.declared.fault.Status.TheVariants.{BadRequest, BadSpec, PastBounds}
-pub use Rattle.zf_found.proofs.Rows.{AreTold, one_truth_of}
-pub use Rattle.zf_found.proofs.Searches.{property_told, some_search, some_tests_line}
+pub use Rattle.zf_total.proofs.Rows.{AreTold, one_truth_of}
+pub use Rattle.zf_found.proofs.Searches.{some_search, some_tests_line}
+pub use Rattle.zf_parts.proofs.Told.{property_told}
 pub use Rattle.zf_engine.specs.Answers.{Answer, AreHeld, check_status, CheckAnswer, format_of, HoldsNoValues, IsAsked, IsLimited, IsLineOf, IsNamedRow, IsSearch, JobAnswer, JobBegins, NamesNoRow, RefusesRequest, RequestAnswer, row_after, ShowAnswer, ShowBegins, ShowsEvents, ShowsParts, TellsShown, UnreadAnswer, wants_details, wording}
 pub use Rattle.zf_engine.specs.Settings.{AreMessages, Checks, HasSchema, IsNamed, size_fault_lines, stated, numbers_of}
 pub use Rattle.zf_messages.specs.Details.{Cited, not_finite_lines, text_fault_lines, AreLines}

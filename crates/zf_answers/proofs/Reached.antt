@@ -74,7 +74,7 @@ pub first_turns_are_a_front : (x : Exploration) (file source first text : List �
 first_turns_are_a_front x file source first text status (ExplorationBegins.turns g p e m none is of begun) answer =
     let told = subst (λ (name : Option (List ℕ)). TellsMachine name x g p e text status) none (what_is_reached_is_told x file source g p e text status is answer) in
     let same = one_machine e (spellings g) (form_of x) p told.machine m told.is_of of in
-    let written = subst (λ (n : System). graph.IsWritten (explored_in n) (words n) (states_limit x) told.ending text) same told.written in
+    let written = subst (λ (n : System). graph.IsExplored (explored_in n) (words n) (states_limit x) told.ending text) same told.written in
     parts_are_fronts (explored_in m) (words m) (states_limit x) (is_sure m) told.ending first text (inr (inl begun)) written
 
 -- ---- where it ends with `end`

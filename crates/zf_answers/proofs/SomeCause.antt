@@ -6,15 +6,16 @@ use Rattle.zf_term.specs.Shapes.{term_line}
 use Rattle.zf_walk.specs.EventLists.{IsEvents}
 use Rattle.zf_ranges.specs.Ranges.{AreRanges, first_held, later_held}
 use Rattle.zf_found.proofs.Searches.{some_list}
-use Rattle.zf_cores.specs.Choices.{chosen_of, HasChosen, IsChosen, IsFewer, IsLeft, IsMinimal}
+use Rattle.zf_cores.specs.Choices.{chosen_of, HasChosen, IsChosen, IsLeft, IsMinimal}
+use Rattle.zf_cores.specs.Trials.{IsFewer}
 use Rattle.zf_cores.proofs.Choosing.{all_chosen}
 use Rattle.zf_cores.proofs.LeftOut.{IsTrimmed, all_tried, drops, keeps, untouched}
 use Rattle.zf_why.specs.Besides.{has_fewer}
-use Rattle.zf_why.specs.Rows.{HasRow, IsInRange, RuleOut}
+use Rattle.zf_why.specs.Rows.{HasRow, IsInHeldRange, RuleOut}
 use Rattle.zf_why.specs.Cores.{ArePicked, HasNoValue, HasValue}
 use Rattle.zf_why.specs.Searching.{schema_with}
 use Rattle.zf_why.specs.declared.told.Told.{Told}
-use Rattle.zf_why.specs.Told.{AreTellings, AreTold, IsTold}
+use Rattle.zf_why.specs.Told.{AreTellings, AreTold, IsTelling}
 use Rattle.zf_why.specs.Causes.{EmptiedBy, RefutedBy, RefutedTogetherBy}
 use Rattle.zf_why.proofs.Decided.{event_of, row_at}
 use Rattle.zf_why.proofs.Explained.{held_later, some_row}
@@ -67,13 +68,13 @@ either_value e [] held ranges are i c at = absurd (cc)
 either_value e (d ∷ cs) held [] are i c at = absurd are
 either_value e (d ∷ cs) held ([] ∷ ranges) are zero c at =
     let same : d ≡ c = cc in
-    inl (λ v in_range. let w = are.0 in (w.members v).1 (subst (λ z. IsInRange e z (first_held held) v) (sym same) in_range))
+    inl (λ v in_range. let w = are.0 in (w.members v).1 (subst (λ z. IsInHeldRange e z (first_held held) v) (sym same) in_range))
 either_value e (d ∷ cs) held ((v ∷ values) ∷ ranges) are zero c at =
     let same : d ≡ c = cc in
-    inr (v, subst (λ z. IsInRange e z (first_held held) v) same (let w = are.0 in (w.members v).0 (inl refl)))
+    inr (v, subst (λ z. IsInHeldRange e z (first_held held) v) same (let w = are.0 in (w.members v).0 (inl refl)))
 either_value e (d ∷ cs) held (values ∷ ranges) are (suc i) c at = elim (either_value e cs (later_held held) ranges are.1 i c at) [
-  | inl none ↦ inl (λ v in_range. none v (subst (λ o. IsInRange e c o v) (held_later i held) in_range))
-  | inr some ↦ inr (some.0, subst (λ o. IsInRange e c o some.0) (sym (held_later i held)) some.1)
+  | inl none ↦ inl (λ v in_range. none v (subst (λ o. IsInHeldRange e c o v) (held_later i held) in_range))
+  | inr some ↦ inr (some.0, subst (λ o. IsInHeldRange e c o some.0) (sym (held_later i held)) some.1)
 ]
 
 module _ (e : Environment) (cs : List Comp) (held : List (Option Value)) (ranges : List (List Value)) (are : AreRanges e cs held ranges) where
@@ -121,5 +122,5 @@ some_tellings R each i (p ∷ ps) (true ∷ m) =
 pub some_told_lines : (e : Environment) (cs : List Comp) (held : List (Option Value)) (details : Bool) (beside : ℕ → List ResolvedTree) (ps : List ResolvedTree) (m : List Bool)
     → HasSome (AreTold e cs held details beside (λ i. false) ps m)
 some_told_lines e cs held details beside =
-    some_tellings (λ i p told. IsTold e cs held details (beside i) false p told)
+    some_tellings (λ i p told. IsTelling e cs held details (beside i) false p told)
     (λ i p. let operands = some_operands e held details p in (record { line = term_line p; sides = None; operands = operands.0 }, record { line = refl; sides = tt; operands = operands.1 })) 0

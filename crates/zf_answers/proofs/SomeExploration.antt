@@ -9,14 +9,15 @@ use Rattle.zf_graph.proofs.Existing.{somehow_written}
 use Rattle.zf_machines.proofs.Sole.{of_operations, of_test}
 use Rattle.zf_machines.specs.Machines.{all_of, HasShape, IsMachineOf, Named, Schemas, state_of}
 use Rattle.zf_steps.specs.declared.form.Form.{Form}
-use Rattle.zf_steps.specs.Explored.{CanExplore, explored_in}
+use Rattle.zf_steps.specs.Explored.{explored_in}
+use Rattle.zf_steps.specs.StepGraphs.{CanExplore}
 use Rattle.zf_steps.specs.Shapes.{IsInit, operation_in}
 use Rattle.zf_steps.specs.Systems.{Operation, System}
 use Rattle.zf_steps.specs.Words.{words}
 use Rattle.zf_texts.specs.declared.spelling.Spelling.{Spelling}
 use Rattle.zf_total.proofs.Environments.{some_environment}
 use Rattle.zf_total.proofs.StatedSizes.{complete_or_refused}
-use Rattle.zf_engine.specs.Explorations.{TellsMachine, AreSchemasOf, ending_status, ExplorationAnswer, Explores, form_of, HasSchemas, IsBounded, IsOfSchema, IsSchemaOf, IsSearchable, IsSettled, names_of, RefusesExploration, result_status, Seeks, states_limit}
+use Rattle.zf_engine.specs.Explorations.{TellsMachine, AreSchemasOf, ending_status, ExplorationAnswer, ExploresMachine, form_of, HasSchemas, IsBounded, IsOfSchema, IsSchemaOf, IsSearchable, IsSettled, names_of, RefusesExploration, result_status, Seeks, states_limit}
 use Rattle.zf_engine.specs.Settings.{TellsInfinite, TellsNoSchema, TellsOut}
 use Rattle.zf_messages.specs.Texts.{no_component_line}
 use Rattle.zf_answers.proofs.EveryName.{named_or_none, none_beside}
@@ -74,7 +75,7 @@ module _ (x : Exploration) (file source : List ℕ) (limited : HasLimit x.limit)
         can : CanExplore made.0
         can = can_be_explored x source g p e is made.0 made.1
 
-        reached : (text : List ℕ) × (status : Status) × Explores x g p e text status
+        reached : (text : List ℕ) × (status : Status) × ExploresMachine x g p e text status
         reached =
             let some = somehow_written (explored_in made.0) (words made.0) (states_limit x) (some_turns made.0 can) (some_limit x.limit x refl limited) in
             (some.1, ending_status some.0, record { machine = made.0; is_of = made.1; ending = some.0; written = some.2; ends = refl })

@@ -16,7 +16,8 @@ use Rattle.zf_steps.proofs.Sure.{is_of}
 use Rattle.zf_steps.specs.declared.node.Label.{Label}
 use Rattle.zf_steps.specs.declared.node.Node.{Node}
 use Rattle.zf_steps.specs.declared.node.Node.TheVariants.{Root, State}
-use Rattle.zf_steps.specs.Explored.{CanExplore, explored_in, IsOther, IsSought, sought_in}
+use Rattle.zf_steps.specs.Explored.{explored_in, IsOther, IsSought, sought_in}
+use Rattle.zf_steps.specs.StepGraphs.{CanExplore}
 use Rattle.zf_steps.specs.Satisfying.{Satisfies}
 use Rattle.zf_steps.specs.Shapes.{test_in}
 use Rattle.zf_steps.specs.Systems.{System}

@@ -3,8 +3,9 @@ use Rattle.std.specs.Prelude.{◌≡◌, ◌↔◌, ◌-◌, ℕ, List, ◌++◌
 use Rattle.zf_command.specs.declared.job.Exploration.{Exploration}
 use Rattle.zf_command.specs.declared.job.Job.TheVariants.{Reach}
 use Rattle.zf_graph.specs.Explorations.{ExploresAll, IsMet, Met, Turn}
-use Rattle.zf_graph.specs.Graphs.{Edge, Graph, IsReachable, IsShortest}
-use Rattle.zf_graph.specs.Texts.{ended, inner_edges, IsWritten, no_turn, text_up_to}
+use Rattle.zf_graph.specs.Graphs.{Graph, IsReachable, IsShortest}
+use Rattle.zf_graph.specs.Edges.{Edge}
+use Rattle.zf_graph.specs.Texts.{ended, inner_edges, IsExplored, no_turn, text_up_to}
 use Rattle.zf_lines.specs.declared.fault.Status.{Status}
 use Rattle.zf_machines.specs.Machines.{IsMachineOf, Schemas}
 use Rattle.zf_meaning.specs.Environments.{Environment}
@@ -13,7 +14,7 @@ use Rattle.zf_steps.specs.declared.node.Label.{Label}
 use Rattle.zf_steps.specs.declared.node.Node.{Node}
 use Rattle.zf_steps.specs.declared.form.Form.{Form}
 use Rattle.zf_steps.specs.Explored.{explored_in}
-use Rattle.zf_steps.specs.Steps.{steps}
+use Rattle.zf_steps.specs.StepGraphs.{steps}
 use Rattle.zf_steps.specs.Systems.{System}
 use Rattle.zf_steps.specs.Words.{words}
 use Rattle.zf_term.specs.Definitions.{Defined}
@@ -53,4 +54,4 @@ pub record MeetsAll (m : System) (text : List ℕ) : Type 0 where
 
 -- So where an exploration ends with `end`, the states that have a line are exactly the reachable ones.
 abbrev pub ReachableAreMet : Type 0
-ReachableAreMet = (m : System) (limit : ℕ) (text : List ℕ) → IsWritten (explored_in m) (words m) limit ended text → MeetsAll m text
+ReachableAreMet = (m : System) (limit : ℕ) (text : List ℕ) → IsExplored (explored_in m) (words m) limit ended text → MeetsAll m text

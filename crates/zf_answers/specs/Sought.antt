@@ -2,7 +2,8 @@
 use Rattle.std.specs.Prelude.{◌≡◌, ℕ, List, ◌++◌, Some}
 use Rattle.zf_command.specs.declared.job.Exploration.{Exploration}
 use Rattle.zf_command.specs.declared.job.Job.TheVariants.{Reach}
-use Rattle.zf_graph.specs.Graphs.{Edge, IsReachable, IsShortest}
+use Rattle.zf_graph.specs.Graphs.{IsReachable, IsShortest}
+use Rattle.zf_graph.specs.Edges.{Edge}
 use Rattle.zf_graph.specs.Seeking.{found, missing, open_ended, Result, untold, way_text}
 use Rattle.zf_lines.specs.declared.fault.Status.{Status}
 use Rattle.zf_machines.specs.Machines.{Named, Schemas, state_of}

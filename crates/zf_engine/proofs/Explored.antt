@@ -5,8 +5,10 @@ use Rattle.zf_checker.specs.WellTypedGlobals.{AreWellTyped}
 use Rattle.zf_command.specs.declared.job.Exploration.{Exploration}
 use Rattle.zf_command.specs.declared.job.Job.TheVariants.{Reach}
 use Rattle.zf_finite.specs.Finite.{IsFinite}
-use Rattle.zf_graph.specs.Seeking.{IsSearched, IsSearchedPart, Result}
-use Rattle.zf_graph.specs.Texts.{Ending, IsPart, IsWritten}
+use Rattle.zf_graph.specs.Seeking.{IsSearched, Result}
+use Rattle.zf_graph.specs.SeekingLaws.{IsSearchedPart}
+use Rattle.zf_graph.specs.Texts.{Ending, IsExplored}
+use Rattle.zf_graph.specs.Laws.{IsPart}
 use Rattle.zf_lines.specs.FaultViews.{AppendsFront}
 use Rattle.zf_machines.specs.Machines.{all_of, IsMachineOf, Named, Schemas}
 use Rattle.zf_ranges.specs.Ranges.{IsNoneOut}
@@ -68,7 +70,7 @@ module _ (x : Exploration) (file source : List ℕ) (p : Schemas) (e : Environme
 
   -- ---- where no state is sought
   module _ (none : x.sought ≡ None) (m : System) (of : IsMachine m) where
-    whole_answer : (ending : Ending) (text : List ℕ) → IsWritten (explored_in m) (words m) (states_limit x) ending text → ExplorationAnswer x file source text (ending_status ending)
+    whole_answer : (ending : Ending) (text : List ℕ) → IsExplored (explored_in m) (words m) (states_limit x) ending text → ExplorationAnswer x file source text (ending_status ending)
     whole_answer ending text w = told_answer None none text (ending_status ending) (record { machine = m; is_of = of; ending = ending; written = w; ends = refl })
 
     stops_part : (old new : Option (List ℕ)) (text : List ℕ) → IsPart (explored_in m) (words m) (states_limit x) text → AppendsFront old new text → StopsInSource (Reach x) file source old new
@@ -76,7 +78,7 @@ module _ (x : Exploration) (file source : List ℕ) (p : Schemas) (e : Environme
     stops_part old new text (inr (inl begun)) (f, front, written) = (f, inr (inr (text, ExplorationBegins.turns e.globals p e m none is of begun, front)), written)
     stops_part old new text (inr (inr (ending, w))) (f, front, written) = (f, inr (inl (text, ending_status ending, inr (whole_answer ending text w), front)), written)
 
-    explored_text : (old new : Option (List ℕ)) (ending : code.Ending) (at text : List ℕ) → IsWritten (explored_in m) (words m) (states_limit x) (ending_of ending at) text → Appends old new text
+    explored_text : (old new : Option (List ℕ)) (ending : code.Ending) (at text : List ℕ) → IsExplored (explored_in m) (words m) (states_limit x) (ending_of ending at) text → Appends old new text
         → Reaches x file source old new (Ok (ending_status (ending_of ending [])))
     explored_text old new ending at text w written =
         (text, subst (λ s. Answer (Reach x) file source text s) (sym (same_status ending at)) (inr (whole_answer (ending_of ending at) text w)), written)
@@ -124,11 +126,11 @@ module _ (x : Exploration) (file source : List ℕ) (p : Schemas) (e : Environme
 
     -- and one that ends the whole
     pub explored_whole : x.sought ≡ None → (ending : code.Ending) (status : Status) → status ≡ ending_status (ending_of ending [])
-        → (m : System) × IsMachineOf e elements form p m × (at text : List ℕ) × IsWritten (explored_in m) (words m) limit (ending_of ending at) text
+        → (m : System) × IsMachineOf e elements form p m × (at text : List ℕ) × IsExplored (explored_in m) (words m) limit (ending_of ending at) text
         × Appends old new text → Reaches x file source old new (Ok status)
     explored_whole none ending status ends (m, of, at, text, w, written) =
         subst (λ s. Reaches x file source old new (Ok s)) (sym ends)
-        (explored_text none m (is_machine m of) old new ending at text (subst (λ n. IsWritten (explored_in m) (words m) n (ending_of ending at) text) bound w) written)
+        (explored_text none m (is_machine m of) old new ending at text (subst (λ n. IsExplored (explored_in m) (words m) n (ending_of ending at) text) bound w) written)
 
     pub sought_whole : (name : List ℕ) → x.sought ≡ Some name → (finding : Finding) (status : Status) → status ≡ result_status (result_of finding [])
         → (m : System) × IsMachineOf e elements form p m × (at text : List ℕ) × IsSearched (explored_in m) (sought_in m) (words m) (verdict m) limit (result_of finding at) text × Appends old new text

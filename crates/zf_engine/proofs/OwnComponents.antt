@@ -10,7 +10,8 @@ use Rattle.zf_tree.specs.Trees as text
 use Rattle.zf_tree.specs.declared.operator.Operator.TheVariants.{Connective}
 use Rattle.zf_term.specs.Types.{Ty}
 use Rattle.zf_term.proofs.SameNames.{is_itself}
-use Rattle.zf_calculus.specs.Calculus.{nothing, comp, comp_named, with_comp, with_comps, place_or, place_of, new_place, conjoined, carried, decorated, prime, delta, all_unchanged, xi, marked, either_comps, membership, memberships, constraints, joined, disjoined}
+use Rattle.zf_calculus.specs.Calculus.{empty_schema, comp, comp_named, with_comp, with_comps, new_place, conjoined, carried, decorated, prime, delta, all_unchanged, xi, marked, either_comps, membership, memberships, constraints, joined, disjoined}
+use Rattle.zf_calculus.specs.Growth.{place_or, place_of}
 use Rattle.zf_schema.specs.Expressions.{outside, inside, Refers, AddsAll, DeclaresOne, Declares, TakesAll, Constrains, IsSchema}
 use Rattle.zf_engine.proofs.Within.{joins, first_below, resolved_within, AreDue, due_joined, due_longer, due_both, conjuncts_due, moved_due}
 
@@ -283,8 +284,8 @@ own_constrained g a (e ∷ es) b h p =
     own_constrained g p.0 es b (own_taken a (conjuncts (resolved (inside g a) e)) p.0 (conjuncts_due (length a.comps) (resolved (inside g a) e) (resolved_within (inside g a) e)) h p.1.1) p.2
 
 pub own_schema : (g : List Defined) (x : SchemaTree) (c : Schema) → AreOwn g → IsSchema g x c → IsOwn c
-own_schema g (schema_text ds es) c all p = own_constrained g p.0 es c (own_declared g nothing ds p.0 all (tt, tt) p.1) p.2
-own_schema g (text.reference r) c all p = own_reference g r c all p
+own_schema g (schema_text ds es) c all p = own_constrained g p.0 es c (own_declared g empty_schema ds p.0 all (tt, tt) p.1) p.2
+own_schema g (text.schema_reference r) c all p = own_reference g r c all p
 own_schema g (both x y) c all p = subst IsOwn (sym p.5.0) (own_conjoined p.0 p.1 (own_schema g x p.0 all p.2) (own_schema g y p.1 all p.3))
 own_schema g (either l x y) c all p = subst IsOwn (sym p.5.0) (own_disjoined l p.0 p.1 (own_schema g x p.0 all p.2) (own_schema g y p.1 all p.3))
 own_schema g (schema_bracket x) c all p = own_schema g x c all p

@@ -5,7 +5,7 @@ pub use Rattle.std.proofs.lemmas.Bool.{eqb-true, false≢true}
 pub use Rattle.std.proofs.lemmas.List.{length-map, length-take}
 pub use Rattle.std.proofs.lemmas.Option.{none-some, same_Some}
 pub use Rattle.std.specs.Io.KnownBytes.{Appends, Consumes, Keeps}
-pub use Rattle.std.specs.Option.{option_copied}
+pub use Rattle.std.specs.Option.{option_copied, option_or}
 pub use Rattle.std.specs.Str.{bytes_eq}
 pub use Rattle.zf_walk.specs.Progress.{AreDueWithin, Stage}
 pub use Rattle.zf_reference.specs.declared.reference.Reference.TheVariants.{Component, Global, Local}
@@ -16,7 +16,7 @@ pub use Rattle.zf_term.proofs.Behind.{onto_behind}
 pub use Rattle.zf_term.specs.Definitions.{carrier, Comp, DeclaredSet, Defined, plain, Schema, schema, sides}
 pub use Rattle.zf_term.specs.SchemaViews.{comp_of, schema_of}
 pub use Rattle.zf_term.specs.DefinitionViews.{globals_of}
-pub use Rattle.zf_term.specs.FirstNamed.{first_named, later, or_else}
+pub use Rattle.zf_term.specs.FirstNamed.{first_named, later}
 pub use Rattle.zf_term.specs.ResolvedTrees.{binary, bracket, builder, chain, constant, empty_set, listed, number, quantified, reference, ResolvedTree, unary}
 pub use Rattle.zf_term.specs.Shapes.{conjuncts, is_and, is_conjunction, term_line, moved}
 pub use Rattle.zf_term.specs.References.{references}
@@ -38,7 +38,8 @@ pub use Rattle.zf_engine.specs.Answers.{Answer, AnswersReader, AnswersSource, Ar
 pub use Rattle.zf_engine.specs.Settings.{AreMessages, Checks, HasSchema, IsNamed, numbers_of, stated, stated_size, TellsFaults, TellsInfinite, TellsMisfit, TellsNoSchema, TellsNumbers, TellsOut, without_size}
 pub use Rattle.zf_engine.specs.Stops.{StopsInSource, AnswersExploration, AnswersOver, AnswersRequest, IfAnswered, IsFaultLine, IsRefused, IsUnexplored, IsUnfit, Reaches, Shows, Tells, TellsNoParts, TellsNoRow, TellsNoValues, TellsBounds, TellsMisnamed, TellsPlace, TellsPlaceHeld, ToldOfFaults, Writes, WritesText}
 pub use Rattle.zf_engine.specs.Statuses.{IsStatus, IsStatusOfRefused, IsWorkStatus}
-pub use Rattle.zf_messages.specs.Details.{Cited, cited_of, type_fault_lines, AreLines}
+pub use Rattle.zf_messages.specs.Details.{Cited, type_fault_lines, AreLines}
+pub use Rattle.zf_messages.specs.AsideViews.{cited_of}
 pub use Rattle.zf_messages.specs.Missing.{no_schema_lines}
 pub use Rattle.zf_engine.specs.Numbers.{AreSmall}
 pub use Rattle.zf_messages.specs.Texts.{declared_out_line}

@@ -12,7 +12,7 @@ use Rattle.zf_machines.specs.Machines.{all_of, HasShape, Named, Schemas}
 use Rattle.zf_meaning.specs.GlobalOutcomes.{IsEnvironment}
 use Rattle.zf_meaning.specs.Sizes.{given_sets, AreComplete}
 use Rattle.zf_ranges.specs.Ranges.{IsNoneOut}
-use Rattle.zf_engine.specs.Explorations.{AreSchemasOf, HasInfinite, HasOut, HasSchemas, IsBounded, IsOfSchema, IsSchemaOf, IsSearchable, IsSettled, LacksComponent, LacksSchema, names_of, RefusesExploration}
+use Rattle.zf_engine.specs.Explorations.{AreSchemasOf, HasInfinite, HasOut, HasSchemas, IsBounded, IsOfSchema, IsSchemaOf, IsSearchable, IsSettled, HasLacking, LacksSchema, names_of, RefusesExploration}
 use Rattle.zf_engine.specs.Numbers.{AreSmall}
 use Rattle.zf_engine.proofs.Parts.{reach_refused, told_written}
 use Rattle.zf_engine.proofs.Refusing.{weaker}
@@ -97,7 +97,7 @@ module _ (x : Exploration) (file source : List ℕ) (g : List Defined) (checks :
     has_schemas : HasSchemas x source g p
     has_schemas = record { checks = checks; named = named }
 
-    pub lacks_component : (stop : Stop) → IfAnswered stop (LacksComponent p) → AnswersExploration x file source stop
+    pub lacks_component : (stop : Stop) → IfAnswered stop (HasLacking p) → AnswersExploration x file source stop
     lacks_component stop h = weaker stop (λ text status t. inr (RefusesExploration.no_component g p has_schemas t)) h
 
     module _ (shape : HasShape p) where

@@ -6,7 +6,7 @@ use Rattle.zf_command.specs.Requests.{IsBare}
 use Rattle.zf_command.specs.declared.job.Job.TheVariants.{Why}
 use Rattle.zf_ranges.specs.Ranges.{IsNoneOut}
 use Rattle.zf_lines.specs.declared.fault.Status.TheVariants.{Done}
-use Rattle.zf_why.specs.Causes.{Explains}
+use Rattle.zf_why.specs.Explaining.{Explains}
 use Rattle.zf_why.specs.Disjunctions.{disjunction_at}
 use Rattle.zf_why.specs.declared.cause.Cause.{Cause}
 use Rattle.zf_why.specs.declared.cause.Cause.TheVariants.{Alone, Empty, Together}

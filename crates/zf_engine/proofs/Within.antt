@@ -1,5 +1,5 @@
 -- The conjuncts of a schema name its own components alone.
-use Rattle.zf_engine.proofs.Prelude.{if◌then◌else◌, ◌++◌, ◌+◌, ◌<◌, ◌∷◌, ◌≡◌, ◌≤◌, [], ap, arith, Bool, false, length, List, map, None, Option, refl, Some, subst, suc, sym, true, zero, ℕ, bytes_eq, Component, Global, Local, spelling, Links, no_decls, no_trees, Perhaps, Tree, tree, Trees, var_decl, VarDecls, onto_behind, Comp, Defined, first_named, later, or_else, binary, bracket, builder, chain, constant, empty_set, listed, number, quantified, reference, ResolvedTree, unary, conjuncts, is_and, is_conjunction, moved, references, bound, referent, resolved, resolved_all, resolved_links, resolved_part, resolved_ranges, due, greatest_place, place_named}
+use Rattle.zf_engine.proofs.Prelude.{if◌then◌else◌, ◌++◌, ◌+◌, ◌<◌, ◌∷◌, ◌≡◌, ◌≤◌, [], ap, arith, Bool, false, length, List, map, None, Option, refl, Some, subst, suc, sym, true, zero, ℕ, bytes_eq, Component, Global, Local, spelling, Links, no_decls, no_trees, Perhaps, Tree, tree, Trees, var_decl, VarDecls, onto_behind, Comp, Defined, first_named, later, binary, bracket, builder, chain, constant, empty_set, listed, number, quantified, reference, ResolvedTree, unary, conjuncts, is_and, is_conjunction, moved, references, bound, referent, resolved, resolved_all, resolved_links, resolved_part, resolved_ranges, due, greatest_place, place_named, option_or}
 use Rattle.zf_tree.specs.Trees as text
 use Rattle.zf_reference.specs.declared.reference.Reference.{Reference}
 use Rattle.zf_term.specs.References.{onto, all_onto, links_onto, ranges_onto, part_onto}
@@ -56,12 +56,12 @@ named_within n s x h = local (last_named (λ v. v.name) x s.locals)
     global (Some p) = omega arith
 
     component : (o : Option (ℕ × Comp)) → ((p : ℕ × Comp) → o ≡ Some p → p.0 < length s.comps)
-        → place_named (referent (or_else (component_meaning o) (global_meaning (first_named (λ d. d.name) x s.globals)))) ≤ n
+        → place_named (referent (option_or (component_meaning o) (global_meaning (first_named (λ d. d.name) x s.globals)))) ≤ n
     component None k = global (first_named (λ d. d.name) x s.globals)
     component (Some p) k = let l = k p refl in omega (arith, l, h)
 
-    local : (o : Option (ℕ × Var)) → place_named (referent (or_else (variable_meaning o)
-        (or_else (component_meaning (first_named (λ c. c.name) x s.comps)) (global_meaning (first_named (λ d. d.name) x s.globals))))) ≤ n
+    local : (o : Option (ℕ × Var)) → place_named (referent (option_or (variable_meaning o)
+        (option_or (component_meaning (first_named (λ c. c.name) x s.comps)) (global_meaning (first_named (λ d. d.name) x s.globals))))) ≤ n
     local None = component (first_named (λ c. c.name) x s.comps) (first_below (λ c. c.name) x s.comps)
     local (Some p) = omega arith
 

@@ -1,5 +1,5 @@
 -- What a run writes and answers, by the first case that applies.
-use Rattle.std.specs.Prelude.{◌≡◌, ◌≢◌, ◌⊎◌, ℕ, Bool, if◌then◌else◌, List, [], ◌∷◌, ◌++◌, Option, Some, None, IsSomeAnd, slice_get}
+use Rattle.std.specs.Prelude.{◌≡◌, ◌≢◌, ◌⊎◌, ℕ, Bool, if◌then◌else◌, List, [], ◌∷◌, ◌++◌, Option, Some, None, IsSomeAnd, slice_get, MatchOption}
 use Rattle.std.specs.Io.KnownBytes.{Appends}
 use Rattle.zf_command.specs.declared.job.Job.{Job}
 use Rattle.zf_command.specs.declared.job.Job.TheVariants.{Check, Reach, Show, Why}
@@ -77,23 +77,19 @@ IsLineOf e comps text row = IsRow e comps row × (text ≡ binding_text (spellin
 
 -- the row of these components that the lines come after, if one is named
 abbrev pub IsNamedRow : Environment → List Comp → Option (List ℕ) → Option (List Value) → Type 0
-IsNamedRow e comps None after = after ≡ None
-IsNamedRow e comps (Some text) after = IsSomeAnd after (IsLineOf e comps text)
+IsNamedRow e comps named after = MatchOption named (after ≡ None) (λ text. IsSomeAnd after (IsLineOf e comps text))
 
 -- a text is given that is the line of no such row
 abbrev pub NamesNoRow : Environment → List Comp → Option (List ℕ) → Type 0
-NamesNoRow e comps None = ⊥
-NamesNoRow e comps (Some text) = (row : List Value) → IsLineOf e comps text row → ⊥
+NamesNoRow e comps named = IsSomeAnd named (λ text. (row : List Value) → IsLineOf e comps text row → ⊥)
 
 -- the values that are held, by the components' places, if a line of some components is given
 abbrev pub AreHeld : Environment → List Comp → Option (List ℕ) → List (Option Value) → Type 0
-AreHeld e comps None held = held ≡ []
-AreHeld e comps (Some text) held = IsLineOfSome (spellings e.globals) e comps text held
+AreHeld e comps named held = MatchOption named (held ≡ []) (λ text. IsLineOfSome (spellings e.globals) e comps text held)
 
 -- a text is given that is no such line
 abbrev pub HoldsNoValues : Environment → List Comp → Option (List ℕ) → Type 0
-HoldsNoValues e comps None = ⊥
-HoldsNoValues e comps (Some text) = (held : List (Option Value)) → IsLineOfSome (spellings e.globals) e comps text held → ⊥
+HoldsNoValues e comps named = IsSomeAnd named (λ text. (held : List (Option Value)) → IsLineOfSome (spellings e.globals) e comps text held → ⊥)
 
 -- the row that the search comes after: where some components alone are shown, none
 abbrev pub row_after : (only : Option (List ℕ)) → Option (List Value) → Option (List Value)
@@ -183,8 +179,6 @@ pub data ShowBegins (r : Request) (source text : List ℕ) : Type 0 where
       → r.only ≡ None → IsSearch r source globals a e p → HasEvents e a p last events → IsBegun (wording r globals a) r.limit events last text
       → ShowBegins r source text
 
--- ---- `why`
-
 abbrev pub WhyAnswer : Request → (file source text : List ℕ) → Status → Type 0
 WhyAnswer r file source text status = RequestAnswer (TellsWhy r.format r.details file source) r file source text status
 
@@ -228,10 +222,9 @@ Answer job file source text status = AreMessages (format_of job) file (UnreadAns
 
 -- the text is what an answer begins with, whatever follows
 abbrev pub JobBegins : Job → (source text : List ℕ) → Type 0
-JobBegins (Check types details format) source text = ⊥
 JobBegins (Show r) source text = ShowBegins r source text
-JobBegins (Why r) source text = ⊥
 JobBegins (Reach x) source text = ExplorationBegins x source text
+JobBegins _ source text = ⊥
 
 -- ---- what a run leaves
 

@@ -91,8 +91,8 @@ abbrev pub LacksSchema : Exploration → List Defined → (text : List ℕ) → 
 LacksSchema x g text status = FirstFails (IsOfSchema g) (TellsNoSchema x.details g text status) (names_of x)
 
 -- the first of the schemas that lacks a component
-abbrev pub LacksComponent : Schemas → (text : List ℕ) → Status → Type 0
-LacksComponent p text status = (name component : List ℕ) × LacksFirst p name component × (text ≡ no_component_line name component) × (status ≡ BadRequest)
+abbrev pub HasLacking : Schemas → (text : List ℕ) → Status → Type 0
+HasLacking p text status = (name component : List ℕ) × LacksFirst p name component × (text ≡ no_component_line name component) × (status ≡ BadRequest)
 
 -- the first of the schemas that is not finite, where this is the greatest number, if there is one
 abbrev pub HasInfinite : Exploration → (file : List ℕ) → (numbers : Option ℕ) → List Defined → Schemas → (text : List ℕ) → Status → Type 0
@@ -106,7 +106,7 @@ HasOut e p text status = FirstFails (λ n. IsNoneOut e n.schema.comps) (λ n. Te
 pub data RefusesExploration (x : Exploration) (file source text : List ℕ) (status : Status) : Type 0 where
   ill_typed : TellsFaults x.details file source text status → RefusesExploration x file source text status
   no_schema : (g : List Defined) → Checks source g [] → LacksSchema x g text status → RefusesExploration x file source text status
-  no_component : (g : List Defined) (p : Schemas) → HasSchemas x source g p → LacksComponent p text status → RefusesExploration x file source text status
+  no_component : (g : List Defined) (p : Schemas) → HasSchemas x source g p → HasLacking p text status → RefusesExploration x file source text status
   large_numbers : (g : List Defined) (p : Schemas) → HasSchemas x source g p → HasShape p → TellsNumbers (numbers_of x.setting) text status → RefusesExploration x file source text status
   bad_sizes : (g : List Defined) (p : Schemas) → HasSchemas x source g p → HasShape p → AreSmall (numbers_of x.setting)
       → TellsMisfit x.details g (stated g x.setting) text status → RefusesExploration x file source text status
@@ -122,11 +122,11 @@ ending_status paused = Done
 ending_status (broken at) = PastBounds
 
 -- the text of what the machine of these schemas can reach
-pub record Explores (x : Exploration) (g : List Defined) (p : Schemas) (e : Environment) (text : List ℕ) (status : Status) : Type 0 where
+pub record ExploresMachine (x : Exploration) (g : List Defined) (p : Schemas) (e : Environment) (text : List ℕ) (status : Status) : Type 0 where
   pub machine : System
   pub is_of : IsMachineOf e (spellings g) (form_of x) p machine
   pub ending : Ending
-  pub written : graph.IsWritten (explored_in machine) (words machine) (states_limit x) ending text
+  pub written : graph.IsExplored (explored_in machine) (words machine) (states_limit x) ending text
   pub ends : status ≡ ending_status ending
 
 -- so it is where it can't be told whether a state is one that is sought
@@ -146,7 +146,7 @@ pub record Seeks (x : Exploration) (g : List Defined) (p : Schemas) (e : Environ
 
 -- which of both, where this schema is sought, if one is
 abbrev pub TellsMachine : (sought : Option (List ℕ)) → Exploration → List Defined → Schemas → Environment → (text : List ℕ) → Status → Type 0
-TellsMachine None x g p e text status = Explores x g p e text status
+TellsMachine None x g p e text status = ExploresMachine x g p e text status
 TellsMachine (Some name) x g p e text status = Seeks x g p e text status
 
 -- The answer of `reach` for a source that is read.
@@ -157,4 +157,4 @@ pub data ExplorationAnswer (x : Exploration) (file source text : List ℕ) (stat
 -- the first lines that it writes, where no state is sought: some turns, and the beginning of the next one
 pub data ExplorationBegins (x : Exploration) (source text : List ℕ) : Type 0 where
   turns : (g : List Defined) (p : Schemas) (e : Environment) (m : System) → x.sought ≡ None → IsSearchable x source g p e → IsMachineOf e (spellings g) (form_of x) p m
-      → graph.IsBegun (explored_in m) (words m) (states_limit x) text → ExplorationBegins x source text
+      → graph.IsPartlyExplored (explored_in m) (words m) (states_limit x) text → ExplorationBegins x source text

@@ -2,9 +2,11 @@ pub mod Faults
 pub mod SourceLines
 pub mod Objects
 pub mod Reasons
+pub mod CauseLines
 pub mod Numbers
 pub mod Settings
 pub mod Only
+pub mod Adding
 pub mod Explorations
 pub mod Answers
 pub mod Stops

@@ -7,7 +7,6 @@ abbrev pub AreSmall : (numbers : Option ℕ) → Type 0
 AreSmall None = Unit {0}
 AreSmall (Some n) = n ≤ NUMBERS_MAX
 
--- they end past that
 abbrev pub AreTooLarge : (numbers : Option ℕ) → Type 0
 AreTooLarge None = ⊥
 AreTooLarge (Some n) = NUMBERS_MAX < n

@@ -1,5 +1,5 @@
 -- Which components the lines of `show` have: those that a text names, parted by commas, or all.
-use Rattle.std.specs.Prelude.{◌≡◌, ◌≢◌, ◌⊎◌, ℕ, ◌==◌, Bool, List, [], ◌∷◌, ◌++◌, map, Option, Some, None, option_map, AllPairs, Contains}
+use Rattle.std.specs.Prelude.{◌≡◌, ◌≢◌, ℕ, ◌==◌, Bool, List, map, Option, Some, None, option_map, AllPairs}
 use Rattle.std.specs.List.{slice_split}
 use Rattle.zf_term.specs.Definitions.{Comp}
 use Rattle.zf_term.specs.FirstNamed.{first_named}
@@ -33,14 +33,3 @@ NamesNoParts comps None = ⊥
 NamesNoParts comps (Some text) = (places : List ℕ) → NamesParts comps text places → ⊥
 
 -- ---- one name after another
-
--- behind these places stands that of the component which is named between blanks, and it is none of them
-pub record IsAdded (comps : List Comp) (name : List ℕ) (old new : List ℕ) : Type 0 where
-  pub place : ℕ
-  pub named : component_place comps (trimmed name) ≡ Some place
-  pub other : Contains old place → ⊥
-  pub added : new ≡ old ++ place ∷ []
-
--- there is no such component, or it is one of them
-abbrev pub HasNoPlace : List Comp → (name : List ℕ) → (places : List ℕ) → Type 0
-HasNoPlace comps name places = (component_place comps (trimmed name) ≡ None) ⊎ ((place : ℕ) × (component_place comps (trimmed name) ≡ Some place) × Contains places place)

@@ -17,8 +17,6 @@ use Rattle.zf_texts.specs.declared.spelling.Spelling.{Spelling}
 use Rattle.zf_texts.specs.Spellings.{spellings}
 use Rattle.zf_texts.specs.ValueTexts.{value_text}
 use Rattle.zf_cores.specs.Choices.{chosen_of}
-use Rattle.zf_why.specs.declared.cause.Cause.{Cause}
-use Rattle.zf_why.specs.declared.cause.Cause.TheVariants.{Empty, Alone, Together}
 use Rattle.zf_why.specs.declared.told.Operands.{Operands}
 use Rattle.zf_why.specs.declared.told.Sides.{Sides}
 use Rattle.zf_why.specs.declared.told.Told.{Told}
@@ -80,12 +78,6 @@ empty_lines f file cs = flat_map (empty_line f file) cs
 
 abbrev pub told_lines : Format → (file source : List ℕ) → List Spelling → List Told → List ℕ
 told_lines f file source ss told = flat_map (told_line f file source ss) told
-
--- the components without a value, or what is told of the conjuncts that are to blame
-abbrev pub cause_lines : Format → (file source : List ℕ) → List Spelling → Schema → Cause → List ℕ
-cause_lines f file source ss a (Empty empty) = empty_lines f file (chosen_of a.comps empty.items)
-cause_lines f file source ss a (Alone told) = told_lines f file source ss told.items
-cause_lines f file source ss a (Together told) = told_lines f file source ss told.items
 
 -- ---- the last line
 

@@ -35,7 +35,6 @@ pub record Checks (source : List ℕ) (globals : List Defined) (faults : List Fa
   pub reads : ReadsSource boxes source
   pub judged : IsChecked boxes globals faults
 
--- this is the schema of the name
 abbrev pub IsNamed : List Defined → List ℕ → Schema → Type 0
 IsNamed globals name a = (place : ℕ) × (first_named (λ d. d.name) name globals ≡ Some (place, record { name = name; definition = schema a }))
 
@@ -49,7 +48,6 @@ pub record HasSchema (source name : List ℕ) (globals : List Defined) (a : Sche
 abbrev pub stated_size : command.Size → Size
 stated_size s = record { name = s.name; count = s.count }
 
--- the sizes of words
 abbrev pub worded : Setting → List Size
 worded s = map stated_size s.sizes
 

@@ -16,7 +16,8 @@ use Rattle.zf_engine.specs.declared.stop.Stop.TheVariants.{Answered, OutOfMemory
 use Rattle.zf_command.specs.declared.job.Exploration.{Exploration}
 use Rattle.zf_command.specs.declared.job.Request.{Request}
 use Rattle.zf_engine.specs.Answers.{AnswersSource, CheckAnswer, HoldsNoValues, IsNamedRow, NamesNoRow, RefusesRequest, UnreadAnswer, IsPartOfAnswer}
-use Rattle.zf_engine.specs.Only.{AreShown, HasNoPlace, NamesNoParts}
+use Rattle.zf_engine.specs.Only.{AreShown, NamesNoParts}
+use Rattle.zf_engine.specs.Adding.{HasNoPlace}
 use Rattle.zf_engine.specs.Settings.{Checks, TellsFaults}
 use Rattle.zf_lines.specs.FaultViews.{AppendsFront}
 use Rattle.zf_messages.specs.Details.{Cited, text_fault_lines}

@@ -1,5 +1,5 @@
 -- A schema in an environment, and what `why` finds of it. No public clause rests on this file.
-use Rattle.std.specs.Prelude.{◌≡◌, ℕ, Bool, List, [], ◌++◌, length, map, Option, Some, None, IsSomeAnd, option_map, Vec}
+use Rattle.std.specs.Prelude.{◌≡◌, ℕ, Bool, List, [], ◌++◌, length, Option, Some, None, IsSomeAnd, option_map, Vec}
 use Rattle.std.specs.declared.alloc.Global.{Global}
 use Rattle.zf_term.specs.Definitions.{Comp, Schema}
 use Rattle.zf_term.specs.SchemaViews.{schema_of}
@@ -14,7 +14,7 @@ use Rattle.zf_enum.specs.Property.{property}
 use Rattle.zf_enum.specs.Searches.{Goal}
 use Rattle.zf_enum.specs.Starts.{Begins}
 use Rattle.zf_texts.specs.Spellings.{spellings}
-use Rattle.zf_why.specs.Causes.{Explains}
+use Rattle.zf_why.specs.Explaining.{Explains}
 use Rattle.zf_why.specs.Disjunctions.{disjunction_at}
 use Rattle.zf_why.specs.Rows.{RuleOut}
 use Rattle.zf_why.specs.declared.cause.Cause.{Cause}
@@ -28,7 +28,8 @@ use Rattle.zf_engine.specs.Only.{NamesParts}
 use Rattle.zf_engine.specs.declared.bounds.Bounds.{Bounds}
 use Rattle.zf_engine.specs.declared.bounds.Chosen.{Chosen}
 use Rattle.zf_parts.specs.Places.{comps_at}
-use Rattle.zf_engine.specs.Reasons.{TellsWhy, cause_lines, no_binding_line}
+use Rattle.zf_engine.specs.Reasons.{TellsWhy, no_binding_line}
+use Rattle.zf_engine.specs.CauseLines.{cause_lines}
 use Rattle.zf_engine.specs.declared.subject.Subject.{Subject}
 
 abbrev pub environment_in : Subject → Environment

@@ -7,7 +7,7 @@ ghost use Rattle.zf_engine.specs.Subjects.{CanBeSearched, environment_in, schema
 ghost use Rattle.zf_enum.specs.PortionViews.{portion};
 ghost use Rattle.zf_enum.specs.Searches.{planted_goal};
 ghost use Rattle.zf_enum.specs.Starts.{Begins, BeginsCounting};
-ghost use Rattle.zf_ranges.specs.Ranges.{Refuses};
+ghost use Rattle.zf_ranges.specs.StartFaults.{RefusesStart};
 ghost use Rattle.zf_meaning.specs.Environments.{Environment};
 ghost use Rattle.zf_term.specs.SchemaViews.{schema_of};
 ghost use Rattle.zf_walk.specs.RowLaws.{HasLength};
@@ -72,8 +72,8 @@ pub fn begin_counting<'s, 'e, 'g, 'a>(
 
 /// The answer where no search is begun.
 pub fn not_begun(alloc: Global, flat: &Flat<'_>, fault: StartFault) -> Stop
-    requires { (e : Environment) × Refuses e (schema_of flat.now).comps fault }
-    ensures { (e : Environment) → Refuses e (schema_of flat.now).comps fault → IfAnswered result (TellsOut e (schema_of flat.now).comps) }
+    requires { (e : Environment) × RefusesStart e (schema_of flat.now).comps fault }
+    ensures { (e : Environment) → RefusesStart e (schema_of flat.now).comps fault → IfAnswered result (TellsOut e (schema_of flat.now).comps) }
 {
     match fault {
         StartFault::DeclaredOut(place) => declared_out(alloc, flat, place),

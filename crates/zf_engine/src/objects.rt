@@ -2,7 +2,7 @@
 ghost use Rattle.std.specs.Prelude.{◌≡◌, ◌++◌, OnOk, codes, map};
 ghost use Rattle.zf_engine.specs.Objects as spec;
 ghost use Rattle.zf_term.specs.SchemaViews.{comp_of};
-ghost use Rattle.zf_texts.specs.ValueTexts.{comma_before};
+ghost use Rattle.zf_texts.specs.LineTexts.{comma_before};
 
 use crate::lines::trimmed_line;
 use itoa::Buffer;

@@ -2,6 +2,7 @@
 ghost use Rattle.std.specs.Prelude.{◌≡◌, IfErr, IfOk, OnOk, Some, map};
 ghost use Rattle.std.specs.List.{before_first};
 ghost use Rattle.zf_engine.specs.Only as spec;
+ghost use Rattle.zf_engine.specs.Adding.{IsAdded};
 ghost use Rattle.zf_engine.specs.Only.{NamesParts};
 ghost use Rattle.zf_engine.specs.Stops.{IfAnswered, IsMisnamed, TellsNoParts, TellsPlaceMisnamed};
 ghost use Rattle.zf_term.specs.SchemaViews.{comp_of};
@@ -68,7 +69,7 @@ fn add_place(
     at: usize,
     places: &mut Vec<usize>,
 ) -> Result<(), Stop>
-    ensures added { OnOk result (spec.IsAdded (map comp_of components.now) name.now places.old.items places.new.items) }
+    ensures added { OnOk result (IsAdded (map comp_of components.now) name.now places.old.items places.new.items) }
     ensures stop { IfErr result (λ s. IfAnswered s (IsMisnamed (map comp_of components.now) name.now places.old.items)) }
 {
     let trimmed = name.trim_ascii_start().trim_ascii_end();

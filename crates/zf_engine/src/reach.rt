@@ -2,7 +2,7 @@
 ghost use Rattle.std.specs.Prelude.{◌≡◌, ◌≤◌, [], IfErr, IfOk, OnOk, map, option_map, option_to_list};
 ghost use Rattle.std.specs.List.{AllByRecursion, AllZip};
 ghost use Rattle.zf_engine.specs.Explorations as spec;
-ghost use Rattle.zf_engine.specs.Explorations.{AreSchemasOf, HasInfinite, HasOut, IsOfSchema, IsSchemaOf, IsSearchable, LacksComponent, LacksSchema};
+ghost use Rattle.zf_engine.specs.Explorations.{AreSchemasOf, HasInfinite, HasOut, IsOfSchema, IsSchemaOf, IsSearchable, HasLacking, LacksSchema};
 ghost use Rattle.zf_engine.specs.Settings.{Checks, TellsInfinite, TellsNoSchema, TellsOut};
 ghost use Rattle.zf_engine.specs.Stops.{AnswersExploration, IfAnswered, Reaches};
 ghost use Rattle.zf_finite.specs.Finite.{IsFinite};
@@ -294,7 +294,7 @@ fn operations_in<'p, 'a>(
 /// Refuses schemas that make no machine.
 fn check_shape<'a>(alloc: Global, arena: &'a Bump, schemas: &Schemas<'_, 'a>) -> Result<(), Stop>
     ensures shape { OnOk result (HasShape (schemas_of schemas.now)) }
-    ensures stop { IfErr result (λ s. IfAnswered s (LacksComponent (schemas_of schemas.now))) }
+    ensures stop { IfErr result (λ s. IfAnswered s (HasLacking (schemas_of schemas.now))) }
 {
     match lack_of(arena, schemas)? {
         None => Ok(()),

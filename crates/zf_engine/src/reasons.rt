@@ -2,6 +2,7 @@
 ghost use Rattle.std.specs.Prelude.{◌≡◌, ◌++◌, IfOk, OnOk, length, map};
 ghost use Rattle.zf_cores.specs.Choices.{chosen_of};
 ghost use Rattle.zf_engine.specs.Reasons as spec;
+ghost use Rattle.zf_engine.specs.CauseLines.{cause_lines};
 ghost use Rattle.zf_engine.specs.Subjects.{IsOfSchema};
 ghost use Rattle.zf_format.specs.declared.format.Format.TheVariants.{Lines};
 ghost use Rattle.zf_term.specs.SchemaViews.{comp_of, schema_of};
@@ -27,7 +28,7 @@ pub fn cause_lines(
     cause: &Cause,
 ) -> Result<Vec<u8>, AllocError>
     requires { IsOfSchema (schema_of flat.now) cause.now }
-    ensures { IfOk result (λ v. v.items ≡ spec.cause_lines style.now.format report.entry.file.now report.entry.source.now style.now.elements.now (schema_of flat.now) cause.now) }
+    ensures { IfOk result (λ v. v.items ≡ cause_lines style.now.format report.entry.file.now report.entry.source.now style.now.elements.now (schema_of flat.now) cause.now) }
 {
     match cause {
         Cause::Empty(empty) => empty_lines(style, report, flat.components.as_slice(), empty),

@@ -2,7 +2,8 @@ use Rattle.zf_engine.proofs.Prelude.{IfErr, List, map, Result, subst, sym, comp_
 use Rattle.std.specs.List.{AllByRecursion}
 use Rattle.std.specs.Prelude.{IsTrue, OnOk}
 use Rattle.zf_finite.specs.Finite.{one_bounds}
-use Rattle.zf_ranges.specs.Ranges.{IsNoneOut, Refuses}
+use Rattle.zf_ranges.specs.Ranges.{IsNoneOut}
+use Rattle.zf_ranges.specs.StartFaults.{RefusesStart}
 use Rattle.zf_term.specs.Definitions.{sets_of}
 use Rattle.zf_term.specs.declared.schema.Component.{Component}
 use Rattle.zf_engine.proofs.reach.check_declared.Goals.{in-Err, in-Ok}
@@ -16,7 +17,7 @@ ranges-requires c =
 pub not_begun-requires : goal.not_begun-requires
 not_begun-requires c =
     let e = environment_of c.args.env.now in
-    (e, subst (λ (ds : List Component). Refuses e (map comp_of ds) c.in-Err.fault) c.as_slice.ensures c.in-Err.ensures.refused)
+    (e, subst (λ (ds : List Component). RefusesStart e (map comp_of ds) c.in-Err.fault) c.as_slice.ensures c.in-Err.ensures.refused)
 
 pub returns-clause-ok : goal.returns-clause-ok
 returns-clause-ok c =
@@ -35,5 +36,5 @@ returns-clause-stop c =
     elim c.match-ranges.branch [
       | in-Ok w ↦ subst (λ (r : Result (Unit {0}) Stop). IfErr r (λ s. IfAnswered s (TellsOut e a.comps))) (sym w.result-is) tt
       | in-Err w ↦ subst (λ (r : Result (Unit {0}) Stop). IfErr r (λ s. IfAnswered s (TellsOut e a.comps))) (sym w.result-is)
-          (w.not_begun.ensures e (subst (λ (ds : List Component). Refuses e (map comp_of ds) w.in-Err.fault) c.as_slice.ensures w.in-Err.ensures.refused))
+          (w.not_begun.ensures e (subst (λ (ds : List Component). RefusesStart e (map comp_of ds) w.in-Err.fault) c.as_slice.ensures w.in-Err.ensures.refused))
     ]

@@ -1,6 +1,6 @@
 use Rattle.zf_engine.proofs.Prelude.{rules, AnswersExploration, environment_of, globals_of, IfAnswered, numbers_of, stated, TellsMisfit, TellsNumbers}
 use Rattle.zf_machines.specs.SchemaViews.{schemas_of}
-use Rattle.zf_engine.specs.Explorations.{HasInfinite, HasOut, LacksComponent, LacksSchema}
+use Rattle.zf_engine.specs.Explorations.{HasInfinite, HasOut, HasLacking, LacksSchema}
 use Rattle.zf_engine.proofs.Reaching.{has_bad_sizes, has_infinite, has_large_numbers, has_out, lacks_component, lacks_schema, searchable}
 use Rattle.zf_engine.proofs.Refusing.{weaker_err}
 use Rattle.zf_engine.proofs.reach.settled_in.Goals as goal
@@ -19,7 +19,7 @@ returns-in_err-check_shape-clause-stop c =
     let file = c.args.task.report.file.now in
     let source = c.args.task.report.source.now in
     let p = schemas_of c.in_ok-schemas.schemas in
-    weaker_err _ (λ s. IfAnswered s (LacksComponent p)) (AnswersExploration x file source)
+    weaker_err _ (λ s. IfAnswered s (HasLacking p)) (AnswersExploration x file source)
     (lacks_component x file source (globals_of c.args.globals.now) c.requires.checks p c.in_ok-schemas.ensures.named) (search rules)
 
 pub returns-in_err-numbers-clause-stop : goal.returns-in_err-numbers-clause-stop
