@@ -1,5 +1,5 @@
 -- The graph whose edges are searched for in parts, and when what is searched is in order. No text of an exploration rests on this.
-use Rattle.std.specs.Prelude.{◌≡◌, ◌⊎◌, ℕ, Bool, Some, slice_get}
+use Rattle.std.specs.Prelude.{◌≡◌, ◌⊎◌, ℕ, Bool, Some, slice_get, List}
 use Rattle.zf_graph.specs.Edges.{Edge}
 use Rattle.zf_graph.specs.Graphs.{Graph}
 use Rattle.zf_graph.specs.Parts.{Searched}
