@@ -8,7 +8,6 @@ pub mod Held
 pub mod Planted
 pub mod Naming
 pub mod Fixed
-pub mod Keying
 pub mod Trying
 pub mod Placed
 pub mod Spreading

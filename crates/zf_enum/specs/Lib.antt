@@ -11,7 +11,6 @@ pub mod Holding
 pub mod Searches
 pub mod Planting
 pub mod Fixing
-pub mod Keys
 pub mod Spans
 pub mod Sums
 pub mod Spreads

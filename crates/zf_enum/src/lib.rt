@@ -7,7 +7,6 @@ mod conjuncts;
 mod due;
 mod fixing;
 mod instances;
-mod keys;
 pub mod laws;
 mod lifting;
 mod planting;

@@ -7,13 +7,12 @@ use crate::candidates::{Tie, gather_candidates, gather_spread, is_tried};
 use crate::conjuncts::Conjuncts;
 use crate::due::{due, uses};
 use crate::fixing::fixing;
-use crate::keys::{key_of_row, key_of_value, keyed};
 use crate::shown::Shown;
 use crate::sums::{balances, equates, gather_balanced};
 use std::alloc::{AllocError, Global};
 use zf_meaning::env::Env;
 use zf_meaning::value::truth_of;
-use zf_plan::{Guide, Means};
+use zf_plan::Guide;
 use zf_term::resolved::Resolved;
 use zf_value::value;
 use zf_value::value::Value;
@@ -70,26 +69,15 @@ impl<'e, 'g, 'a> Judge<Value> for Property<'e, 'g, 'a> {
 
 /// An equation of a component with an expression leaves the expression's values, a relation between sums the values with which it may hold, and a predicate that asks for values of variables those that it equates the component with.
 impl<'e, 'g, 'a> Guide<Value> for Property<'e, 'g, 'a> {
-    ghost use Rattle.std.specs.Prelude.{map};
-    ghost use Rattle.zf_term.specs.ResolvedViews.{resolved_of};
-    ghost use Rattle.zf_meaning.specs.Envs.{environment_of};
-    ghost use Rattle.zf_enum.specs.Keys.{IsKeyOf};
-
-    ghost is_key = { λ j. IsKeyOf (environment_of j.env.now) (map resolved_of j.conjuncts) };
-
-    fn narrows(&self, leaf: usize, component: usize, means: Means) -> bool {
+    fn narrows(&self, leaf: usize, component: usize, closely: bool) -> bool {
         let term = self.conjuncts.get(leaf);
         if fixing(term, component).is_some() || self.conjuncts.spread(leaf, component).is_some() {
             return true;
         }
-        let balances = balances(term, component);
-        match means {
-            Means::Closely => {
-                balances && equates(term) && self.due(leaf).saturating_sub(1) <= component
-            }
-            Means::Loosely => balances,
-            Means::ByKeys => balances || keyed(term, component).is_some(),
+        if !balances(term, component) {
+            return false;
         }
+        !closely || (equates(term) && self.due(leaf).saturating_sub(1) <= component)
     }
 
     fn narrow(
@@ -111,25 +99,6 @@ impl<'e, 'g, 'a> Guide<Value> for Property<'e, 'g, 'a> {
         match self.conjuncts.spread(leaf, places.len()) {
             None => Ok(false),
             Some(set) => gather_spread(set, ranges, places, self.env, gathered),
-        }
-    }
-
-    fn key(&self, leaf: usize, component: usize, value: &Value) -> Result<Option<u64>, AllocError> {
-        match keyed(self.conjuncts.get(leaf), component) {
-            None => Ok(None),
-            Some(sides) => key_of_value(sides.key, component, value, self.env),
-        }
-    }
-
-    fn wanted(
-        &self,
-        leaf: usize,
-        ranges: &[Range<Value>],
-        places: &[usize],
-    ) -> Result<Option<u64>, AllocError> {
-        match keyed(self.conjuncts.get(leaf), places.len()) {
-            None => Ok(None),
-            Some(sides) => key_of_row(sides.other, ranges, places, self.env),
         }
     }
 }
