@@ -204,17 +204,6 @@ impl<'a, V: Ord, J: Guide<V>> Search<'a, V, J> {
         }
     }
 
-    /// The values of a range; none where there is no such range.
-    pub fn range(&self, i: usize) -> &[V]
-        ensures values { result.now ≡ slice_index_or self.now.stage.ranges i [] }
-        ensures ascending { AreAscending V.cmp self.now.stage.ranges }
-    {
-        match self.ranges.get(i) {
-            None => &[],
-            Some(range) => &range.values,
-        }
-    }
-
     /// How many leaves that are conjuncts were tested: where each conjunct is one and no component is narrowed, how many tests were finished.
     pub fn tests(&self) -> u64
         ensures count { result ≡ self.now.tests }
