@@ -14,6 +14,7 @@ pub mod Moving
 pub mod Seeing
 pub mod Marking
 pub mod Sieving
+pub mod Keying
 pub mod Stepping
 pub mod Blaming
 pub mod Jumping

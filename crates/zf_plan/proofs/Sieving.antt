@@ -1,11 +1,11 @@
 -- What conjuncts leave of a range is a choice wherever the values that they use are the same.
-use Rattle.zf_plan.proofs.Prelude.{◌++◌, ◌+◌, ◌<◌, ◌∙◌, ◌∷◌, ◌≡◌, ◌≤◌, ◌⊎◌, [], ap, append_assoc, arith, Bool, cond, false, false≢true, get_or, inl, inr, length, length-append, List, None, refl, Some, subst, suc, sym, true, zero, ℕ, Contains, slice_get, slice_get_within, AreWithin-push, picked-push, nth-at, slice_get-nth, AreBelow, AreDueWithin, AreWithin, Conjuncts, HaveLeavesWithin, leaf, picked, Remembers, Tree, tree_at, False, IsTreeTruth}
+use Rattle.zf_plan.proofs.Prelude.{◌++◌, ◌+◌, ◌<◌, ◌∙◌, ◌∷◌, ◌≡◌, ◌≤◌, ◌⊎◌, [], ap, append_assoc, arith, Bool, cond, false, false≢true, get_or, inl, inr, length, length-append, List, None, refl, Some, subst, suc, sym, true, zero, ℕ, Contains, slice_get, slice_get-get_or, slice_get_within, get_or_default, Option, AreWithin-push, picked-push, nth-at, slice_get-nth, AreBelow, AreDueWithin, AreWithin, Conjuncts, HaveLeavesWithin, leaf, picked, Remembers, Tree, tree_at, False, IsTreeTruth}
 use Rattle.std.proofs.Common.{not}
 use Rattle.std.proofs.lemmas.List.{take-append-le}
 use Rattle.zf_walk.proofs.Lists.{Contains-cases, Contains-head, Contains-later, Contains-nil}
 use Rattle.zf_walk.specs.ConjunctLaws.{FollowUsed}
 use Rattle.zf_walk.specs.Tables.{AreTrue}
-use Rattle.zf_plan.specs.Choosing.{AreLasts, passing, StaysChoice}
+use Rattle.zf_plan.specs.Choosing.{AreLasts, KeepsChosen, passing, StaysChoice}
 use Rattle.zf_plan.specs.Memories.{AreDues, Forgets, Memory}
 use Rattle.zf_plan.specs.Sieves.{AreSifted, IsGreatest, IsOneFalse}
 use Rattle.zf_plan.proofs.Forgetting.{are-forgotten}
@@ -31,6 +31,21 @@ passing-at n (false ∷ passes) j m = let h = passing-at (suc n) passes j m in (
 
 pub has-passing : (passes : List Bool) (i : ℕ) → slice_get passes i ≡ Some true → Contains (passing 0 passes) i
 has-passing passes i e = subst (Contains (passing 0 passes)) (omega arith) (passing-has 0 passes i e)
+
+-- the places of a list are marked
+pub all-marked : (places : List ℕ) (passes : List Bool) (n count : ℕ) → length passes ≡ n
+    → ((j : ℕ) → j < count → get_or places j 0 < n → get_or passes (get_or places j 0) false ≡ true) → count ≡ length places
+    → (i : ℕ) → i < n → Contains places i → Contains (passing 0 passes) i
+all-marked places passes n count long marked all i near (k, l, e) =
+    let here : get_or places k 0 ≡ i = get_or_default places k 0 i l ∙ e in
+    let is : get_or passes i false ≡ true = subst (λ p. get_or passes p false ≡ true) here (marked k (omega (arith, all, l)) (omega (arith, here, near))) in
+    has-passing passes i (slice_get-get_or passes i false (omega (arith, near, long)) ∙ ap Some is)
+
+-- a choice stays one where it is marked
+pub stays-kept : {V : Type 0} (l : Conjuncts V) (trees : List Tree) (ranges : List (List V)) (k n : ℕ) (places : List ℕ) (old new : Option (List ℕ))
+    → KeepsChosen (length (get_or ranges k [])) old new → StaysChoice l trees ranges k n places old → StaysChoice l trees ranges k n places new
+stays-kept l trees ranges k n places old new keeps stays others w long same i v more at out row =
+    stays others w long same i v more at (λ m. out (keeps i (slice_get_within (get_or ranges k []) i v at) m)) row
 
 pub is-passing : (passes : List Bool) (i : ℕ) → Contains (passing 0 passes) i → slice_get passes i ≡ Some true
 is-passing passes i m = let h = passing-at 0 passes i m in subst (λ j. slice_get passes j ≡ Some true) (let e = h.1 in omega arith) h.2

@@ -17,6 +17,10 @@ abbrev pub IsChosen : Option (List ℕ) → ℕ → Type 0
 IsChosen None i = Unit {0}
 IsChosen (Some places) i = Contains places i
 
+-- which of the first n places were chosen still are
+abbrev pub KeepsChosen : ℕ → Option (List ℕ) → Option (List ℕ) → Type 0
+KeepsChosen n old new = (i : ℕ) → i < n → IsChosen old i → IsChosen new i
+
 -- the tree is False on each row of the ranges that goes on from this one with a value of the next range at none of these places
 abbrev pub Narrows : {V : Type 0} → Conjuncts V → Tree → List (List V) → List V → List V → List ℕ → Type 0
 Narrows {V} l tree ranges row range places = (i : ℕ) (v : V) (more : List V) → slice_get range i ≡ Some v → (Contains places i → ⊥) → IsRowOf ranges (row ++ v ∷ more) → IsTreeTruth l tree (row ++ v ∷ more) False

@@ -7,6 +7,7 @@ pub mod Laws
 pub mod Memories
 pub mod Stamps
 pub mod Marks
+pub mod Keys
 pub mod Knowing
 pub mod Testing
 pub mod Choosing

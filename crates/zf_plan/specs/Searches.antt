@@ -6,6 +6,7 @@ use Rattle.zf_plan.specs.declared.place.Place.{Place}
 use Rattle.zf_plan.specs.declared.plan.Plan.{Plan}
 use Rattle.zf_plan.specs.Memories.{Memory}
 use Rattle.zf_plan.specs.Groves.{Grove, trees_of}
+use Rattle.zf_plan.specs.Keys.{AreKeyed}
 use Rattle.zf_plan.specs.Progress.{Progress}
 use Rattle.zf_plan.specs.Places.{IsSound, Stands, path, ahead_of}
 use Rattle.zf_plan.specs.Counts.{IsPlain, IsCounted}
@@ -19,8 +20,9 @@ view_of judge forest ranges after p memo given counting = record {
   counts = counting;
 }
 
-pub record IsStanding {V : Type 0} (cmp : V → V → Ordering) (l : Conjuncts V) (uses : ℕ → ℕ → Bool) (forest : Grove) (ranges : List (List V)) (after : Option (List V)) (planned : Plan) (p : Place) (memo : Memory) (choices : List (Option (List ℕ))) (given counting : Bool) : Type 0 where
+pub record IsStanding {V : Type 0} (cmp : V → V → Ordering) (l : Conjuncts V) (uses : ℕ → ℕ → Bool) (is_key : ℕ → V → ℕ → Type 0) (forest : Grove) (ranges : List (List V)) (after : Option (List V)) (planned : Plan) (keyed : List (List ℕ)) (p : Place) (memo : Memory) (choices : List (Option (List ℕ))) (given counting : Bool) : Type 0 where
   pub sound : IsSound cmp l uses (trees_of forest) ranges after planned
+  pub keys : AreKeyed l is_key ranges keyed
   pub stands : Stands l uses (trees_of forest) ranges p memo choices
   pub whole : given ≡ true → p.depth ≡ length ranges
   pub plain : counting ≡ true → IsPlain l (trees_of forest) planned

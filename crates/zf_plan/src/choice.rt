@@ -1,6 +1,6 @@
 //! The values of a range that are tried.
-ghost use Rattle.std.specs.Prelude.{◌≡◌, ◌≤◌, ◌<◌, ℕ, true, length, slice_index_or, Contains, IfOk, None};
-ghost use Rattle.zf_plan.specs.Choosing.{IsNextChoice, passing};
+ghost use Rattle.std.specs.Prelude.{◌≡◌, ◌≤◌, ◌<◌, ℕ, true, length, slice_index_or, Contains, IfOk, OnOk, None};
+ghost use Rattle.zf_plan.specs.Choosing.{IsNextChoice, KeepsChosen, passing};
 
 use std::alloc::{AllocError, Global};
 use std::marker::Model;
@@ -31,6 +31,18 @@ impl Choice {
         ensures { result ≡ true → self.now ≡ None }
     {
         self.all && self.waits
+    }
+
+    /// Marks the places of a list in its stead, where it takes longer to look through it for each of them than through a range of this length.
+    pub fn mark(&mut self, length: usize) -> Result<(), AllocError>
+        ensures { OnOk result (KeepsChosen length self.old self.new) }
+    {
+        if self.all || self.marked || !are_many(self.places.len(), length) {
+            return Ok(());
+        }
+        self.passes = marked(&self.places, length)?;
+        self.marked = true;
+        Ok(())
     }
 
     /// The first chosen place from one on, or where there is none before the end, the end.
@@ -107,4 +119,23 @@ fn least_from(places: &[usize], from: usize, end: usize) -> usize
         }
     }
     least
+}
+
+/// Whether to look through so many places for each of them takes longer than to look through a range of this length.
+fn are_many(places: usize, length: usize) -> bool {
+    places.saturating_mul(places) > length
+}
+
+/// For each place of a range of this length whether it is one of these.
+fn marked(places: &Vec<usize>, length: usize) -> Result<Vec<bool>, AllocError>
+    ensures { IfOk result (λ passes. (i : ℕ) → i < length → Contains places.now.items i → Contains (passing 0 passes.items) i) }
+{
+    let mut passes = vec![in *places.allocator(); false; length]?;
+    for i in 0..places.len() {
+        let place = places[i];
+        if place < length {
+            passes[place] = true;
+        }
+    }
+    Ok(passes)
 }

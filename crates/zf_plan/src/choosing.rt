@@ -1,16 +1,18 @@
 //! How the values of a range are chosen that are tried.
-ghost use Rattle.std.specs.Prelude.{◌≡◌, ◌<◌, ◌≤◌, [], length, slice_index_or, IsTrue, IfOk, IfSome, OnOk, OnErr, Ok, None};
+ghost use Rattle.std.specs.Prelude.{◌≡◌, ◌<◌, ◌≤◌, ◌+◌, [], length, slice_index_or, IsTrue, IfOk, IfSome, OnOk, OnErr, Ok, None};
 ghost use Rattle.zf_walk.specs.Picked.{AreWithin, picked};
 ghost use Rattle.zf_plan.specs.Trees.{tree_at, HasLeavesWithin};
 ghost use Rattle.zf_plan.specs.Groves.{trees_made, trees_of};
 ghost use Rattle.zf_plan.specs.Knowing.{Remembers, AreBelow};
-ghost use Rattle.zf_plan.specs.Choices.{StaysIn};
+ghost use Rattle.zf_plan.specs.Choices.{Leaves, StaysIn};
 ghost use Rattle.zf_plan.specs.Choosing.{AreLasts, Narrows, StaysChoice};
+ghost use Rattle.zf_plan.specs.Keys.{AreKeyed, AreKeys};
 ghost use Rattle.zf_plan.specs.Places.{IsPosed};
 
 use crate::choice::Choice;
 use crate::evaluating::evaluate;
 use crate::guide::Guide;
+use crate::keys::gather_keyed;
 use crate::memo::Memo;
 use crate::node::Node;
 use crate::plan::Choosers;
@@ -27,6 +29,7 @@ fn gather<V: Ord, J: Guide<V>>(
     gathered: &mut Vec<usize>,
 ) -> Result<bool, AllocError>
     requires sound { IsPosed V.cmp J.conjuncts J.is_used problem.now }
+    requires keys { AreKeyed (J.conjuncts problem.now.judge.now) (J.is_key problem.now.judge.now) problem.now.ranges.now problem.now.keys.now }
     requires part { part < length (trees_made problem.now.forest.now) }
     requires leaves { HasLeavesWithin (J.conjuncts problem.now.judge.now).number (tree_at (trees_made problem.now.forest.now) part) }
     requires within { AreWithin problem.now.ranges.now places.now }
@@ -38,7 +41,7 @@ fn gather<V: Ord, J: Guide<V>>(
     ensures narrows { IfOk result (λ found. IsTrue found → Narrows (J.conjuncts problem.now.judge.now) (tree_at (trees_made problem.now.forest.now) part) problem.now.ranges.now (picked problem.now.ranges.now places.now) (slice_index_or problem.now.ranges.now (length places.now) []) gathered.new.items) }
 {
     match problem.forest.node(part) {
-        Node::Leaf(of) => problem.judge.narrow(of, problem.ranges, places, gathered),
+        Node::Leaf(of) => narrow_leaf(problem, places, of, gathered),
         Node::Not(_) => Ok(false),
         Node::And(left, right) => {
             let first = gather(problem, places, left, memo, gathered)?;
@@ -65,6 +68,56 @@ fn gather<V: Ord, J: Guide<V>>(
     }
 }
 
+/// Gathers the places that a leaf leaves to the next component, if need be by the keys of its values. Answers false where it doesn't say.
+fn narrow_leaf<V: Ord, J: Guide<V>>(
+    problem: &Problem<V, J>,
+    places: &[usize],
+    of: usize,
+    gathered: &mut Vec<usize>,
+) -> Result<bool, AllocError>
+    requires sound { IsPosed V.cmp J.conjuncts J.is_used problem.now }
+    requires keys { AreKeyed (J.conjuncts problem.now.judge.now) (J.is_key problem.now.judge.now) problem.now.ranges.now problem.now.keys.now }
+    requires of { of < (J.conjuncts problem.now.judge.now).number }
+    requires within { AreWithin problem.now.ranges.now places.now }
+    requires deeper { length places.now < length problem.now.ranges.now }
+    ensures stay { StaysIn gathered.old.items gathered.new.items }
+    ensures leaves { IfOk result (λ found. IsTrue found → Leaves (J.conjuncts problem.now.judge.now) of problem.now.ranges.now places.now gathered.new.items) }
+{
+    let found = problem.judge.narrow(of, problem.ranges, places, gathered)?;
+    if found || of >= problem.keys.len() || problem.judge.due(of) != places.len() + 1 {
+        return Ok(found);
+    }
+    let keyed = &problem.keys[of];
+    narrow_by_keys(problem, places, of, &keyed.keys, gathered)
+}
+
+/// Gathers the places that a leaf leaves to the next component by these keys. Answers false where it doesn't say.
+fn narrow_by_keys<V: Ord, J: Guide<V>>(
+    problem: &Problem<V, J>,
+    places: &[usize],
+    of: usize,
+    keys: &[u64],
+    gathered: &mut Vec<usize>,
+) -> Result<bool, AllocError>
+    requires of { of < (J.conjuncts problem.now.judge.now).number }
+    requires within { AreWithin problem.now.ranges.now places.now }
+    requires deeper { length places.now < length problem.now.ranges.now }
+    requires due { (J.conjuncts problem.now.judge.now).due of ≡ length places.now + 1 }
+    requires keys { AreKeys (J.is_key problem.now.judge.now of) (slice_index_or problem.now.ranges.now (length places.now) []) keys.now }
+    ensures stay { StaysIn gathered.old.items gathered.new.items }
+    ensures leaves { IfOk result (λ found. IsTrue found → Leaves (J.conjuncts problem.now.judge.now) of problem.now.ranges.now places.now gathered.new.items) }
+{
+    let range = &problem.ranges[places.len()];
+    if keys.len() == 0 || keys.len() != range.values.len() {
+        return Ok(false);
+    }
+    let Some(wanted) = problem.judge.key(of, problem.ranges, places, None)? else {
+        return Ok(false);
+    };
+    gather_keyed(keys, wanted, gathered)?;
+    Ok(true)
+}
+
 /// Gathers the places that the first of these conjuncts leaves which says so, and answers which one that is, if any.
 fn gather_first<V: Ord, J: Guide<V>>(
     problem: &Problem<V, J>,
@@ -74,6 +127,7 @@ fn gather_first<V: Ord, J: Guide<V>>(
     gathered: &mut Vec<usize>,
 ) -> Result<Option<usize>, AllocError>
     requires sound { IsPosed V.cmp J.conjuncts J.is_used problem.now }
+    requires keys { AreKeyed (J.conjuncts problem.now.judge.now) (J.is_key problem.now.judge.now) problem.now.ranges.now problem.now.keys.now }
     requires conjuncts { AreBelow (length (trees_of problem.now.forest.now)) conjuncts.now }
     requires within { AreWithin problem.now.ranges.now places.now }
     requires deeper { length places.now < length problem.now.ranges.now }
@@ -105,6 +159,7 @@ pub fn choose<V: Ord, J: Guide<V>>(
     choice: &mut Choice,
 ) -> Result<usize, AllocError>
     requires sound { IsPosed V.cmp J.conjuncts J.is_used problem.now }
+    requires keys { AreKeyed (J.conjuncts problem.now.judge.now) (J.is_key problem.now.judge.now) problem.now.ranges.now problem.now.keys.now }
     requires conjuncts { AreBelow (length (trees_of problem.now.forest.now)) by.now.conjuncts.now }
     requires lasts { AreLasts (J.is_used problem.now.judge.now) (trees_of problem.now.forest.now) (length places.now) by.now.conjuncts.now by.now.lasts.now }
     requires within { AreWithin problem.now.ranges.now places.now }
@@ -120,8 +175,10 @@ pub fn choose<V: Ord, J: Guide<V>>(
     let found = gather_first(problem, places, by.conjuncts, memo, &mut choice.places)?;
     match found {
         Some(i) => {
+            let range = &problem.ranges[places.len()];
             choice.all = false;
             choice.marked = false;
+            choice.mark(range.values.len())?;
             Ok(by.lasts[i])
         }
         None => {

@@ -7,6 +7,7 @@ mod choosing;
 mod evaluating;
 mod forest;
 mod guide;
+mod keys;
 mod known;
 pub mod laws;
 mod listed;
@@ -23,6 +24,6 @@ mod steps;
 mod walk;
 
 pub use forest::Forest;
-pub use guide::Guide;
+pub use guide::{Guide, Means};
 pub use search::Search;
 pub use walk::Walk;

@@ -11,7 +11,7 @@ ghost use Rattle.zf_plan.specs.Places.{touches_inside, AreAll, AreDue, AreTouche
 
 use crate::blame::with_bit;
 use crate::forest::Forest;
-use crate::guide::Guide;
+use crate::guide::{Guide, Means};
 use crate::listed::Listed;
 use crate::node::Node;
 use std::alloc::{AllocError, Global};
@@ -332,7 +332,7 @@ fn none_narrowing(alloc: Global, components: usize) -> Result<Vec<Listed>, Alloc
     Ok(narrowing)
 }
 
-/// The conjuncts that narrow a component, and first of them those that do so closely.
+/// The conjuncts that narrow a component: first those that do so closely, and last those that do so by keys alone.
 fn narrowing_at<V: Ord, J: Guide<V>>(
     alloc: Global,
     judge: &J,
@@ -343,18 +343,19 @@ fn narrowing_at<V: Ord, J: Guide<V>>(
     ensures { IfOk result (AreBelow (length (trees_of forest.now))) }
 {
     let mut numbers = Vec::new(alloc);
-    add_narrowing(judge, forest, component, true, &mut numbers)?;
-    add_narrowing(judge, forest, component, false, &mut numbers)?;
+    add_narrowing(judge, forest, component, Means::Closely, &mut numbers)?;
+    add_narrowing(judge, forest, component, Means::Loosely, &mut numbers)?;
+    add_narrowing(judge, forest, component, Means::ByKeys, &mut numbers)?;
     Ok(Listed { numbers })
 }
 
-/// Adds the conjuncts that narrow a component: those that do so closely, or the others.
+/// Adds the conjuncts that narrow a component by these means, and by no nearer ones.
 #[tactic(auto, using(crate::proofs::Numbers::below_push))]
 fn add_narrowing<V: Ord, J: Guide<V>>(
     judge: &J,
     forest: &Forest,
     component: usize,
-    closely: bool,
+    means: Means,
     numbers: &mut Vec<usize>,
 ) -> Result<(), AllocError>
     requires leaves { HaveLeavesWithin (J.conjuncts judge.now).number (trees_of forest.now) }
@@ -363,35 +364,39 @@ fn add_narrowing<V: Ord, J: Guide<V>>(
 {
     for conjunct in 0..forest.count() {
         let root = forest.root(conjunct);
-        let is_close = is_narrowing(judge, forest, root, component, true);
-        if is_close == closely && is_narrowing(judge, forest, root, component, closely) {
+        let is_nearer = match means {
+            Means::Closely => false,
+            Means::Loosely => is_narrowing(judge, forest, root, component, Means::Closely),
+            Means::ByKeys => is_narrowing(judge, forest, root, component, Means::Loosely),
+        };
+        if !is_nearer && is_narrowing(judge, forest, root, component, means) {
             numbers.push(conjunct)?;
         }
     }
     Ok(())
 }
 
-/// Whether a tree has leaves that narrow a component, in each side of a disjunction; of `closely`, whether these do so.
+/// Whether a tree has leaves that narrow a component by these means, in each side of a disjunction.
 fn is_narrowing<V: Ord, J: Guide<V>>(
     judge: &J,
     forest: &Forest,
     part: usize,
     component: usize,
-    closely: bool,
+    means: Means,
 ) -> bool
     requires part { part < length (trees_made forest.now) }
     requires leaves { HasLeavesWithin (J.conjuncts judge.now).number (tree_at (trees_made forest.now) part) }
 {
     match forest.node(part) {
-        Node::Leaf(of) => judge.narrows(of, component, closely),
+        Node::Leaf(of) => judge.narrows(of, component, means),
         Node::Not(_) => false,
         Node::And(left, right) => {
-            is_narrowing(judge, forest, left, component, closely)
-                || is_narrowing(judge, forest, right, component, closely)
+            is_narrowing(judge, forest, left, component, means)
+                || is_narrowing(judge, forest, right, component, means)
         }
         Node::Or(left, right) => {
-            is_narrowing(judge, forest, left, component, closely)
-                && is_narrowing(judge, forest, right, component, closely)
+            is_narrowing(judge, forest, left, component, means)
+                && is_narrowing(judge, forest, right, component, means)
         }
     }
 }
@@ -494,7 +499,7 @@ fn all_sifting<V: Ord, J: Guide<V>>(
     Ok(sifting)
 }
 
-/// The conjuncts by which the values of a component are sifted, where none narrows it: those that use the fewest components before it, where the others before it have many rows.
+/// The conjuncts by which the values of a component are sifted, where none narrows it but by keys: those that use the fewest components before it, where the others before it have many rows.
 #[tactic(auto, using(crate::proofs::Numbers::below_push))]
 fn sifting_at<V: Ord, J: Guide<V>>(
     judge: &J,
@@ -504,11 +509,12 @@ fn sifting_at<V: Ord, J: Guide<V>>(
     component: usize,
 ) -> Result<Listed, AllocError>
     requires leaves { HaveLeavesWithin (J.conjuncts judge.now).number (trees_of forest.now) }
+    requires narrowed { AreBelow (length (trees_of forest.now)) narrowed.now }
     requires room { component + 1 < 2 ^ 64 }
     ensures { IfOk result (AreBelow (length (trees_of forest.now))) }
 {
     let mut numbers = Vec::new(*narrowed.numbers.allocator());
-    if narrowed.numbers.len() > 0 {
+    if is_narrowed(judge, forest, &narrowed.numbers, component) {
         return Ok(Listed { numbers });
     }
     let least = fewest_used(judge, forest, component);
@@ -521,6 +527,25 @@ fn sifting_at<V: Ord, J: Guide<V>>(
         }
     }
     Ok(Listed { numbers })
+}
+
+/// Whether one of these conjuncts narrows a component without keys.
+fn is_narrowed<V: Ord, J: Guide<V>>(
+    judge: &J,
+    forest: &Forest,
+    conjuncts: &[usize],
+    component: usize,
+) -> bool
+    requires leaves { HaveLeavesWithin (J.conjuncts judge.now).number (trees_of forest.now) }
+    requires conjuncts { AreBelow (length (trees_of forest.now)) conjuncts.now }
+{
+    for i in 0..conjuncts.len() {
+        let root = forest.root(conjuncts[i]);
+        if is_narrowing(judge, forest, root, component, Means::Loosely) {
+            return true;
+        }
+    }
+    false
 }
 
 /// How few first components a conjunct uses by which the values of a component can be sifted; all before it where there is none.

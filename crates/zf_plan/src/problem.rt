@@ -1,6 +1,7 @@
 //! What a search is about.
 use crate::forest::Forest;
 use crate::guide::Guide;
+use crate::keys::Keyed;
 use crate::plan::Plan;
 use zf_walk::Range;
 
@@ -12,4 +13,6 @@ pub struct Problem<'p, V: Ord, J: Guide<V>> {
     pub ranges: &'p [Range<V>],
     pub after: Option<&'p [V]>,
     pub plan: &'p Plan,
+    /// For each leaf the keys of the values of the last component that it needs, or none.
+    pub keys: &'p [Keyed],
 }

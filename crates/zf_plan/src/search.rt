@@ -10,10 +10,12 @@ ghost use Rattle.zf_plan.specs.Exchanges.{exchanged};
 ghost use Rattle.zf_plan.specs.Places.{IsSound, Leaves, begun};
 ghost use Rattle.zf_plan.specs.Counts.{IsPlain};
 ghost use Rattle.zf_plan.specs.Progress.{SameProblem, counted};
+ghost use Rattle.zf_plan.specs.Keys.{AreKeyed};
 
 use crate::choice::{Choice, all_chosen};
 use crate::forest::Forest;
 use crate::guide::Guide;
+use crate::keys::{Keyed, all_keys};
 use crate::marks::Marks;
 use crate::memo::Memo;
 use crate::place::Place;
@@ -34,6 +36,8 @@ pub struct Search<'a, V: Ord, J: Guide<V>> {
     plan: Plan,
     place: Place,
     memo: Memo,
+    /// For each leaf the keys of the values of the last component that it needs, or none.
+    keys: Vec<Keyed>,
     /// For each range which of its values are tried.
     choices: Vec<Choice>,
     /// Whether the place is that of a row that the last step gave.
@@ -49,7 +53,7 @@ impl<'a, V: Ord, J: Guide<V>> Model for Search<'a, V, J> {
 
     ghost view = { λ w. view_of w.judge w.forest w.ranges.items (option_copied w.after) w.place w.memo w.given w.plan.is_plain };
 
-    ghost invariant = { λ w. IsStanding V.cmp (J.conjuncts w.judge) (J.is_used w.judge) w.forest w.ranges.items (option_copied w.after) w.plan w.place w.memo w.choices.items w.given w.plan.is_plain };
+    ghost invariant = { λ w. IsStanding V.cmp (J.conjuncts w.judge) (J.is_used w.judge) (J.is_key w.judge) w.forest w.ranges.items (option_copied w.after) w.plan w.keys.items w.place w.memo w.choices.items w.given w.plan.is_plain };
 }
 
 impl<'a, V: Ord + Drop, J: Guide<V> + Drop> Search<'a, V, J> {
@@ -135,6 +139,7 @@ impl<'a, V: Ord + Drop, J: Guide<V> + Drop> Search<'a, V, J> {
         let plain = plan.is_plain;
         let places = vec![in alloc; 0; ranges.len()]?;
         let memo = Memo::new(alloc, &judge, &ranges)?;
+        let keys = keys_by(alloc, &judge, &ranges, plain)?;
         let choices = all_chosen(alloc, ranges.len())?;
         let found = vec![in alloc; Truth::True; ranges.len()]?;
         let marks = Marks::new(alloc, ranges.len())?;
@@ -155,6 +160,7 @@ impl<'a, V: Ord + Drop, J: Guide<V> + Drop> Search<'a, V, J> {
             plan,
             place,
             memo,
+            keys,
             choices,
             given: false,
         })
@@ -178,6 +184,7 @@ impl<'a, V: Ord, J: Guide<V>> Search<'a, V, J> {
             ranges: &self.ranges,
             after: self.after,
             plan: &self.plan,
+            keys: &self.keys,
         };
         match next_answer(&problem, &mut self.place, &mut self.memo, &mut self.choices)? {
             Step::Holds => {
@@ -210,6 +217,14 @@ impl<'a, V: Ord, J: Guide<V>> Search<'a, V, J> {
         ensures bounded { IsTrue self.now.counts → IsBounded V.cmp (J.conjuncts self.now.judge) (counted self.now) result }
     {
         self.memo.tests()
+    }
+
+    /// What it goes over.
+    pub fn ranges(&self) -> &[Range<V>]
+        ensures is { result.now ≡ self.now.stage.ranges }
+        ensures ascending { AreAscending V.cmp result.now }
+    {
+        &self.ranges
     }
 
     /// A value of the row that the last step gave.
@@ -280,6 +295,22 @@ fn put<V: Drop>(ranges: &mut Vec<Range<V>>, place: usize, other: Option<Range<V>
         None => {}
         Some(range) => ranges[place] = range,
     }
+}
+
+/// The keys for each leaf; none where tests are counted.
+fn keys_by<V: Ord, J: Guide<V>>(
+    alloc: Global,
+    judge: &J,
+    ranges: &[Range<V>],
+    plain: bool,
+) -> Result<Vec<Keyed>, AllocError>
+    requires { AreDueWithin (J.conjuncts judge.now) (length ranges.now) }
+    ensures { IfOk result (λ all. AreKeyed (J.conjuncts judge.now) (J.is_key judge.now) ranges.now all.items) }
+{
+    if plain {
+        return Ok(Vec::new(alloc));
+    }
+    all_keys(alloc, judge, ranges)
 }
 
 /// Whether there may be a row, or tests are counted all the same.

@@ -5,6 +5,7 @@ ghost use Rattle.zf_walk.specs.declared.judge.Truth.TheVariants.{False};
 ghost use Rattle.zf_walk.specs.Picked.{AreWithin, picked};
 ghost use Rattle.zf_plan.specs.Trees.{planted};
 ghost use Rattle.zf_plan.specs.Groves.{trees_of};
+ghost use Rattle.zf_plan.specs.Keys.{AreKeyed};
 ghost use Rattle.zf_plan.specs.Knowing.{Remembers, IsSoFar, NeedsBelow};
 ghost use Rattle.zf_plan.specs.Choosing.{IsChoice, StaysChoice};
 ghost use Rattle.zf_plan.specs.Marks.{mark_at};
@@ -134,6 +135,7 @@ fn choose_at<V: Ord, J: Guide<V>>(
     choice: &mut Choice,
 ) -> Result<usize, AllocError>
     requires sound { IsPosed V.cmp J.conjuncts J.is_used problem.now }
+    requires keys { AreKeyed (J.conjuncts problem.now.judge.now) (J.is_key problem.now.judge.now) problem.now.ranges.now problem.now.keys.now }
     requires within { AreWithin problem.now.ranges.now places.now }
     requires deeper { length places.now < length problem.now.ranges.now }
     requires remembers { Remembers (J.conjuncts problem.now.judge.now) (J.is_used problem.now.judge.now) problem.now.ranges.now places.now memo.old }
@@ -225,6 +227,7 @@ fn choose_next<V: Ord, J: Guide<V>>(
     choice: &mut Choice,
 ) -> Result<(), AllocError>
     requires sound { IsPosed V.cmp J.conjuncts J.is_used problem.now }
+    requires keys { AreKeyed (J.conjuncts problem.now.judge.now) (J.is_key problem.now.judge.now) problem.now.ranges.now problem.now.keys.now }
     requires at { IsAt problem.now.ranges.now place.old }
     requires deeper { place.old.depth < length problem.now.ranges.now }
     requires remembers { Remembers (J.conjuncts problem.now.judge.now) (J.is_used problem.now.judge.now) problem.now.ranges.now (bound place.old) memo.old }
@@ -258,6 +261,7 @@ fn enter<V: Ord, J: Guide<V>>(
     choice: &mut Choice,
 ) -> Result<(), AllocError>
     requires sound { IsPosed V.cmp J.conjuncts J.is_used problem.now }
+    requires keys { AreKeyed (J.conjuncts problem.now.judge.now) (J.is_key problem.now.judge.now) problem.now.ranges.now problem.now.keys.now }
     requires at { IsAt problem.now.ranges.now place.old }
     requires deeper { place.old.depth < length problem.now.ranges.now }
     requires remembers { Remembers (J.conjuncts problem.now.judge.now) (J.is_used problem.now.judge.now) problem.now.ranges.now (bound place.old) memo.old }
@@ -330,6 +334,7 @@ fn step_on<V: Ord, J: Guide<V>>(
     choices: &mut [Choice],
 ) -> Result<Option<Step>, AllocError>
     requires sound { IsPosed V.cmp J.conjuncts J.is_used problem.now }
+    requires keys { AreKeyed (J.conjuncts problem.now.judge.now) (J.is_key problem.now.judge.now) problem.now.ranges.now problem.now.keys.now }
     requires stands { Stands (J.conjuncts problem.now.judge.now) (J.is_used problem.now.judge.now) (trees_of problem.now.forest.now) problem.now.ranges.now place.old memo.old choices.old }
     ensures stands { Stands (J.conjuncts problem.now.judge.now) (J.is_used problem.now.judge.now) (trees_of problem.now.forest.now) problem.now.ranges.now place.new memo.new choices.new }
     ensures goes { IfOk result (λ found. Goes V.cmp (planted (J.conjuncts problem.now.judge.now) (trees_of problem.now.forest.now)) problem.now.ranges.now (option_copied problem.now.after) place.old found place.new) }
@@ -376,6 +381,7 @@ pub fn next_answer<V: Ord, J: Guide<V>>(
     choices: &mut [Choice],
 ) -> Result<Step, AllocError>
     requires sound { IsPosed V.cmp J.conjuncts J.is_used problem.now }
+    requires keys { AreKeyed (J.conjuncts problem.now.judge.now) (J.is_key problem.now.judge.now) problem.now.ranges.now problem.now.keys.now }
     requires stands { Stands (J.conjuncts problem.now.judge.now) (J.is_used problem.now.judge.now) (trees_of problem.now.forest.now) problem.now.ranges.now place.old memo.old choices.old }
     ensures stands { Stands (J.conjuncts problem.now.judge.now) (J.is_used problem.now.judge.now) (trees_of problem.now.forest.now) problem.now.ranges.now place.new memo.new choices.new }
     ensures gives { IfOk result (λ step. Gives V.cmp (planted (J.conjuncts problem.now.judge.now) (trees_of problem.now.forest.now)) problem.now.ranges.now (option_copied problem.now.after) place.old step place.new) }

@@ -1,5 +1,5 @@
 //! What is asked of rows.
-ghost use Rattle.std.specs.Prelude.{◌≡◌, ◌<◌, ◌≤◌, ℕ, Bool, List, length, IfOk};
+ghost use Rattle.std.specs.Prelude.{◌≡◌, ◌<◌, ◌≤◌, ℕ, Bool, List, length, slice_index_or, IfOk};
 ghost use Rattle.zf_walk.specs.declared.judge.Truth.{Truth};
 ghost use Rattle.zf_walk.specs.Conjuncts.{Conjuncts};
 ghost use Rattle.zf_walk.specs.ConjunctLaws.{HaveOneTruth, KeepTruths, FollowUsed};
@@ -22,14 +22,25 @@ pub trait Judge<V> {
 
     ghost is_used: { Self → ℕ → ℕ → Bool };
 
+    /// How many first components each conjunct needs.
+    fn dues(&self) -> &[usize]
+        ensures all { length result.now ≡ (conjuncts self.now).number }
+        ensures each { (c : ℕ) → c < length result.now → slice_index_or result.now c 0 ≡ (conjuncts self.now).due c };
+
     /// How many conjuncts there are.
-    fn count(&self) -> usize
-        ensures { result ≡ (conjuncts self.now).number };
+    final fn count(&self) -> usize
+        ensures { result ≡ (conjuncts self.now).number }
+    {
+        self.dues().len()
+    }
 
     /// How many first components a conjunct needs.
-    fn due(&self, conjunct: usize) -> usize
+    final fn due(&self, conjunct: usize) -> usize
         requires { conjunct < (conjuncts self.now).number }
-        ensures { result ≡ (conjuncts self.now).due conjunct };
+        ensures { result ≡ (conjuncts self.now).due conjunct }
+    {
+        self.dues()[conjunct]
+    }
 
     /// Whether a conjunct uses a component.
     fn uses(&self, conjunct: usize, component: usize) -> bool

@@ -1,4 +1,5 @@
 use Rattle.zf_plan.proofs.Prelude.{[], false, List, IsRowOf, option_copied, picked, planted, ◌∙◌, ◌≡◌, ap, arith, length, refl, replicate, rules, subst, false≢true, picked-nil, trees_of, Place}
+use Rattle.zf_plan.specs.Keys.{AreKeyed}
 use Rattle.zf_plan.specs.Marks.{AreNew}
 use Rattle.zf_plan.specs.Memories.{IsNew}
 use Rattle.zf_plan.proofs.Stepping.{ahead-first, stands-first}
@@ -23,6 +24,7 @@ invariant_of-result g c =
     let marks : AreNew (length ranges) c.in_ok-marks.marks = subst (λ n. AreNew n c.in_ok-marks.marks) (omega (arith, c.len-4.ensures, c.args.ranges.ok.0)) c.in_ok-marks.ensures in
     record {
       sound = c.requires.sound;
+      keys = subst (λ rs. AreKeyed l (g.J.Guide.is_key c.args.judge) rs c.in_ok-keys.keys.items) c.deref-2.ensures.value c.in_ok-keys.ensures;
       stands = stands-first l uses (trees_of c.args.forest) ranges p memo choices refl places found seen marks new (c.in_ok-choices.ensures.all ∙ (omega (arith, c.len-2.ensures, c.args.ranges.ok.0)));
       whole = λ e. absurd (false≢true e);
       plain = c.requires.plain;
@@ -35,7 +37,7 @@ pub returns-clause-events : goal.returns-clause-events
 returns-clause-events g c =
     let ranges = c.args.ranges.items in
     ahead-first g.V.Ord.cmp (planted (g.J.Judge.conjuncts c.args.judge) (trees_of c.args.forest)) ranges (option_copied c.args.after) (picked ranges []) c.may_begin.result (picked-nil ranges)
-    (subst (λ rs. c.may_begin.result ≡ false → (row : List g.row.V.Denot) → IsRowOf rs row → ⊥) c.deref-2.ensures.value c.may_begin.ensures.none)
+    (subst (λ rs. c.may_begin.result ≡ false → (row : List g.row.V.Denot) → IsRowOf rs row → ⊥) c.deref-3.ensures.value c.may_begin.ensures.none)
 
 pub returns-clause-begun : goal.returns-clause-begun
 returns-clause-begun g c = λ plain.

@@ -26,6 +26,7 @@ invariant_of-self g c =
       };
       stands = leaves-stand (g.J.Judge.conjuncts w.judge) (g.J.Judge.is_used w.judge) (trees_of w.forest) w.ranges.items w.place w.memo w.choices.items
           c.self.invariant.stands c.args.count c.leave.new.place c.leave.ensures;
+      keys = c.self.invariant.keys;
       whole = λ e. absurd (false≢true e);
       plain = λ e. absurd (false≢true e);
       counts = λ e. absurd (false≢true e);
