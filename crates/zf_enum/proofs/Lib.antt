@@ -8,6 +8,7 @@ pub mod Held
 pub mod Planted
 pub mod Naming
 pub mod Fixed
+pub mod Keying
 pub mod Trying
 pub mod Placed
 pub mod Spreading
@@ -15,3 +16,4 @@ pub mod Equations
 pub mod Standing
 pub mod Spanning
 pub mod Balanced
+pub mod Placing

@@ -11,6 +11,7 @@ pub mod Holding
 pub mod Searches
 pub mod Planting
 pub mod Fixing
+pub mod Keys
 pub mod Spans
 pub mod Sums
 pub mod Spreads

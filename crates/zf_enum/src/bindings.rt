@@ -7,7 +7,7 @@ ghost use Rattle.zf_walk.specs.Progress.{AreDueWithin, ended, AreAllAhead, SameP
 ghost use Rattle.zf_enum.specs.Searches.{judged};
 
 use crate::property::Property;
-use crate::search::Search;
+use crate::search::{Located, Search};
 use std::alloc::{AllocError, Global};
 use zf_meaning::row::Row;
 use zf_plan::Walk;
@@ -75,6 +75,14 @@ impl<'s, 'e, 'g, 'a> Row for Bindings<'s, 'e, 'g, 'a> {
     }
 }
 
+impl<'s, 'e, 'g, 'a> Located for Bindings<'s, 'e, 'g, 'a> {
+    ghost ranges = { λ b. b.walk.stage.ranges };
+
+    fn place(&self, i: usize) -> usize {
+        self.walk.place(i)
+    }
+}
+
 impl<'s, 'e, 'g, 'a> Search for Bindings<'s, 'e, 'g, 'a> {
     ghost use Rattle.std.proofs.Common.{refl};
     ghost use Rattle.zf_value.specs.Sets.{value_order};
@@ -89,11 +97,9 @@ impl<'s, 'e, 'g, 'a> Search for Bindings<'s, 'e, 'g, 'a> {
 
     ghost given = { λ b. refl };
 
+    ghost spread = { λ b. refl };
+
     fn advance(&mut self) -> Result<Step, AllocError> {
         self.walk.advance()
-    }
-
-    fn place(&self, i: usize) -> usize {
-        self.walk.place(i)
     }
 }

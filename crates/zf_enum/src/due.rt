@@ -43,7 +43,7 @@ pub(crate) fn needs_first(term: &Resolved<'_>, first: usize, components: usize) 
 /// The last component, of one that was found before and those up to a bound that the term names.
 #[cycle(last)]
 #[tactic(auto, using(zf_term::proofs::ResolvedSeen::seen))]
-fn last_up_to(term: &Resolved<'_>, bound: usize, found: Option<usize>) -> Option<usize>
+pub(crate) fn last_up_to(term: &Resolved<'_>, bound: usize, found: Option<usize>) -> Option<usize>
     ensures { place_after result ≡ max (place_after found) (need bound (resolved_of term.now)) }
 {
     match term {

@@ -28,7 +28,7 @@ pub(crate) fn fixing<'t, 'a>(term: &'t Resolved<'a>, component: usize) -> Option
     beside(first.get(), &link.right, component)
 }
 
-fn is_equality(relation: Relation) -> bool
+pub(crate) fn is_equality(relation: Relation) -> bool
     ensures { IsTrue result → relation ≡ Equal }
 {
     match relation {
@@ -56,7 +56,7 @@ fn beside<'t, 'a>(
 
 /// Whether the term is the name of a component.
 #[tactic(auto, using(zf_term::proofs::ResolvedSeen::seen))]
-fn is_component(term: &Resolved<'_>, component: usize) -> bool
+pub(crate) fn is_component(term: &Resolved<'_>, component: usize) -> bool
     ensures { IsTrue result → IsName component (resolved_of term.now) }
 {
     let Resolved::Name(_, reference) = term else {

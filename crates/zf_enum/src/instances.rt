@@ -13,10 +13,11 @@ ghost use Rattle.zf_enum.specs.Holding.{CanHold};
 ghost use Rattle.zf_enum.specs.Starts.{Begins};
 ghost use Rattle.zf_ranges.specs.StartFaults.{RefusesStart};
 
+use crate::hopeless::is_hopeless;
 use crate::lifting::lifted;
 use crate::planting::{Planting, plant_schema};
 use crate::property::Property;
-use crate::search::{Passing, Search};
+use crate::search::{Located, Passing, Ranged, Search};
 use bumpalo::Bump;
 use std::alloc::{AllocError, Global};
 use zf_meaning::env::Env;
@@ -25,7 +26,7 @@ use zf_ranges::StartFault;
 use zf_ranges::component::{held_ranges, ranges};
 use zf_term::schema::Flat;
 use zf_value::value::Value;
-use zf_walk::Step;
+use zf_walk::{Range, Step};
 
 /// The bindings of a schema that are not False, one after another in ascending order. Rows that hold none are passed over, and no test is counted. Closed parts of the schema's conjuncts are worked out once, at the start.
 #[derive(Drop)]
@@ -53,8 +54,13 @@ impl<'s, 'e, 'g, 'a> Instances<'s, 'e, 'g, 'a> {
     {
         let ranges = ranges(alloc, flat.components.as_slice(), held, env)?;
         let planting = plant_schema(alloc, arena, flat)?;
-        let Planting { leaves, forest } = planting;
-        let property = lifted(alloc, arena, leaves, env)?;
+        let Planting {
+            leaves,
+            forest,
+            required,
+        } = planting;
+        let is_hopeless = is_hopeless(&required, &leaves, &ranges, held, env)?;
+        let property = lifted(alloc, arena, leaves, env, is_hopeless)?;
         let search = zf_plan::Search::start(alloc, property, forest, ranges, after)?;
         let names = env.count();
         Ok(Instances { search, names })
@@ -94,6 +100,14 @@ impl<'s, 'e, 'g, 'a> Row for Instances<'s, 'e, 'g, 'a> {
     }
 }
 
+impl<'s, 'e, 'g, 'a> Located for Instances<'s, 'e, 'g, 'a> {
+    ghost ranges = { λ i. i.search.stage.ranges };
+
+    fn place(&self, i: usize) -> usize {
+        self.search.place(i)
+    }
+}
+
 impl<'s, 'e, 'g, 'a> Search for Instances<'s, 'e, 'g, 'a> {
     ghost use Rattle.std.proofs.Common.{refl};
     ghost use Rattle.zf_enum.specs.Searches.{planted_goal};
@@ -106,17 +120,21 @@ impl<'s, 'e, 'g, 'a> Search for Instances<'s, 'e, 'g, 'a> {
 
     ghost given = { λ i. refl };
 
+    ghost spread = { λ i. refl };
+
     fn advance(&mut self) -> Result<Step, AllocError> {
         self.search.advance()
-    }
-
-    fn place(&self, i: usize) -> usize {
-        self.search.place(i)
     }
 }
 
 impl<'s, 'e, 'g, 'a> Passing for Instances<'s, 'e, 'g, 'a> {
     fn pass(&mut self, count: usize) {
         self.search.pass(count);
+    }
+}
+
+impl<'s, 'e, 'g, 'a> Ranged for Instances<'s, 'e, 'g, 'a> {
+    fn ranges(&self) -> &[Range<Value>] {
+        self.search.ranges()
     }
 }

@@ -21,6 +21,8 @@ use zf_tree::symbol::Connective;
 pub(crate) struct Planting<'a> {
     pub(crate) leaves: Vec<Resolved<'a>>,
     pub(crate) forest: Forest,
+    /// The leaves that have to hold, by their places.
+    pub(crate) required: Vec<usize>,
 }
 
 /// Plants the conjuncts of a schema.
@@ -45,10 +47,15 @@ fn plant_all<'a>(
 {
     let mut leaves = Vec::new(alloc);
     let mut forest = Forest::new(alloc);
+    let mut required = Vec::new(alloc);
     for conjunct in conjuncts {
-        plant_next(conjunct, arena, &mut leaves, &mut forest)?;
+        plant_next(conjunct, arena, &mut leaves, &mut forest, &mut required)?;
     }
-    Ok(Planting { leaves, forest })
+    Ok(Planting {
+        leaves,
+        forest,
+        required,
+    })
 }
 
 /// Plants a conjunct as the next tree.
@@ -57,10 +64,12 @@ fn plant_next<'a>(
     arena: &'a Bump,
     leaves: &mut Vec<Resolved<'a>>,
     forest: &mut Forest,
+    required: &mut Vec<usize>,
 ) -> Result<(), AllocError>
     ensures { OnOk result (PlantsNext leaves.old.items forest.old (conjunct_of conjunct.now) leaves.new.items forest.new) }
 {
     let term = resolved(conjunct, arena)?;
+    gather_required(&term, true, leaves.len(), required)?;
     let place = plant(&term, arena, leaves, forest)?;
     forest.take(place)
 }
@@ -123,4 +132,36 @@ fn plant_leaf<'a>(
     let leaf = leaves.len();
     leaves.push(copy(term, arena)?)?;
     forest.leaf(leaf)
+}
+
+/// Gathers the leaves of a predicate that have to hold, if it has to, where its leaves are planted from this place on. What is answered is the place behind them.
+#[cycle(required)]
+fn gather_required(
+    term: &Resolved<'_>,
+    is_required: bool,
+    next: usize,
+    required: &mut Vec<usize>,
+) -> Result<usize, AllocError> {
+    match term {
+        Resolved::Bracket(_, inner) => gather_required(inner.get(), is_required, next, required),
+        Resolved::Unary(_, Unary::Not, of) => gather_required(of.get(), false, next, required),
+        Resolved::Binary(_, Operator::Connective(Connective::And), left, right) => {
+            let next = gather_required(left.get(), is_required, next, required)?;
+            gather_required(right.get(), is_required, next, required)
+        }
+        Resolved::Binary(_, Operator::Connective(Connective::Or), left, right) => {
+            let next = gather_required(left.get(), false, next, required)?;
+            gather_required(right.get(), false, next, required)
+        }
+        Resolved::Binary(_, Operator::Connective(Connective::Implies), left, right) => {
+            let next = gather_required(left.get(), false, next, required)?;
+            gather_required(right.get(), false, next, required)
+        }
+        _ => {
+            if is_required {
+                required.push(next)?;
+            }
+            Ok(next.saturating_add(1))
+        }
+    }
 }

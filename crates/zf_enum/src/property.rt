@@ -7,12 +7,13 @@ use crate::candidates::{Tie, gather_candidates, gather_spread, is_tried};
 use crate::conjuncts::Conjuncts;
 use crate::due::{due, uses};
 use crate::fixing::fixing;
+use crate::keys::{key_at, key_of_row, keyed};
 use crate::shown::Shown;
 use crate::sums::{balances, equates, gather_balanced};
 use std::alloc::{AllocError, Global};
 use zf_meaning::env::Env;
 use zf_meaning::value::truth_of;
-use zf_plan::Guide;
+use zf_plan::{Guide, Means};
 use zf_term::resolved::Resolved;
 use zf_value::value;
 use zf_value::value::Value;
@@ -47,12 +48,8 @@ impl<'e, 'g, 'a> Judge<Value> for Property<'e, 'g, 'a> {
 
     ghost follow_used = { λ j. follows_used (environment_of j.env.now) (map resolved_of j.conjuncts) };
 
-    fn count(&self) -> usize {
-        self.conjuncts.len()
-    }
-
-    fn due(&self, conjunct: usize) -> usize {
-        self.dues[conjunct]
+    fn dues(&self) -> &[usize] {
+        &self.dues
     }
 
     fn uses(&self, conjunct: usize, component: usize) -> bool {
@@ -69,15 +66,26 @@ impl<'e, 'g, 'a> Judge<Value> for Property<'e, 'g, 'a> {
 
 /// An equation of a component with an expression leaves the expression's values, a relation between sums the values with which it may hold, and a predicate that asks for values of variables those that it equates the component with.
 impl<'e, 'g, 'a> Guide<Value> for Property<'e, 'g, 'a> {
-    fn narrows(&self, leaf: usize, component: usize, closely: bool) -> bool {
+    ghost use Rattle.std.specs.Prelude.{map};
+    ghost use Rattle.zf_term.specs.ResolvedViews.{resolved_of};
+    ghost use Rattle.zf_meaning.specs.Envs.{environment_of};
+    ghost use Rattle.zf_enum.specs.Keys.{IsKeyOfValue};
+
+    ghost is_key = { λ j. IsKeyOfValue (environment_of j.env.now) (map resolved_of j.conjuncts) };
+
+    fn narrows(&self, leaf: usize, component: usize, means: Means) -> bool {
         let term = self.conjuncts.get(leaf);
         if fixing(term, component).is_some() || self.conjuncts.spread(leaf, component).is_some() {
             return true;
         }
-        if !balances(term, component) {
-            return false;
+        let balances = balances(term, component);
+        match means {
+            Means::Closely => {
+                balances && equates(term) && self.dues[leaf].saturating_sub(1) <= component
+            }
+            Means::Loosely => balances,
+            Means::ByKeys => balances || keyed(term, component).is_some(),
         }
-        !closely || (equates(term) && self.due(leaf).saturating_sub(1) <= component)
     }
 
     fn narrow(
@@ -99,6 +107,23 @@ impl<'e, 'g, 'a> Guide<Value> for Property<'e, 'g, 'a> {
         match self.conjuncts.spread(leaf, places.len()) {
             None => Ok(false),
             Some(set) => gather_spread(set, ranges, places, self.env, gathered),
+        }
+    }
+
+    fn key(
+        &self,
+        leaf: usize,
+        ranges: &[Range<Value>],
+        places: &[usize],
+        of: Option<usize>,
+    ) -> Result<Option<u64>, AllocError> {
+        let last = self.dues[leaf].saturating_sub(1);
+        let Some(sides) = keyed(self.conjuncts.get(leaf), last) else {
+            return Ok(None);
+        };
+        match of {
+            None => key_of_row(sides.other, ranges, places, self.env),
+            Some(place) => key_at(sides.key, ranges, last, place, self.env),
         }
     }
 }

@@ -1,15 +1,31 @@
 //! What a search for the bindings of a schema does, whether it counts its tests or not.
-ghost use Rattle.std.specs.Prelude.{◌≡◌, ◌<◌, length, take, IfOk, OnOk, OnErr, IsSomeAnd, IfSome, slice_get, slice_index_or, unwrap_or, []};
+ghost use Rattle.std.specs.Prelude.{◌≡◌, ◌<◌, length, take, IfOk, OnOk, OnErr, IfSome, slice_get, slice_index_or, unwrap_or, []};
 ghost use Rattle.zf_value.specs.Sets.{value_order};
 ghost use Rattle.zf_walk.specs.Progress.{ended, past, SameRanges, Advances, Stays};
+ghost use Rattle.zf_walk.specs.RowLaws.{AreAscending};
 ghost use Rattle.zf_enum.specs.Searches.{conjuncts_of};
 
 use std::alloc::AllocError;
 use zf_meaning::row::Row;
-use zf_walk::Step;
+use zf_value::value::Value;
+use zf_walk::{Range, Step};
+
+/// A row whose values stand in ranges.
+pub trait Located: Row {
+    ghost use Rattle.std.specs.Prelude.{List};
+    ghost use Rattle.zf_value.specs.declared.plain.Value as value;
+
+    /// A range for each value.
+    ghost ranges: { Self → List (List value.Value) };
+
+    /// The place of a value in its range.
+    fn place(&self, i: usize) -> usize
+        requires { i < length (Self.Row.values self.now) }
+        ensures { slice_get (Self.Row.values self.now) i ≡ slice_get (slice_index_or (ranges self.now) i []) result };
+}
 
 /// The bindings of a schema that are not False, one after another in ascending order. It is also the binding that the last step gave; no values where it gave none.
-pub trait Search: Row {
+pub trait Search: Located {
     ghost use Rattle.zf_value.specs.declared.plain.Value as value;
     ghost use Rattle.zf_walk.specs.Progress.{Stage};
     ghost use Rattle.zf_enum.specs.Searches.{Goal};
@@ -32,12 +48,9 @@ pub trait Search: Row {
         ensures refused { OnErr result (Stays value_order (conjuncts_of (goal self.old)) (stage self.old) (stage self.new)) }
         ensures ended { (stage self.old).ahead ≡ ended → result ≡ Ok Step.End };
 
-    /// The place, in the range of its component, of a value of the binding that the last step gave.
-    fn place(&self, i: usize) -> usize
-        requires { IsSomeAnd (stage self.now).last (λ row. i < length row) }
-        ensures { IfSome (stage self.now).last (λ row. slice_get row i ≡ slice_get (slice_index_or (stage self.now).ranges i []) result) };
-
     ghost given: { (s : Self) → Self.Row.values s ≡ unwrap_or (stage s).last [] };
+
+    ghost spread: { (s : Self) → Self.Located.ranges s ≡ (stage s).ranges };
 }
 
 /// A search that can pass over bindings.
@@ -47,4 +60,12 @@ pub trait Passing: Search {
         ensures goal { Self.Search.goal self.new ≡ Self.Search.goal self.old }
         ensures ranges { SameRanges (Self.Search.stage self.old) (Self.Search.stage self.new) }
         ensures passed { IfSome (Self.Search.stage self.old).last (λ row. (Self.Search.stage self.new).ahead ≡ past (take count row)) };
+}
+
+/// A search that shows what it goes over.
+pub trait Ranged: Search {
+    /// The ranges of the components.
+    fn ranges(&self) -> &[Range<Value>]
+        ensures is { result.now ≡ (Self.Search.stage self.now).ranges }
+        ensures ascending { AreAscending value_order result.now };
 }
