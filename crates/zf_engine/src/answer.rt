@@ -35,7 +35,7 @@ use zf_lines::fault::{RunFault, Status};
 use zf_lines::show::{show, show_with_tests};
 use zf_meaning::env::Env;
 use zf_messages::Report;
-use zf_parts::{Parts, show_parts};
+use zf_parts::{Parts, are_first, show_fronts, show_parts};
 use zf_term::globals::Globals;
 use zf_term::schema::Flat;
 use zf_texts::spellings_of;
@@ -290,6 +290,9 @@ fn show_chosen<'p, 'a, W: Write>(
         Ok(found) => {
             let mut search = found;
             let limit = inquiry.request.limit;
+            if are_first(parts.places, parts.schema.components.len()) {
+                return show_fronts(subject.style, parts, &mut search, limit, writer);
+            }
             show_parts(subject.style, parts, &mut search, limit, writer)
         }
         Err(stop) => refuse(inquiry, stop, writer),

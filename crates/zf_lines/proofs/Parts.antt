@@ -1,27 +1,19 @@
 -- Parts of lines, and columns of them.
-use Rattle.zf_lines.proofs.Prelude.{◌++◌, ◌+◌, ◌<◌, ◌∙◌, ◌∷◌, ◌≡◌, ◌≤◌, [], ap, append_assoc, arith, codes, drop, get_or, inl, inr, length, length-append, List, map, None, Option, refl, Some, subst, suc, sym, take, zero, ℕ, set, length-map, length-set, length-take-le, map_more, take_all, get_or_from_slice_get, slice_get_read, IfSome, IsSomeAnd, option_map, slice_get, slice_index_or, unwrap_or, Value, Comp, comp_of, ahead-further, texts-drop, component_in, components_in, goes_on, Format, name_in, Spelling, AreColumns, head_of, Keeps, part_at}
+use Rattle.zf_lines.proofs.Prelude.{◌++◌, ◌+◌, ◌<◌, ◌∙◌, ◌∷◌, ◌≡◌, ◌≤◌, [], ap, append_assoc, arith, codes, drop, get_or, inl, inr, length, length-append, List, map, None, Option, refl, Some, subst, suc, sym, take, zero, ℕ, set, length-map, length-set, length-take-le, map_more, take_all, get_or_from_slice_get, slice_get_read, option_map, slice_get, slice_index_or, unwrap_or, Value, Comp, comp_of, ahead-further, texts-drop, component_in, components_in, goes_on, Format, name_in, Spelling, AreColumns, head_of, Keeps, part_at}
 use Rattle.zf_term.specs.declared.schema.Component.{Component}
 use Rattle.zf_texts.specs.ValueTexts.{value_in}
 use Rattle.zf_texts.specs.LineTexts.{comma_before}
 use Rattle.zf_lines.specs.declared.column.Column.{Column}
 use Rattle.zf_lines.proofs.Keeping.{at_push, at_set}
 
-module _ (head : List ℕ) (f : Format) (ss : List Spelling) (last : Option (List Value)) (i : ℕ) where
+module _ (head : List ℕ) (f : Format) (ss : List Spelling) (row : List Value) (i : ℕ) where
   -- the same value stands at both places
-  pub same_part : (range : List Value) (place : ℕ) → IsSomeAnd last (λ row. i < length row) → IfSome last (λ row. slice_get row i ≡ slice_get range place)
-      → part_at head f ss range place ≡ part_at head f ss (unwrap_or last []) i
-  same_part range place long is = go last long is where
-    go : (last : Option (List Value)) → IsSomeAnd last (λ row. i < length row) → IfSome last (λ row. slice_get row i ≡ slice_get range place)
-        → part_at head f ss range place ≡ part_at head f ss (unwrap_or last []) i
-    go None long is = absurd long
-    go (Some row) long is = ap (λ (o : Option Value). unwrap_or (option_map (λ v. head ++ value_in f ss v) o) []) (sym is)
+  pub same_part : (range : List Value) (place : ℕ) → slice_get row i ≡ slice_get range place → part_at head f ss range place ≡ part_at head f ss row i
+  same_part range place is = ap (λ (o : Option Value). unwrap_or (option_map (λ v. head ++ value_in f ss v) o) []) (sym is)
 
   -- the part is worked out
-  pub new_part : (v : Value) → IsSomeAnd last (λ row. i < length row) → IfSome last (λ row. slice_get row i ≡ Some v) → head ++ value_in f ss v ≡ part_at head f ss (unwrap_or last []) i
-  new_part v long is = go last long is where
-    go : (last : Option (List Value)) → IsSomeAnd last (λ row. i < length row) → IfSome last (λ row. slice_get row i ≡ Some v) → head ++ value_in f ss v ≡ part_at head f ss (unwrap_or last []) i
-    go None long is = absurd long
-    go (Some row) long is = ap (λ (o : Option Value). unwrap_or (option_map (λ v. head ++ value_in f ss v) o) []) (sym is)
+  pub new_part : (v : Value) → slice_get row i ≡ Some v → head ++ value_in f ss v ≡ part_at head f ss row i
+  new_part v is = ap (λ (o : Option Value). unwrap_or (option_map (λ v. head ++ value_in f ss v) o) []) (sym is)
 
 -- a part is that of a component with its value
 pub part_of_component : (f : Format) (ss : List Spelling) (n : ℕ) (c : Comp) (values : List Value) (i : ℕ) (v : Value) (head : List ℕ) → head ≡ head_of f n c → slice_get values i ≡ Some v
@@ -47,11 +39,6 @@ at_map f [] zero x e = (cc)
 at_map f [] (suc i) x e = (cc)
 at_map f (y ∷ xs) zero x e = let s : y ≡ x = (cc) in ap (λ z. Some (f z)) s
 at_map f (y ∷ xs) (suc i) x e = at_map f xs i x e
-
--- a row that has a value there was given
-pub some_long : (last : Option (List Value)) (i : ℕ) → i < length (unwrap_or last []) → IsSomeAnd last (λ row. i < length row)
-some_long None i l = absurd (omega (arith, l))
-some_long (Some row) i l = l
 
 module _ (f : Format) (ss : List Spelling) (ranges : List (List Value)) where
   pub no_columns : AreColumns f ss [] ranges []

@@ -24,7 +24,7 @@ use crate::texts::{append_end_line, append_more_line, append_out_line, append_te
 use crate::writing::write_text;
 use std::alloc::AllocError;
 use std::io::Write;
-use zf_enum::{Bindings, Search};
+use zf_enum::{Bindings, Located, Search};
 use zf_term::schema::Flat;
 use zf_walk::Step;
 
@@ -111,25 +111,25 @@ fn write_lines<S: Search, W: Write>(
     }
 }
 
-/// Writes the line of the row that the last step gave, or of its first values, if there are no components for the others.
-pub fn write_row<S: Search, W: Write>(
+/// Writes the line of a row, or of its first values, if there are no components for the others.
+pub fn write_row<P: Located, W: Write>(
     line: &mut Vec<u8>,
     columns: &mut Vec<Column>,
     style: &Style<'_>,
     flat: &Flat<'_>,
-    search: &S,
+    row: &P,
     writer: &mut Counted<W>,
 ) -> Result<(), RunFault>
     requires unfailed { failures_of writer.old ≡ 0 }
-    requires columns { AreColumns style.now.format style.now.elements.now (schema_of flat.now).comps (S.stage search.now).ranges columns.old.items }
-    ensures ok { OnOk result (Appends (W.contents (device_of writer.old)) (W.contents (device_of writer.new)) (row_line style.now.format style.now.elements.now (schema_of flat.now).comps (S.values search.now))) }
-    ensures columns { OnOk result (AreColumns style.now.format style.now.elements.now (schema_of flat.now).comps (S.stage search.now).ranges columns.new.items) }
-    ensures err { OnErr result (AppendsFront (W.contents (device_of writer.old)) (W.contents (device_of writer.new)) (row_line style.now.format style.now.elements.now (schema_of flat.now).comps (S.values search.now))) }
+    requires columns { AreColumns style.now.format style.now.elements.now (schema_of flat.now).comps (P.ranges row.now) columns.old.items }
+    ensures ok { OnOk result (Appends (W.contents (device_of writer.old)) (W.contents (device_of writer.new)) (row_line style.now.format style.now.elements.now (schema_of flat.now).comps (P.values row.now))) }
+    ensures columns { OnOk result (AreColumns style.now.format style.now.elements.now (schema_of flat.now).comps (P.ranges row.now) columns.new.items) }
+    ensures err { OnErr result (AppendsFront (W.contents (device_of writer.old)) (W.contents (device_of writer.new)) (row_line style.now.format style.now.elements.now (schema_of flat.now).comps (P.values row.now))) }
     ensures count { failures_of writer.new ≡ write_failures result }
     ensures unread { read_failures result ≡ 0 }
 {
     line.clear();
-    append_kept_line(line, columns, style, flat, search)?;
+    append_kept_line(line, columns, style, flat, row)?;
     write_text(writer, line)
 }
 

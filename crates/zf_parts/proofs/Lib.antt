@@ -17,3 +17,8 @@ pub mod Fewer
 pub mod Fronting
 pub mod Passing
 pub mod FrontLines
+pub mod Numbering
+pub mod Weighing
+pub mod Passed
+pub mod Unwritten
+pub mod Marking

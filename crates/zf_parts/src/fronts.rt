@@ -83,7 +83,11 @@ pub fn show_fronts<S: Passing, W: Write>(
 }
 
 /// Whether the part of the binding that the last step gave is asked for.
-fn is_asked<S: Search>(alloc: Global, parts: Parts<'_, '_>, search: &S) -> Result<bool, AllocError>
+pub fn is_asked<S: Search>(
+    alloc: Global,
+    parts: Parts<'_, '_>,
+    search: &S,
+) -> Result<bool, AllocError>
     ensures { IfOk result (λ asked. MatchBool asked (IsLater value_order (option_copied parts.entry.after) (spec.values_at parts.entry.places.now (S.values search.now))) (IsLater value_order (option_copied parts.entry.after) (spec.values_at parts.entry.places.now (S.values search.now)) → ⊥)) }
 {
     if parts.after.is_none() {

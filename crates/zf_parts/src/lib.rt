@@ -6,9 +6,15 @@ mod collecting;
 mod fronts;
 mod last;
 pub mod laws;
+mod listing;
+mod marks;
+mod meeting;
+mod part_row;
 mod places;
 mod showing;
+mod weights;
 
 pub use asked::Parts;
+pub use fronts::{are_first, show_fronts};
 pub use places::{schema_at, values_at, values_of};
 pub use showing::show_parts;

@@ -15,10 +15,12 @@ ghost use Rattle.zf_term.specs.SchemaViews.{schema_of};
 
 use crate::asked::Parts;
 use crate::collecting::{Collected, collect};
-use crate::fronts::{are_first, show_fronts};
 use crate::last::{write_last, write_out};
+use crate::listing::write_met;
+use crate::meeting::meet_all;
+use crate::weights::weights_of;
 use std::io::Write;
-use zf_enum::Passing;
+use zf_enum::{Ranged, Search};
 use zf_lines::counted::Counted;
 use zf_lines::fault::{RunFault, Status};
 use zf_lines::limit::{is_spent, one_less};
@@ -28,7 +30,7 @@ use zf_term::schema::Flat;
 use zf_value::value::Value;
 
 /// Writes the lines of the parts that the bindings ahead have, and the last line.
-pub fn show_parts<S: Passing, W: Write>(
+pub fn show_parts<S: Ranged, W: Write>(
     style: &Style<'_>,
     parts: Parts<'_, '_>,
     search: &mut S,
@@ -43,9 +45,31 @@ pub fn show_parts<S: Passing, W: Write>(
     ensures count { failures_of writer.new ≡ write_failures result }
     ensures unread { read_failures result ≡ 0 }
 {
-    if are_first(parts.places, parts.schema.components.len()) {
-        return show_fronts(style, parts, search, limit, writer);
+    match weights_of(style.alloc, search.ranges(), parts.places)? {
+        None => show_collected(style, parts, search, limit, writer),
+        Some(weights) => {
+            let met = meet_all(style.alloc, parts, weights, search)?;
+            write_met(style, parts, search, &met, limit, writer)
+        }
     }
+}
+
+/// The same where they are kept by their values.
+fn show_collected<S: Search, W: Write>(
+    style: &Style<'_>,
+    parts: Parts<'_, '_>,
+    search: &mut S,
+    limit: Option<u64>,
+    writer: &mut Counted<W>,
+) -> Result<Status, RunFault>
+    requires unfailed { failures_of writer.old ≡ 0 }
+    requires start { IsAtStart (schema_of parts.flat.now) (S.goal search.old) (S.stage search.old) }
+    requires limited { HasLimit limit }
+    ensures ok { IfOk result (λ status. (text : List ℕ) × WritesParts (part_wording style.now.format style.now.elements.now (schema_of parts.entry.schema.now).comps (schema_of parts.entry.flat.now).comps) limit (S.goal search.old).environment (schema_of parts.entry.flat.now) (S.stage search.old) parts.entry.places.now (option_copied parts.entry.after) text status × Appends (W.contents (device_of writer.old)) (W.contents (device_of writer.new)) text) }
+    ensures err { OnErr result (StopsParts (part_wording style.now.format style.now.elements.now (schema_of parts.entry.schema.now).comps (schema_of parts.entry.flat.now).comps) limit (S.goal search.old).environment (schema_of parts.entry.flat.now) (S.stage search.old) parts.entry.places.now (option_copied parts.entry.after) (W.contents (device_of writer.old)) (W.contents (device_of writer.new))) }
+    ensures count { failures_of writer.new ≡ write_failures result }
+    ensures unread { read_failures result ≡ 0 }
+{
     let collected = collect(style.alloc, parts, search)?;
     write_parts(style, parts, &collected, limit, writer)
 }

@@ -11,6 +11,27 @@ begin-requires-clause-searched g c = can_be_searched c.args.inquiry.request.now 
 pub show_parts-requires-clause-start : goal.show_parts-requires-clause-start
 show_parts-requires-clause-start g c = at_start _ _ _ _ _ c.in-Ok.ensures.begins
 
+pub show_fronts-requires-clause-start : goal.show_fronts-requires-clause-start
+show_fronts-requires-clause-start g c = at_start _ _ _ _ _ c.in-Ok.ensures.begins
+
+pub returns-then-are_first-clause-shows : goal.returns-then-are_first-clause-shows
+returns-then-are_first-clause-shows g c =
+    let r = c.args.inquiry.request.now in
+    let source = c.args.inquiry.report.source.now in
+    let s = c.args.subject.now in
+    let is = c.requires.subject in
+    let e = environment_in s in
+    let comps = (schema_in s).comps in
+    let by = chosen_by comps r.only c.args.chosen.now c.requires.chosen in
+    let after = option_copied c.args.after in
+    let names = by.0 in
+    let places = c.args.chosen.now.places.items in
+    let named = subst (λ cs. IsNamedRow e cs r.after after) by.3 c.requires.named in
+    parts_shown r c.args.inquiry.report.file.now source (schema_in s) (planted_goal c.in-Ok.found.names c.in-Ok.found.search) c.in-Ok.found.search.stage _ e (portion None s.held.now)
+    (searched_some r source s is names places after by.1 by.2 named c.in-Ok.ensures.begins.none_out) c.in-Ok.ensures.begins names places after by.1 by.2 named
+    (part_worded r source s is places c.args.chosen.now by.3) _ _ _
+    (rw c.deref.ensures.value at c.show_fronts.ensures.ok) (rw c.deref.ensures.value at c.show_fronts.ensures.err)
+
 pub returns-in-Ok-clause-shows : goal.returns-in-Ok-clause-shows
 returns-in-Ok-clause-shows g c =
     let r = c.args.inquiry.request.now in

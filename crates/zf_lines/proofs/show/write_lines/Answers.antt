@@ -26,7 +26,7 @@ write_row-requires-clause-unfailed g c = c.lines.invariant.1
 pub write_row-requires-clause-columns : goal.write_row-requires-clause-columns
 write_row-requires-clause-columns g c =
     subst (λ ranges. AreColumns c.args.style.now.format c.args.style.now.elements.now (schema_of c.args.flat.now).comps ranges c.lines.columns.items)
-    (sym c.advance.ensures.ranges.ranges) c.lines.invariant.2
+    (sym (g.met.S.Search.spread c.advance.new.self ∙ c.advance.ensures.ranges.ranges)) c.lines.invariant.2
 
 pub returns-in_err-write_row-in-Holds-clause-err :
     goal.returns-in_err-write_row-in-Holds-clause-err
@@ -54,7 +54,8 @@ lines-preserved g c = (
   goes_on_line _ _ _ _ _ c.requires.start _ _ _ _ _ c.lines.invariant.0 _ _ (g.met.S.Search.given c.advance.new.self) (rw c.in-Holds.is at c.in_ok-advance.ensures.answer) _ _ c.one_less-left.ensures
       c.in_ok-write_row-in-Holds.ensures.ok _ c.advance.ensures.goal c.advance.ensures.ranges (search rules),
   (search rules),
-  c.in_ok-write_row-in-Holds.ensures.columns,
+  subst (λ ranges. AreColumns c.args.style.now.format c.args.style.now.elements.now (schema_of c.args.flat.now).comps ranges c.write_row.new.columns.items)
+      (g.met.S.Search.spread c.advance.new.self) c.in_ok-write_row-in-Holds.ensures.columns,
 )
 
 pub returns-in-Breaks-clause-ok : goal.returns-in-Breaks-clause-ok

@@ -29,6 +29,11 @@ returns-in_err-is_asked-in-Holds-clause-err g c = always_on_err _ (stops_now _ _
 pub returns-in_err-is_asked-in-Breaks-clause-err : goal.returns-in_err-is_asked-in-Breaks-clause-err
 returns-in_err-is_asked-in-Breaks-clause-err g c = always_on_err _ (stops_now _ _ _ _ _ _ _ c.requires.start c.requires.first.0 _ _ _ _ _ c.parts.invariant.0)
 
+pub write_row-requires-clause-columns : goal.write_row-requires-clause-columns
+write_row-requires-clause-columns g c =
+    subst (λ rs. AreColumns c.args.style.now.format c.args.style.now.elements.now (schema_of c.args.parts.schema.now).comps rs c.parts.columns.items)
+    (sym (g.met.S.Search.spread c.advance.new.self ∙ c.advance.ensures.ranges.ranges)) c.parts.invariant.1
+
 pub returns-in_err-write_row-in-Holds-clause-err : goal.returns-in_err-write_row-in-Holds-clause-err
 returns-in_err-write_row-in-Holds-clause-err g c =
     let line = front_line c.args.style.now.format c.args.style.now.elements.now _ c.args.parts.places.now c.requires.first.0 c.requires.first.1 (g.S.Row.values c.advance.new.self) in
@@ -95,7 +100,7 @@ parts-preserved g c =
             (rw w.in-Holds.is at c.in_ok-advance.ensures.answer) (rw w.if-branch.true at w.in_ok-is_asked-in-Holds.ensures) _ _ w.one_less-left.ensures
             (subst (Appends _ _) line w.in_ok-write_row-in-Holds.ensures.ok) w.if-is_spent.ensures (g.S.Search.stage c.pass.new.self) _ refl c.pass.ensures.passed _ now ranges,
         subst (λ rs. AreColumns c.args.style.now.format c.args.style.now.elements.now (schema_of c.args.parts.schema.now).comps rs w.write_row.new.columns.items)
-            (sym c.pass.ensures.ranges.ranges) w.in_ok-write_row-in-Holds.ensures.columns,
+            (g.met.S.Search.spread c.advance.new.self ∙ sym c.pass.ensures.ranges.ranges) w.in_ok-write_row-in-Holds.ensures.columns,
         w.in_ok-write_row-in-Holds.ensures.count,
       )))
       | in-Holds+in_ok-is_asked-in-Holds+else-branch w ↦ rw w.left-is (rw w.writer-is (rw w.columns-is (

@@ -2,7 +2,7 @@ use Rattle.zf_parts.proofs.Prelude.{inl}
 use Rattle.std.proofs.KnownBytes.{Appends-nil}
 use Rattle.zf_lines.proofs.Fronts.{always_on_err}
 use Rattle.zf_parts.proofs.Answering.{all_written, front_written}
-use Rattle.zf_parts.proofs.showing.show_parts.Goals as goal
+use Rattle.zf_parts.proofs.showing.show_collected.Goals as goal
 
 pub returns-in_err-collected-clause-err : goal.returns-in_err-collected-clause-err
 returns-in_err-collected-clause-err g c = always_on_err _ (inl (Appends-nil _))

@@ -1,0 +1,25 @@
+use Rattle.std.proofs.Common.{◌<◌, ◌≡◌, ◌∙◌, [], ap, arith, get_or, length, Some, subst, sym}
+use Rattle.std.specs.Prelude.{slice_get}
+use Rattle.zf_parts.specs.Numbers.{ranges_at}
+use Rattle.zf_walk.proofs.Picks.{length-picked, slice_get-picked}
+use Rattle.zf_walk.specs.Picked.{picked}
+use Rattle.zf_parts.proofs.Numbering.{length_ranges}
+use Rattle.zf_parts.proofs.part_row.PartRowRow.get.Goals as goal
+
+pub value_at-requires-clause-index : goal.value_at-requires-clause-index
+value_at-requires-clause-index c =
+    let w = c.self.inside in
+    let near = subst (λ n. c.args.i < n) (sym (ap (λ r. length (picked r.ranges r.digits)) c.self.view_is)
+    ∙ length-picked (ranges_at w.ranges.now w.places.now) w.digits.now c.self.invariant.1) c.requires in
+    near
+
+pub value_at-requires-clause-place : goal.value_at-requires-clause-place
+value_at-requires-clause-place c =
+    let w = c.self.inside in
+    let near = subst (λ n. c.args.i < n) (sym (ap (λ r. length (picked r.ranges r.digits)) c.self.view_is)
+    ∙ length-picked (ranges_at w.ranges.now w.places.now) w.digits.now c.self.invariant.1) c.requires in
+    let few = c.self.invariant.1.few in
+    omega (arith, near, few, length_ranges w.ranges.now w.places.now)
+
+pub returns : goal.returns
+returns c = subst (λ r. slice_get (picked r.ranges r.digits) c.args.i ≡ Some c.value_at.result.now) c.self.view_is c.value_at.ensures

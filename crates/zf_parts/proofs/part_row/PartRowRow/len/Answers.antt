@@ -1,0 +1,10 @@
+use Rattle.std.proofs.Common.{◌∙◌, ap, length, sym}
+use Rattle.zf_parts.specs.Numbers.{ranges_at}
+use Rattle.zf_walk.proofs.Picks.{length-picked}
+use Rattle.zf_walk.specs.Picked.{picked}
+use Rattle.zf_parts.proofs.part_row.PartRowRow.len.Goals as goal
+
+pub returns : goal.returns
+returns c =
+    let w = c.self.inside in
+    sym (length-picked (ranges_at w.ranges.now w.places.now) w.digits.now c.self.invariant.1) ∙ ap (λ r. length (picked r.ranges r.digits)) c.self.view_is

@@ -1,0 +1,115 @@
+-- Parts as numbers: the places of a part's values in their ranges are its digits. No public clause rests on this file.
+use Rattle.std.specs.Prelude.{◌≡◌, ◌⊎◌, ℕ, ◌+◌, ◌*◌, ◌/◌, ◌%◌, ◌<◌, ◌≤◌, Bool, eqb, true, false, List, [], ◌∷◌, length, map, All, Option, Some, None, slice_get, slice_index_or}
+use Rattle.std.specs.Int.{bit_at}
+use Rattle.zf_format.specs.declared.format.Format.{Format}
+use Rattle.zf_lines.specs.declared.fault.Status.{Status}
+use Rattle.zf_lines.specs.declared.fault.Status.TheVariants.{Done, PastBounds}
+use Rattle.zf_lines.specs.Texts.{end_line, out_line}
+use Rattle.zf_term.specs.Definitions.{Comp, Schema}
+use Rattle.zf_texts.specs.declared.spelling.Spelling.{Spelling}
+use Rattle.zf_value.specs.declared.plain.Value.{Value}
+use Rattle.zf_value.specs.Sets.{value_order}
+use Rattle.zf_walk.specs.declared.judge.Truth.{Truth}
+use Rattle.zf_walk.specs.declared.judge.Truth.TheVariants.{True, Out}
+use Rattle.zf_walk.specs.Events.{Event, IsEvent}
+use Rattle.zf_walk.specs.Progress.{Ahead, ended, IsAhead, Stage, Takes}
+use Rattle.zf_walk.specs.RowLaws.{AreAscending}
+use Rattle.zf_walk.specs.Rows.{ComesAfter, IsLater}
+use Rattle.zf_meaning.specs.Environments.{Environment}
+use Rattle.zf_enum.specs.Property.{property}
+use Rattle.zf_parts.specs.declared.marks.Marks.{Marks}
+use Rattle.zf_parts.specs.declared.meeting.Met.{Met}
+use Rattle.zf_parts.specs.declared.weights.Weights.{Weights}
+use Rattle.zf_parts.specs.Places.{values_at}
+
+-- ---- numbers
+
+-- the ranges at these places
+abbrev pub ranges_at : List (List Value) → (places : List ℕ) → List (List Value)
+ranges_at ranges places = map (λ p. slice_index_or ranges p []) places
+
+-- how many rows they have
+abbrev pub total : List (List Value) → ℕ
+total [] = 1
+total (range ∷ ranges) = length range * total ranges
+
+-- what a digit counts: how many rows the ranges behind have
+abbrev pub weights : List (List Value) → List ℕ
+weights [] = []
+weights (range ∷ ranges) = total ranges ∷ weights ranges
+
+-- the number of values that stand in ranges: their places are its digits
+abbrev pub IsNumber : List (List Value) → List Value → ℕ → Type 0
+IsNumber [] [] n = n ≡ 0
+IsNumber [] (v ∷ values) n = ⊥
+IsNumber (range ∷ ranges) [] n = ⊥
+IsNumber (range ∷ ranges) (v ∷ values) n = (d : ℕ) × (rest : ℕ) × (slice_get range d ≡ Some v) × IsNumber ranges values rest × (n ≡ d * total ranges + rest)
+
+-- the digits of a number
+abbrev pub digits : (weights : List ℕ) → ℕ → List ℕ
+digits [] n = []
+digits (w ∷ ws) n = n / w ∷ digits ws (n % w)
+
+-- each place is that of a range, and there are some rows, but no more than so many
+pub record AreWeights (ranges : List (List Value)) (places : List ℕ) (w : Weights) : Type 0 where
+  pub below : All (λ p. p < length ranges) places
+  pub each : w.each.items ≡ weights (ranges_at ranges places)
+  pub count : w.count ≡ total (ranges_at ranges places)
+  pub some : 0 < w.count
+  pub few : w.count ≤ 134217728
+
+-- ---- what is met
+
+-- a bit for each number, in words of 64
+abbrev pub is_in : (words : List ℕ) → ℕ → Bool
+is_in words n = eqb (bit_at (slice_index_or words (n / 64) 0) (n % 64)) 1
+
+abbrev pub is_marked : Marks → ℕ → Bool
+is_marked marks n = is_in marks.words.items n
+
+-- no number from one on and below another is marked
+abbrev pub AreFree : Marks → ℕ → ℕ → Type 0
+AreFree marks from end = (n : ℕ) → from ≤ n → n < end → is_marked marks n ≡ false
+
+-- it is the first event whose values at the places are those with this number; they are asked for
+pub record IsFirstOf (e : Environment) (a : Schema) (ranges : List (List Value)) (named : Option (List Value)) (places : List ℕ) (after : Option (List Value)) (n : ℕ) (x : Event Value) : Type 0 where
+  pub event : IsEvent value_order (property e a.conjuncts) ranges named x
+  pub asked : IsLater value_order after (values_at places x.row)
+  pub number : IsNumber (ranges_at ranges places) (values_at places x.row) n
+  pub first : (y : Event Value) → IsEvent value_order (property e a.conjuncts) ranges named y → values_at places y.row ≡ values_at places x.row
+      → (y ≡ x) ⊎ ComesAfter value_order x.row y.row
+
+-- the rows with numbers below the end are looked at; that with the end's own is out, if there is one
+abbrev pub IsEndOf : Environment → Schema → (ranges : List (List Value)) → (named : Option (List Value)) → (places : List ℕ) → (after : Option (List Value)) → (end : ℕ) → (out : Option (List Value)) → Type 0
+IsEndOf e a ranges named places after end None = end ≡ total (ranges_at ranges places)
+IsEndOf e a ranges named places after end (Some row) = (x : Event Value) × IsFirstOf e a ranges named places after end x × (x.truth ≡ Out) × (x.row ≡ row)
+
+-- Of the events that are not ahead: below the end the numbers that are marked are exactly those of the parts that some of them have, and the first event of each is True.
+pub record AreMarked (e : Environment) (a : Schema) (ranges : List (List Value)) (named : Option (List Value)) (places : List ℕ) (after : Option (List Value)) (left : Ahead Value) (m : Met) : Type 0 where
+  pub ascending : AreAscending value_order ranges
+  pub weights : AreWeights ranges places m.weights
+  pub low : m.end ≤ m.weights.count
+  pub ends : IsEndOf e a ranges named places after m.end m.out
+  pub met : (x : Event Value) → IsEvent value_order (property e a.conjuncts) ranges named x → IsAhead value_order left x.row
+      ⊎ (IsLater value_order after (values_at places x.row) → (n : ℕ) → IsNumber (ranges_at ranges places) (values_at places x.row) n → n < m.end → is_marked m.marks n ≡ true)
+  pub holds : (n : ℕ) → n < m.end → is_marked m.marks n ≡ true → (x : Event Value) × IsFirstOf e a ranges named places after n x × (x.truth ≡ True)
+
+-- of all events
+abbrev pub AreAllMarked : Environment → Schema → Stage Value → (places : List ℕ) → (after : Option (List Value)) → Met → Type 0
+AreAllMarked e a b places after m = AreMarked e a b.ranges b.after places after ended m
+
+-- with the event that a step takes
+abbrev pub Meets : (row : List Value) → (ranges : List (List Value)) → Truth → (places : List ℕ) → (after : Option (List Value)) → Met → Met → Type 0
+Meets row ranges truth places after old new = (e : Environment) (a : Schema) (named : Option (List Value)) (c d : Ahead Value)
+    → Takes value_order (property e a.conjuncts) ranges named c (record { row = row; truth = truth }) d
+    → AreMarked e a ranges named places after c old → AreMarked e a ranges named places after d new
+
+-- ---- how the text ends
+
+abbrev pub end_text : Format → List Spelling → List Comp → (out : Option (List Value)) → List ℕ
+end_text f ss cs None = end_line f
+end_text f ss cs (Some row) = out_line f ss cs row
+
+abbrev pub end_status : (out : Option (List Value)) → Status
+end_status None = Done
+end_status (Some row) = PastBounds

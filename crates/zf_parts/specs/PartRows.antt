@@ -1,0 +1,8 @@
+-- How a row of a part is seen: for its model alone.
+use Rattle.std.specs.Prelude.{◌≡◌, ℕ, ◌<◌, List, length, All}
+use Rattle.zf_value.specs.declared.plain.Value.{Value}
+
+-- the ranges of its values, and the places of these
+pub record PartView : Type 0 where
+  pub ranges : List (List Value)
+  pub digits : List ℕ

@@ -1,0 +1,87 @@
+//! The lines of parts that were met, by their numbers.
+ghost use Rattle.std.specs.Prelude.{◌≡◌, ℕ, List, IfOk, OnOk, OnErr};
+ghost use Rattle.std.specs.Io.KnownBytes.{Appends};
+ghost use Rattle.std.specs.Option.{option_copied};
+ghost use Rattle.zf_lines.specs.Counts.{device_of, failures_of};
+ghost use Rattle.zf_lines.specs.FaultViews.{AppendsFront};
+ghost use Rattle.zf_lines.specs.Faults.{read_failures, write_failures};
+ghost use Rattle.zf_lines.specs.Searches.{HasLimit};
+ghost use Rattle.zf_parts.specs.Numbers.{AreAllMarked, end_status, end_text};
+ghost use Rattle.zf_parts.specs.Shown.{StopsParts, WritesParts};
+ghost use Rattle.zf_parts.specs.Written.{part_wording};
+ghost use Rattle.zf_term.specs.SchemaViews.{schema_of};
+
+use crate::asked::Parts;
+use crate::last::{write_last, write_out};
+use crate::meeting::Met;
+use crate::part_row::PartRow;
+use std::io::Write;
+use zf_enum::Ranged;
+use zf_lines::counted::Counted;
+use zf_lines::fault::{RunFault, Status};
+use zf_lines::limit::{is_spent, one_less};
+use zf_lines::show::write_row;
+use zf_lines::{Style, columns_of};
+use zf_term::schema::Flat;
+use zf_value::items::Items;
+use zf_value::value::Value;
+
+/// Writes the lines of the parts that were met, and the last line.
+pub fn write_met<S: Ranged, W: Write>(
+    style: &Style<'_>,
+    parts: Parts<'_, '_>,
+    search: &S,
+    met: &Met,
+    limit: Option<u64>,
+    writer: &mut Counted<W>,
+) -> Result<Status, RunFault>
+    requires unfailed { failures_of writer.old ≡ 0 }
+    requires limited { HasLimit limit }
+    requires marked { AreAllMarked (S.Search.goal search.now).environment (schema_of parts.flat.now) (S.Search.stage search.now) parts.places.now (option_copied parts.after) met.now }
+    ensures ok { IfOk result (λ status. (text : List ℕ) × WritesParts (part_wording style.now.format style.now.elements.now (schema_of parts.entry.schema.now).comps (schema_of parts.entry.flat.now).comps) limit (S.Search.goal search.now).environment (schema_of parts.entry.flat.now) (S.Search.stage search.now) parts.entry.places.now (option_copied parts.entry.after) text status × Appends (W.contents (device_of writer.old)) (W.contents (device_of writer.new)) text) }
+    ensures err { OnErr result (StopsParts (part_wording style.now.format style.now.elements.now (schema_of parts.entry.schema.now).comps (schema_of parts.entry.flat.now).comps) limit (S.Search.goal search.now).environment (schema_of parts.entry.flat.now) (S.Search.stage search.now) parts.entry.places.now (option_copied parts.entry.after) (W.contents (device_of writer.old)) (W.contents (device_of writer.new))) }
+    ensures count { failures_of writer.new ≡ write_failures result }
+    ensures unread { read_failures result ≡ 0 }
+{
+    let ranges = search.ranges();
+    let mut columns = columns_of(style, parts.schema)?;
+    let mut line = Vec::new(style.alloc);
+    let mut digits = vec![in style.alloc; 0; parts.places.len()]?;
+    let mut left = limit;
+    let mut from = 0;
+    'parts: loop {
+        let number = met.marks.next(from, met.end);
+        if number == met.end {
+            return write_end(&mut line, style, parts.flat, &met.out, writer);
+        }
+        met.weights.split(number, &mut digits);
+        let row = PartRow::new(ranges, parts.places, &digits);
+        write_row(&mut line, &mut columns, style, parts.schema, &row, writer)?;
+        left = one_less(left);
+        if is_spent(left) {
+            return write_last(&mut line, style, true, writer);
+        }
+        from = number + 1;
+    }
+}
+
+/// Writes that a row is out of bounds, if there is one, or that no part is left.
+fn write_end<W: Write>(
+    line: &mut Vec<u8>,
+    style: &Style<'_>,
+    flat: &Flat<'_>,
+    out: &Option<Items<Value>>,
+    writer: &mut Counted<W>,
+) -> Result<Status, RunFault>
+    requires unfailed { failures_of writer.old ≡ 0 }
+    ensures ok { OnOk result (Appends (W.contents (device_of writer.old)) (W.contents (device_of writer.new)) (end_text style.now.format style.now.elements.now (schema_of flat.now).comps out.now)) }
+    ensures status { IfOk result (λ status. status ≡ end_status out.now) }
+    ensures err { OnErr result (AppendsFront (W.contents (device_of writer.old)) (W.contents (device_of writer.new)) (end_text style.now.format style.now.elements.now (schema_of flat.now).comps out.now)) }
+    ensures count { failures_of writer.new ≡ write_failures result }
+    ensures unread { read_failures result ≡ 0 }
+{
+    match out {
+        Some(row) => write_out(line, style, flat, &row.as_slice(), writer),
+        None => write_last(line, style, false, writer),
+    }
+}
