@@ -1,4 +1,4 @@
-use Rattle.zf_engine.proofs.Prelude.{◌∙◌, None, subst, sym, option_copied, portion, planted_goal, at_start, schema_of, IsNamedRow}
+use Rattle.zf_engine.proofs.Prelude.{◌∙◌, arith, comp_of, length-map, None, subst, sym, option_copied, portion, planted_goal, at_start, schema_of, IsNamedRow}
 use Rattle.zf_engine.specs.Subjects.{environment_in, schema_in}
 use Rattle.zf_engine.proofs.Parts.{parts_shown}
 use Rattle.zf_engine.proofs.Refusing.{out_answers, some_shown}
@@ -13,6 +13,11 @@ show_parts-requires-clause-start g c = at_start _ _ _ _ _ c.in-Ok.ensures.begins
 
 pub show_fronts-requires-clause-start : goal.show_fronts-requires-clause-start
 show_fronts-requires-clause-start g c = at_start _ _ _ _ _ c.in-Ok.ensures.begins
+
+pub show_fronts-requires-clause-first : goal.show_fronts-requires-clause-first
+show_fronts-requires-clause-first g c =
+    let first = c.are_first.ensures c.if-are_first.true in
+    (first.0, omega (arith, first.1, c.len.ensures, length-map c.args.chosen.now.schema.now.components comp_of))
 
 pub returns-then-are_first-clause-shows : goal.returns-then-are_first-clause-shows
 returns-then-are_first-clause-shows g c =
@@ -32,8 +37,8 @@ returns-then-are_first-clause-shows g c =
     (part_worded r source s is places c.args.chosen.now by.3) _ _ _
     (rw c.deref.ensures.value at c.show_fronts.ensures.ok) (rw c.deref.ensures.value at c.show_fronts.ensures.err)
 
-pub returns-in-Ok-clause-shows : goal.returns-in-Ok-clause-shows
-returns-in-Ok-clause-shows g c =
+pub returns-else-are_first-clause-shows : goal.returns-else-are_first-clause-shows
+returns-else-are_first-clause-shows g c =
     let r = c.args.inquiry.request.now in
     let source = c.args.inquiry.report.source.now in
     let s = c.args.subject.now in
