@@ -6,5 +6,3 @@ pub mod Needs
 pub mod Each
 pub mod Wherever
 pub mod Arms
-pub mod Memberships
-pub mod Asking

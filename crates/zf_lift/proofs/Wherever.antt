@@ -307,7 +307,7 @@ no_infinite e (binary l op u v) h = refl
 no_infinite e (chain l t ks) h = refl
 no_infinite e (quantified l q rs p t) h = refl
 
-pub found_none : (n : Option ℕ) (o : Option Defined) → o ≡ None → unended (extent_set (extent_found o)) n ≡ None
+found_none : (n : Option ℕ) (o : Option Defined) → o ≡ None → unended (extent_set (extent_found o)) n ≡ None
 found_none n o h = ap (λ p. unended (extent_set (extent_found p)) n) h
 
 pub named_lift : (b : ℕ) (e f g : Environment) (l : ℕ) (t u : ResolvedTree) (x : Outcome) → IsLonger e f → length f.globals ≤ length f.outcomes

@@ -3,4 +3,3 @@ pub mod Same
 pub mod Needs
 pub mod Lifts
 pub mod Lists
-pub mod Memberships

@@ -4,7 +4,6 @@
 mod liftable;
 mod lifted;
 mod lifting;
-mod membership;
 mod unlifted;
 
 pub use liftable::{is_asked, is_liftable};

@@ -106,7 +106,7 @@ fn combines(operator: Operator) -> bool
 }
 
 /// The most rows of a set comprehension that is worked out before a quantifier or comprehension around it asks for it.
-pub(crate) const MOST_ROWS: usize = 4096;
+const MOST_ROWS: usize = 4096;
 
 /// Whether a set comprehension goes over more rows than are worked out before they are asked for.
 #[cycle(long)]
@@ -131,7 +131,7 @@ fn rows_of<'a>(variables: &[Range<'a>], env: &Env<'_, 'a>) -> usize {
 }
 
 /// How many members the set has, if it was worked out; else more than are worked out.
-pub(crate) fn members_of<'a>(set: &Resolved<'a>, env: &Env<'_, 'a>) -> usize {
+fn members_of<'a>(set: &Resolved<'a>, env: &Env<'_, 'a>) -> usize {
     let Resolved::Name(_, Reference::Global(_)) = set else {
         return MOST_ROWS + 1;
     };

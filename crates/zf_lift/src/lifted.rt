@@ -6,7 +6,6 @@ ghost use Rattle.zf_lift.specs.Lifted.{IsLonger, AreLifted};
 ghost use Rattle.zf_lift.specs.Lists.{AreAllLifts};
 
 use crate::lifting::lifted;
-use crate::membership::as_membership;
 use crate::unlifted::Unlifted;
 use bumpalo::Bump;
 use std::alloc::{AllocError, Global};
@@ -68,8 +67,7 @@ fn all_lifted<'g, 'a>(
     let mut all = Vec::with_capacity(alloc, terms.len())?;
     for term in terms {
         let found = lifted(term, arena, 0, base, own)?;
-        let part = as_membership(found.part, arena, own)?;
-        all.push(part)?;
+        all.push(found.part)?;
     }
     Ok(all)
 }

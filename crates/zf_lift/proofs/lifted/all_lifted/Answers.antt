@@ -10,13 +10,12 @@ loop-term-init c = (itself _, λ h. none_yet resolved_of (IsLift 0 (environment_
 
 pub loop-term-preserved : goal.loop-term-preserved
 loop-term-preserved c =
-    let l = c.loop-term in let x = c.in_ok-found in let y = c.in_ok-part in
-    let longer = further _ _ _ x.ensures.grows y.ensures.grows in (
-      further _ _ _ l.invariant.0 longer,
+    let l = c.loop-term in let x = c.in_ok-found in (
+      further _ _ _ l.invariant.0 x.ensures.grows,
       λ h. one_more resolved_of (IsLift 0 (environment_of l.own) (environment_of c.args.base.now))
-          (IsLift 0 (environment_of c.as_membership.new.own) (environment_of c.args.base.now)) l.all.items c.args.terms.now c.push.new.self.items l.term-index
-          c.term-item.result y.part c.term-item.is c.loop-term-test.true c.in_ok-push.ensures.items
-          (λ z w. lift_later 0 _ _ _ z w longer) (l.invariant.1 h) (y.ensures.same _ _ (x.ensures.same (further _ _ _ h l.invariant.0))),
+          (IsLift 0 (environment_of c.lifted.new.own) (environment_of c.args.base.now)) l.all.items c.args.terms.now c.push.new.self.items l.term-index
+          c.term-item.result x.found.part c.term-item.is c.loop-term-test.true c.in_ok-push.ensures.items
+          (λ y z. lift_later 0 _ _ _ y z x.ensures.grows) (l.invariant.1 h) (x.ensures.same (further _ _ _ h l.invariant.0)),
     )
 
 pub returns-clause-same : goal.returns-clause-same
