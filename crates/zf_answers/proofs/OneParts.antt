@@ -6,7 +6,7 @@ use Rattle.zf_found.proofs.Searches.{some_list}
 use Rattle.zf_parts.proofs.Growing.{one_list_of_parts, some_list_of_parts}
 use Rattle.zf_parts.proofs.Telling.{one_text_of_parts, some_text_of_parts}
 use Rattle.zf_parts.specs.Parts.{AreParts, HasParts, Part}
-use Rattle.zf_parts.specs.Places.{comps_at}
+use Rattle.zf_places.specs.Places.{comps_at}
 use Rattle.zf_parts.specs.Written.{ArePartsWritten, part_wording}
 use Rattle.zf_ranges.specs.Ranges.{AreRanges}
 use Rattle.zf_value.proofs.Exact.{exact}

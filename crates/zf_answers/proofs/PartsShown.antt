@@ -6,7 +6,7 @@ use Rattle.zf_value.proofs.Exact.{exact}
 use Rattle.zf_walk.proofs.Lists.{AllPairs-back}
 use Rattle.zf_parts.proofs.Growing.{has_each_part}
 use Rattle.zf_parts.specs.Parts.{AreParts, IsFirstWith, Part}
-use Rattle.zf_parts.specs.Places.{comps_at, values_at}
+use Rattle.zf_places.specs.Places.{comps_at, values_at}
 use Rattle.zf_parts.specs.Written.{AllHold, ArePartsWritten, part_lines, part_wording}
 use Rattle.zf_answers.proofs.OneEnding.{never_both, never_itself}
 use Rattle.zf_answers.proofs.Rows.{AllPairs-front}

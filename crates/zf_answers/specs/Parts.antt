@@ -12,7 +12,7 @@ use Rattle.zf_texts.specs.Spellings.{spellings}
 use Rattle.zf_lines.specs.declared.fault.Status.{Status}
 use Rattle.zf_lines.specs.declared.fault.Status.TheVariants.{Done, PastBounds}
 use Rattle.zf_lines.specs.Searches.{IsBelow, Wording}
-use Rattle.zf_parts.specs.Places.{comps_at, values_at}
+use Rattle.zf_places.specs.Places.{comps_at, values_at}
 use Rattle.zf_parts.specs.Written.{part_wording}
 use Rattle.zf_command.specs.declared.job.Request.{Request}
 use Rattle.zf_engine.specs.Answers.{IsNamedRow}

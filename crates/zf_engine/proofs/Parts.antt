@@ -16,7 +16,7 @@ use Rattle.zf_engine.specs.Explorations.{ExplorationAnswer}
 use Rattle.zf_engine.specs.Faults.{Gave}
 use Rattle.zf_lines.specs.Searches.{AreEventsUpTo, HasEvents, IsBegun, IsTestsLine, IsWritten, Wording}
 use Rattle.zf_lines.specs.Shown.{FindsEvents, IsSome, StopsShown, TellsTests, WritesAll}
-use Rattle.zf_parts.specs.Places.{comps_at}
+use Rattle.zf_places.specs.Places.{comps_at}
 use Rattle.zf_parts.specs.Shown.{StopsParts, WritesParts}
 use Rattle.zf_parts.specs.Written.{ArePartsWritten, part_wording}
 use Rattle.zf_engine.specs.Answers.{TellsShown}

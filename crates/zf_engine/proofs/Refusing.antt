@@ -18,7 +18,7 @@ use Rattle.zf_texts.proofs.Chosen.{held_is_line, line_is_held}
 use Rattle.std.proofs.Common.{Global, Vec}
 use Rattle.zf_messages.specs.Details.{IsWithout, LacksComponent}
 use Rattle.zf_engine.specs.Stops.{IsWhole}
-use Rattle.zf_parts.specs.Places.{comps_at}
+use Rattle.zf_places.specs.Places.{comps_at}
 use Rattle.zf_engine.specs.Answers.{row_after}
 use Rattle.zf_engine.specs.Only.{AreShown, NamesParts}
 

@@ -1,7 +1,7 @@
 -- What is asked for can be searched, in the wording of the request.
 use Rattle.zf_engine.proofs.Prelude.{◌∙◌, ◌≡◌, ap, List, None, Option, refl, Some, subst, sym, ℕ, Comp, IsNamedRow, IsSearch, portion, Request, schema_of, spellings, Value, wording}
 use Rattle.zf_lines.specs.Searches.{row_wording}
-use Rattle.zf_parts.specs.Places.{comps_at}
+use Rattle.zf_places.specs.Places.{comps_at}
 use Rattle.zf_parts.specs.Written.{part_wording}
 use Rattle.zf_ranges.specs.Ranges.{IsNoneOut}
 use Rattle.zf_engine.specs.Only.{AreShown, NamesParts}

@@ -31,7 +31,7 @@ use Rattle.zf_lines.specs.declared.fault.Status.{Status}
 use Rattle.zf_lines.specs.declared.fault.Status.TheVariants.{Done, BadSpec, BadRequest, PastBounds}
 use Rattle.zf_lines.specs.Faults.{IsFront}
 use Rattle.zf_parts.specs.Parts.{HasParts, Part}
-use Rattle.zf_parts.specs.Places.{comps_at}
+use Rattle.zf_places.specs.Places.{comps_at}
 use Rattle.zf_parts.specs.Written.{ArePartsWritten, part_wording}
 use Rattle.zf_engine.specs.Faults.{Gave}
 use Rattle.zf_lines.specs.Searches.{HasEvents, IsTestsLine, IsWritten, IsBegun, HasLimit, row_wording, Wording}

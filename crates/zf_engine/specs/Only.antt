@@ -3,7 +3,7 @@ use Rattle.std.specs.Prelude.{◌≡◌, ◌≢◌, ℕ, ◌==◌, Bool, List, m
 use Rattle.std.specs.List.{slice_split}
 use Rattle.zf_term.specs.Definitions.{Comp}
 use Rattle.zf_term.specs.FirstNamed.{first_named}
-use Rattle.zf_parts.specs.Places.{comps_at}
+use Rattle.zf_places.specs.Places.{comps_at}
 use Rattle.zf_engine.specs.SourceLines.{trimmed}
 
 -- the comma, which is the byte 44

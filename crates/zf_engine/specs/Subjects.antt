@@ -27,7 +27,7 @@ use Rattle.zf_engine.specs.Answers.{AreHeld, IsAsked, IsNamedRow}
 use Rattle.zf_engine.specs.Only.{NamesParts}
 use Rattle.zf_engine.specs.declared.bounds.Bounds.{Bounds}
 use Rattle.zf_engine.specs.declared.bounds.Chosen.{Chosen}
-use Rattle.zf_parts.specs.Places.{comps_at}
+use Rattle.zf_places.specs.Places.{comps_at}
 use Rattle.zf_engine.specs.Reasons.{TellsWhy, no_binding_line}
 use Rattle.zf_engine.specs.CauseLines.{cause_lines}
 use Rattle.zf_engine.specs.declared.subject.Subject.{Subject}

@@ -18,7 +18,7 @@ use bumpalo::Bump;
 use std::alloc::Global;
 use zf_data::Word;
 use zf_meaning::env::Env;
-use zf_parts::schema_at;
+use zf_places::schema_at;
 use zf_term::schema::Flat;
 use zf_texts::Spelling;
 use zf_value::value::Value;

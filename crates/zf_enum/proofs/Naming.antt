@@ -1,5 +1,5 @@
 -- Predicates in which closed parts are names: they say what they said, and so do trees over them.
-use Rattle.zf_enum.proofs.Prelude.{◌++◌, ◌+◌, ◌↔◌, ◌∙◌, ◌∷◌, ◌≡◌, ◌≤◌, ◌⊎◌, [], ap, arith, inl, inr, length, List, refl, suc, sym, take, zero, ℕ, ⊎_elim, slice_get, Truth, SayTheSame, both, either, IsOfBoth, IsOfEither, IsTreeTruth, leaf, negated, opposite, planted, Tree, tree_at, Reference, Component, Global, Local, Outcome, Value, ResolvedTree, references, Environment, longer, AreEach, AreLifted, IsLifted, IsLonger, due, due_of, greatest_place, HasTruth, place_named, property, told, uses_first, with_first}
+use Rattle.zf_enum.proofs.Prelude.{◌++◌, ◌+◌, ◌↔◌, ◌∙◌, ◌∷◌, ◌≡◌, ◌≤◌, ◌⊎◌, [], ap, arith, inl, inr, length, List, refl, suc, sym, take, zero, ℕ, ⊎_elim, slice_get, Truth, SayTheSame, both, either, IsOfBoth, IsOfEither, IsTreeTruth, leaf, negated, opposite, planted, Tree, tree_at, Reference, Component, Global, Local, Outcome, Value, ResolvedTree, references, Environment, longer, AreEach, AreLifted, IsLifted, IsLonger, due, due_of, greatest_place, HasTruth, NeedWithin, place_named, property, told, uses_first, with_first}
 use Rattle.zf_value.specs.declared.value.Truth as meaning
 use Rattle.zf_walk.specs.declared.judge.Truth.TheVariants.{True, False, Out}
 use Rattle.zf_walk.specs.Conjuncts.{Conjuncts}
@@ -100,4 +100,17 @@ named_alike f e ts leaves ps trees h same = record {
       let there = tree_truth (property f ts) (property e leaves) (λ k r u. (truths_at f e ts leaves h.each k r (told u)).0) (tree_at trees c) row t in
       let back = tree_truth (property e leaves) (property f ts) (λ k r u. (truths_at f e ts leaves h.each k r (told u)).1) (tree_at trees c) row t in
       (λ x. (same.says c l row t).0 (there x), λ x. back ((same.says c l row t).1 x));
+}
+
+-- ---- predicates in place of others
+
+pub needs_no_more : (f e : Environment) (ts us : List ResolvedTree) → AreEach (IsLifted f e) ts us → (n : ℕ) → NeedWithin n us → NeedWithin n ts
+needs_no_more f e ts us h n k c = omega (arith, dues_at f e ts us h c, k c)
+
+pub lifted_alike : (f e : Environment) (ts us : List ResolvedTree) (x : Conjuncts Value) → AreLifted f e ts us → SayTheSame x (property f ts) → SayTheSame x (property e us)
+lifted_alike f e ts us x h same = record {
+  number = same.number ∙ as_many f e ts us h.each;
+  says = λ c l row t.
+      let truth = truths_at f e ts us h.each c row (told t) in
+      (λ q. truth.0 ((same.says c l row t).0 q), λ q. (same.says c l row t).1 (truth.1 q));
 }

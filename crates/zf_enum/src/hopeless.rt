@@ -1,46 +1,18 @@
 //! Searches that end before they ask for what is costly, since no value of a component passes a conjunct.
 use crate::due::last_up_to;
+use crate::keys::Repeated;
+use crate::sums::compares;
 use std::alloc::AllocError;
 use zf_meaning::env::Env;
-use zf_meaning::row::Row;
 use zf_meaning::value::truth_of;
 use zf_term::resolved::{Links, Resolved, Terms};
 use zf_tree::operator::{Listed, Operator, Sign, Unary};
-use zf_tree::symbol::{Infix, Prefix, Quantifier, Relation};
+use zf_tree::symbol::{Infix, Prefix, Quantifier};
 use zf_value::value::{Truth, Value};
 use zf_walk::Range;
 
 /// The most values that are tried of all components.
 const MOST_VALUES: usize = 4096;
-
-/// Where the search first asks for a costly leaf.
-#[derive(Clone, Copy)]
-struct Costly {
-    /// How many first components have values by then.
-    bound: usize,
-    leaf: usize,
-}
-
-/// One value at each of so many places.
-#[derive(Drop)]
-struct Repeated<'v> {
-    value: &'v Value,
-    count: usize,
-}
-
-impl<'v> Row for Repeated<'v> {
-    ghost use Rattle.std.specs.Prelude.{replicate};
-
-    ghost values = { λ r. replicate r.count r.value.now };
-
-    fn len(&self) -> usize {
-        self.count
-    }
-
-    fn get(&self, _place: usize) -> &Value {
-        self.value
-    }
-}
 
 /// Whether there are costly leaves, and the search ends before it asks for one: no value of a component that isn't held passes a leaf that has to hold and names that component alone.
 pub(crate) fn is_hopeless<'a>(
@@ -50,14 +22,19 @@ pub(crate) fn is_hopeless<'a>(
     held: &[Option<Value>],
     env: &Env<'_, 'a>,
 ) -> Result<bool, AllocError> {
-    let Some(costly) = first_costly(leaves) else {
+    let first = first_costly(leaves);
+    if first == usize::MAX {
         return Ok(false);
-    };
+    }
     let most = MOST_VALUES / required.len().max(1);
     for leaf in required {
         if let Some(term) = leaves.get(*leaf) {
-            if let Some(component) = asked_before(term, *leaf, costly) {
-                if !is_held(held, component) && excludes_all(term, component, ranges, most, env)? {
+            if let Some(component) = only_named(term) {
+                let asked = turn(component.saturating_add(1), *leaf, leaves.len());
+                if asked < first
+                    && !is_held(held, component)
+                    && excludes_all(term, component, ranges, most, env)?
+                {
                     return Ok(true);
                 }
             }
@@ -99,45 +76,30 @@ fn excludes_all<'a>(
     Ok(true)
 }
 
-/// The one component that the leaf names, if it is not costly and is asked before the costly one.
-fn asked_before(term: &Resolved<'_>, leaf: usize, costly: Costly) -> Option<usize> {
+/// The one component that a term names.
+fn only_named(term: &Resolved<'_>) -> Option<usize> {
     let component = last_up_to(term, usize::MAX, None)?;
-    let bound = component.saturating_add(1);
-    if bound > costly.bound || (bound == costly.bound && leaf > costly.leaf) {
-        return None;
-    }
-    if is_costly(term) || !is_alone(term, component) {
-        return None;
-    }
-    Some(component)
-}
-
-/// Whether the term names no component before this one.
-fn is_alone(term: &Resolved<'_>, component: usize) -> bool {
     match component.checked_sub(1) {
-        None => true,
-        Some(before) => last_up_to(term, before, None).is_none(),
+        Some(before) if last_up_to(term, before, None).is_some() => None,
+        _ => Some(component),
     }
 }
 
-/// The costly leaf that the search asks for first, if there is one.
-fn first_costly(leaves: &[Resolved<'_>]) -> Option<Costly> {
-    let mut first: Option<Costly> = None;
+/// When the search first asks for a costly leaf; if there is none, the greatest number.
+fn first_costly(leaves: &[Resolved<'_>]) -> usize {
+    let mut first = usize::MAX;
     for leaf in 0..leaves.len() {
         let term = &leaves[leaf];
         if is_costly(term) {
-            first = Some(earlier(first, bound_of(term), leaf));
+            first = first.min(turn(bound_of(term), leaf, leaves.len()));
         }
     }
     first
 }
 
-/// The one that is asked earlier.
-fn earlier(first: Option<Costly>, bound: usize, leaf: usize) -> Costly {
-    match first {
-        Some(other) if other.bound <= bound => other,
-        _ => Costly { bound, leaf },
-    }
+/// When the search asks for this leaf of so many, where so many first components have values by then.
+fn turn(bound: usize, leaf: usize, leaves: usize) -> usize {
+    bound.saturating_mul(leaves).saturating_add(leaf)
 }
 
 /// How many first components have values when the search asks for a leaf. It may ask for one that narrows a range before any has.
@@ -156,23 +118,11 @@ fn may_narrow(term: &Resolved<'_>) -> bool {
     match term {
         Resolved::Quantified(Quantifier::ForAll, _, _, _, _) => false,
         Resolved::Quantified(_, _, _, _, _) => true,
-        Resolved::Chain(_, _, links) => compares(links),
+        Resolved::Chain(_, _, links) => match links.as_slice() {
+            [link] => compares(link.relation),
+            _ => false,
+        },
         _ => false,
-    }
-}
-
-/// Whether there is one link, of numbers or an equation.
-fn compares(links: &Links<'_>) -> bool {
-    let [link] = links.as_slice() else {
-        return false;
-    };
-    match link.relation {
-        Relation::NotEqual => false,
-        Relation::Member => false,
-        Relation::NotMember => false,
-        Relation::Subset => false,
-        Relation::ProperSubset => false,
-        _ => true,
     }
 }
 

@@ -15,9 +15,10 @@ ghost use Rattle.zf_ranges.specs.StartFaults.{RefusesStart};
 
 use crate::hopeless::is_hopeless;
 use crate::lifting::lifted;
-use crate::planting::{Planting, plant_schema};
+use crate::planting::{Planting, plant_all};
 use crate::property::Property;
 use crate::search::{Located, Passing, Ranged, Search};
+use crate::unfolding::unfolded;
 use bumpalo::Bump;
 use std::alloc::{AllocError, Global};
 use zf_meaning::env::Env;
@@ -53,14 +54,15 @@ impl<'s, 'e, 'g, 'a> Instances<'s, 'e, 'g, 'a> {
         ensures refused { IfErr result (RefusesStart (environment_of env.now) (schema_of flat.now).comps) }
     {
         let ranges = ranges(alloc, flat.components.as_slice(), held, env)?;
-        let planting = plant_schema(alloc, arena, flat)?;
+        let unfolded = unfolded(alloc, arena, flat, env)?;
+        let planting = plant_all(alloc, arena, &unfolded.terms)?;
         let Planting {
             leaves,
             forest,
             required,
         } = planting;
-        let is_hopeless = is_hopeless(&required, &leaves, &ranges, held, env)?;
-        let property = lifted(alloc, arena, leaves, env, is_hopeless)?;
+        let is_hopeless = is_hopeless(&required, &leaves, &ranges, held, unfolded.env)?;
+        let property = lifted(alloc, arena, leaves, unfolded.env, is_hopeless)?;
         let search = zf_plan::Search::start(alloc, property, forest, ranges, after)?;
         let names = env.count();
         Ok(Instances { search, names })

@@ -91,9 +91,9 @@ fn is_only(term: &Resolved<'_>, component: usize) -> bool
 
 /// As many values as are asked for, each the same.
 #[derive(Drop)]
-struct Repeated<'v> {
-    value: &'v Value,
-    count: usize,
+pub(crate) struct Repeated<'v> {
+    pub(crate) value: &'v Value,
+    pub(crate) count: usize,
 }
 
 impl<'v> Row for Repeated<'v> {

@@ -19,6 +19,7 @@ mod span;
 mod spread;
 mod start;
 mod sums;
+mod unfolding;
 
 pub use bindings::Bindings;
 pub use conjuncts::Conjuncts;

@@ -1,6 +1,5 @@
 //! Predicates as trees over their parts that are no connectives.
 ghost use Rattle.std.specs.Prelude.{IfOk, OnOk, map};
-ghost use Rattle.zf_term.specs.SchemaViews.{conjunct_of, schema_of};
 ghost use Rattle.zf_term.specs.ResolvedViews.{resolved_of};
 ghost use Rattle.zf_plan.specs.Groves.{trees_of};
 ghost use Rattle.zf_enum.specs.Planting.{Plants, PlantsNext, ArePlanted};
@@ -8,11 +7,8 @@ ghost use Rattle.zf_enum.specs.Planting.{Plants, PlantsNext, ArePlanted};
 use bumpalo::Bump;
 use std::alloc::{AllocError, Global};
 use zf_plan::Forest;
-use zf_resolved::conjunct::resolved;
 use zf_resolved::moving::copy;
-use zf_term::conjunct::Conjunct;
 use zf_term::resolved::Resolved;
-use zf_term::schema::Flat;
 use zf_tree::operator::{Operator, Unary};
 use zf_tree::symbol::Connective;
 
@@ -25,25 +21,13 @@ pub(crate) struct Planting<'a> {
     pub(crate) required: Vec<usize>,
 }
 
-/// Plants the conjuncts of a schema.
-pub(crate) fn plant_schema<'a>(
+/// Plants predicates, one tree for each.
+pub(crate) fn plant_all<'a>(
     alloc: Global,
     arena: &'a Bump,
-    flat: &Flat<'a>,
+    conjuncts: &[Resolved<'a>],
 ) -> Result<Planting<'a>, AllocError>
-    ensures { IfOk result (λ planting. ArePlanted (schema_of flat.now).conjuncts planting.leaves.items (trees_of planting.forest)) }
-{
-    let conjuncts = flat.conjuncts.flat()?;
-    plant_all(alloc, arena, conjuncts.as_slice())
-}
-
-/// Plants conjuncts, one tree for each.
-fn plant_all<'a>(
-    alloc: Global,
-    arena: &'a Bump,
-    conjuncts: &[Conjunct<'a>],
-) -> Result<Planting<'a>, AllocError>
-    ensures { IfOk result (λ planting. ArePlanted (map conjunct_of conjuncts.now) planting.leaves.items (trees_of planting.forest)) }
+    ensures { IfOk result (λ planting. ArePlanted (map resolved_of conjuncts.now) planting.leaves.items (trees_of planting.forest)) }
 {
     let mut leaves = Vec::new(alloc);
     let mut forest = Forest::new(alloc);
@@ -58,19 +42,18 @@ fn plant_all<'a>(
     })
 }
 
-/// Plants a conjunct as the next tree.
+/// Plants a predicate as the next tree.
 fn plant_next<'a>(
-    conjunct: &Conjunct<'a>,
+    term: &Resolved<'a>,
     arena: &'a Bump,
     leaves: &mut Vec<Resolved<'a>>,
     forest: &mut Forest,
     required: &mut Vec<usize>,
 ) -> Result<(), AllocError>
-    ensures { OnOk result (PlantsNext leaves.old.items forest.old (conjunct_of conjunct.now) leaves.new.items forest.new) }
+    ensures { OnOk result (PlantsNext leaves.old.items forest.old (resolved_of term.now) leaves.new.items forest.new) }
 {
-    let term = resolved(conjunct, arena)?;
-    gather_required(&term, true, leaves.len(), required)?;
-    let place = plant(&term, arena, leaves, forest)?;
+    gather_required(term, true, leaves.len(), required)?;
+    let place = plant(term, arena, leaves, forest)?;
     forest.take(place)
 }
 

@@ -56,7 +56,7 @@ impl<'s, 'e, 'g, 'a> Bindings<'s, 'e, 'g, 'a> {
 }
 
 /// The terms of the conjuncts, by the places in the schema.
-fn resolved<'a>(
+pub(crate) fn resolved<'a>(
     alloc: Global,
     arena: &'a Bump,
     conjuncts: &[Conjunct<'a>],

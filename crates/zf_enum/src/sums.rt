@@ -64,7 +64,8 @@ pub(crate) fn equates(term: &Resolved<'_>) -> bool {
     }
 }
 
-fn compares(relation: Relation) -> bool {
+/// Whether a relation is one of numbers, or an equation.
+pub(crate) fn compares(relation: Relation) -> bool {
     match relation {
         Relation::Equal => true,
         Relation::Less => true,

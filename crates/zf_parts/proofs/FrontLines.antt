@@ -9,7 +9,7 @@ use Rattle.zf_term.specs.Definitions.{Comp}
 use Rattle.zf_texts.specs.BindingTexts.{component_in, components_in}
 use Rattle.zf_texts.specs.declared.spelling.Spelling.{Spelling}
 use Rattle.zf_texts.specs.ValueTexts.{parted}
-use Rattle.zf_parts.specs.Places.{AreFirst}
+use Rattle.zf_places.specs.Places.{AreFirst}
 use Rattle.zf_parts.proofs.Fronting.{first_values}
 
 of_front : (f : Format) (ss : List Spelling) (cs : List Comp) (n : ℕ) (row : List Value) → length cs ≤ n → components_in f ss cs row ≡ components_in f ss cs (take n row)

@@ -24,7 +24,7 @@ use Rattle.zf_walk.specs.Events.{IsEvent}
 use Rattle.zf_walk.specs.Progress.{Advances, Ahead, IsAhead, past, SameRanges, Stage, Takes}
 use Rattle.zf_walk.specs.declared.step.Step.{Step}
 use Rattle.zf_walk.specs.declared.step.Step.TheVariants.{End}
-use Rattle.zf_parts.specs.Places.{AreFirst}
+use Rattle.zf_places.specs.Places.{AreFirst}
 use Rattle.zf_parts.specs.Shown.{FindsParts, StopsParts, WritesParts}
 use Rattle.zf_parts.proofs.Keeping.{event_of}
 use Rattle.zf_parts.proofs.Orders.{comes_on, never_both, never_itself, reversed, same_row}

@@ -4,7 +4,6 @@ pub mod Firsts
 pub mod Putting
 pub mod Growing
 pub mod Telling
-pub mod Picked
 pub mod Keeping
 pub mod Standing
 pub mod Stepping
@@ -18,6 +17,7 @@ pub mod Fronting
 pub mod Passing
 pub mod FrontLines
 pub mod Numbering
+pub mod Dividing
 pub mod Weighing
 pub mod Passed
 pub mod Unwritten

@@ -17,7 +17,7 @@ use Rattle.zf_value.specs.contracts.plain.ValueOrd.TheImpl.Laws as order_laws
 use Rattle.zf_meaning.specs.Environments.{Environment}
 use Rattle.zf_walk.specs.Progress.{Advances, past, SameRanges, Stage, Takes}
 use Rattle.zf_walk.specs.declared.step.Step.TheVariants.{Breaks, Holds}
-use Rattle.zf_parts.specs.Places.{AreFirst}
+use Rattle.zf_places.specs.Places.{AreFirst}
 use Rattle.zf_parts.specs.Shown.{StopsParts, WritesParts}
 use Rattle.zf_parts.proofs.Keeping.{event_of}
 use Rattle.zf_parts.proofs.Fewer.{fewer_past}

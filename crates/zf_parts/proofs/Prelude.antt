@@ -13,4 +13,4 @@ pub use Rattle.zf_walk.specs.declared.judge.Truth.TheVariants.{False, Out, True}
 pub use Rattle.zf_value.specs.Sets.{value_order}
 pub use Rattle.zf_value.specs.declared.plain.Value.{Value}
 pub use Rattle.zf_parts.specs.Parts.{AreParts, IsFirstWith, Part}
-pub use Rattle.zf_parts.specs.Places.{values_at}
+pub use Rattle.zf_places.specs.Places.{values_at}

@@ -9,7 +9,7 @@ use Rattle.zf_walk.specs.Rows.{ComesAfter, IsLater}
 use Rattle.zf_lines.specs.declared.fault.Status.{Status}
 use Rattle.zf_lines.specs.Searches.{Wording}
 use Rattle.zf_parts.specs.Parts.{AreParts, Part}
-use Rattle.zf_parts.specs.Places.{values_at}
+use Rattle.zf_places.specs.Places.{values_at}
 use Rattle.zf_parts.specs.Written.{ArePartsWritten}
 
 -- the events are in their order

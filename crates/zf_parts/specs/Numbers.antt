@@ -1,5 +1,5 @@
 -- Parts as numbers: the places of a part's values in their ranges are its digits. No public clause rests on this file.
-use Rattle.std.specs.Prelude.{◌≡◌, ◌⊎◌, ℕ, ◌+◌, ◌*◌, ◌/◌, ◌%◌, ◌<◌, ◌≤◌, Bool, eqb, true, false, List, [], ◌∷◌, length, map, All, Option, Some, None, slice_get, slice_index_or}
+use Rattle.std.specs.Prelude.{◌≡◌, ◌⊎◌, ℕ, ◌+◌, ◌*◌, ◌/◌, ◌%◌, ◌<◌, ◌≤◌, Bool, cond, eqb, true, false, List, [], ◌∷◌, length, map, All, Option, Some, None, slice_get, slice_index_or}
 use Rattle.std.specs.Int.{bit_at}
 use Rattle.zf_format.specs.declared.format.Format.{Format}
 use Rattle.zf_lines.specs.declared.fault.Status.{Status}
@@ -18,9 +18,10 @@ use Rattle.zf_walk.specs.Rows.{ComesAfter, IsLater}
 use Rattle.zf_meaning.specs.Environments.{Environment}
 use Rattle.zf_enum.specs.Property.{property}
 use Rattle.zf_parts.specs.declared.marks.Marks.{Marks}
+use Rattle.zf_parts.specs.declared.marks.Page.{Page}
 use Rattle.zf_parts.specs.declared.meeting.Met.{Met}
 use Rattle.zf_parts.specs.declared.weights.Weights.{Weights}
-use Rattle.zf_parts.specs.Places.{values_at}
+use Rattle.zf_places.specs.Places.{values_at}
 
 -- ---- numbers
 
@@ -60,12 +61,28 @@ pub record AreWeights (ranges : List (List Value)) (places : List ℕ) (w : Weig
 
 -- ---- what is met
 
--- a bit for each number, in words of 64
-abbrev pub is_in : (words : List ℕ) → ℕ → Bool
-is_in words n = eqb (bit_at (slice_index_or words (n / 64) 0) (n % 64)) 1
+-- a word of a page that has this number
+abbrev pub page_word : Option Page → (number : ℕ) → (word : ℕ) → ℕ
+page_word None number word = 0
+page_word (Some page) number word = cond (eqb page.number number) (slice_index_or page.words word 0) 0
 
+-- words of 64 bits, sixteen a page: 0 where the page at the place is another's, or none is
+abbrev pub word_in : (places : List ℕ) → List Page → ℕ → ℕ
+word_in places pages k = page_word (slice_get pages (slice_index_or places (k / 16) 0)) (k / 16) (k % 16)
+
+abbrev pub word_at : Marks → ℕ → ℕ
+word_at marks k = word_in marks.places.items marks.pages.items k
+
+-- a page stands at its place
+pub record IsKept (places : List ℕ) (pages : List Page) (number at : ℕ) : Type 0 where
+  pub stands : slice_index_or places number 0 ≡ at
+  pub page : Page
+  pub there : slice_get pages at ≡ Some page
+  pub is : page.number ≡ number
+
+-- a bit for each number
 abbrev pub is_marked : Marks → ℕ → Bool
-is_marked marks n = is_in marks.words.items n
+is_marked marks n = eqb (bit_at (word_at marks (n / 64)) (n % 64)) 1
 
 -- no number from one on and below another is marked
 abbrev pub AreFree : Marks → ℕ → ℕ → Type 0

@@ -1,4 +1,4 @@
--- How a row of a part is seen: for its model alone.
+-- How a row of a part is seen: for its model alone. No public clause rests on this file.
 use Rattle.std.specs.Prelude.{◌≡◌, ℕ, ◌<◌, List, length, All}
 use Rattle.zf_value.specs.declared.plain.Value.{Value}
 

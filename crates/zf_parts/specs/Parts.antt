@@ -8,7 +8,7 @@ use Rattle.zf_walk.specs.Rows.{ComesAfter, IsLater}
 use Rattle.zf_meaning.specs.Environments.{Environment}
 use Rattle.zf_enum.specs.Portions.{Portion}
 use Rattle.zf_lines.specs.Searches.{HasEvents}
-use Rattle.zf_parts.specs.Places.{values_at}
+use Rattle.zf_places.specs.Places.{values_at}
 
 -- the values of a part, and an event whose row has them
 pub record Part : Type 0 where

@@ -12,10 +12,10 @@ ghost use Rattle.zf_walk.specs.Events.{Event};
 ghost use Rattle.zf_walk.specs.Rows.{ComesAfter, IsLater};
 
 use crate::asked::Parts;
-use crate::places::{values_at, values_of};
 use std::alloc::{AllocError, Global};
 use std::collections::BTreeMap;
 use zf_enum::Search;
+use zf_places::{values_at, values_of};
 use zf_value::items::Items;
 use zf_value::value::Value;
 use zf_walk::Step;

@@ -6,8 +6,8 @@ ghost use Rattle.zf_lines.specs.Counts.{device_of, failures_of};
 ghost use Rattle.zf_lines.specs.Faults.{read_failures, write_failures};
 ghost use Rattle.zf_lines.specs.Searches.{HasLimit};
 ghost use Rattle.zf_lines.specs.Shown.{IsAtStart};
-ghost use Rattle.zf_parts.specs.Places as spec;
-ghost use Rattle.zf_parts.specs.Places.{AreFirst};
+ghost use Rattle.zf_places.specs.Places as spec;
+ghost use Rattle.zf_places.specs.Places.{AreFirst};
 ghost use Rattle.zf_parts.specs.Shown.{StopsParts, WritesParts};
 ghost use Rattle.zf_parts.specs.Written.{part_wording};
 ghost use Rattle.zf_term.specs.SchemaViews.{schema_of};
@@ -17,7 +17,6 @@ ghost use Rattle.zf_walk.specs.Rows.{IsLater};
 use crate::asked::Parts;
 use crate::collecting::is_later;
 use crate::last::{write_last, write_out};
-use crate::places::values_at;
 use std::alloc::{AllocError, Global};
 use std::io::Write;
 use zf_enum::{Passing, Search};
@@ -26,6 +25,7 @@ use zf_lines::fault::{RunFault, Status};
 use zf_lines::limit::{is_spent, one_less};
 use zf_lines::show::write_row;
 use zf_lines::{Style, columns_of};
+use zf_places::values_at;
 use zf_walk::Step;
 
 /// Whether these are the first places, and no fewer than so many.

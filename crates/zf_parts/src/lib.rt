@@ -10,11 +10,9 @@ mod listing;
 mod marks;
 mod meeting;
 mod part_row;
-mod places;
 mod showing;
 mod weights;
 
 pub use asked::Parts;
 pub use fronts::{are_first, show_fronts};
-pub use places::{schema_at, values_at, values_of};
 pub use showing::show_parts;

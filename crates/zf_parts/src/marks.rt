@@ -1,14 +1,23 @@
 //! Numbers that are marked.
 ghost use Rattle.std.specs.Int.{bit_at};
-ghost use Rattle.std.specs.Prelude.{◌≡◌, ◌⊎◌, ◌+◌, ◌<◌, ◌≤◌, ◌^◌, ℕ, eqb, false, length, true, OnOk, slice_index_or};
-ghost use Rattle.zf_parts.specs.Numbers.{AreFree, is_marked};
+ghost use Rattle.std.specs.Prelude.{◌≡◌, ◌⊎◌, ◌+◌, ◌*◌, ◌<◌, ◌≤◌, ◌^◌, ◌/◌, ◌%◌, ℕ, eqb, false, length, MatchOption, true, IfOk, OnOk, slice_index_or, slice_get, Some};
+ghost use Rattle.zf_parts.specs.Numbers.{AreFree, IsKept, is_marked, word_at};
 
 use std::alloc::{AllocError, Global};
 
-/// Which numbers are marked: a bit each, in as many words as the greatest of them needs.
+/// Which numbers are marked: a bit each, in pages, of which only those with a mark are kept.
 #[derive(Drop)]
 pub struct Marks {
-    pub words: Vec<u64>,
+    /// Where each page is, if it is kept.
+    pub places: Vec<usize>,
+    pub pages: Vec<Page>,
+}
+
+/// The bits of 1,024 numbers that follow one another.
+#[derive(Drop)]
+pub struct Page {
+    pub number: usize,
+    pub words: [u64; 16],
 }
 
 impl Marks {
@@ -17,18 +26,47 @@ impl Marks {
         ensures { (n : ℕ) → is_marked result n ≡ false }
     {
         Marks {
-            words: Vec::new(alloc),
+            places: Vec::new(alloc),
+            pages: Vec::new(alloc),
         }
     }
 
     pub fn has(&self, number: usize) -> bool
         ensures { result ≡ is_marked self.now number }
     {
-        let word = number / 64;
-        if word < self.words.len() {
-            has_bit(self.words[word], number % 64)
+        (self.word(number / 64) >> (number % 64)) & 1 == 1
+    }
+
+    /// A word of its page, or 0 where that isn't kept.
+    fn word(&self, word: usize) -> u64
+        ensures { result ≡ word_at self.now word }
+    {
+        match self.place(word / 16) {
+            None => 0,
+            Some(place) => self.word_there(place, word),
+        }
+    }
+
+    /// A word of the page at this place.
+    fn word_there(&self, place: usize, word: usize) -> u64
+        requires { IsKept self.now.places.items self.now.pages.items (word / 16) place }
+        ensures { result ≡ word_at self.now word }
+    {
+        self.pages[place].words[word % 16]
+    }
+
+    /// The place of a page, if it is kept.
+    fn place(&self, page: usize) -> Option<usize>
+        ensures { MatchOption result ((k : ℕ) → k / 16 ≡ page → word_at self.now k ≡ 0) (λ place. IsKept self.now.places.items self.now.pages.items page place) }
+    {
+        let place = place_in(&self.places, page);
+        if place >= self.pages.len() {
+            return None;
+        }
+        if self.pages[place].number == page {
+            Some(place)
         } else {
-            false
+            None
         }
     }
 
@@ -38,21 +76,42 @@ impl Marks {
         ensures others { OnOk result ((n : ℕ) → (n ≡ number) ⊎ (is_marked self.new n ≡ is_marked self.old n)) }
     {
         let word = number / 64;
-        self.reach(word)?;
-        self.words[word] = self.words[word] | 1u64 << (number % 64);
+        let place = self.open(word / 16)?;
+        let page = &mut self.pages[place];
+        page.words[word % 16] = page.words[word % 16] | 1u64 << (number % 64);
         Ok(())
     }
 
-    /// Makes the words reach beyond a place, without a bit in those that are new.
-    fn reach(&mut self, word: usize) -> Result<(), AllocError>
-        requires { word + 1 < 2 ^ 64 }
-        ensures there { OnOk result (word < length self.new.words.items) }
-        ensures same { OnOk result ((k : ℕ) → slice_index_or self.new.words.items k 0 ≡ slice_index_or self.old.words.items k 0) }
+    /// The place of a page, which is made if it is not kept.
+    fn open(&mut self, page: usize) -> Result<usize, AllocError>
+        requires { page + 1 < 2 ^ 64 }
+        ensures kept { IfOk result (IsKept self.new.places.items self.new.pages.items page) }
+        ensures same { OnOk result ((k : ℕ) → word_at self.new k ≡ word_at self.old k) }
     {
-        if word < self.words.len() {
+        if let Some(place) = self.place(page) {
+            return Ok(place);
+        }
+        self.reach(page)?;
+        let last = self.pages.len();
+        self.pages.push(Page {
+            number: page,
+            words: [0; 16],
+        })?;
+        self.places[page] = last;
+        Ok(last)
+    }
+
+    /// Makes the places reach beyond a page.
+    fn reach(&mut self, page: usize) -> Result<(), AllocError>
+        requires { page + 1 < 2 ^ 64 }
+        ensures there { OnOk result (page < length self.new.places.items) }
+        ensures same { OnOk result ((k : ℕ) → slice_index_or self.new.places.items k 0 ≡ slice_index_or self.old.places.items k 0) }
+        ensures pages { self.new.pages ≡ self.old.pages }
+    {
+        if page < self.places.len() {
             return Ok(());
         }
-        self.words.resize(word + 1, 0)
+        self.places.resize(page + 1, 0)
     }
 
     /// The next number that is marked, from one on, or the end.
@@ -65,34 +124,26 @@ impl Marks {
     {
         let mut number = from;
         while number < end {
-            if self.has(number) {
-                return number;
+            let word = number / 64;
+            match self.place(word / 16) {
+                None => number = (word / 16 + 1) * 1024,
+                Some(place) => {
+                    let bits = self.word_there(place, word) >> (number % 64);
+                    if bits != 0 {
+                        let found = number + bits.trailing_zeros() as usize;
+                        return if found < end { found } else { end };
+                    }
+                    number = (word + 1) * 64;
+                }
             }
-            number = self.past(number);
         }
         end
     }
-
-    /// A number up to which none is marked, past one that is not: the next one, or the first of the next word where this one has no bit.
-    fn past(&self, number: usize) -> usize
-        requires few { number < 134217728 }
-        requires free { is_marked self.now number ≡ false }
-        ensures more { number < result }
-        ensures free { AreFree self.now number result }
-    {
-        let word = number / 64;
-        if word < self.words.len() && self.words[word] != 0 {
-            number + 1
-        } else {
-            (word + 1) * 64
-        }
-    }
 }
 
-/// Whether a word has the bit of a place.
-fn has_bit(word: u64, place: usize) -> bool
-    requires { place < 64 }
-    ensures { result ≡ eqb (bit_at word place) 1 }
+/// The place of a page that is listed, or the first one.
+fn place_in(places: &[usize], page: usize) -> usize
+    ensures { result ≡ slice_index_or places.now page 0 }
 {
-    (word >> place) & 1 == 1
+    if page < places.len() { places[page] } else { 0 }
 }

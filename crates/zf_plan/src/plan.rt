@@ -17,6 +17,9 @@ use crate::node::Node;
 use std::alloc::{AllocError, Global};
 use zf_walk::{Judge, Range};
 
+/// By how many conjuncts a component is narrowed at most: each is asked for every row of the values before.
+const MOST_NARROWING: usize = 256;
+
 /// For each number of values the leaves that are conjuncts and need so many, the other conjuncts that have such a leaf, those that narrow the next component, and for each of these of how many first values it and those before it do so; and the same of those by which the values of the next component are sifted.
 #[derive(Drop)]
 pub struct Plan {
@@ -349,7 +352,7 @@ fn narrowing_at<V: Ord, J: Guide<V>>(
     Ok(Listed { numbers })
 }
 
-/// Adds the conjuncts that narrow a component by these means, and by no nearer ones.
+/// Adds the conjuncts that narrow a component by these means, and by no nearer ones, while there are few.
 #[tactic(auto, using(crate::proofs::Numbers::below_push))]
 fn add_narrowing<V: Ord, J: Guide<V>>(
     judge: &J,
@@ -363,6 +366,9 @@ fn add_narrowing<V: Ord, J: Guide<V>>(
     ensures { OnOk result (AreBelow (length (trees_of forest.now)) numbers.new.items) }
 {
     for conjunct in 0..forest.count() {
+        if numbers.len() >= MOST_NARROWING {
+            return Ok(());
+        }
         let root = forest.root(conjunct);
         let is_nearer = match means {
             Means::Closely => false,

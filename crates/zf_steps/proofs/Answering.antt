@@ -29,7 +29,8 @@ use Rattle.zf_steps.specs.declared.stepped.Stepped.{Stepped}
 use Rattle.zf_steps.specs.Explored.{sought_in}
 use Rattle.zf_steps.specs.Machines.{BeginsState, begun_as, GoesOn, IsFound, IsSight, rows_ahead}
 use Rattle.zf_steps.specs.Searching.{HasFound, HasPassed}
-use Rattle.zf_steps.specs.Steps.{exploration, held_by, IsEventOf, IsFirstOf, IsStray, parts_of, searched, stopped, values_at}
+use Rattle.zf_steps.specs.Steps.{exploration, held_by, IsEventOf, IsFirstOf, IsStray, parts_of, searched, stopped}
+use Rattle.zf_places.specs.Places.{values_at}
 use Rattle.zf_steps.specs.Systems.{Operation, System}
 
 -- the row that a step gave

@@ -7,7 +7,6 @@ pub mod Fitting
 pub mod Shapes
 pub mod Clashing
 pub mod Moving
-pub mod Picked
 pub mod Renewing
 pub mod Pieces
 pub mod Columns

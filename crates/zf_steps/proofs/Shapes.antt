@@ -2,7 +2,6 @@
 use Rattle.std.proofs.Common.{◌++◌, ◌+◌, ◌<◌, ◌∙◌, ◌∷◌, ◌≡◌, ◌≤◌, ◌⊎◌, ◌↔◌, [], add-one, ap, append_assoc, arith, Bool, drop, Err, false, get_or, IfOk, inl, inr, IsTrue, length, List, map, MatchOption, None, Ok, Option, refl, Result, Some, subst, suc, sym, take, true, zero, ℕ}
 use Rattle.std.proofs.lemmas.Bool.{false≢true}
 use Rattle.std.proofs.lemmas.List.{append-nil, map-append, map_more, take_more}
-use Rattle.std.proofs.lemmas.List.Elements.{filter_map-append}
 use Rattle.std.proofs.lemmas.Option.{slice_get-get_or}
 use Rattle.std.specs.List.{filter_map}
 use Rattle.std.specs.Prelude.{cond, option_to_list, slice_get}
@@ -47,23 +46,6 @@ past_all (x ∷ xs) (suc n) l = ap (λ ys. x ∷ ys) (past_all xs n (omega (arit
 
 pub mapped_whole : {W X Y Z : Type 0} (g : Y → W) (h : Z → W) (f : X → Z) (xs : List X) (n : ℕ) (ys : List Y) → length xs ≤ n → map g ys ≡ map (λ x. h (f x)) (take n xs) → map g ys ≡ map h (map f xs)
 mapped_whole g h f xs n ys l e = e ∙ ap (map (λ x. h (f x))) (past_all xs n l) ∙ map_map h f xs
-
-one_of : {X Y : Type 0} (f : X → Option Y) (x : X) (o : Option Y) → f x ≡ o → filter_map f (x ∷ []) ≡ option_to_list o
-one_of f x None e = rw e refl
-one_of f x (Some y) e = rw e refl
-
--- one more of what a function gives, if it gives something
-pub filter_push : {X Y : Type 0} (f : X → Option Y) (xs : List X) (i : ℕ) (d x : X) (old new : List Y) (o : Option Y) → x ≡ get_or xs i d → i < length xs → old ≡ filter_map f (take i xs) → o ≡ f x
-    → new ≡ old ++ option_to_list o → new ≡ filter_map f (take (i + 1) xs)
-filter_push f xs i d x old new o at l h same e =
-    e ∙ ap (λ zs. zs ++ option_to_list o) h ∙ ap (λ p. filter_map f (take i xs) ++ p) (sym (one_of f (get_or xs i d) o (ap f (sym at) ∙ sym same)))
-    ∙ sym (filter_map-append f (take i xs) (get_or xs i d ∷ [])) ∙ ap (filter_map f) (sym (take_more xs i d l))
-
--- nothing stands past the end, however it is seen
-pub past_mapped : {X Y : Type 0} (f : X → Y) (xs : List X) (i : ℕ) → length xs ≤ i → slice_get (map f xs) i ≡ None
-past_mapped f [] i l = refl
-past_mapped f (x ∷ xs) zero l = absurd (omega (arith, l))
-past_mapped f (x ∷ xs) (suc i) l = past_mapped f xs i (omega (arith, l))
 
 -- ---- the places of other components
 

@@ -25,7 +25,8 @@ use Rattle.zf_steps.specs.declared.node.Node.TheVariants.{Root, State}
 use Rattle.zf_steps.specs.declared.stepped.Stepped.{Stepped}
 use Rattle.zf_steps.specs.Fitting.{AreFor}
 use Rattle.zf_steps.specs.Searching.{HasFound, HasPassed}
-use Rattle.zf_steps.specs.Steps.{exploration, stopped, values_at}
+use Rattle.zf_steps.specs.Steps.{exploration, stopped}
+use Rattle.zf_places.specs.Places.{values_at}
 use Rattle.zf_steps.specs.Systems.{Operation, System}
 
 -- ---- which part is searched

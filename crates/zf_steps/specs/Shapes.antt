@@ -3,6 +3,7 @@ use Rattle.std.specs.Prelude.{◌≡◌, ◌⊎◌, ◌++◌, ◌+◌, ℕ, Bool
 use Rattle.std.specs.List.{AllByRecursion, filter_map}
 use Rattle.zf_term.specs.Definitions.{Comp, Schema}
 use Rattle.zf_term.specs.FirstNamed.{first_named}
+use Rattle.zf_places.specs.Places.{comps_at}
 use Rattle.zf_steps.specs.Systems.{Operation}
 
 -- ---- components
@@ -26,12 +27,9 @@ abbrev pub Lacks : List Comp → (wanted : List Comp) → (name : List ℕ) → 
 Lacks comps [] name = ⊥
 Lacks comps (c ∷ cs) name = ((Has comps c → ⊥) × (name ≡ c.name)) ⊎ (Has comps c × Lacks comps cs name)
 
--- where the components are that are wanted, and what stands at places
+-- where the components are that are wanted
 abbrev pub places_of : List Comp → (wanted : List Comp) → List ℕ
 places_of comps wanted = filter_map (λ c. place_of comps c.name) wanted
-
-abbrev pub comps_at : List Comp → (places : List ℕ) → List Comp
-comps_at comps places = filter_map (slice_get comps) places
 
 -- ---- states
 

@@ -1,6 +1,5 @@
 -- The graph of a specification: its states, and the steps that its operations make.
 use Rattle.std.specs.Prelude.{◌≡◌, ◌⊎◌, ℕ, ◌++◌, Bool, List, [], ◌∷◌, codes, map, Option, None, Some, slice_get}
-use Rattle.std.specs.List.{filter_map}
 use Rattle.zf_format.specs.Strings.{string_text}
 use Rattle.zf_graph.specs.Edges.{Edge}
 use Rattle.zf_graph.specs.Explorations.{Explored}
@@ -15,6 +14,7 @@ use Rattle.zf_walk.specs.Rows.{ComesAfter}
 use Rattle.zf_meaning.specs.Environments.{Environment}
 use Rattle.zf_enum.specs.Property.{property}
 use Rattle.zf_ranges.specs.Ranges.{AreRanges}
+use Rattle.zf_places.specs.Places.{values_at}
 use Rattle.zf_steps.specs.declared.form.Form.{Form}
 use Rattle.zf_steps.specs.declared.form.Form.TheVariants as forms
 use Rattle.zf_steps.specs.declared.node.Label.{Label}
@@ -24,10 +24,6 @@ use Rattle.zf_graph.specs.Parts.{explored_of, Searched}
 use Rattle.zf_steps.specs.Systems.{Operation, System}
 
 -- ---- rows in parts
-
--- the values at these places
-abbrev pub values_at : List ℕ → List Value → List Value
-values_at places row = filter_map (slice_get row) places
 
 -- the value of this component of the state, if it is one
 abbrev pub source_value : List Value → Option ℕ → Option Value

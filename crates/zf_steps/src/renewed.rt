@@ -24,12 +24,12 @@ ghost use Rattle.zf_walk.specs.Progress.{Advances, SameRanges};
 
 use crate::cursor::{Cursor, Part};
 use crate::finder::Finder;
-use crate::rows::values_of;
 use crate::stepped::Stepped;
 use crate::system::{Operation, System};
 use std::alloc::{AllocError, Global};
 use zf_enum::{Instances, Search};
 use zf_meaning::env::Env;
+use zf_places::values_of;
 use zf_ranges::StartFault;
 use zf_term::schema::Flat;
 use zf_value::value::Value;

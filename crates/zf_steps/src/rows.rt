@@ -1,6 +1,6 @@
 //! Rows in parts: what is held of a schema where the state has these values, and the values at places of a binding.
 ghost use Rattle.std.specs.Prelude.{◌≡◌, ◌++◌, IfOk, OnOk};
-ghost use Rattle.zf_steps.specs.Steps.{held_by, source_value, stop_object, stop_text, stopped, values_at};
+ghost use Rattle.zf_steps.specs.Steps.{held_by, source_value, stop_object, stop_text, stopped};
 ghost use Rattle.zf_steps.specs.SystemViews.{operation_of};
 
 use crate::form::Form;
@@ -11,7 +11,6 @@ use std::alloc::{AllocError, Global};
 use zf_format::append_string;
 use zf_meaning::row::Row;
 use zf_texts::Spelling;
-use zf_value::items::Items;
 use zf_value::value::Value;
 
 /// The values that are held of a schema's components where the state before has these values.
@@ -44,34 +43,6 @@ fn source_value(
             Some(value) => Ok(Some(value.copy(alloc)?)),
         },
     }
-}
-
-/// The values at these places of a row.
-pub fn values_at<R: Row>(
-    alloc: Global,
-    places: &[usize],
-    row: &R,
-) -> Result<Items<Value>, AllocError>
-    ensures { IfOk result (λ values. values ≡ values_at places.now (R.values row.now)) }
-{
-    let mut values = Vec::with_capacity(alloc, places.len())?;
-    for place in places {
-        if *place < row.len() {
-            values.push(row.get(*place).copy(alloc)?)?;
-        }
-    }
-    Items::of(alloc, values)
-}
-
-/// The values of a row.
-pub fn values_of<R: Row>(alloc: Global, row: &R) -> Result<Vec<Value>, AllocError>
-    ensures { IfOk result (λ values. values.items ≡ R.values row.now) }
-{
-    let mut values = Vec::with_capacity(alloc, row.len())?;
-    for place in 0..row.len() {
-        values.push(row.get(place).copy(alloc)?)?;
-    }
-    Ok(values)
 }
 
 /// Lays out what is said of a binding that is out.

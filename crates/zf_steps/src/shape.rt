@@ -9,7 +9,8 @@ ghost use Rattle.zf_term.specs.SchemaViews.{comp_of, schema_of};
 use crate::system::Operation;
 use bumpalo::Bump;
 use std::alloc::{AllocError, Global};
-use zf_data::arena::{Chunked, Items, Lasting, Lent};
+use zf_data::arena::{Items, Lent};
+use zf_places::schema_at;
 use zf_term::named::component_of;
 use zf_term::schema::{Component, Flat};
 
@@ -193,7 +194,7 @@ fn init_of<'p, 'a>(
         sources: Vec::new(alloc),
         after: places_of(alloc, components, wanted)?,
         others: Vec::new(alloc),
-        label: label_of(arena, components, &[])?,
+        label: schema_at(arena, components, &[])?,
     })
 }
 
@@ -210,7 +211,7 @@ pub fn operation_in<'p, 'a>(
 {
     let components = schema.components.as_slice();
     let others = others_of(alloc, states, components)?;
-    let label = label_of(arena, components, &others)?;
+    let label = schema_at(arena, components, &others)?;
     Ok(Operation {
         name,
         schema,
@@ -302,52 +303,4 @@ fn is_other(states: States<'_, '_>, name: &[u8]) -> bool
         return false;
     }
     place_of(states.after, name).is_none()
-}
-
-/// A schema of the components at these places alone.
-fn label_of<'a>(
-    arena: &'a Bump,
-    components: &[Component<'a>],
-    places: &[usize],
-) -> Result<&'a Flat<'a>, AllocError>
-    ensures { IfOk result (λ f. (schema_of f.now).comps ≡ spec.comps_at (map comp_of components.now) places.now) }
-{
-    let label = Flat {
-        components: components_at(arena, components, places)?,
-        conjuncts: Chunked::new(arena),
-    };
-    let lasting = Lasting::new(arena, label)?;
-    Ok(lasting.get())
-}
-
-/// The components at these places.
-fn components_at<'a>(
-    arena: &'a Bump,
-    components: &[Component<'a>],
-    places: &[usize],
-) -> Result<Items<'a, Component<'a>>, AllocError>
-    ensures { IfOk result (λ cs. map comp_of cs ≡ spec.comps_at (map comp_of components.now) places.now) }
-{
-    let mut found = Items::with_room(arena, places.len())?;
-    for place in places {
-        add_component(&mut found, components, *place)?;
-    }
-    Ok(found)
-}
-
-/// Adds the component at a place, if there is one.
-fn add_component<'a>(
-    found: &mut Items<'a, Component<'a>>,
-    components: &[Component<'a>],
-    place: usize,
-) -> Result<(), AllocError>
-    ensures { OnOk result (map comp_of found.new ≡ map comp_of found.old ++ option_to_list (slice_get (map comp_of components.now) place)) }
-{
-    match components.get(place) {
-        None => Ok(()),
-        Some(component) => {
-            found.push(component.share()?)?;
-            Ok(())
-        }
-    }
 }

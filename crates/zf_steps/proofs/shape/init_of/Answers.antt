@@ -12,4 +12,4 @@ returns c =
     same_operation _ _ refl refl c.new.ensures.items
     (c.in_ok-places_of.ensures ∙ filter_mapped (λ (x : Comp). place_of (map comp_of comps) x.name) comp_of wanted
     ∙ ap (λ ks. filter_map (λ (x : Comp). place_of (map comp_of ks) x.name) (map comp_of wanted)) c.as_slice-components.ensures)
-    c.new-2.ensures.items c.in_ok-label_of.ensures
+    c.new-2.ensures.items c.in_ok-schema_at.ensures

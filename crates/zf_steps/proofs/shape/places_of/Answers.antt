@@ -1,7 +1,7 @@
 use Rattle.std.proofs.Common.{map}
 use Rattle.zf_term.specs.SchemaViews.{comp_of}
 use Rattle.zf_steps.specs.Shapes.{place_of}
-use Rattle.zf_steps.proofs.Shapes.{filter_push}
+use Rattle.zf_places.proofs.Picked.{filter_push}
 use Rattle.zf_steps.proofs.shape.places_of.Goals as goal
 
 pub loop-component-preserved : goal.loop-component-preserved

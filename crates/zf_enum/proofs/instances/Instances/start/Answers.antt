@@ -1,7 +1,8 @@
 -- A search begins before all events of the schema.
-use Rattle.zf_enum.proofs.Prelude.{◌∙◌, ap, arith, length, List, map, subst, sym, option_copied, AreAllAhead, all_ahead, SayTheSame, Grove, trees_of, HaveLeavesWithin, planted, exact, value_order, Value, comp_of, schema_of, resolved_of, environment_of, AreAllRanges, property, AreRanges, judged, with_first, Property}
+use Rattle.zf_enum.proofs.Prelude.{◌∙◌, ap, arith, length, List, map, subst, sym, option_copied, AreAllAhead, all_ahead, SayTheSame, Grove, trees_of, HaveLeavesWithin, planted, exact, value_order, Value, comp_of, schema_of, resolved_of, Resolved, ArePlanted, environment_of, AreAllRanges, property, AreRanges, judged, with_first, Property}
 use Rattle.zf_term.specs.declared.schema.Component.{Component}
-use Rattle.zf_enum.proofs.Naming.{as_many, dues_at, first_names, named_alike}
+use Rattle.zf_enum.proofs.Naming.{as_many, dues_at, first_names, lifted_alike, named_alike, needs_no_more}
+use Rattle.zf_lift.proofs.Longer.{further}
 use Rattle.zf_enum.proofs.Started.{ranges_ascend, named_within, needs_within}
 use Rattle.zf_enum.proofs.Planted.{say_the_same, leaves_within}
 use Rattle.zf_enum.proofs.instances.Instances.start.Goals as goal
@@ -13,8 +14,12 @@ lifted-requires c =
     let rs = c.in_ok-ranges.ranges.items in
     let all = subst (λ (ds : List Component). AreAllRanges e (map comp_of ds) c.args.held.now rs) c.as_slice.ensures c.in_ok-ranges.ensures.is in
     let p = c.in_ok-planting.planting in
-    let are_planted = c.in_ok-planting.ensures in
-    record { small = λ k. omega (arith, are_planted.needs (length rs) (needs_within e s.comps c.args.held.now rs s.conjuncts all.0 c.requires.due) k, c.in_ok-ranges.ranges.small) }
+    let u = c.in_ok-unfolded.unfolded in
+    let d = environment_of u.env.now in
+    let us = map resolved_of u.terms.items in
+    let unfolded = c.in_ok-unfolded.ensures in
+    let are_planted = subst (λ (ts : List Resolved). ArePlanted (map resolved_of ts) p.leaves.items (trees_of p.forest)) c.deref.ensures.value c.in_ok-planting.ensures in
+    record { small = λ k. omega (arith, are_planted.needs (length rs) (needs_no_more d e us s.conjuncts unfolded.each (length rs) (needs_within e s.comps c.args.held.now rs s.conjuncts all.0 c.requires.due)) k, c.in_ok-ranges.ranges.small) }
 
 pub start-requires-clause-ascending : goal.start-requires-clause-ascending
 start-requires-clause-ascending c = ranges_ascend (environment_of c.args.env.now) _ c.args.held.now c.in_ok-ranges.ranges.items c.in_ok-ranges.ensures.is.0
@@ -35,13 +40,17 @@ start-requires-clause-due c =
     let rs = c.in_ok-ranges.ranges.items in
     let all = subst (λ (ds : List Component). AreAllRanges e (map comp_of ds) c.args.held.now rs) c.as_slice.ensures c.in_ok-ranges.ensures.is in
     let p = c.in_ok-planting.planting in
-    let are_planted = c.in_ok-planting.ensures in
+    let u = c.in_ok-unfolded.unfolded in
+    let d = environment_of u.env.now in
+    let us = map resolved_of u.terms.items in
+    let unfolded = c.in_ok-unfolded.ensures in
+    let are_planted = subst (λ (ts : List Resolved). ArePlanted (map resolved_of ts) p.leaves.items (trees_of p.forest)) c.deref.ensures.value c.in_ok-planting.ensures in
     let named = c.in_ok-property.property in
     λ k l. omega (
       arith,
-      dues_at (environment_of named.env.now) e (map resolved_of named.conjuncts)
+      dues_at (environment_of named.env.now) d (map resolved_of named.conjuncts)
           (map resolved_of p.leaves.items) c.in_ok-property.ensures.each k,
-      are_planted.needs (length rs) (needs_within e s.comps c.args.held.now rs s.conjuncts all.0 c.requires.due) k,
+      are_planted.needs (length rs) (needs_no_more d e us s.conjuncts unfolded.each (length rs) (needs_within e s.comps c.args.held.now rs s.conjuncts all.0 c.requires.due)) k,
     )
 
 pub start-requires-clause-leaves : goal.start-requires-clause-leaves
@@ -49,10 +58,14 @@ start-requires-clause-leaves c =
     let e = environment_of c.args.env.now in
     let s = schema_of c.args.flat.now in
     let p = c.in_ok-planting.planting in
-    let are_planted = c.in_ok-planting.ensures in
+    let u = c.in_ok-unfolded.unfolded in
+    let d = environment_of u.env.now in
+    let us = map resolved_of u.terms.items in
+    let unfolded = c.in_ok-unfolded.ensures in
+    let are_planted = subst (λ (ts : List Resolved). ArePlanted (map resolved_of ts) p.leaves.items (trees_of p.forest)) c.deref.ensures.value c.in_ok-planting.ensures in
     let named = c.in_ok-property.property in
-    let many = as_many (environment_of named.env.now) e (map resolved_of named.conjuncts) (map resolved_of p.leaves.items) c.in_ok-property.ensures.each in
-    subst (λ n. HaveLeavesWithin n (trees_of p.forest)) (sym many) (leaves_within s.conjuncts p.leaves.items (trees_of p.forest) are_planted)
+    let many = as_many (environment_of named.env.now) d (map resolved_of named.conjuncts) (map resolved_of p.leaves.items) c.in_ok-property.ensures.each in
+    subst (λ n. HaveLeavesWithin n (trees_of p.forest)) (sym many) (leaves_within us p.leaves.items (trees_of p.forest) are_planted)
 
 pub returns-clause-begins : goal.returns-clause-begins
 returns-clause-begins c =
@@ -61,17 +74,23 @@ returns-clause-begins c =
     let rs = c.in_ok-ranges.ranges.items in
     let all = subst (λ (ds : List Component). AreAllRanges e (map comp_of ds) c.args.held.now rs) c.as_slice.ensures c.in_ok-ranges.ensures.is in
     let p = c.in_ok-planting.planting in
-    let are_planted = c.in_ok-planting.ensures in
+    let u = c.in_ok-unfolded.unfolded in
+    let d = environment_of u.env.now in
+    let us = map resolved_of u.terms.items in
+    let unfolded = c.in_ok-unfolded.ensures in
+    let are_planted = subst (λ (ts : List Resolved). ArePlanted (map resolved_of ts) p.leaves.items (trees_of p.forest)) c.deref.ensures.value c.in_ok-planting.ensures in
     let named = c.in_ok-property.property in
     let f = environment_of named.env.now in
     let terms = map resolved_of named.conjuncts in
     let lifted = c.in_ok-property.ensures in
-    let same = named_alike f e terms (map resolved_of p.leaves.items) s.conjuncts (trees_of p.forest) lifted (say_the_same s.conjuncts p.leaves.items (trees_of p.forest) are_planted e) in
+    let trees = trees_of p.forest in
+    let written = named_alike f d terms (map resolved_of p.leaves.items) us trees lifted (say_the_same us p.leaves.items trees are_planted d) in
+    let same = lifted_alike d e us s.conjuncts (planted (property f terms) trees) unfolded written in
     let search = c.in_ok-search.search in
     let problem = c.in_ok-search.ensures.problem in
     let ahead = all_ahead value_order (planted (property f terms) (trees_of p.forest)) (property e s.conjuncts) same rs (option_copied c.args.after) search.stage.ahead c.in_ok-search.ensures.events in
     record {
-      environment = ap (λ (j : Property). with_first c.count-names.result (environment_of j.env.now)) problem.0 ∙ first_names e f c.count-names.result c.count-names.ensures lifted.longer;
+      environment = ap (λ (j : Property). with_first c.count-names.result (environment_of j.env.now)) problem.0 ∙ first_names e f c.count-names.result c.count-names.ensures (further e d f unfolded.longer lifted.longer);
       same = subst (λ (j : Property). SayTheSame (planted (judged j) (trees_of search.forest)) (property e s.conjuncts)) (sym problem.0)
           (subst (λ (g : Grove). SayTheSame (planted (property f terms) (trees_of g)) (property e s.conjuncts)) (sym problem.1) same);
       ranges = subst (λ (ws : List (List Value)). AreRanges e s.comps c.args.held.now ws) (sym problem.2) all.0;

@@ -1,0 +1,88 @@
+-- Terms in which the outermost bound variable has the name of a global. No public clause rests on this.
+use Rattle.std.specs.Prelude.{ℕ, zero, suc, min, Option, Some, None}
+use Rattle.zf_reference.specs.declared.reference.Reference.{Reference}
+use Rattle.zf_reference.specs.declared.reference.Reference.TheVariants.{Component, Local, Global}
+use Rattle.zf_tree.specs.declared.operator.Operator.TheVariants.{Connective}
+use Rattle.zf_tree.specs.declared.symbol.Connective.TheVariants.{And, Implies}
+use Rattle.zf_tree.specs.declared.symbol.Quantifier.TheVariants.{ForAll}
+use Rattle.zf_term.specs.ResolvedTrees.{ResolvedTree, reference, number, constant, empty_set, bracket, listed, builder, unary, binary, chain, quantified, ResolvedTrees, no_terms, term, ResolvedLinks, no_links, link, Ranges, no_ranges, range, ResolvedPart, absent, present}
+
+-- ---- names
+
+-- a variable where the outermost is no longer bound
+abbrev pub inside : (member : ℕ) → ℕ → Reference
+inside m zero = Global m
+inside m (suc i) = Local i
+
+abbrev pub local_named : Option ℕ → ℕ → Reference
+local_named None i = Local i
+local_named (Some m) i = inside m i
+
+-- the outermost bound variable has the name of the member, if there is one, and each global behind the first n that of the one behind them
+unfoldable pub named : (n : ℕ) → (member : Option ℕ) → Reference → Reference
+named n m (Component i) = Component i
+named n m (Local i) = local_named m i
+named n m (Global i) = Global (min i n)
+
+-- ---- terms
+
+abbrev mutual
+  pub renamed : (Reference → Reference) → ResolvedTree → ResolvedTree
+  renamed f (reference l r) = reference l (f r)
+  renamed f (number l v) = number l v
+  renamed f (constant l c) = constant l c
+  renamed f (empty_set l t) = empty_set l (renamed f t)
+  renamed f (bracket l t) = bracket l (renamed f t)
+  renamed f (listed l form ts) = listed l form (all_renamed f ts)
+  renamed f (builder l rs p t) = builder l (ranges_renamed f rs) (part_renamed f p) (part_renamed f t)
+  renamed f (unary l op t) = unary l op (renamed f t)
+  renamed f (binary l op a b) = binary l op (renamed f a) (renamed f b)
+  renamed f (chain l t ks) = chain l (renamed f t) (links_renamed f ks)
+  renamed f (quantified l q rs p t) = quantified l q (ranges_renamed f rs) (part_renamed f p) (renamed f t)
+
+  pub all_renamed : (Reference → Reference) → ResolvedTrees → ResolvedTrees
+  all_renamed f no_terms = no_terms
+  all_renamed f (term t ts) = term (renamed f t) (all_renamed f ts)
+
+  pub links_renamed : (Reference → Reference) → ResolvedLinks → ResolvedLinks
+  links_renamed f no_links = no_links
+  links_renamed f (link r t ks) = link r (renamed f t) (links_renamed f ks)
+
+  pub ranges_renamed : (Reference → Reference) → Ranges → Ranges
+  ranges_renamed f no_ranges = no_ranges
+  ranges_renamed f (range n t rs) = range n (renamed f t) (ranges_renamed f rs)
+
+  pub part_renamed : (Reference → Reference) → ResolvedPart → ResolvedPart
+  part_renamed f absent = absent
+  part_renamed f (present t) = present (renamed f t)
+
+-- ---- what a universal quantifier says of a member
+
+-- one variable less of this range
+abbrev pub fewer : ℕ → ResolvedTree → Ranges → Ranges
+fewer zero t rs = rs
+fewer (suc zero) t rs = rs
+fewer (suc (suc n)) t rs = range (suc n) t rs
+
+-- the ranges without their first variable
+abbrev pub others : Ranges → Ranges
+others no_ranges = no_ranges
+others (range n t rs) = fewer n t rs
+
+abbrev pub implied : ℕ → ResolvedPart → ResolvedTree → ResolvedTree
+implied l absent t = t
+implied l (present p) t = binary l (Connective Implies) p t
+
+-- over ranges, if there are any
+abbrev pub over : ℕ → Ranges → ResolvedPart → ResolvedTree → ResolvedTree
+over l no_ranges p t = implied l p t
+over l (range n s rs) p t = quantified l ForAll (range n s rs) p t
+
+-- where the first variable has the name of the global m
+abbrev pub instance : (n m l : ℕ) → Ranges → ResolvedPart → ResolvedTree → ResolvedTree
+instance n m l rs p t = over l (others (ranges_renamed (named n None) rs)) (part_renamed (named n (Some m)) p) (renamed (named n (Some m)) t)
+
+-- of this member and so many more
+abbrev pub instances : (n m more l : ℕ) → Ranges → ResolvedPart → ResolvedTree → ResolvedTree
+instances n m zero l rs p t = instance n m l rs p t
+instances n m (suc more) l rs p t = binary l (Connective And) (instance n m l rs p t) (instances n (suc m) more l rs p t)
