@@ -98,10 +98,10 @@ pub fn truth_of<'a, R: Row>(
 ) -> Result<Truth, AllocError>
     ensures { IfOk result (IsTruth (in_row (environment_of env.now) (R.values row.now)) (resolved_of term.now)) }
 {
-    let none = no_variables();
-    if let Some(told) = compared_in(term, &*row, none, &*env) {
+    if let Some(told) = compared_in(term, &*row, &*env) {
         return Ok(told);
     }
+    let none = no_variables();
     truth(term, &*row, none, &*env)
 }
 

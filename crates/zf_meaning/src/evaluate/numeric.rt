@@ -11,12 +11,11 @@ ghost use Rattle.zf_value.specs.Numbers.{IsNumber};
 ghost use Rattle.zf_meaning.specs.Environments as spec;
 ghost use Rattle.zf_meaning.specs.Lookups.{outcome_or};
 ghost use Rattle.zf_meaning.specs.Envs.{environment_of};
-ghost use Rattle.zf_meaning.specs.Forms.{IsBinary};
 ghost use Rattle.zf_meaning.specs.Meaning.{HasOutcome, IsTruth};
-ghost use Rattle.zf_meaning.specs.Scopes.{scope_of};
+ghost use Rattle.zf_meaning.specs.InRow.{in_row};
 ghost use Rattle.zf_outcome.specs.Symbols.{InfixOutcome};
 
-use super::{component, local};
+use super::component;
 use crate::env::Env;
 use crate::row::Row;
 use zf_outcome::relation::between_numbers;
@@ -33,15 +32,14 @@ use zf_value::value::{Outcome, Truth, Value};
 pub(crate) fn compared_in<'v, 'a, R: Row>(
     term: &Resolved<'a>,
     row: &'v R,
-    locals: &[&'v Value],
     env: &'v Env<'_, 'a>,
 ) -> Option<Truth>
-    ensures { IfSome result (IsTruth (scope_of env.now (R.values row.now) locals.now) (resolved_of term.now)) }
+    ensures { IfSome result (IsTruth (in_row (environment_of env.now) (R.values row.now)) (resolved_of term.now)) }
 {
     let Resolved::Chain(_, first, links) = term else {
         return None;
     };
-    compared(first.get(), links.as_slice(), row, locals, env)
+    compared(first.get(), links.as_slice(), row, env)
 }
 
 /// The same of a chain.
@@ -49,10 +47,9 @@ fn compared<'v, 'a, R: Row>(
     first: &Resolved<'a>,
     links: &[ResolvedLink<'a>],
     row: &'v R,
-    locals: &[&'v Value],
     env: &'v Env<'_, 'a>,
 ) -> Option<Truth>
-    ensures { (line : ℕ) → IfSome result (IsTruth (scope_of env.now (R.values row.now) locals.now) (tree.chain line (resolved_of first.now) (tree_views.links (map resolved_link_of links.now)))) }
+    ensures { (line : ℕ) → IfSome result (IsTruth (in_row (environment_of env.now) (R.values row.now)) (tree.chain line (resolved_of first.now) (tree_views.links (map resolved_link_of links.now)))) }
 {
     let [link] = links else {
         return None;
@@ -60,10 +57,10 @@ fn compared<'v, 'a, R: Row>(
     if !is_comparison(link.relation) {
         return None;
     }
-    let Some(m) = number_at(first, row, locals, env) else {
+    let Some(m) = number_at(first, row, env) else {
         return None;
     };
-    let Some(n) = number_at(&link.right, row, locals, env) else {
+    let Some(n) = number_at(&link.right, row, env) else {
         return None;
     };
     Some(between_numbers(link.relation, m, n))
@@ -83,57 +80,54 @@ fn is_comparison(relation: Relation) -> bool
     }
 }
 
-/// The number that a term comes to, if it is a name, a number, an application of a name to a name, or a symbol of arithmetic between two such terms.
+/// The number that a term comes to, if it is a name, a number, an application of a name to a name, or a symbol of arithmetic between
+/// two such terms. Most are names and numbers, which are read without a call.
 #[cycle(numbers)]
+#[inline(always)]
 #[tactic(auto, using(zf_term::proofs::ResolvedSeen::seen))]
-fn number_at<'v, 'a, R: Row>(
-    term: &Resolved<'a>,
-    row: &'v R,
-    locals: &[&'v Value],
-    env: &'v Env<'_, 'a>,
-) -> Option<i64>
-    ensures { IfSome result (λ n. HasOutcome (scope_of env.now (R.values row.now) locals.now) (resolved_of term.now) (Is (Int n))) }
+fn number_at<'v, 'a, R: Row>(term: &Resolved<'a>, row: &'v R, env: &'v Env<'_, 'a>) -> Option<i64>
+    ensures { IfSome result (λ n. HasOutcome (in_row (environment_of env.now) (R.values row.now)) (resolved_of term.now) (Is (Int n))) }
 {
     match term {
-        Resolved::Name(_, reference) => number_named(*reference, row, locals, env),
+        Resolved::Name(_, reference) => number_named(*reference, row, env),
         Resolved::Number(_, value) => signed(*value),
-        Resolved::Bracket(_, inner) => number_at(inner.get(), row, locals, env),
-        Resolved::Binary(_, _, _, _) => number_between(term, row, locals, env),
-        _ => None,
+        _ => number_within(term, row, env),
     }
 }
 
-/// The number that a symbol makes of two terms.
+/// The same of brackets, and of a symbol between two terms.
 #[cycle(numbers)]
 #[inline(never)]
-fn number_between<'v, 'a, R: Row>(
+#[tactic(auto, using(zf_term::proofs::ResolvedSeen::seen))]
+fn number_within<'v, 'a, R: Row>(
     term: &Resolved<'a>,
     row: &'v R,
-    locals: &[&'v Value],
     env: &'v Env<'_, 'a>,
 ) -> Option<i64>
-    requires { IsBinary term.now }
-    ensures { IfSome result (λ n. HasOutcome (scope_of env.now (R.values row.now) locals.now) (resolved_of term.now) (Is (Int n))) }
+    ensures { IfSome result (λ n. HasOutcome (in_row (environment_of env.now) (R.values row.now)) (resolved_of term.now) (Is (Int n))) }
 {
-    let Resolved::Binary(_, op, left, right) = term else {
-        unreachable!();
-    };
-    let left = left.get();
-    let right = right.get();
-    match op {
-        Operator::Function(infix) => {
-            if !is_calculated(*infix) {
-                return None;
+    match term {
+        Resolved::Bracket(_, inner) => number_at(inner.get(), row, env),
+        Resolved::Binary(_, op, left, right) => {
+            let left = left.get();
+            let right = right.get();
+            match op {
+                Operator::Function(infix) => {
+                    if !is_calculated(*infix) {
+                        return None;
+                    }
+                    let Some(m) = number_at(left, row, env) else {
+                        return None;
+                    };
+                    let Some(n) = number_at(right, row, env) else {
+                        return None;
+                    };
+                    of_numbers(*infix, m, n)
+                }
+                Operator::Application => number_applied(left, right, row, env),
+                _ => None,
             }
-            let Some(m) = number_at(left, row, locals, env) else {
-                return None;
-            };
-            let Some(n) = number_at(right, row, locals, env) else {
-                return None;
-            };
-            of_numbers(*infix, m, n)
         }
-        Operator::Application => number_applied(left, right, row, locals, env),
         _ => None,
     }
 }
@@ -149,6 +143,7 @@ fn is_calculated(op: Infix) -> bool {
     }
 }
 
+#[inline(always)]
 fn of_numbers(op: Infix, m: i64, n: i64) -> Option<i64>
     ensures { IfSome result (λ k. InfixOutcome op (Int m) (Int n) (Is (Int k))) }
 {
@@ -178,15 +173,14 @@ fn number_applied<'v, 'a, R: Row>(
     left: &Resolved<'a>,
     right: &Resolved<'a>,
     row: &'v R,
-    locals: &[&'v Value],
     env: &'v Env<'_, 'a>,
 ) -> Option<i64>
-    ensures { (line : ℕ) → IfSome result (λ n. HasOutcome (scope_of env.now (R.values row.now) locals.now) (tree.binary line Application (resolved_of left.now) (resolved_of right.now)) (Is (Int n))) }
+    ensures { (line : ℕ) → IfSome result (λ n. HasOutcome (in_row (environment_of env.now) (R.values row.now)) (tree.binary line Application (resolved_of left.now) (resolved_of right.now)) (Is (Int n))) }
 {
-    let Some(f) = value_of_name(left, row, locals, env) else {
+    let Some(f) = value_of_name(left, row, env) else {
         return None;
     };
-    let Some(x) = value_of_name(right, row, locals, env) else {
+    let Some(x) = value_of_name(right, row, env) else {
         return None;
     };
     match applied(f, x) {
@@ -200,45 +194,44 @@ fn number_applied<'v, 'a, R: Row>(
 fn value_of_name<'v, 'a, R: Row>(
     term: &Resolved<'a>,
     row: &'v R,
-    locals: &[&'v Value],
     env: &'v Env<'_, 'a>,
 ) -> Option<&'v Value>
-    ensures { IfSome result (λ v. HasOutcome (scope_of env.now (R.values row.now) locals.now) (resolved_of term.now) (Is v.now)) }
+    ensures { IfSome result (λ v. HasOutcome (in_row (environment_of env.now) (R.values row.now)) (resolved_of term.now) (Is v.now)) }
 {
     match term {
-        Resolved::Name(_, reference) => value_named(*reference, row, locals, env),
-        Resolved::Bracket(_, inner) => value_of_name(inner.get(), row, locals, env),
+        Resolved::Name(_, reference) => value_named(*reference, row, env),
+        Resolved::Bracket(_, inner) => value_of_name(inner.get(), row, env),
         _ => None,
     }
 }
 
 /// The number that a name stands for.
+#[inline(always)]
 fn number_named<'v, 'a, R: Row>(
     reference: Reference,
     row: &'v R,
-    locals: &[&'v Value],
     env: &'v Env<'_, 'a>,
 ) -> Option<i64>
-    ensures { IfSome result (λ n. Is (Int n) ≡ spec.outcome_in (scope_of env.now (R.values row.now) locals.now) reference) }
+    ensures { IfSome result (λ n. Is (Int n) ≡ spec.outcome_in (in_row (environment_of env.now) (R.values row.now)) reference) }
 {
-    match value_named(reference, row, locals, env) {
+    match value_named(reference, row, env) {
         Some(value) => value.number(),
         None => None,
     }
 }
 
 /// The value that a name stands for.
+#[inline(always)]
 fn value_named<'v, 'a, R: Row>(
     reference: Reference,
     row: &'v R,
-    locals: &[&'v Value],
     env: &'v Env<'_, 'a>,
 ) -> Option<&'v Value>
-    ensures { IfSome result (λ v. Is v.now ≡ spec.outcome_in (scope_of env.now (R.values row.now) locals.now) reference) }
+    ensures { IfSome result (λ v. Is v.now ≡ spec.outcome_in (in_row (environment_of env.now) (R.values row.now)) reference) }
 {
     match reference {
         Reference::Component(place) => component(row, place),
-        Reference::Local(place) => local(locals, place),
+        Reference::Local(_) => None,
         Reference::Global(place) => global_value(env, place),
     }
 }

@@ -1,6 +1,6 @@
-use Rattle.zf_meaning.proofs.Prelude.{resolved_of, IsTruth, scope_of}
+use Rattle.zf_meaning.proofs.Prelude.{resolved_of, environment_of, IsTruth}
+use Rattle.zf_meaning.specs.InRow.{in_row}
 use Rattle.zf_meaning.proofs.InRow.{truth-in-row}
-use Rattle.std.specs.Prelude.{Ok}
 use Rattle.zf_meaning.proofs.Numeric.{at-some}
 use Rattle.zf_meaning.proofs.value.truth_of.Goals as goal
 
@@ -9,7 +9,5 @@ returns g c = truth-in-row c.args.env.now (g.R.Row.values c.args.row.now) c.no_v
 
 pub returns-in-Some : goal.returns-in-Some
 returns-in-Some g c =
-    let row = g.R.Row.values c.args.row.now in
-    let told = at-some (λ u. IsTruth (scope_of c.args.env.now row c.no_variables-none.result.now) (resolved_of c.args.term.now) u) c.compared_in.result
-    c.in-Some.told c.in-Some.is c.compared_in.ensures in
-    truth-in-row c.args.env.now row c.no_variables-none.result.now (resolved_of c.args.term.now) (Ok c.in-Some.told) c.no_variables-none.ensures told
+    at-some (λ u. IsTruth (in_row (environment_of c.args.env.now) (g.R.Row.values c.args.row.now)) (resolved_of c.args.term.now) u) c.compared_in.result
+    c.in-Some.told c.in-Some.is c.compared_in.ensures

@@ -1,13 +1,14 @@
-use Rattle.zf_meaning.proofs.Prelude.{rules, subst, sym, w64, IfSome, FitsSigned, Is, Int, binary, resolved_of, HasOutcome, scope_of, InfixOutcome}
+use Rattle.zf_meaning.proofs.Prelude.{rules, subst, sym, w64, IfSome, FitsSigned, Is, Int, binary, resolved_of, environment_of, HasOutcome, InfixOutcome}
+use Rattle.zf_meaning.specs.InRow.{in_row}
 use Rattle.zf_meaning.proofs.Numeric.{both-numbers}
 use Rattle.zf_meaning.proofs.Operands.{both-seen}
 use Rattle.zf_outcome.proofs.Comparisons.{written-both}
 use Rattle.zf_meaning.proofs.evaluate.numeric.+numbers.Goals as goal
 
-pub number_between-returns-in-Some-number_at : goal.number_between-returns-in-Some-number_at
-number_between-returns-in-Some-number_at g t c =
+pub number_within-returns-in-Some-number_at : goal.number_within-returns-in-Some-number_at
+number_within-returns-in-Some-number_at g t c =
     let i = c.in-Binary in
-    let k = scope_of c.args.env.now (g.R.Row.values c.args.row.now) c.args.locals.now in
+    let k = in_row (environment_of c.args.env.now) (g.R.Row.values c.args.row.now) in
     let a = resolved_of c.get-left.result.now in
     let b = resolved_of c.get-right.result.now in
     let op = c.in-Function.infix in
@@ -21,10 +22,10 @@ number_between-returns-in-Some-number_at g t c =
     subst (λ d. IfSome r (λ q. HasOutcome k d (Is (Int q)))) (both-seen c.args.term.now i.field-0 i.op i.left i.right _ _ i.is c.get-left.ensures c.get-right.ensures)
     (subst (λ o. IfSome r (λ q. HasOutcome k (binary i.field-0 o a b) (Is (Int q)))) (sym c.in-Function.is) told)
 
-pub number_between-returns-in-Application : goal.number_between-returns-in-Application
-number_between-returns-in-Application g t c =
+pub number_within-returns-in-Application : goal.number_within-returns-in-Application
+number_within-returns-in-Application g t c =
     let i = c.in-Binary in
-    let k = scope_of c.args.env.now (g.R.Row.values c.args.row.now) c.args.locals.now in
+    let k = in_row (environment_of c.args.env.now) (g.R.Row.values c.args.row.now) in
     let a = resolved_of c.get-left.result.now in
     let b = resolved_of c.get-right.result.now in
     let r = c.number_applied.result in

@@ -1,4 +1,5 @@
-use Rattle.zf_meaning.proofs.Prelude.{arith, map, rules, subst, sym, w64, FitsSigned, Is, Int, chain, links, resolved_link_of, resolved_of, IsTruth, scope_of, Holds, IsAtom}
+use Rattle.zf_meaning.proofs.Prelude.{arith, map, rules, subst, sym, w64, FitsSigned, Is, Int, chain, links, resolved_link_of, resolved_of, environment_of, IsTruth, Holds, IsAtom}
+use Rattle.zf_meaning.specs.InRow.{in_row}
 use Rattle.zf_meaning.proofs.Numeric.{compared-told, one-link}
 use Rattle.zf_outcome.proofs.Comparisons.{written-both}
 use Rattle.zf_meaning.proofs.evaluate.numeric.compared.Goals as goal
@@ -6,7 +7,7 @@ use Rattle.zf_meaning.proofs.evaluate.numeric.compared.Goals as goal
 pub returns : goal.returns
 returns g c =
     let k = c.link-item in
-    let scope = scope_of c.args.env.now (g.R.Row.values c.args.row.now) c.args.locals.now in
+    let scope = in_row (environment_of c.args.env.now) (g.R.Row.values c.args.row.now) in
     let one = one-link c.args.links.now k.result (omega (arith, c.in-len1.len_at_least)) (omega (arith, c.in-len1.len_below)) k.is in
     let f : FitsSigned w64 c.in-Some.m = search rules in
     let h : FitsSigned w64 c.in-Some-number_at.n = search rules in
