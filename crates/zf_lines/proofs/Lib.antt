@@ -9,4 +9,5 @@ pub mod Searching
 pub mod Standing
 pub mod Keeping
 pub mod Parts
+pub mod LastLine
 pub mod Beginning

@@ -1,8 +1,7 @@
 -- Parts of lines, and columns of them.
-use Rattle.zf_lines.proofs.Prelude.{◌++◌, ◌+◌, ◌<◌, ◌∙◌, ◌∷◌, ◌≡◌, ◌≤◌, [], ap, append_assoc, arith, codes, drop, get_or, inl, inr, length, length-append, List, map, None, Option, refl, Some, subst, suc, sym, take, zero, ℕ, set, length-map, length-set, length-take-le, map_more, take_all, get_or_from_slice_get, slice_get_read, option_map, slice_get, slice_index_or, unwrap_or, Value, Comp, comp_of, ahead-further, texts-drop, component_in, components_in, goes_on, Format, name_in, Spelling, AreColumns, head_of, Keeps, part_at}
+use Rattle.zf_lines.proofs.Prelude.{◌++◌, ◌+◌, ◌<◌, ◌∙◌, ◌∷◌, ◌≡◌, ◌≤◌, [], ap, append_assoc, arith, get_or, inl, inr, length, length-append, List, map, None, Option, refl, Some, subst, suc, sym, take, zero, ℕ, set, length-map, length-set, length-take-le, map_more, take_all, slice_get_read, option_map, slice_get, slice_index_or, unwrap_or, Value, Comp, comp_of, comma_before, component_in, Format, name_in, Spelling, AreColumns, head_of, Keeps, part_at}
 use Rattle.zf_term.specs.declared.schema.Component.{Component}
 use Rattle.zf_texts.specs.ValueTexts.{value_in}
-use Rattle.zf_texts.specs.LineTexts.{comma_before}
 use Rattle.zf_lines.specs.declared.column.Column.{Column}
 use Rattle.zf_lines.proofs.Keeping.{at_push, at_set}
 
@@ -23,18 +22,18 @@ part_of_component f ss n c values i v head is at =
     let begun : head ++ value_in f ss v ≡ (comma_before n ++ name_in f c.name) ++ value_in f ss v = ap (λ h. h ++ value_in f ss v) is in
     worked ∙ begun ∙ append_assoc (comma_before n) (name_in f c.name) (value_in f ss v)
 
-at_length : {A : Type 0} (xs : List A) (i : ℕ) (x : A) → slice_get xs i ≡ Some x → i < length xs
+pub at_length : {A : Type 0} (xs : List A) (i : ℕ) (x : A) → slice_get xs i ≡ Some x → i < length xs
 at_length [] zero x e = (cc)
 at_length [] (suc i) x e = (cc)
 at_length (y ∷ xs) zero x e = omega arith
 at_length (y ∷ xs) (suc i) x e = let l = at_length xs i x e in omega (arith, l)
 
-at_some : {A : Type 0} (xs : List A) (i : ℕ) → i < length xs → (x : A) × (slice_get xs i ≡ Some x)
+pub at_some : {A : Type 0} (xs : List A) (i : ℕ) → i < length xs → (x : A) × (slice_get xs i ≡ Some x)
 at_some [] i l = absurd (omega (arith, l))
 at_some (x ∷ xs) zero l = (x, refl)
 at_some (x ∷ xs) (suc i) l = at_some xs i (omega (arith, l))
 
-at_map : {A B : Type 0} (f : A → B) (xs : List A) (i : ℕ) (x : A) → slice_get xs i ≡ Some x → slice_get (map f xs) i ≡ Some (f x)
+pub at_map : {A B : Type 0} (f : A → B) (xs : List A) (i : ℕ) (x : A) → slice_get xs i ≡ Some x → slice_get (map f xs) i ≡ Some (f x)
 at_map f [] zero x e = (cc)
 at_map f [] (suc i) x e = (cc)
 at_map f (y ∷ xs) zero x e = let s : y ≡ x = (cc) in ap (λ z. Some (f z)) s
@@ -92,19 +91,6 @@ module _ (f : Format) (ss : List Spelling) (ranges : List (List Value)) where
       → i < length comps → column ≡ get_or columns i column
       → slice_get columns i ≡ Some column
   column_there comps columns column i h deep is = slice_get_read columns (length columns) i column refl (omega (arith, deep, h.all, length-map comps comp_of)) is
-
-  -- what was ahead is ahead behind one more part
-  pub part_ahead : (comps : List Component) (columns : List Column) (column : Column) (vs : List Value) (i : ℕ) (line new whole : List ℕ)
-      → AreColumns f ss (map comp_of comps) ranges columns → slice_get columns i ≡ Some column → i < length comps → i < length vs
-      → line ++ goes_on i (components_in f ss (map comp_of (drop i comps)) (drop i vs)) ≡ whole → new ≡ line ++ part_at column.head f ss vs i
-      → new ++ goes_on (i + 1) (components_in f ss (map comp_of (drop (i + 1) comps)) (drop (i + 1) vs)) ≡ whole
-  part_ahead comps columns column vs i line new whole h there deep long ahead is =
-      let c = at_some comps i deep in
-      let v = at_some vs i long in
-      let next = texts-drop f ss comps comps vs i c.0 v.0 refl (sym (get_or_from_slice_get comps i c.0 c.0 c.1)) deep v.1 in
-      let head = h.heads i (comp_of c.0) column (at_map comp_of comps i c.0 c.1) there in
-      ahead-further line (line ++ comma_before i) new whole (component_in f ss (comp_of c.0) v.0) i _ (ap (λ l. line ++ goes_on i l) (sym next) ∙ ahead) refl
-      (is ∙ ap (λ t. line ++ t) (part_of_component f ss i (comp_of c.0) vs i v.0 column.head head v.1) ∙ sym (append_assoc line (comma_before i) (component_in f ss (comp_of c.0) v.0)))
 
   pub more_columns : (comps : List Component) (i : ℕ) (c : Component) (columns new : List Column) (column : Column) → c ≡ get_or comps i c → i < length comps → column.head ≡ head_of f i (comp_of c)
       → ((f : ℕ → List ℕ) → Keeps f column) → new ≡ columns ++ column ∷ [] → AreColumns f ss (map comp_of (take i comps)) ranges columns → AreColumns f ss (map comp_of (take (i + 1) comps)) ranges new

@@ -24,9 +24,7 @@ pub use Rattle.zf_value.specs.declared.plain.Value.{Value}
 pub use Rattle.zf_term.specs.Definitions.{Comp, Schema}
 pub use Rattle.zf_term.specs.SchemaViews.{comp_of, schema_of}
 pub use Rattle.zf_meaning.specs.Environments.{Environment}
-pub use Rattle.zf_texts.proofs.Printing.{ahead-further, drop-end, line-ended, texts-drop, texts-nil}
 pub use Rattle.zf_texts.specs.BindingTexts.{component_in, components_in, name_in, row_text}
-pub use Rattle.zf_texts.specs.Steps.{goes_on}
 pub use Rattle.zf_texts.specs.declared.spelling.Spelling.{Spelling}
 pub use Rattle.zf_enum.specs.Property.{property}
 pub use Rattle.zf_enum.specs.Searches.{conjuncts_of, counted_goal, Goal, judged}
@@ -36,8 +34,10 @@ unfoldable pub use Rattle.zf_lines.specs.Columns.{AreTexts}
 pub use Rattle.zf_lines.specs.Counts.{device_of, failures_of}
 pub use Rattle.zf_lines.specs.Ends.{ending_status, EndsBy, IsEnd, last_text}
 pub use Rattle.zf_lines.specs.FaultViews.{AppendsFront}
+pub use Rattle.zf_lines.specs.LastLine.{AreParts, front, IsFront, IsPrinted, opening}
 pub use Rattle.zf_lines.specs.Searches.{AreEventsUpTo, Hold, IsBegun, IsBelow, IsNotAbove, IsWritten, lines, row_wording, HasLimit, Wording}
 pub use Rattle.zf_lines.specs.Shown.{FindsEvents, IsAtStart, IsCountingAtStart, StopsLines, TellsTests, WritesAll}
 pub use Rattle.zf_lines.specs.Texts.{row_line, tests_line}
-pub use Rattle.zf_texts.specs.ValueTexts.{parted}
+pub use Rattle.zf_texts.specs.LineTexts.{comma_before}
+pub use Rattle.zf_texts.specs.ValueTexts.{later_parts, parted}
 pub use Rattle.zf_format.specs.declared.format.Format.{Format}

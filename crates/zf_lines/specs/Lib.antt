@@ -7,3 +7,4 @@ pub mod Columns
 pub mod Searches
 pub mod Shown
 pub mod Ends
+pub mod LastLine

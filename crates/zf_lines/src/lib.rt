@@ -5,14 +5,14 @@ mod column;
 pub mod counted;
 mod ending;
 pub mod fault;
-mod kept;
 pub mod limit;
+mod printed;
 pub mod show;
 mod style;
 mod texts;
 pub mod writing;
 
-pub use column::columns_of;
+pub use printed::Printed;
 pub use style::Style;
 pub use texts::{
     append_end_line, append_more_line, append_out_line, append_row_line, append_tests_line,

@@ -2,23 +2,22 @@
 ghost use Rattle.std.specs.Prelude.{◌≡◌, ◌++◌, ℕ, List, true, false, IfOk, OnOk, OnErr};
 ghost use Rattle.std.specs.Io.KnownBytes.{Appends};
 ghost use Rattle.zf_enum.specs.Searches.{counted_goal};
-ghost use Rattle.zf_lines.specs.Columns.{AreColumns};
 ghost use Rattle.zf_lines.specs.Counts.{device_of, failures_of};
 ghost use Rattle.zf_lines.specs.FaultViews.{AppendsFront};
 ghost use Rattle.zf_lines.specs.Faults.{read_failures, write_failures};
 ghost use Rattle.zf_lines.specs.Ends.{EndsBy, last_text};
+ghost use Rattle.zf_lines.specs.LastLine.{IsPrinted};
 ghost use Rattle.zf_lines.specs.Searches.{HasLimit, row_wording};
 ghost use Rattle.zf_lines.specs.Shown.{IsAtStart, IsCountingAtStart, StopsLines, StopsShown, WritesAll};
 ghost use Rattle.zf_lines.specs.Texts.{row_line};
 ghost use Rattle.zf_term.specs.SchemaViews.{schema_of};
 ghost use Rattle.zf_walk.specs.Progress.{SameRanges};
 
-use crate::column::{Column, columns_of};
 use crate::counted::Counted;
 use crate::ending::Ending;
 use crate::fault::{RunFault, Status};
-use crate::kept::append_kept_line;
 use crate::limit::{is_spent, one_less};
+use crate::printed::Printed;
 use crate::style::Style;
 use crate::texts::{append_end_line, append_more_line, append_out_line, append_tests_line};
 use crate::writing::write_text;
@@ -93,13 +92,12 @@ fn write_lines<S: Search, W: Write>(
     ensures count { failures_of writer.new ≡ write_failures result }
     ensures unread { read_failures result ≡ 0 }
 {
-    let mut columns = columns_of(style, flat)?;
-    let mut line = Vec::new(style.alloc);
+    let mut printed = Printed::new(style, flat)?;
     let mut left = limit;
     'lines: loop {
         match search.advance()? {
             Step::Holds => {
-                write_row(&mut line, &mut columns, style, flat, search, writer)?;
+                write_row(&mut printed, style, flat, search, writer)?;
                 left = one_less(left);
                 if is_spent(left) {
                     return Ok(Ending::More);
@@ -113,24 +111,22 @@ fn write_lines<S: Search, W: Write>(
 
 /// Writes the line of a row, or of its first values, if there are no components for the others.
 pub fn write_row<P: Located, W: Write>(
-    line: &mut Vec<u8>,
-    columns: &mut Vec<Column>,
+    printed: &mut Printed,
     style: &Style<'_>,
     flat: &Flat<'_>,
     row: &P,
     writer: &mut Counted<W>,
 ) -> Result<(), RunFault>
     requires unfailed { failures_of writer.old ≡ 0 }
-    requires columns { AreColumns style.now.format style.now.elements.now (schema_of flat.now).comps (P.ranges row.now) columns.old.items }
+    requires printed { IsPrinted style.now.format style.now.elements.now (schema_of flat.now).comps (P.ranges row.now) printed.old }
     ensures ok { OnOk result (Appends (W.contents (device_of writer.old)) (W.contents (device_of writer.new)) (row_line style.now.format style.now.elements.now (schema_of flat.now).comps (P.values row.now))) }
-    ensures columns { OnOk result (AreColumns style.now.format style.now.elements.now (schema_of flat.now).comps (P.ranges row.now) columns.new.items) }
+    ensures printed { OnOk result (IsPrinted style.now.format style.now.elements.now (schema_of flat.now).comps (P.ranges row.now) printed.new) }
     ensures err { OnErr result (AppendsFront (W.contents (device_of writer.old)) (W.contents (device_of writer.new)) (row_line style.now.format style.now.elements.now (schema_of flat.now).comps (P.values row.now))) }
     ensures count { failures_of writer.new ≡ write_failures result }
     ensures unread { read_failures result ≡ 0 }
 {
-    line.clear();
-    append_kept_line(line, columns, style, flat, row)?;
-    write_text(writer, line)
+    printed.print(style, flat, row)?;
+    write_text(writer, printed.line())
 }
 
 /// Appends the last line.

@@ -24,7 +24,7 @@ use zf_lines::counted::Counted;
 use zf_lines::fault::{RunFault, Status};
 use zf_lines::limit::{is_spent, one_less};
 use zf_lines::show::write_row;
-use zf_lines::{Style, columns_of};
+use zf_lines::{Printed, Style};
 use zf_places::values_at;
 use zf_walk::Step;
 
@@ -57,14 +57,14 @@ pub fn show_fronts<S: Passing, W: Write>(
     ensures count { failures_of writer.new ≡ write_failures result }
     ensures unread { read_failures result ≡ 0 }
 {
-    let mut columns = columns_of(style, parts.schema)?;
+    let mut printed = Printed::new(style, parts.schema)?;
     let mut line = Vec::new(style.alloc);
     let mut left = limit;
     'parts: loop {
         match search.advance()? {
             Step::Holds => {
                 if is_asked(style.alloc, parts, search)? {
-                    write_row(&mut line, &mut columns, style, parts.schema, search, writer)?;
+                    write_row(&mut printed, style, parts.schema, search, writer)?;
                     left = one_less(left);
                     if is_spent(left) {
                         return write_last(&mut line, style, true, writer);

@@ -21,7 +21,7 @@ use zf_lines::counted::Counted;
 use zf_lines::fault::{RunFault, Status};
 use zf_lines::limit::{is_spent, one_less};
 use zf_lines::show::write_row;
-use zf_lines::{Style, columns_of};
+use zf_lines::{Printed, Style};
 use zf_term::schema::Flat;
 use zf_value::items::Items;
 use zf_value::value::Value;
@@ -44,7 +44,7 @@ pub fn write_met<S: Ranged, W: Write>(
     ensures unread { read_failures result ≡ 0 }
 {
     let ranges = search.ranges();
-    let mut columns = columns_of(style, parts.schema)?;
+    let mut printed = Printed::new(style, parts.schema)?;
     let mut line = Vec::new(style.alloc);
     let mut digits = vec![in style.alloc; 0; parts.places.len()]?;
     let mut left = limit;
@@ -56,7 +56,7 @@ pub fn write_met<S: Ranged, W: Write>(
         }
         met.weights.split(number, &mut digits);
         let row = PartRow::new(ranges, parts.places, &digits);
-        write_row(&mut line, &mut columns, style, parts.schema, &row, writer)?;
+        write_row(&mut printed, style, parts.schema, &row, writer)?;
         left = one_less(left);
         if is_spent(left) {
             return write_last(&mut line, style, true, writer);

@@ -8,7 +8,7 @@ use Rattle.zf_parts.proofs.FrontLines.{front_line}
 use Rattle.zf_parts.proofs.Passing.{as_status, ends_at_limit, ends_out, fewer_broken, fewer_held, goes_on, passes_broken, passes_held, stops_in_line, stops_in_more, stops_in_out}
 use Rattle.zf_parts.proofs.Results.{known_if_ok, weaker_on_err}
 use Rattle.zf_lines.proofs.Searching.{same_later}
-use Rattle.zf_lines.specs.Columns.{AreColumns}
+use Rattle.zf_lines.specs.LastLine.{IsPrinted}
 use Rattle.zf_term.specs.SchemaViews.{schema_of}
 use Rattle.zf_parts.proofs.fronts.show_fronts.Goals.{in-Breaks+in_ok-is_asked-in-Breaks+else-branch-2, in-Holds+in_ok-is_asked-in-Holds+else-branch, in-Holds+in_ok-is_asked-in-Holds+then-branch+in_ok-write_row-in-Holds+else-is_spent}
 use Rattle.zf_parts.proofs.fronts.show_fronts.Goals as goal
@@ -16,7 +16,7 @@ use Rattle.zf_parts.proofs.fronts.show_fronts.Goals as goal
 pub parts-init : goal.parts-init
 parts-init g c = (
   fronting_first _ _ _ _ _ _ _ c.requires.start c.requires.first.0 _ c.requires.limited,
-  c.in_ok-columns.ensures (g.S.Search.stage c.args.search.now).ranges,
+  c.in_ok-printed.ensures (g.S.Search.stage c.args.search.now).ranges,
   c.requires.unfailed,
 )
 
@@ -29,9 +29,9 @@ returns-in_err-is_asked-in-Holds-clause-err g c = always_on_err _ (stops_now _ _
 pub returns-in_err-is_asked-in-Breaks-clause-err : goal.returns-in_err-is_asked-in-Breaks-clause-err
 returns-in_err-is_asked-in-Breaks-clause-err g c = always_on_err _ (stops_now _ _ _ _ _ _ _ c.requires.start c.requires.first.0 _ _ _ _ _ c.parts.invariant.0)
 
-pub write_row-requires-clause-columns : goal.write_row-requires-clause-columns
-write_row-requires-clause-columns g c =
-    subst (λ rs. AreColumns c.args.style.now.format c.args.style.now.elements.now (schema_of c.args.parts.schema.now).comps rs c.parts.columns.items)
+pub write_row-requires-clause-printed : goal.write_row-requires-clause-printed
+write_row-requires-clause-printed g c =
+    subst (λ rs. IsPrinted c.args.style.now.format c.args.style.now.elements.now (schema_of c.args.parts.schema.now).comps rs c.parts.printed)
     (sym (g.met.S.Search.spread c.advance.new.self ∙ c.advance.ensures.ranges.ranges)) c.parts.invariant.1
 
 pub returns-in_err-write_row-in-Holds-clause-err : goal.returns-in_err-write_row-in-Holds-clause-err
@@ -95,27 +95,27 @@ parts-preserved g c =
     let now = c.pass.ensures.goal ∙ c.advance.ensures.goal in
     let ranges = same_later _ _ _ c.advance.ensures.ranges c.pass.ensures.ranges in
     elim c.match-branch-3.branch [
-      | in-Holds+in_ok-is_asked-in-Holds+then-branch+in_ok-write_row-in-Holds+else-is_spent w ↦ rw w.left-is (rw w.writer-is (rw w.columns-is (
+      | in-Holds+in_ok-is_asked-in-Holds+then-branch+in_ok-write_row-in-Holds+else-is_spent w ↦ rw w.left-is (rw w.writer-is (rw w.printed-is (
         goes_on _ _ _ _ _ _ _ c.requires.start c.requires.first.0 _ _ _ _ _ c.parts.invariant.0 (g.S.Search.stage c.advance.new.self) (g.S.Row.values c.advance.new.self) (g.met.S.Search.given c.advance.new.self)
             (rw w.in-Holds.is at c.in_ok-advance.ensures.answer) (rw w.if-branch.true at w.in_ok-is_asked-in-Holds.ensures) _ _ w.one_less-left.ensures
             (subst (Appends _ _) line w.in_ok-write_row-in-Holds.ensures.ok) w.if-is_spent.ensures (g.S.Search.stage c.pass.new.self) _ refl c.pass.ensures.passed _ now ranges,
-        subst (λ rs. AreColumns c.args.style.now.format c.args.style.now.elements.now (schema_of c.args.parts.schema.now).comps rs w.write_row.new.columns.items)
-            (g.met.S.Search.spread c.advance.new.self ∙ sym c.pass.ensures.ranges.ranges) w.in_ok-write_row-in-Holds.ensures.columns,
+        subst (λ rs. IsPrinted c.args.style.now.format c.args.style.now.elements.now (schema_of c.args.parts.schema.now).comps rs w.write_row.new.printed)
+            (g.met.S.Search.spread c.advance.new.self ∙ sym c.pass.ensures.ranges.ranges) w.in_ok-write_row-in-Holds.ensures.printed,
         w.in_ok-write_row-in-Holds.ensures.count,
       )))
-      | in-Holds+in_ok-is_asked-in-Holds+else-branch w ↦ rw w.left-is (rw w.writer-is (rw w.columns-is (
+      | in-Holds+in_ok-is_asked-in-Holds+else-branch w ↦ rw w.left-is (rw w.writer-is (rw w.printed-is (
         passes_held _ _ _ _ _ _ _ c.requires.start c.requires.first.0 _ _ _ _ _ c.parts.invariant.0 (g.S.Search.stage c.advance.new.self) (g.S.Row.values c.advance.new.self) (g.met.S.Search.given c.advance.new.self)
             (rw w.in-Holds.is at c.in_ok-advance.ensures.answer) (rw w.if-branch.false at w.in_ok-is_asked-in-Holds.ensures)
             (g.S.Search.stage c.pass.new.self) _ refl c.pass.ensures.passed _ now ranges,
-        subst (λ rs. AreColumns c.args.style.now.format c.args.style.now.elements.now (schema_of c.args.parts.schema.now).comps rs c.parts.columns.items)
+        subst (λ rs. IsPrinted c.args.style.now.format c.args.style.now.elements.now (schema_of c.args.parts.schema.now).comps rs c.parts.printed)
             (sym ranges.ranges) c.parts.invariant.1,
         c.parts.invariant.2,
       )))
-      | in-Breaks+in_ok-is_asked-in-Breaks+else-branch-2 w ↦ rw w.left-is (rw w.writer-is (rw w.columns-is (
+      | in-Breaks+in_ok-is_asked-in-Breaks+else-branch-2 w ↦ rw w.left-is (rw w.writer-is (rw w.printed-is (
         passes_broken _ _ _ _ _ _ _ c.requires.start c.requires.first.0 _ _ _ _ _ c.parts.invariant.0 (g.S.Search.stage c.advance.new.self) (g.S.Row.values c.advance.new.self) (g.met.S.Search.given c.advance.new.self)
             (rw w.in-Breaks.is at c.in_ok-advance.ensures.answer) (rw w.if-branch-2.false at w.in_ok-is_asked-in-Breaks.ensures)
             (g.S.Search.stage c.pass.new.self) _ refl c.pass.ensures.passed _ now ranges,
-        subst (λ rs. AreColumns c.args.style.now.format c.args.style.now.elements.now (schema_of c.args.parts.schema.now).comps rs c.parts.columns.items)
+        subst (λ rs. IsPrinted c.args.style.now.format c.args.style.now.elements.now (schema_of c.args.parts.schema.now).comps rs c.parts.printed)
             (sym ranges.ranges) c.parts.invariant.1,
         c.parts.invariant.2,
       )))

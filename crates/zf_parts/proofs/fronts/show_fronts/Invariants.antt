@@ -2,7 +2,7 @@
 use Rattle.zf_parts.proofs.Prelude.{◌≡◌, value_order}
 use Rattle.std.specs.Option.{option_copied}
 use Rattle.zf_lines.proofs.Fewer.{ahead_count}
-use Rattle.zf_lines.specs.Columns.{AreColumns}
+use Rattle.zf_lines.specs.LastLine.{IsPrinted}
 use Rattle.zf_lines.specs.Counts.{device_of, failures_of}
 use Rattle.zf_parts.specs.Written.{part_wording}
 use Rattle.zf_term.specs.SchemaViews.{schema_of}
@@ -14,7 +14,7 @@ invariant-parts g l =
     Fronting (part_wording l.style.format l.style.elements.now (schema_of l.parts.schema.now).comps (schema_of l.parts.flat.now).comps) l.fn.limit
     l.parts.places.now (option_copied l.parts.after) (schema_of l.parts.flat.now) (g.S.Search.goal l.initial.search) (g.S.Search.stage l.initial.search)
     (g.S.Search.goal l.search) (g.S.Search.stage l.search) l.left (g.W.Write.contents (device_of l.initial.writer)) (g.W.Write.contents (device_of l.writer))
-    × AreColumns l.style.format l.style.elements.now (schema_of l.parts.schema.now).comps (g.S.Search.stage l.search).ranges l.columns.items
+    × IsPrinted l.style.format l.style.elements.now (schema_of l.parts.schema.now).comps (g.S.Search.stage l.search).ranges l.printed
     × (failures_of l.writer ≡ 0)
 
 abbrev pub decreases-parts : goal.decreases-parts

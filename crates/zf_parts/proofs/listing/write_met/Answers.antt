@@ -3,7 +3,7 @@ use Rattle.zf_parts.proofs.Prelude.{◌<◌, ◌∙◌, ◌≡◌, ap, arith, le
 use Rattle.std.proofs.Common.{get_or, ℕ}
 use Rattle.std.specs.Io.KnownBytes.{Appends}
 use Rattle.zf_lines.proofs.Fronts.{always_on_err}
-use Rattle.zf_lines.specs.Columns.{AreColumns}
+use Rattle.zf_lines.specs.LastLine.{IsPrinted}
 use Rattle.zf_lines.specs.FaultViews.{AppendsFront}
 use Rattle.zf_parts.specs.Numbers.{AreFree, digits, IsNumber, ranges_at, total, weights}
 use Rattle.zf_parts.specs.Written.{part_wording}
@@ -18,7 +18,7 @@ use Rattle.zf_parts.proofs.listing.write_met.Goals as goal
 pub parts-init : goal.parts-init
 parts-init g c = (
   listing_first _ _ _ _ _ _ _ _ _ c.requires.limited,
-  c.in_ok-columns.ensures (ranges_at (g.S.Search.stage c.args.search.now).ranges c.args.parts.places.now),
+  c.in_ok-printed.ensures (ranges_at (g.S.Search.stage c.args.search.now).ranges c.args.parts.places.now),
   c.requires.unfailed,
   (search rules),
 )
@@ -68,10 +68,10 @@ new-row-requires-clause-within g c =
 pub write_row-requires-clause-unfailed : goal.write_row-requires-clause-unfailed
 write_row-requires-clause-unfailed g c = c.parts.invariant.2
 
-pub write_row-requires-clause-columns : goal.write_row-requires-clause-columns
-write_row-requires-clause-columns g c =
+pub write_row-requires-clause-printed : goal.write_row-requires-clause-printed
+write_row-requires-clause-printed g c =
     let is = c.new-row.ensures in
-    subst (λ rs. AreColumns c.args.style.now.format c.args.style.now.elements.now (schema_of c.args.parts.schema.now).comps rs c.parts.columns.items)
+    subst (λ rs. IsPrinted c.args.style.now.format c.args.style.now.elements.now (schema_of c.args.parts.schema.now).comps rs c.parts.printed)
     (sym (is.0 ∙ ap (λ rs. ranges_at rs c.args.parts.places.now) c.ranges-ranges.ensures.is)) c.parts.invariant.1
 
 pub returns-in_err-write_row-clause-err : goal.returns-in_err-write_row-clause-err
@@ -153,8 +153,8 @@ parts-preserved g c =
     let free = c.next-number.ensures.free in
     let there = c.next-number.ensures.marked near in (
       goes_on (part_wording c.args.style.now.format c.args.style.now.elements.now (schema_of c.args.parts.schema.now).comps (schema_of c.args.parts.flat.now).comps) _ _ _ _ _ _ _ c.requires.marked _ _ _ _ c.parts.invariant.0 c.next-number.result within.0 near free there (picked c.new-row.result.ranges c.new-row.result.digits) number _ _ c.one_less-left.ensures c.in_ok-write_row.ensures.ok c.if-is_spent.ensures,
-      subst (λ rs. AreColumns c.args.style.now.format c.args.style.now.elements.now (schema_of c.args.parts.schema.now).comps rs c.write_row.new.columns.items)
-          over c.in_ok-write_row.ensures.columns,
+      subst (λ rs. IsPrinted c.args.style.now.format c.args.style.now.elements.now (schema_of c.args.parts.schema.now).comps rs c.write_row.new.printed)
+          over c.in_ok-write_row.ensures.printed,
       c.in_ok-write_row.ensures.count,
       ap length c.split.ensures ∙ length_digits c.args.met.now.weights.each.items c.next-number.result
           ∙ ap length weighs.each ∙ length_weights (g.S.Search.stage c.args.search.now).ranges c.args.parts.places.now,

@@ -2,7 +2,7 @@
 use Rattle.zf_parts.proofs.Prelude.{◌≡◌, length}
 use Rattle.std.proofs.Common.{◌-◌}
 use Rattle.std.specs.Option.{option_copied}
-use Rattle.zf_lines.specs.Columns.{AreColumns}
+use Rattle.zf_lines.specs.LastLine.{IsPrinted}
 use Rattle.zf_lines.specs.Counts.{device_of, failures_of}
 use Rattle.zf_parts.specs.Numbers.{ranges_at}
 use Rattle.zf_parts.specs.Written.{part_wording}
@@ -15,7 +15,7 @@ invariant-parts g l =
     Listing (part_wording l.style.format l.style.elements.now (schema_of l.parts.schema.now).comps (schema_of l.parts.flat.now).comps) l.fn.limit
     (g.S.Search.goal l.search).environment (schema_of l.parts.flat.now) (g.S.Search.stage l.search) l.parts.places.now (option_copied l.parts.after) l.met
     l.from l.left (g.W.Write.contents (device_of l.initial.writer)) (g.W.Write.contents (device_of l.writer))
-    × AreColumns l.style.format l.style.elements.now (schema_of l.parts.schema.now).comps (ranges_at (g.S.Search.stage l.search).ranges l.parts.places.now) l.columns.items
+    × IsPrinted l.style.format l.style.elements.now (schema_of l.parts.schema.now).comps (ranges_at (g.S.Search.stage l.search).ranges l.parts.places.now) l.printed
     × (failures_of l.writer ≡ 0)
     × (length l.digits.items ≡ length l.parts.places.now)
 
