@@ -84,6 +84,7 @@ fn told(holds: bool) -> Truth
 }
 
 /// Whether the relation holds between two values.
+#[inline(always)]
 fn holds(relation: Relation, v: &Value, w: &Value) -> bool
     ensures { IsTrue result ↔ Holds relation v.now w.now }
 {
