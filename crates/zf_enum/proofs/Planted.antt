@@ -288,13 +288,6 @@ module _ (xs ys zs : List Resolved) (g h i j : Grove) (t p q : ResolvedTree) (l 
 
 -- ---- all conjuncts
 
-pub none_planted : ArePlanted [] [] []
-none_planted = record {
-  number = refl;
-  each = λ c p e. absurd (cc e);
-  needs = λ n h c. h c;
-}
-
 some_is : {A : Type 0} → (x y : A) → Some x ≡ Some y → x ≡ y
 some_is x y e = ap (λ o. unwrap_or o x) e
 

@@ -94,11 +94,6 @@ pub told : (r : Option ℤ) (P : Type 0) (k y z : ℤ) → SomeIff r P y → r �
 told None P k y z h is e = absurd (none-some k is)
 told (Some n) P k y z h is e = sym (ap (λ (o : Option ℤ). unwrap_or o n) is) ∙ h.1 ∙ e
 
-pub point_spans : (n v : ℤ) (s : Span) → s.times ≡ pos 0 → s.low ≡ n → s.high ≡ n → Spans s v n
-point_spans n v s t l h =
-    let x : s.times *ℤ v ≡ pos 0 = ap (λ u. u *ℤ v) t ∙ zero-*ℤ v in
-    (omega (arith, ints, x, l), omega (arith, ints, x, h))
-
 pub plus_spans : (s t u : Span) (v m n : ℤ) → u.times ≡ s.times +ℤ t.times → u.low ≡ s.low +ℤ t.low → u.high ≡ s.high +ℤ t.high → Spans s v m → Spans t v n → Spans u v (m +ℤ n)
 plus_spans s t u v m n times low high p q =
     let x : u.times *ℤ v ≡ (s.times *ℤ v) +ℤ (t.times *ℤ v) = ap (λ k. k *ℤ v) times ∙ sum_times s.times t.times v in

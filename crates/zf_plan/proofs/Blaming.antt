@@ -7,7 +7,7 @@ use Rattle.std.proofs.lemmas.Nat.Bits.{bit_at-lt, bit_at_or}
 use Rattle.zf_walk.proofs.Picks.{slice_get-picked}
 use Rattle.zf_walk.specs.ConjunctLaws.{FollowUsed}
 use Rattle.zf_walk.specs.Seen.{HasBit}
-use Rattle.zf_plan.specs.Blaming.{AreAlike, AreCovered, Covers, HasBits, IsBlamed}
+use Rattle.zf_plan.specs.Blaming.{AreAlike, Covers, HasBits, IsBlamed}
 use Rattle.zf_plan.specs.Choosing.{IsFailed, StaysChoice}
 use Rattle.zf_plan.specs.Knowing.{IsRefuted, touches}
 use Rattle.zf_plan.specs.declared.marks.Mark.{Mark}
@@ -54,20 +54,6 @@ module _ {V : Type 0} (l : Conjuncts V) (uses : ℕ → ℕ → Bool) (trees : L
     | inl e ↦ absurd (let z : true ≡ false = sym at ∙ ap (λ i. touches l k (tree_at trees i)) e ∙ not in cc)
     | inr ne ↦ h j (omega (arith, m, ne)) at
   ]
-
-  pub covered-push : (n : ℕ) (words : List ℕ) (word : ℕ) → AreCovered l uses trees n words → (n ≤ 64 → Covers l uses trees n (length trees) word) → AreCovered l uses trees (n + 1) (words ++ word ∷ [])
-  covered-push n words word h here = record {
-    all = let a = h.all in omega (arith, a, length-append words (word ∷ []));
-    each = λ k m few. elim (cases_eq k n) [
-      | inl e ↦
-          let a = h.all in
-          let is : get_or (words ++ word ∷ []) k 0 ≡ word = ap (λ i. get_or (words ++ word ∷ []) i 0) (e ∙ sym a) ∙ get_or-append_seam words word [] 0 in
-          subst (Covers l uses trees k (length trees)) (sym is) (subst (λ i. Covers l uses trees i (length trees) word) (sym e) (here (omega (arith, few, e))))
-      | inr ne ↦
-          let a = h.all in
-          subst (Covers l uses trees k (length trees)) (sym (get_or_append_left words (word ∷ []) 0 k (omega (arith, m, ne, a)))) (h.each k (omega (arith, m, ne)) few)
-    ];
-  }
 
 -- ---- rows that agree
 

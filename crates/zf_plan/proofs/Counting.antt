@@ -12,7 +12,7 @@ use Rattle.zf_walk.proofs.Picks.{IsFrontOf-length}
 use Rattle.zf_walk.proofs.Reaching.{IsReached-from, is_reached-from, unreached, IsUpTo-from, IsUpTo-to, IsAhead-to}
 use Rattle.zf_plan.specs.Counts.{all_of, below_it, Counts, CountsFound, IsCounted, none_of}
 use Rattle.zf_plan.specs.Knowing.{NeedsBelow}
-use Rattle.zf_plan.specs.Places.{AreDue}
+use Rattle.zf_plan.specs.Plans.{AreDue}
 use Rattle.zf_plan.specs.Testing.{AreNotFalse, IsTested, Tests}
 use Rattle.zf_plan.specs.Trees.{IsFlat}
 use Rattle.zf_plan.specs.declared.plan.Plan.{Plan}

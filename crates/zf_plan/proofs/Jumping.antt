@@ -8,7 +8,7 @@ use Rattle.zf_plan.specs.Knowing.{IsRefuted}
 use Rattle.zf_plan.specs.Counts.{IsCounted}
 use Rattle.zf_plan.specs.Marks.{Accuses, mark_at}
 use Rattle.zf_plan.specs.Memories.{Memory}
-use Rattle.zf_plan.specs.Places.{IsKept, IsMarked, Jumps, Passes, PassesOpen}
+use Rattle.zf_plan.specs.Places.{IsKept, Jumps, Passes, PassesOpen}
 use Rattle.zf_plan.specs.declared.marks.Mark.{Mark}
 use Rattle.zf_plan.specs.declared.marks.Marks.{Marks}
 use Rattle.zf_plan.specs.declared.plan.Plan.{Plan}
@@ -273,29 +273,24 @@ module _ {V : Type 0} {cmp : V → V → Ordering} {l : Conjuncts V} {used : ℕ
 
   pub passes-stand : FollowUsed l used → (p q : Place) (memo : Memory) (choices : List (Option (List ℕ))) → Rests l used trees ranges p memo choices
       → IsHopeless cmp l trees (length ranges) after (path ranges p)
-      → Passes cmp ranges after planned.blames.items p q → Stands l used trees ranges q memo choices
+      → Passes cmp l used trees ranges after p q → Stands l used trees ranges q memo choices
   passes-stand follow p q memo choices st hopeless (inl h) = passes-open-stand used p q memo choices st h
-  passes-stand follow p q memo choices st hopeless (inr (last, deep, is, few, reached, notes)) =
+  passes-stand follow p q memo choices st hopeless (inr (last, deep, is, reached, word, covers, notes)) =
       let at = st.at in
       let refuted : IsRefuted l trees (path ranges p) = elim hopeless [ inl not ↦ absurd (false≢true (sym not ∙ reached)) | inr r ↦ r ] in
-      let plan = (given.sound).plan in
-      let blames = plan.blames in
-      let covers = blames.each p.depth (let a = at.shallow in omega (arith, a)) (omega (arith, few, deep)) in
-      let barren = refuted-barren l used trees ranges follow (given.sound).due (given.sound).leaves
-      (get_or planned.blames.items p.depth 0) p.places.items p.depth at.within (length-bound ranges p at) covers refuted in
+      let barren = refuted-barren l used trees ranges follow (given.sound).due (given.sound).leaves word p.places.items p.depth at.within (length-bound ranges p at) covers refuted in
       subst (λ w. Stands l used trees ranges w memo choices) (sym is)
-      (lowered-blamed l used trees ranges p memo choices st p.depth (omega arith) false q.marks last (get_or planned.blames.items p.depth 0) deep
-      (subst (AreBarren l trees ranges (get_or planned.blames.items p.depth 0) p.places.items) deep barren) notes)
+      (lowered-blamed l used trees ranges p memo choices st p.depth (omega arith) false q.marks last word deep (subst (AreBarren l trees ranges word p.places.items) deep barren) notes)
 
 -- nothing but a mark of the last value is other where a row is passed
 pub opened-is : (p q : Place) → PassesOpen p q → q ≡ record p { fresh = false; marks = q.marks }
 opened-is p q (inl (none, is)) = is ∙ ap (λ (m : Marks). record p { fresh = false; marks = m }) (sym (ap (λ (w : Place). w.marks) is))
 opened-is p q (inr (last, deeper, is, notes)) = is
 
-pub passed-is : {V : Type 0} (cmp : V → V → Ordering) (ranges : List (List V)) (after : Option (List V)) (blames : List ℕ) (p q : Place)
-    → Passes cmp ranges after blames p q → q ≡ record p { fresh = false; marks = q.marks }
-passed-is cmp ranges after blames p q (inl h) = opened-is p q h
-passed-is cmp ranges after blames p q (inr (last, deeper, is, few, reached, notes)) = is
+pub passed-is : {V : Type 0} (cmp : V → V → Ordering) (l : Conjuncts V) (uses : ℕ → ℕ → Bool) (trees : List Tree) (ranges : List (List V)) (after : Option (List V)) (p q : Place)
+    → Passes cmp l uses trees ranges after p q → q ≡ record p { fresh = false; marks = q.marks }
+passed-is cmp l uses trees ranges after p q (inl h) = opened-is p q h
+passed-is cmp l uses trees ranges after p q (inr (last, deeper, is, reached, bits, covers, notes)) = is
 
 -- where tests are counted there is no jump
 pub jumps-counted : {V : Type 0} (cmp : V → V → Ordering) (l : Conjuncts V) (ranges : List (List V)) (after : Option (List V)) (plain : Bool) (q r : Place)
@@ -305,13 +300,3 @@ jumps-counted cmp l ranges after plain q r tests choices e (inl (same, why)) h =
 jumps-counted cmp l ranges after plain q r tests choices e (inr (inl o)) h =
     subst (λ w. IsCounted cmp l ranges after w tests choices) (sym o.is) (record { counts = h.counts; whole = h.whole; unseen = h.unseen })
 jumps-counted cmp l ranges after plain q r tests choices e (inr (inr (no', b))) h = absurd (false≢true (sym no' ∙ e))
-
--- where nothing but marks is other
-pub marked-also : (p q r : Place) (range : ℕ) (is_open : Bool) (blame : ℕ) → range ≡ p.depth → IsMarked p q → r ≡ record q { marks = r.marks }
-    → Accuses range is_open blame q.marks r.marks → IsMarked p r
-marked-also p q r range is_open blame at h is notes = record {
-  is = is ∙ ap (λ (w : Place). record w { marks = r.marks }) h.is;
-  stamps = notes.stamps ∙ h.stamps;
-  all = notes.all ∙ h.all;
-  others = λ k ne. notes.others k (λ e. ne (e ∙ at)) ∙ h.others k ne;
-}

@@ -1,38 +1,61 @@
 -- A leaf is looked at: what is known of it, and what is once it was asked for.
-use Rattle.zf_plan.proofs.Prelude.{[], ◌∷◌, ◌++◌, ◌+◌, ◌<◌, Bool, ◌∙◌, ◌≡◌, ◌≤◌, ap, arith, cases_lt, get_or, get_or-append_seam, get_or-replicate, get_or_append_left, get_or_default, inl, inr, length, length-append, length-replicate, List, map, None, Option, refl, replicate, set, slice_get, slice_get-get_or, slice_get_read, slice_get_within, Some, subst, sym, take, ℕ, cases_eq, get_or-set_other, get_or-set_same, length-map, length-set, Conjuncts, KeepTruths, AreDueWithin, AreWithin, picked, IsKnown, leaf, Remembers, Tells, True, Truth}
+use Rattle.zf_plan.proofs.Prelude.{[], ◌+◌, ◌<◌, Bool, ◌∙◌, ◌≡◌, ◌≤◌, ap, arith, get_or, get_or-replicate, get_or_default, inl, inr, length, length-replicate, List, map, None, Option, refl, replicate, set, slice_get, slice_get-get_or, slice_get_within, Some, subst, sym, take, ℕ, cases_eq, get_or-set_other, get_or-set_same, length-map, length-set, Conjuncts, KeepTruths, AreDueWithin, AreWithin, picked, IsKnown, leaf, Remembers, Tells, True, Truth}
 use Rattle.std.proofs.lemmas.List.{ext_get_or}
-use Rattle.std.proofs.lemmas.Option.{get_or_from_slice_get}
 use Rattle.zf_walk.specs.Tables.{AreTrue}
 use Rattle.zf_walk.specs.declared.table.Table.{Table}
 use Rattle.zf_plan.specs.declared.memo.Stamped.{Stamped}
-use Rattle.zf_plan.specs.Memories.{AreDues, IsNew}
+use Rattle.zf_plan.specs.Memories.{AreDues, IsNew, Memory}
 use Rattle.zf_plan.specs.Stamps.{AreStamped, AreUnknown, known_by, memory_of}
 use Rattle.zf_plan.proofs.Knowing.{known-later, known-told, settled-leaf}
 use Rattle.zf_plan.proofs.Stamping.{asked-dues, asked-stamped, asked-truths, due-at, known-at, known-not, known-now, stamped-at}
 
-module _ {V : Type 0} (l : Conjuncts V) (keep : KeepTruths l) (uses : ℕ → ℕ → Bool) (ranges : List (List V)) (places : List ℕ) (w : AreWithin ranges places)
-    (stamps : List ℕ) (leaves : List Stamped) (a : AreStamped stamps leaves) (tables : List (Option Table)) (tests : ℕ)
-    (r : Remembers l uses ranges places (memory_of stamps leaves tables tests)) (of : ℕ) (m : of < l.number) (s : Stamped) (is : s ≡ get_or leaves of s) where
+-- what holds of a leaf that is looked at
+pub record IsLookedAt {V : Type 0} (l : Conjuncts V) (uses : ℕ → ℕ → Bool) (ranges : List (List V)) (places stamps : List ℕ) (leaves : List Stamped) (tables : List (Option Table)) (tests of : ℕ) (s : Stamped) : Type 0 where
+  pub keep : KeepTruths l
+  pub within : AreWithin ranges places
+  pub stamped : AreStamped stamps leaves
+  pub remembers : Remembers l uses ranges places (memory_of stamps leaves tables tests)
+  pub inside : of < l.number
+  pub is : s ≡ get_or leaves of s
+
+pub looked-at : {V : Type 0} (l : Conjuncts V) (uses : ℕ → ℕ → Bool) (ranges : List (List V)) (places stamps : List ℕ) (leaves : List Stamped) (tables : List (Option Table)) (tests : ℕ) (now : Memory) (of : ℕ) (s : Stamped)
+    → KeepTruths l → AreWithin ranges places → AreStamped stamps leaves → now ≡ memory_of stamps leaves tables tests → Remembers l uses ranges places now → of < l.number → s ≡ get_or leaves of s
+    → IsLookedAt l uses ranges places stamps leaves tables tests of s
+looked-at l uses ranges places stamps leaves tables tests now of s keep within stamped view remembers m is = record {
+  keep = keep;
+  within = within;
+  stamped = stamped;
+  remembers = subst (Remembers l uses ranges places) view remembers;
+  inside = m;
+  is = is;
+}
+
+module _ {V : Type 0} {l : Conjuncts V} {uses : ℕ → ℕ → Bool} {ranges : List (List V)} {places stamps : List ℕ} {leaves : List Stamped} {tables : List (Option Table)} {tests of : ℕ} {s : Stamped}
+    (at : IsLookedAt l uses ranges places stamps leaves tables tests of s) where
   near : of < length leaves
-  near = let t = r.tells in omega (arith, m, t.all, length-map leaves (known_by stamps))
+  near = let t = (at.remembers).tells in omega (arith, at.inside, t.all, length-map leaves (known_by stamps))
 
   pub due-is : s.due ≡ l.due of
-  due-is = sym (due-at leaves of s near is) ∙ r.dues of m
+  due-is = sym (due-at leaves of s near at.is) ∙ (at.remembers).dues of at.inside
 
   pub stamp-there : s.due < length stamps
-  stamp-there = (stamped-at stamps leaves a of s near is).0
+  stamp-there = (stamped-at stamps leaves at.stamped of s near at.is).0
+
+  -- its stamp is read
+  pub stamp-read : (stamp : ℕ) → stamp ≡ get_or stamps s.due stamp → stamp ≡ get_or stamps s.due 0
+  stamp-read stamp e = e ∙ get_or_default stamps s.due stamp 0 stamp-there
 
   -- it needs more values
   pub looks-later : length places < s.due → IsKnown l (leaf of) (picked ranges places) None
-  looks-later h = known-later l keep ranges places w of (omega (arith, h, due-is))
+  looks-later h = known-later l at.keep ranges places at.within of (omega (arith, h, due-is))
 
   module _ (enough : s.due ≤ length places) where
     there : s.stamp ≡ get_or stamps s.due 0 → get_or (map (known_by stamps) leaves) of None ≡ Some s.truth
-    there e = known-at stamps leaves of s near is ∙ known-now stamps s e
+    there e = known-at stamps leaves of s near at.is ∙ known-now stamps s e
 
     -- it is known
     pub looks-known : s.stamp ≡ get_or stamps s.due 0 → IsKnown l (leaf of) (picked ranges places) (Some s.truth)
-    looks-known e = known-told l keep ranges places w (map (known_by stamps) leaves) of s.truth r.tells m (omega (arith, enough, due-is)) (there e)
+    looks-known e = known-told l at.keep ranges places at.within (map (known_by stamps) leaves) of s.truth (at.remembers).tells at.inside (omega (arith, enough, due-is)) (there e)
 
     -- it is asked for
     module _ (t : Truth) (says : l.says of (picked ranges (take s.due places)) t) (stamp : ℕ) (now : stamp ≡ get_or stamps s.due 0) where
@@ -43,46 +66,32 @@ module _ {V : Type 0} (l : Conjuncts V) (keep : KeepTruths l) (uses : ℕ → �
       so = subst (λ d. l.says of (picked ranges (take d places)) t) due-is says
 
       pub asks-settled : IsKnown l (leaf of) (picked ranges places) (Some t)
-      asks-settled = settled-leaf l keep ranges places w of t m (omega (arith, enough, due-is)) so
+      asks-settled = settled-leaf l at.keep ranges places at.within of t at.inside (omega (arith, enough, due-is)) so
 
       pub asks-stamped : AreStamped stamps (set leaves of found)
-      asks-stamped = asked-stamped stamps leaves a of found near now stamp-there
+      asks-stamped = asked-stamped stamps leaves at.stamped of found near now stamp-there
 
       truths-are : map (known_by stamps) (set leaves of found) ≡ set (map (known_by stamps) leaves) of (Some t)
-      truths-are = asked-truths stamps leaves a of found near now
+      truths-are = asked-truths stamps leaves at.stamped of found near now
 
       tells-on : Tells l ranges places (set (map (known_by stamps) leaves) of (Some t))
       tells-on = record {
-        all = let k = r.tells in length-set (map (known_by stamps) leaves) of (Some t) ∙ k.all;
+        all = let k = (at.remembers).tells in length-set (map (known_by stamps) leaves) of (Some t) ∙ k.all;
         right = λ c u n d e. elim (cases_eq c of) [
           | inl same ↦ let u-is : Some t ≡ Some u = sym (get_or-set_same (map (known_by stamps) leaves) of (Some t) None
-              (let k = r.tells in omega (arith, m, k.all))) ∙ sym (ap (λ i. get_or (set (map (known_by stamps) leaves) of (Some t)) i None) same) ∙ e in
+              (let k = (at.remembers).tells in omega (arith, at.inside, k.all))) ∙ sym (ap (λ i. get_or (set (map (known_by stamps) leaves) of (Some t)) i None) same) ∙ e in
               let here : t ≡ u = cc in
               subst (λ i. l.says i (picked ranges (take (l.due i) places)) u) (sym same) (subst (l.says of (picked ranges (take (l.due of) places))) here so)
-          | inr other ↦ let k = r.tells in k.right c u n d (sym (get_or-set_other (map (known_by stamps) leaves) of c (Some t) None other) ∙ e)
+          | inr other ↦ let k = (at.remembers).tells in k.right c u n d (sym (get_or-set_other (map (known_by stamps) leaves) of c (Some t) None other) ∙ e)
         ];
       }
 
       pub asks-remembers : (new : List (Option Table)) (count : ℕ) → AreTrue l uses ranges new → Remembers l uses ranges places (memory_of stamps (set leaves of found) new count)
       asks-remembers new count true = record {
-        dues = subst (AreDues l) (sym (asked-dues stamps leaves a of found near now s is refl)) r.dues;
+        dues = subst (AreDues l) (sym (asked-dues stamps leaves at.stamped of found near now s at.is refl)) (at.remembers).dues;
         tells = subst (Tells l ranges places) (sym truths-are) tells-on;
         tables = true;
       }
-
--- a leaf that has no stamp yet
-pub unknown-more : {V : Type 0} (l : Conjuncts V) (n : ℕ) (leaves : List Stamped) (s : Stamped) → s.due ≡ l.due n → s.stamp ≡ 0 → AreUnknown l n leaves → AreUnknown l (n + 1) (leaves ++ s ∷ [])
-unknown-more l n leaves s d e u = record {
-  all = let k = u.all in omega (arith, k, length-append leaves (s ∷ []));
-  each = λ c t is. elim (cases_lt c (length leaves)) [
-    | inl low ↦ u.each c t (slice_get_read leaves (length leaves) c t refl low (sym (sym (get_or_append_left leaves (s ∷ []) t c low) ∙ get_or_from_slice_get (leaves ++ s ∷ []) c t t is)))
-    | inr high ↦
-        let last : c ≡ length leaves = omega (arith, high, slice_get_within (leaves ++ s ∷ []) c t is, length-append leaves (s ∷ [])) in
-        let same : s ≡ t = sym (get_or-append_seam leaves s [] t) ∙ sym (ap (λ i. get_or (leaves ++ s ∷ []) i t) last) ∙ get_or_from_slice_get (leaves ++ s ∷ []) c t t is in
-        let at : c ≡ n = omega (arith, last, u.all) in
-        (subst (λ (v : Stamped). v.due ≡ l.due c) same (d ∙ sym (ap l.due at)), subst (λ (v : Stamped). v.stamp ≡ 0) same e)
-  ];
-}
 
 module _ {V : Type 0} (l : Conjuncts V) (stamps : List ℕ) (leaves : List Stamped) (u : AreUnknown l l.number leaves) (n : ℕ) (ones : stamps ≡ replicate (n + 1) 1) (d : AreDueWithin l n) where
   long : length stamps ≡ n + 1

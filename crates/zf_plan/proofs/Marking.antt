@@ -134,14 +134,14 @@ module _ {V : Type 0} (l : Conjuncts V) (trees : List Tree) (ranges : List (List
   }
 
   -- all values, which are always a choice
-  pub kept-all : (stamps places : List ℕ) (k : ℕ) (choice other : Option (List ℕ)) (mark : Mark) → other ≡ None
+  pub kept-all : (stamps places : List ℕ) (k : ℕ) (choice other : Option (List ℕ)) (mark : Mark) → (is_still stamps mark ≡ true → other ≡ None)
       → IsKept l trees ranges stamps places k choice mark → IsKept l trees ranges stamps places k other mark
-  kept-all stamps places k choice other mark all h = subst (λ c. IsKept l trees ranges stamps places k c mark) (sym all) (record {
+  kept-all stamps places k choice other mark all h = record {
     few = h.few;
     past = h.past;
     small = h.small;
-    still = λ is within. stays-all l trees ranges k mark.due places;
-  })
+    still = λ is within. subst (StaysChoice l trees ranges k mark.due places) (sym (all is)) (stays-all l trees ranges k mark.due places);
+  }
 
   -- a move that leaves the first k values
   module _ (k : ℕ) (p q : Place) (deep : k ≤ p.depth) (at : IsAt ranges p) (bt : IsAt ranges q) (short : q.depth ≤ k + 1)

@@ -4,7 +4,9 @@ use Rattle.zf_walk.proofs.Lists.{Contains-cases, Contains-either, Contains-head,
 use Rattle.zf_plan.specs.Choosing.{AreLasts, UsesFirst}
 use Rattle.zf_plan.specs.Knowing.{IsLeafDue}
 use Rattle.zf_plan.proofs.Marking.{uses-more}
-use Rattle.zf_plan.specs.Places.{AreAll, AreDue, AreTouched, touches_inside}
+use Rattle.zf_plan.specs.Plans.{AreChoosers, AreDue, AreTouched, touches_inside}
+use Rattle.zf_plan.specs.declared.plan.Choosers.{Choosers}
+use Rattle.zf_plan.specs.declared.plan.Layer.{Layer}
 
 -- the last one of a conjunct, and of the first i
 abbrev IsLast : (ℕ → ℕ → Bool) → List Tree → ℕ → List ℕ → ℕ → ℕ → Type 0
@@ -35,19 +37,14 @@ each_push P xs x d h p i l = elim (cases_lt i (length xs)) [
 pub below_push : (n : ℕ) (js : List ℕ) (j : ℕ) → AreBelow n js → j < n → AreBelow n (js ++ j ∷ [])
 below_push n js j h l = push-all (λ k. k < n) js j 0 h l
 
--- one list more
-pub all_push : (P : ℕ → List ℕ → Type 0) (lists : List (List ℕ)) (js : List ℕ) → ((k : ℕ) → k < length lists → P k (get_or lists k [])) → P (length lists) js
-    → (m : ℕ) → m < length (lists ++ js ∷ []) → P m (get_or (lists ++ js ∷ []) m [])
-all_push P lists js h b m near = each_push P lists js [] h b m near
+-- the layers so far
+abbrev pub AreSoFar : (ℕ → Layer → Type 0) → ℕ → List Layer → Type 0
+AreSoFar P k layers = (length layers ≡ k) × ((m : ℕ) (d : Layer) → m < length layers → P m (get_or layers m d))
 
--- the lists so far
-abbrev pub AreSoFar : (ℕ → List ℕ → Type 0) → ℕ → List (List ℕ) → Type 0
-AreSoFar P k lists = (length lists ≡ k) × ((m : ℕ) → m < length lists → P m (get_or lists m []))
-
-pub so_far_more : (P : ℕ → List ℕ → Type 0) (k : ℕ) (lists new : List (List ℕ)) (js : List ℕ) → new ≡ lists ++ js ∷ [] → AreSoFar P k lists → P k js → AreSoFar P (k + 1) new
-so_far_more P k lists new js e h b = (
-  omega (arith, ap length e, length-append lists (js ∷ []), h.0),
-  λ m near. subst (λ xs. P m (get_or xs m [])) (sym e) (all_push P lists js h.1 (subst (λ n. P n js) (sym h.0) b) m (subst (λ xs. m < length xs) e near)),
+pub so_far_more : (P : ℕ → Layer → Type 0) (k : ℕ) (layers new : List Layer) (layer : Layer) → new ≡ layers ++ layer ∷ [] → AreSoFar P k layers → P k layer → AreSoFar P (k + 1) new
+so_far_more P k layers new layer e h p = subst (AreSoFar P (k + 1)) (sym e) (
+  omega (arith, length-append layers (layer ∷ []), h.0),
+  λ m d near. each_push P layers layer d (λ i. h.1 i d) (subst (λ n. P n layer) (sym h.0) p) m near,
 )
 
 -- ---- the conjuncts that a number of values touches
@@ -149,19 +146,8 @@ lasts_push uses trees k conjuncts lasts i last used so low within u = (
       (subst (λ m. IsLast uses trees k conjuncts m (max used last)) (sym so.0) (omega arith, uses-more uses used (max used last) k (omega arith) (tree_at trees (get_or conjuncts i 0)) u)),
 )
 
--- where no conjunct narrows
-module _ (n : ℕ) (narrowing : List (List ℕ)) (none : (k : ℕ) → get_or narrowing k [] ≡ []) where
-  pub below-none : (m : ℕ) → length narrowing ≡ n + 1 → AreAll (λ k. AreBelow m) n narrowing
-  below-none m all = record {
-    all = all;
-    each = λ k near. subst (AreBelow m) (sym (none k)) (λ i h. absurd (omega arith));
-  }
-
-  pub lasts-none : (uses : ℕ → ℕ → Bool) (trees : List Tree) (lasts : List (List ℕ)) → length lasts ≡ n + 1 → ((k : ℕ) → get_or lasts k [] ≡ [])
-      → AreAll (λ k. AreLasts uses trees k (get_or narrowing k [])) n lasts
-  lasts-none uses trees lasts all empty = record {
-    all = all;
-    each = λ k near.
-        subst (λ js. AreLasts uses trees k js (get_or lasts k [])) (sym (none k))
-        (subst (AreLasts uses trees k []) (sym (empty k)) (record { all = refl; each = λ i h. absurd (omega arith) }));
-  }
+pub no-choosers : (uses : ℕ → ℕ → Bool) (trees : List Tree) (k : ℕ) (by : Choosers) → by.conjuncts.items ≡ [] → by.lasts.items ≡ [] → AreChoosers uses trees k by
+no-choosers uses trees k by none empty = record {
+  conjuncts = subst (AreBelow (length trees)) (sym none) (λ i h. absurd (omega arith));
+  lasts = subst (λ js. AreLasts uses trees k js by.lasts.items) (sym none) (subst (AreLasts uses trees k []) (sym empty) (record { all = refl; each = λ i h. absurd (omega arith) }));
+}

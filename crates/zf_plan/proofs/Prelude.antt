@@ -29,6 +29,7 @@ pub use Rattle.zf_plan.specs.Choosing.{IsChoice, IsChosen, IsNextChoice, Narrows
 pub use Rattle.zf_plan.specs.Groves.{Grove, Grows, IsOver, tree_of, trees_made, trees_of}
 pub use Rattle.zf_plan.specs.Knowing.{AreBelow, conjoined, IsKnown, IsSettled, joined, Remembers, Tells}
 unfoldable pub use Rattle.zf_plan.specs.Knowing.{IsSoFar}
-pub use Rattle.zf_plan.specs.Places.{above, ahead_of, below, bound, Gives, Goes, GoesOn, is_over, IsAt, IsHopeless, IsPlan, IsSound, KeepsEvents, Lands, LandsNext, path, Stands, steps_left}
+pub use Rattle.zf_plan.specs.Places.{above, ahead_of, below, bound, Gives, Goes, GoesOn, is_over, IsAt, IsHopeless, IsSound, KeepsEvents, Lands, LandsNext, path, Stands, steps_left}
+pub use Rattle.zf_plan.specs.Plans.{IsPlan}
 pub use Rattle.zf_plan.specs.Trees.{both, due_of, either, HasLeavesWithin, HaveLeavesWithin, IsOfBoth, IsOfEither, IsTreeTruth, leaf, negated, opposite, planted, Tree, tree_at}
 pub use Rattle.zf_plan.specs.declared.place.Place.{Place}

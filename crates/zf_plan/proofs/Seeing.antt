@@ -1,10 +1,10 @@
 -- What is known of leaves with each value of the next range.
 use Rattle.zf_plan.proofs.Prelude.{◌++◌, ◌+◌, ◌<◌, ◌≤◌, ◌∙◌, ◌∷◌, ◌≡◌, ◌⊎◌, [], ap, arith, get_or, inl, inr, length, List, refl, replicate, set, subst, suc, sym, take, zero, ℕ, cases_eq, get_or-set_other, get_or-set_same, get_or_default, length-take-le, AreWithin, bound, HasLeavesWithin, HaveLeavesWithin, IsAt, leaf, path, Conjuncts, picked, Place, Tree, Truth, False, Out, True}
 use Rattle.std.specs.Prelude.{slice_index}
-use Rattle.zf_walk.proofs.Marking.{unseen-nothing}
 use Rattle.zf_walk.specs.Seen.{IsSeen, unseen}
 use Rattle.zf_walk.specs.declared.seen.Seen.{Seen}
-use Rattle.zf_plan.specs.Places.{AreDue, AreSeen, IsTold, seen_at}
+use Rattle.zf_plan.specs.Plans.{AreDue}
+use Rattle.zf_plan.specs.Places.{AreSeen, IsTold, seen_at}
 use Rattle.zf_plan.specs.Testing.{AreLeaves, AreSeenOf}
 use Rattle.zf_plan.proofs.Moving.{last-value}
 
@@ -27,10 +27,6 @@ module _ {V : Type 0} (l : Conjuncts V) (ranges : List (List V)) (places leaves 
     | inr ne ↦ before i True w (held i h).0 k (omega arith)
   ]
   seen-more n all one new refuted held before here i Out w h = h
-
--- where nothing is known, that is so
-pub nothing-seen : {V : Type 0} (l : Conjuncts V) (trees : List Tree) (ranges : List (List V)) (places : List ℕ) (seen : Seen) → seen ≡ unseen → AreSeen l trees ranges places seen
-nothing-seen l trees ranges places seen is i t w h = absurd (unseen-nothing i t (subst (λ s. IsSeen s i t) is h))
 
 -- ---- one range more
 

@@ -3,7 +3,8 @@ use Rattle.zf_plan.proofs.Prelude.{◌++◌, ◌+◌, ◌<◌, ◌∙◌, ◌≡
 use Rattle.std.proofs.Common.{Bool, ◌||◌, max}
 use Rattle.std.proofs.lemmas.Bool.{eq-eqb}
 use Rattle.zf_plan.specs.Knowing.{IsAmong, IsLeafDue, IsLeafOrBelow, IsRefuted, IsSoFar, joined, NeedsBelow, NeedsWithin, touches}
-use Rattle.zf_plan.specs.Places.{AreDue, AreHeld, AreTouched, IsTold, touches_inside}
+use Rattle.zf_plan.specs.Plans.{AreDue, AreTouched, touches_inside}
+use Rattle.zf_plan.specs.Places.{AreHeld, IsTold}
 use Rattle.zf_plan.specs.Testing.{AreNotFalse, IsTruthOfLeaves, Tests}
 use Rattle.zf_plan.proofs.Knowing.{settled-leaf}
 use Rattle.zf_plan.proofs.TreeTruths.{settled-here}

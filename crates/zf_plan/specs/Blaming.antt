@@ -1,5 +1,5 @@
 -- On which values it is to be blamed that no event begins with a value: for private contracts and the model of `Search` alone.
-use Rattle.std.specs.Prelude.{◌≡◌, ◌⊎◌, ℕ, ◌<◌, ◌≤◌, Bool, true, false, List, ◌∷◌, ◌++◌, [], length, Option, Some, slice_get, slice_index_or}
+use Rattle.std.specs.Prelude.{◌≡◌, ◌⊎◌, ℕ, ◌<◌, Bool, true, false, List, ◌∷◌, ◌++◌, [], length, Option, Some, slice_get, slice_index_or}
 use Rattle.zf_walk.specs.Conjuncts.{Conjuncts}
 use Rattle.zf_walk.specs.Picked.{AreWithin, picked}
 use Rattle.zf_walk.specs.Rows.{IsRowOf}
@@ -19,11 +19,6 @@ HasBits uses word k (either a b) = HasBits uses word k a × HasBits uses word k 
 -- the word has a bit for each of the first k components that one of the first n conjuncts uses which have a leaf that needs k values
 abbrev pub Covers : {V : Type 0} → Conjuncts V → (ℕ → ℕ → Bool) → List Tree → ℕ → ℕ → ℕ → Type 0
 Covers l uses trees k n word = (j : ℕ) → j < n → touches l k (tree_at trees j) ≡ true → HasBits uses word k (tree_at trees j)
-
--- for each number of values less than n such a word, as far as words have so many bits
-pub record AreCovered {V : Type 0} (l : Conjuncts V) (uses : ℕ → ℕ → Bool) (trees : List Tree) (n : ℕ) (words : List ℕ) : Type 0 where
-  pub all : length words ≡ n
-  pub each : (k : ℕ) → k < n → k ≤ 64 → Covers l uses trees k (length trees) (slice_index_or words k 0)
 
 -- at each component of which the word has a bit these are the same places
 abbrev pub AreAlike : ℕ → List ℕ → List ℕ → Type 0

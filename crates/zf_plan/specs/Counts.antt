@@ -16,8 +16,6 @@ use Rattle.zf_plan.specs.declared.plan.Plan.{Plan}
 -- Each conjunct is a leaf, and no component is narrowed or sifted.
 pub record IsPlain {V : Type 0} (l : Conjuncts V) (trees : List Tree) (planned : Plan) : Type 0 where
   pub flat : IsFlat l.number trees
-  pub none : (k : ℕ) → slice_index_or planned.narrowing.items k [] ≡ []
-  pub unsifted : (k : ℕ) → slice_index_or planned.sifting.items k [] ≡ []
   pub plain : planned.is_plain ≡ true
 
 -- which rows that begin with a given one are ahead, by what they have behind it: all, those that go on, or none

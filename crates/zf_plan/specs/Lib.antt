@@ -13,6 +13,7 @@ pub mod Testing
 pub mod Choosing
 pub mod Sieves
 pub mod Blaming
+pub mod Plans
 pub mod Places
 pub mod Exchanges
 pub mod Counts

@@ -1,5 +1,5 @@
 -- Where a search is, and what its steps do: for private contracts and the model of `Search` alone.
-use Rattle.std.specs.Prelude.{◌≡◌, ◌≢◌, ◌⊎◌, ℕ, zero, suc, ◌+◌, ◌-◌, ◌*◌, ◌<◌, ◌≤◌, ◌^◌, Bool, true, false, cond, eqb, ◌||◌, List, [], ◌∷◌, ◌++◌, length, take, drop, slice_index_or, slice_set, AllPairs, Contains, Option, Some, None}
+use Rattle.std.specs.Prelude.{◌≡◌, ◌≢◌, ◌⊎◌, ℕ, zero, suc, ◌+◌, ◌-◌, ◌*◌, ◌<◌, ◌≤◌, ◌^◌, Bool, true, false, cond, eqb, List, [], ◌∷◌, ◌++◌, length, take, drop, slice_index_or, slice_set, Option, Some, None, Result, OnOk, OnErr}
 use Rattle.std.specs.declared.cmp.Ordering.{Ordering}
 use Rattle.zf_walk.specs.declared.judge.Truth.{Truth}
 use Rattle.zf_walk.specs.declared.judge.Truth.TheVariants.{True, False, Out}
@@ -16,52 +16,19 @@ use Rattle.zf_plan.specs.declared.plan.Plan.{Plan}
 use Rattle.zf_plan.specs.declared.problem.Problem.{Problem}
 use Rattle.std.specs.Option.{option_copied}
 use Rattle.zf_plan.specs.Groves.{trees_of}
+use Rattle.zf_plan.specs.Keys.{AreKeyed}
 use Rattle.zf_plan.specs.Memories.{Memory}
-use Rattle.zf_plan.specs.Trees.{Tree, leaf, negated, both, either, tree_at, HaveLeavesWithin}
+use Rattle.zf_plan.specs.Trees.{Tree, tree_at, HaveLeavesWithin}
 use Rattle.zf_walk.specs.Seen.{HasBit, IsSeen, unseen}
 use Rattle.zf_walk.specs.declared.seen.Seen.{Seen}
-use Rattle.zf_plan.specs.Knowing.{touches, Remembers, IsRefuted, IsSettled, IsSoFar, IsLeafDue, NeedsWithin, AreBelow}
-use Rattle.zf_plan.specs.Choosing.{AreLasts, IsChoice, IsNextChoice, StaysChoice}
-use Rattle.zf_plan.specs.Blaming.{AreCovered, IsBlamed}
+use Rattle.zf_plan.specs.Knowing.{Remembers, IsRefuted, IsSettled, IsSoFar, IsLeafDue, NeedsWithin}
+use Rattle.zf_plan.specs.Choosing.{IsChoice, IsNextChoice, StaysChoice}
+use Rattle.zf_plan.specs.Blaming.{Covers, IsBlamed}
+use Rattle.zf_plan.specs.Plans.{IsPlan}
 use Rattle.std.specs.Prelude.{bit_or}
 use Rattle.zf_plan.specs.declared.marks.Mark.{Mark}
 use Rattle.zf_plan.specs.declared.marks.Marks.{Marks}
 use Rattle.zf_plan.specs.Marks.{is_still, mark_at, Accuses, Renews}
-
--- ---- plans
-
--- whether a tree that is no leaf has a leaf that needs so many values
-abbrev pub touches_inside : {V : Type 0} → Conjuncts V → ℕ → Tree → Bool
-touches_inside l due (leaf c) = false
-touches_inside l due (negated a) = touches l due a
-touches_inside l due (both a b) = touches l due a || touches l due b
-touches_inside l due (either a b) = touches l due a || touches l due b
-
--- the leaves that the first n conjuncts are, as far as these are leaves that need k values; in order, where each conjunct is the leaf with its number
-pub record AreDue {V : Type 0} (l : Conjuncts V) (trees : List Tree) (k n : ℕ) (leaves : List ℕ) : Type 0 where
-  pub all : (j c : ℕ) → j < n → IsLeafDue l k (tree_at trees j) c → Contains leaves c
-  pub only : (c : ℕ) → Contains leaves c → (j : ℕ) × (j < n) × IsLeafDue l k (tree_at trees j) c
-  pub ascending : ((j : ℕ) → j < n → tree_at trees j ≡ leaf j) → AllPairs (λ i j. i < j) leaves
-
--- the first n conjuncts, as far as they are no leaves and have a leaf that needs k values
-pub record AreTouched {V : Type 0} (l : Conjuncts V) (trees : List Tree) (k n : ℕ) (numbers : List ℕ) : Type 0 where
-  pub below : AreBelow n numbers
-  pub all : (j : ℕ) → j < n → touches_inside l k (tree_at trees j) ≡ true → Contains numbers j
-  pub only : (j : ℕ) → Contains numbers j → touches_inside l k (tree_at trees j) ≡ true
-
--- for each number of values up to n a list of which P holds
-pub record AreAll (P : ℕ → List ℕ → Type 0) (n : ℕ) (lists : List (List ℕ)) : Type 0 where
-  pub all : length lists ≡ n + 1
-  pub each : (k : ℕ) → k < length lists → P k (slice_index_or lists k [])
-
-pub record IsPlan {V : Type 0} (l : Conjuncts V) (uses : ℕ → ℕ → Bool) (trees : List Tree) (n : ℕ) (plan : Plan) : Type 0 where
-  pub due : AreAll (λ k. AreDue l trees k (length trees)) n plan.due.items
-  pub touched : AreAll (λ k. AreTouched l trees k (length trees)) n plan.touched.items
-  pub narrowing : AreAll (λ k. AreBelow (length trees)) n plan.narrowing.items
-  pub lasts : AreAll (λ k. AreLasts uses trees k (slice_index_or plan.narrowing.items k [])) n plan.lasts.items
-  pub sifting : AreAll (λ k. AreBelow (length trees)) n plan.sifting.items
-  pub sifting_lasts : AreAll (λ k. AreLasts uses trees k (slice_index_or plan.sifting.items k [])) n plan.sifting_lasts.items
-  pub blames : AreCovered l uses trees (n + 1) plan.blames.items
 
 -- ---- places
 
@@ -152,6 +119,13 @@ pub record IsSound {V : Type 0} (cmp : V → V → Ordering) (l : Conjuncts V) (
 abbrev pub IsPosed : {V J : Type 0} → (V → V → Ordering) → (J → Conjuncts V) → (J → ℕ → ℕ → Bool) → Problem V J → Type 0
 IsPosed cmp conjuncts uses p = IsSound cmp (conjuncts p.judge.now) (uses p.judge.now) (trees_of p.forest.now) p.ranges.now (option_copied p.after) p.plan.now
 
+-- what holds where it is asked about the values at these places, by what is remembered
+pub record IsAsked {V J : Type 0} (cmp : V → V → Ordering) (conjuncts : J → Conjuncts V) (uses : J → ℕ → ℕ → Bool) (is_key : J → ℕ → V → ℕ → Type 0) (p : Problem V J) (places : List ℕ) (memo : Memory) : Type 0 where
+  pub sound : IsPosed cmp conjuncts uses p
+  pub keys : AreKeyed (conjuncts p.judge.now) (is_key p.judge.now) p.ranges.now p.keys.now
+  pub within : AreWithin p.ranges.now places
+  pub remembers : Remembers (conjuncts p.judge.now) (uses p.judge.now) p.ranges.now places memo
+
 -- how many steps a search from a row on takes at most
 abbrev pub below : {V : Type 0} → List (List V) → ℕ
 below [] = 2
@@ -214,11 +188,11 @@ abbrev pub Leaves : ℕ → Place → Place → Type 0
 Leaves count old new = (n : ℕ) × (((n ≡ old.depth) × (n ≤ count)) ⊎ ((n ≡ count) × (n ≤ old.depth))) × PassesOpen (record old { depth = n }) new
 
 -- the row of the bound values is passed: the last one is open from now on, or it is to be blamed on what the conjuncts use that were tested
-abbrev pub Passes : {V : Type 0} → (V → V → Ordering) → List (List V) → Option (List V) → List ℕ → Place → Place → Type 0
-Passes cmp ranges after blames old new = PassesOpen old new
+abbrev pub Passes : {V : Type 0} → (V → V → Ordering) → Conjuncts V → (ℕ → ℕ → Bool) → List Tree → List (List V) → Option (List V) → Place → Place → Type 0
+Passes cmp l uses trees ranges after old new = PassesOpen old new
     ⊎ (last : ℕ) × (old.depth ≡ last + 1) × (new ≡ record old { fresh = false; marks = new.marks })
-    × (last < 64) × (is_reached cmp after (length ranges) (path ranges old) ≡ true)
-    × Accuses last (mark_at old.marks last).is_open (bit_or (mark_at old.marks last).blame (slice_index_or blames old.depth 0)) old.marks new.marks
+    × (is_reached cmp after (length ranges) (path ranges old) ≡ true)
+    × (word : ℕ) × Covers l uses trees old.depth (length trees) word × Accuses last (mark_at old.marks last).is_open (bit_or (mark_at old.marks last).blame word) old.marks new.marks
 
 -- the place is the same, but for the mark of what is chosen of the next range
 pub record IsMarked (old new : Place) : Type 0 where
@@ -226,6 +200,16 @@ pub record IsMarked (old new : Place) : Type 0 where
   pub stamps : new.marks.stamps.items ≡ old.marks.stamps.items
   pub all : length new.marks.choices.items ≡ length old.marks.choices.items
   pub others : (k : ℕ) → k ≢ old.depth → mark_at new.marks k ≡ mark_at old.marks k
+
+-- the values of the next range are chosen, or memory ends; where nothing may be left out all of them
+pub record Enters {V J T E : Type 0} (conjuncts : J → Conjuncts V) (uses : J → ℕ → ℕ → Bool) (p : Problem V J) (old : Place) (told : Memory) (chosen : Option (List ℕ)) (result : Result T E) (new : Place) (memo : Memory) (choice : Option (List ℕ)) : Type 0 where
+  pub remembers : Remembers (conjuncts p.judge.now) (uses p.judge.now) p.ranges.now (bound old) memo
+  pub same : memo.tests ≡ told.tests
+  pub place : IsMarked old new
+  pub kept : IsKept (conjuncts p.judge.now) (trees_of p.forest.now) p.ranges.now new.marks.stamps.items (bound old) old.depth choice (mark_at new.marks old.depth)
+  pub all : OnOk result (p.plan.now.is_plain ≡ true → chosen ≡ None → choice ≡ None)
+  pub granted : OnErr result (p.plan.now.is_plain ≡ true → ⊥)
+  pub err : OnErr result (new ≡ old)
 
 -- ---- steps
 

@@ -1,5 +1,5 @@
 //! The values of a range that are tried.
-ghost use Rattle.std.specs.Prelude.{◌≡◌, ◌≤◌, ◌<◌, ℕ, true, length, slice_index_or, Contains, IfOk, OnOk, None};
+ghost use Rattle.std.specs.Prelude.{◌≡◌, ◌≤◌, ◌<◌, ℕ, true, false, length, slice_index_or, Contains, IfOk, OnOk, None};
 ghost use Rattle.zf_plan.specs.Choosing.{IsNextChoice, KeepsChosen, passing};
 
 use std::alloc::{AllocError, Global};
@@ -26,11 +26,12 @@ impl Model for Choice {
 }
 
 impl Choice {
-    /// Whether all places are chosen only until the same first values come again.
-    pub fn is_waiting(&self) -> bool
-        ensures { result ≡ true → self.now ≡ None }
+    /// Whether the choice stays, where it was made of the same first values: all places may be chosen only until these come again.
+    pub fn stays(&self, again: bool) -> bool
+        ensures made { result ≡ true → again ≡ true }
+        ensures waits { result ≡ false → again ≡ true → self.now ≡ None }
     {
-        self.all && self.waits
+        again && !(self.all && self.waits)
     }
 
     /// Marks the places of a list in its stead, where it takes longer to look through it for each of them than through a range of this length.

@@ -5,9 +5,10 @@ ghost use Rattle.zf_plan.specs.Trees.{tree_at, HasLeavesWithin};
 ghost use Rattle.zf_plan.specs.Groves.{trees_made, trees_of};
 ghost use Rattle.zf_plan.specs.Knowing.{Remembers, AreBelow};
 ghost use Rattle.zf_plan.specs.Choices.{Leaves, StaysIn};
-ghost use Rattle.zf_plan.specs.Choosing.{AreLasts, Narrows, StaysChoice};
+ghost use Rattle.zf_plan.specs.Choosing.{Narrows, StaysChoice};
 ghost use Rattle.zf_plan.specs.Keys.{AreKeyed, AreKeys};
-ghost use Rattle.zf_plan.specs.Places.{IsPosed};
+ghost use Rattle.zf_plan.specs.Plans.{AreChoosers};
+ghost use Rattle.zf_plan.specs.Places.{IsAsked, IsPosed};
 
 use crate::choice::Choice;
 use crate::evaluating::evaluate;
@@ -28,13 +29,10 @@ fn gather<V: Ord, J: Guide<V>>(
     memo: &mut Memo,
     gathered: &mut Vec<usize>,
 ) -> Result<bool, AllocError>
-    requires sound { IsPosed V.cmp J.conjuncts J.is_used problem.now }
-    requires keys { AreKeyed (J.conjuncts problem.now.judge.now) (J.is_key problem.now.judge.now) problem.now.ranges.now problem.now.keys.now }
+    requires asked { IsAsked V.cmp J.conjuncts J.is_used J.is_key problem.now places.now memo.old }
     requires part { part < length (trees_made problem.now.forest.now) }
     requires leaves { HasLeavesWithin (J.conjuncts problem.now.judge.now).number (tree_at (trees_made problem.now.forest.now) part) }
-    requires within { AreWithin problem.now.ranges.now places.now }
     requires deeper { length places.now < length problem.now.ranges.now }
-    requires remembers { Remembers (J.conjuncts problem.now.judge.now) (J.is_used problem.now.judge.now) problem.now.ranges.now places.now memo.old }
     ensures remembers { Remembers (J.conjuncts problem.now.judge.now) (J.is_used problem.now.judge.now) problem.now.ranges.now places.now memo.new }
     ensures same { memo.new.tests ≡ memo.old.tests }
     ensures stay { StaysIn gathered.old.items gathered.new.items }
@@ -126,12 +124,9 @@ fn gather_first<V: Ord, J: Guide<V>>(
     memo: &mut Memo,
     gathered: &mut Vec<usize>,
 ) -> Result<Option<usize>, AllocError>
-    requires sound { IsPosed V.cmp J.conjuncts J.is_used problem.now }
-    requires keys { AreKeyed (J.conjuncts problem.now.judge.now) (J.is_key problem.now.judge.now) problem.now.ranges.now problem.now.keys.now }
+    requires asked { IsAsked V.cmp J.conjuncts J.is_used J.is_key problem.now places.now memo.old }
     requires conjuncts { AreBelow (length (trees_of problem.now.forest.now)) conjuncts.now }
-    requires within { AreWithin problem.now.ranges.now places.now }
     requires deeper { length places.now < length problem.now.ranges.now }
-    requires remembers { Remembers (J.conjuncts problem.now.judge.now) (J.is_used problem.now.judge.now) problem.now.ranges.now places.now memo.old }
     ensures remembers { Remembers (J.conjuncts problem.now.judge.now) (J.is_used problem.now.judge.now) problem.now.ranges.now places.now memo.new }
     ensures same { memo.new.tests ≡ memo.old.tests }
     ensures narrows { IfOk result (λ found. IfSome found (λ i. Narrows (J.conjuncts problem.now.judge.now) (tree_at (trees_of problem.now.forest.now) (slice_index_or conjuncts.now i 0)) problem.now.ranges.now (picked problem.now.ranges.now places.now) (slice_index_or problem.now.ranges.now (length places.now) []) gathered.new.items)) }
@@ -158,21 +153,17 @@ pub fn choose<V: Ord, J: Guide<V>>(
     memo: &mut Memo,
     choice: &mut Choice,
 ) -> Result<usize, AllocError>
-    requires sound { IsPosed V.cmp J.conjuncts J.is_used problem.now }
-    requires keys { AreKeyed (J.conjuncts problem.now.judge.now) (J.is_key problem.now.judge.now) problem.now.ranges.now problem.now.keys.now }
-    requires conjuncts { AreBelow (length (trees_of problem.now.forest.now)) by.now.conjuncts.now }
-    requires lasts { AreLasts (J.is_used problem.now.judge.now) (trees_of problem.now.forest.now) (length places.now) by.now.conjuncts.now by.now.lasts.now }
-    requires within { AreWithin problem.now.ranges.now places.now }
+    requires asked { IsAsked V.cmp J.conjuncts J.is_used J.is_key problem.now places.now memo.old }
+    requires by { AreChoosers (J.is_used problem.now.judge.now) (trees_of problem.now.forest.now) (length places.now) by.now }
     requires deeper { length places.now < length problem.now.ranges.now }
-    requires remembers { Remembers (J.conjuncts problem.now.judge.now) (J.is_used problem.now.judge.now) problem.now.ranges.now places.now memo.old }
     ensures remembers { Remembers (J.conjuncts problem.now.judge.now) (J.is_used problem.now.judge.now) problem.now.ranges.now places.now memo.new }
     ensures same { memo.new.tests ≡ memo.old.tests }
     ensures few { IfOk result (λ due. due ≤ length places.now) }
     ensures choice { IfOk result (λ due. StaysChoice (J.conjuncts problem.now.judge.now) (trees_of problem.now.forest.now) problem.now.ranges.now (length places.now) due places.now choice.new) }
-    ensures all { OnOk result (by.now.conjuncts.now ≡ [] → choice.new ≡ None) }
-    ensures granted { OnErr result (by.now.conjuncts.now ≡ [] → ⊥) }
+    ensures all { OnOk result (by.now.conjuncts.items ≡ [] → choice.new ≡ None) }
+    ensures granted { OnErr result (by.now.conjuncts.items ≡ [] → ⊥) }
 {
-    let found = gather_first(problem, places, by.conjuncts, memo, &mut choice.places)?;
+    let found = gather_first(problem, places, &by.conjuncts, memo, &mut choice.places)?;
     match found {
         Some(i) => {
             let range = &problem.ranges[places.len()];
@@ -184,7 +175,7 @@ pub fn choose<V: Ord, J: Guide<V>>(
         None => {
             choice.all = true;
             choice.waits = false;
-            Ok(made_of(by.conjuncts, places))
+            Ok(made_of(&by.conjuncts, places))
         }
     }
 }

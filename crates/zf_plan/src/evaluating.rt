@@ -1,11 +1,11 @@
 //! What is known of trees at a row. The truth of each leaf is asked for once on the values that it needs.
 ghost use Rattle.std.specs.Prelude.{◌≡◌, ◌≢◌, ◌<◌, Ok, [], ℕ, true, length, slice_index_or, IfOk, IfSome};
 ghost use Rattle.zf_walk.specs.declared.judge.Truth.TheVariants.{False};
-ghost use Rattle.zf_walk.specs.Picked.{AreWithin, picked};
+ghost use Rattle.zf_walk.specs.Picked.{picked};
 ghost use Rattle.zf_plan.specs.Trees.{tree_at, HasLeavesWithin};
 ghost use Rattle.zf_plan.specs.Groves.{trees_made, trees_of};
 ghost use Rattle.zf_plan.specs.Knowing.{Remembers, IsKnown, IsSettled, IsSoFar, IsLeafOrBelow, IsAmong, AreBelow, touches};
-ghost use Rattle.zf_plan.specs.Places.{IsPosed};
+ghost use Rattle.zf_plan.specs.Places.{IsAsked};
 
 use crate::guide::Guide;
 use crate::known::{both, either, join, not};
@@ -22,10 +22,9 @@ pub fn evaluate<V: Ord, J: Guide<V>>(
     part: usize,
     memo: &mut Memo,
 ) -> Result<Option<Truth>, AllocError>
+    requires asked { IsAsked V.cmp J.conjuncts J.is_used J.is_key problem.now places.now memo.old }
     requires part { part < length (trees_made problem.now.forest.now) }
     requires leaves { HasLeavesWithin (J.conjuncts problem.now.judge.now).number (tree_at (trees_made problem.now.forest.now) part) }
-    requires within { AreWithin problem.now.ranges.now places.now }
-    requires remembers { Remembers (J.conjuncts problem.now.judge.now) (J.is_used problem.now.judge.now) problem.now.ranges.now places.now memo.old }
     ensures remembers { Remembers (J.conjuncts problem.now.judge.now) (J.is_used problem.now.judge.now) problem.now.ranges.now places.now memo.new }
     ensures same { memo.new.tests ≡ memo.old.tests }
     ensures known { IfOk result (IsKnown (J.conjuncts problem.now.judge.now) (tree_at (trees_made problem.now.forest.now) part) (picked problem.now.ranges.now places.now)) }
@@ -65,10 +64,9 @@ fn told<V: Ord, J: Guide<V>>(
     part: usize,
     memo: &Memo,
 ) -> Option<Truth>
+    requires asked { IsAsked V.cmp J.conjuncts J.is_used J.is_key problem.now places.now memo.now }
     requires part { part < length (trees_made problem.now.forest.now) }
     requires leaves { HasLeavesWithin (J.conjuncts problem.now.judge.now).number (tree_at (trees_made problem.now.forest.now) part) }
-    requires within { AreWithin problem.now.ranges.now places.now }
-    requires remembers { Remembers (J.conjuncts problem.now.judge.now) (J.is_used problem.now.judge.now) problem.now.ranges.now places.now memo.now }
     ensures { IfSome result (IsSettled (J.conjuncts problem.now.judge.now) (tree_at (trees_made problem.now.forest.now) part) (picked problem.now.ranges.now places.now)) }
 {
     match problem.forest.node(part) {
@@ -85,13 +83,11 @@ pub fn test_trees<V: Ord, J: Guide<V>>(
     before: Truth,
     memo: &mut Memo,
 ) -> Result<Truth, AllocError>
-    requires sound { IsPosed V.cmp J.conjuncts J.is_used problem.now }
+    requires asked { IsAsked V.cmp J.conjuncts J.is_used J.is_key problem.now places.now memo.old }
     requires conjuncts { AreBelow (length (trees_of problem.now.forest.now)) conjuncts.now }
     requires touched { (i : ℕ) → i < length conjuncts.now → touches (J.conjuncts problem.now.judge.now) (length places.now) (tree_at (trees_of problem.now.forest.now) (slice_index_or conjuncts.now i 0)) ≡ true }
     requires before { before ≢ False }
     requires so_far { IsSoFar (J.conjuncts problem.now.judge.now) (trees_of problem.now.forest.now) (picked problem.now.ranges.now places.now) (IsLeafOrBelow (J.conjuncts problem.now.judge.now) (trees_of problem.now.forest.now) (length places.now)) before }
-    requires within { AreWithin problem.now.ranges.now places.now }
-    requires remembers { Remembers (J.conjuncts problem.now.judge.now) (J.is_used problem.now.judge.now) problem.now.ranges.now places.now memo.old }
     ensures remembers { Remembers (J.conjuncts problem.now.judge.now) (J.is_used problem.now.judge.now) problem.now.ranges.now places.now memo.new }
     ensures same { memo.new.tests ≡ memo.old.tests }
     ensures so_far { IfOk result (IsSoFar (J.conjuncts problem.now.judge.now) (trees_of problem.now.forest.now) (picked problem.now.ranges.now places.now) (IsAmong (J.conjuncts problem.now.judge.now) (trees_of problem.now.forest.now) (length places.now) conjuncts.now)) }

@@ -10,7 +10,6 @@ mod guide;
 mod keys;
 mod known;
 pub mod laws;
-mod listed;
 mod marks;
 mod memo;
 mod moves;

@@ -1,18 +1,16 @@
 //! Which leaves and which conjuncts a value that is bound concerns.
-ghost use Rattle.std.specs.Prelude.{◌≡◌, ◌+◌, ◌^◌, ◌<◌, ◌≤◌, ℕ, true, false, [], length, slice_index_or, IfOk, OnOk, MatchOption};
+ghost use Rattle.std.specs.Prelude.{◌≡◌, ◌+◌, ◌^◌, ◌<◌, ◌≤◌, ℕ, true, false, [], length, IfOk, OnOk, MatchOption};
 ghost use Rattle.zf_plan.specs.Trees.{tree_at, HasLeavesWithin, HaveLeavesWithin};
 ghost use Rattle.zf_plan.specs.Groves.{trees_made, trees_of};
-ghost use Rattle.zf_plan.specs.Knowing.{AreBelow, IsLeafDue};
-ghost use Rattle.zf_plan.specs.Choosing.{AreLasts, UsesFirst};
+ghost use Rattle.zf_plan.specs.Knowing.{AreBelow, IsLeafDue, touches};
+ghost use Rattle.zf_plan.specs.Choosing.{UsesFirst};
 ghost use Rattle.zf_walk.specs.Seen.{HasBit};
-ghost use Rattle.zf_plan.specs.Knowing.{touches};
-ghost use Rattle.zf_plan.specs.Blaming.{AreCovered, Covers, HasBits};
-ghost use Rattle.zf_plan.specs.Places.{touches_inside, AreAll, AreDue, AreTouched, IsPlan};
+ghost use Rattle.zf_plan.specs.Blaming.{Covers, HasBits};
+ghost use Rattle.zf_plan.specs.Plans.{touches_inside, AreChoosers, AreDue, AreTouched, IsBare, IsLayer, IsPlan};
 
 use crate::blame::with_bit;
 use crate::forest::Forest;
 use crate::guide::{Guide, Means};
-use crate::listed::Listed;
 use crate::node::Node;
 use std::alloc::{AllocError, Global};
 use zf_walk::{Judge, Range};
@@ -20,26 +18,30 @@ use zf_walk::{Judge, Range};
 /// By how many conjuncts a component is narrowed at most: each is asked for every row of the values before.
 const MOST_NARROWING: usize = 256;
 
-/// For each number of values the leaves that are conjuncts and need so many, the other conjuncts that have such a leaf, those that narrow the next component, and for each of these of how many first values it and those before it do so; and the same of those by which the values of the next component are sifted.
-#[derive(Drop)]
-pub struct Plan {
-    pub due: Vec<Listed>,
-    pub touched: Vec<Listed>,
-    pub narrowing: Vec<Listed>,
-    pub lasts: Vec<Listed>,
-    pub sifting: Vec<Listed>,
-    pub sifting_lasts: Vec<Listed>,
-    /// For each number of values which of so many first components the conjuncts use that have a leaf which needs so many, a bit each.
-    pub blames: Vec<u64>,
-    /// Whether it is one by which no component is narrowed or sifted.
-    pub is_plain: bool,
-}
-
 /// Conjuncts by which the values of a component are chosen, and for each of these of how many first values it and those before it do so.
 #[derive(Drop)]
-pub struct Choosers<'p> {
-    pub conjuncts: &'p [usize],
-    pub lasts: &'p [usize],
+pub struct Choosers {
+    pub conjuncts: Vec<usize>,
+    pub lasts: Vec<usize>,
+}
+
+/// What a number of values concerns: the leaves that are conjuncts and need so many, the other conjuncts that have such a leaf, and those that narrow the next component, or by which its values are sifted.
+#[derive(Drop)]
+pub struct Layer {
+    pub due: Vec<usize>,
+    pub touched: Vec<usize>,
+    pub narrowing: Choosers,
+    pub sifting: Choosers,
+    /// Which of so many first components the conjuncts use that have a leaf which needs so many, a bit each.
+    pub blame: u64,
+}
+
+/// A layer for each number of values.
+#[derive(Drop)]
+pub struct Plan {
+    pub layers: Vec<Layer>,
+    /// Whether it is one by which no component is narrowed or sifted.
+    pub is_plain: bool,
 }
 
 impl Plan {
@@ -54,22 +56,12 @@ impl Plan {
         ensures plan { IfOk result (IsPlan (J.conjuncts judge.now) (J.is_used judge.now) (trees_of forest.now) (length ranges.now)) }
         ensures not_plain { IfOk result (λ p. p.is_plain ≡ false) }
     {
-        let components = ranges.len();
-        let due = all_due(alloc, judge, forest, components)?;
-        let touched = all_touched(alloc, judge, forest, components)?;
-        let narrowing = all_narrowing(alloc, judge, forest, components)?;
-        let lasts = all_lasts(alloc, judge, forest, &narrowing, components)?;
-        let sifting = all_sifting(alloc, judge, forest, ranges, &narrowing)?;
-        let sifting_lasts = all_lasts(alloc, judge, forest, &sifting, components)?;
-        let blames = all_blames(alloc, judge, forest, components)?;
+        let mut layers = Vec::new(alloc);
+        for number in 0..ranges.len() + 1 {
+            layers.push(layer_at(alloc, judge, forest, ranges, number)?)?;
+        }
         Ok(Plan {
-            due,
-            touched,
-            narrowing,
-            lasts,
-            sifting,
-            sifting_lasts,
-            blames,
+            layers,
             is_plain: false,
         })
     }
@@ -84,46 +76,77 @@ impl Plan {
         requires leaves { HaveLeavesWithin (J.conjuncts judge.now).number (trees_of forest.now) }
         requires room { components + 1 < 2 ^ 64 }
         ensures plan { IfOk result (IsPlan (J.conjuncts judge.now) (J.is_used judge.now) (trees_of forest.now) components) }
-        ensures none { IfOk result (λ p. (k : ℕ) → slice_index_or p.narrowing.items k [] ≡ []) }
-        ensures unsifted { IfOk result (λ p. (k : ℕ) → slice_index_or p.sifting.items k [] ≡ []) }
         ensures plain { IfOk result (λ p. p.is_plain ≡ true) }
     {
-        let due = all_due(alloc, judge, forest, components)?;
-        let touched = all_touched(alloc, judge, forest, components)?;
-        let narrowing = none_narrowing(alloc, components)?;
-        let lasts = none_narrowing(alloc, components)?;
-        let sifting = none_narrowing(alloc, components)?;
-        let sifting_lasts = none_narrowing(alloc, components)?;
-        let blames = all_blames(alloc, judge, forest, components)?;
+        let mut layers = Vec::new(alloc);
+        for number in 0..components + 1 {
+            layers.push(plain_layer(alloc, judge, forest, number)?)?;
+        }
         Ok(Plan {
-            due,
-            touched,
-            narrowing,
-            lasts,
-            sifting,
-            sifting_lasts,
-            blames,
+            layers,
             is_plain: true,
         })
     }
 }
 
-/// For each number of values the leaves that are conjuncts and need so many.
-fn all_due<V, J: Judge<V>>(
+/// What so many values concern.
+fn layer_at<V: Ord, J: Guide<V>>(
     alloc: Global,
     judge: &J,
     forest: &Forest,
-    components: usize,
-) -> Result<Vec<Listed>, AllocError>
+    ranges: &[Range<V>],
+    number: usize,
+) -> Result<Layer, AllocError>
     requires leaves { HaveLeavesWithin (J.conjuncts judge.now).number (trees_of forest.now) }
-    requires room { components + 1 < 2 ^ 64 }
-    ensures { IfOk result (λ lists. AreAll (λ k. AreDue (J.conjuncts judge.now) (trees_of forest.now) k (length (trees_of forest.now))) components lists.items) }
+    requires room { number + 1 < 2 ^ 64 }
+    ensures { IfOk result (IsLayer (J.conjuncts judge.now) (J.is_used judge.now) (trees_of forest.now) number) }
 {
-    let mut all = Vec::new(alloc);
-    for due in 0..components + 1 {
-        all.push(due_at(alloc, judge, forest, due)?)?;
+    let due = due_at(alloc, judge, forest, number)?;
+    let touched = touched_at(alloc, judge, forest, number)?;
+    let narrowing = narrowing_at(alloc, judge, forest, number)?;
+    let sifting = sifting_at(judge, forest, ranges, &narrowing, number)?;
+    let narrowing = with_lasts(judge, forest, narrowing, number)?;
+    let sifting = with_lasts(judge, forest, sifting, number)?;
+    Ok(Layer {
+        due,
+        touched,
+        narrowing,
+        sifting,
+        blame: blame_at(judge, forest, number),
+    })
+}
+
+/// The same where no component is narrowed or sifted.
+fn plain_layer<V, J: Judge<V>>(
+    alloc: Global,
+    judge: &J,
+    forest: &Forest,
+    number: usize,
+) -> Result<Layer, AllocError>
+    requires { HaveLeavesWithin (J.conjuncts judge.now).number (trees_of forest.now) }
+    ensures layer { IfOk result (IsLayer (J.conjuncts judge.now) (J.is_used judge.now) (trees_of forest.now) number) }
+    ensures bare { IfOk result IsBare }
+{
+    let due = due_at(alloc, judge, forest, number)?;
+    let touched = touched_at(alloc, judge, forest, number)?;
+    Ok(Layer {
+        due,
+        touched,
+        narrowing: no_choosers(alloc),
+        sifting: no_choosers(alloc),
+        blame: blame_at(judge, forest, number),
+    })
+}
+
+/// No conjunct.
+fn no_choosers(alloc: Global) -> Choosers
+    ensures conjuncts { result.conjuncts.items ≡ [] }
+    ensures lasts { result.lasts.items ≡ [] }
+{
+    Choosers {
+        conjuncts: Vec::new(alloc),
+        lasts: Vec::new(alloc),
     }
-    Ok(all)
 }
 
 /// The leaves that are conjuncts and need so many values.
@@ -132,9 +155,9 @@ fn due_at<V, J: Judge<V>>(
     judge: &J,
     forest: &Forest,
     due: usize,
-) -> Result<Listed, AllocError>
+) -> Result<Vec<usize>, AllocError>
     requires { HaveLeavesWithin (J.conjuncts judge.now).number (trees_of forest.now) }
-    ensures { IfOk result (AreDue (J.conjuncts judge.now) (trees_of forest.now) due (length (trees_of forest.now))) }
+    ensures { IfOk result (λ leaves. AreDue (J.conjuncts judge.now) (trees_of forest.now) due (length (trees_of forest.now)) leaves.items) }
 {
     let mut numbers = Vec::new(alloc);
     for conjunct in 0..forest.count() {
@@ -142,7 +165,7 @@ fn due_at<V, J: Judge<V>>(
             numbers.push(leaf)?;
         }
     }
-    Ok(Listed { numbers })
+    Ok(numbers)
 }
 
 /// The leaf that a tree is, if it is one that needs so many values.
@@ -157,24 +180,6 @@ fn leaf_due<V, J: Judge<V>>(judge: &J, forest: &Forest, part: usize, due: usize)
     }
 }
 
-/// For each number of values the conjuncts that are no leaves and have one which needs so many.
-fn all_touched<V, J: Judge<V>>(
-    alloc: Global,
-    judge: &J,
-    forest: &Forest,
-    components: usize,
-) -> Result<Vec<Listed>, AllocError>
-    requires leaves { HaveLeavesWithin (J.conjuncts judge.now).number (trees_of forest.now) }
-    requires room { components + 1 < 2 ^ 64 }
-    ensures { IfOk result (λ lists. AreAll (λ k. AreTouched (J.conjuncts judge.now) (trees_of forest.now) k (length (trees_of forest.now))) components lists.items) }
-{
-    let mut touched = Vec::new(alloc);
-    for due in 0..components + 1 {
-        touched.push(touched_at(alloc, judge, forest, due)?)?;
-    }
-    Ok(touched)
-}
-
 /// The conjuncts that are no leaves and have one which needs so many values.
 #[tactic(auto, using(crate::proofs::Numbers::touched_push, crate::proofs::Numbers::touched_skip))]
 fn touched_at<V, J: Judge<V>>(
@@ -182,9 +187,9 @@ fn touched_at<V, J: Judge<V>>(
     judge: &J,
     forest: &Forest,
     due: usize,
-) -> Result<Listed, AllocError>
+) -> Result<Vec<usize>, AllocError>
     requires { HaveLeavesWithin (J.conjuncts judge.now).number (trees_of forest.now) }
-    ensures { IfOk result (AreTouched (J.conjuncts judge.now) (trees_of forest.now) due (length (trees_of forest.now))) }
+    ensures { IfOk result (λ numbers. AreTouched (J.conjuncts judge.now) (trees_of forest.now) due (length (trees_of forest.now)) numbers.items) }
 {
     let mut numbers = Vec::new(alloc);
     for conjunct in 0..forest.count() {
@@ -192,7 +197,7 @@ fn touched_at<V, J: Judge<V>>(
             numbers.push(conjunct)?;
         }
     }
-    Ok(Listed { numbers })
+    Ok(numbers)
 }
 
 /// Whether a tree that is no leaf has a leaf that needs so many values.
@@ -229,24 +234,6 @@ fn is_touched<V, J: Judge<V>>(judge: &J, forest: &Forest, part: usize, due: usiz
             is_touched(judge, forest, left, due) || is_touched(judge, forest, right, due)
         }
     }
-}
-
-/// For each number of values which components the conjuncts use that have a leaf which needs so many.
-fn all_blames<V, J: Judge<V>>(
-    alloc: Global,
-    judge: &J,
-    forest: &Forest,
-    components: usize,
-) -> Result<Vec<u64>, AllocError>
-    requires leaves { HaveLeavesWithin (J.conjuncts judge.now).number (trees_of forest.now) }
-    requires room { components + 1 < 2 ^ 64 }
-    ensures { IfOk result (λ words. AreCovered (J.conjuncts judge.now) (J.is_used judge.now) (trees_of forest.now) (components + 1) words.items) }
-{
-    let mut all = Vec::new(alloc);
-    for due in 0..components + 1 {
-        all.push(blame_at(judge, forest, due))?;
-    }
-    Ok(all)
 }
 
 /// Which of so many first components the conjuncts use that have a leaf which needs so many; of more than there are bits none.
@@ -301,55 +288,21 @@ fn used_by_leaf<V, J: Judge<V>>(judge: &J, of: usize, components: usize) -> u64
     word
 }
 
-/// For each number of values the conjuncts that narrow the next.
-fn all_narrowing<V: Ord, J: Guide<V>>(
-    alloc: Global,
-    judge: &J,
-    forest: &Forest,
-    components: usize,
-) -> Result<Vec<Listed>, AllocError>
-    requires leaves { HaveLeavesWithin (J.conjuncts judge.now).number (trees_of forest.now) }
-    requires room { components + 1 < 2 ^ 64 }
-    ensures { IfOk result (λ lists. AreAll (λ k. AreBelow (length (trees_of forest.now))) components lists.items) }
-{
-    let mut narrowing = Vec::new(alloc);
-    for component in 0..components + 1 {
-        narrowing.push(narrowing_at(alloc, judge, forest, component)?)?;
-    }
-    Ok(narrowing)
-}
-
-/// For each number of values no conjunct.
-#[tactic(auto, using(crate::proofs::Numbers::default_push))]
-fn none_narrowing(alloc: Global, components: usize) -> Result<Vec<Listed>, AllocError>
-    requires { components + 1 < 2 ^ 64 }
-    ensures all { IfOk result (λ lists. length lists.items ≡ components + 1) }
-    ensures none { IfOk result (λ lists. (k : ℕ) → slice_index_or lists.items k [] ≡ []) }
-{
-    let mut narrowing = Vec::new(alloc);
-    for component in 0..components + 1 {
-        narrowing.push(Listed {
-            numbers: Vec::new(alloc),
-        })?;
-    }
-    Ok(narrowing)
-}
-
 /// The conjuncts that narrow a component: first those that do so closely, and last those that do so by keys alone.
 fn narrowing_at<V: Ord, J: Guide<V>>(
     alloc: Global,
     judge: &J,
     forest: &Forest,
     component: usize,
-) -> Result<Listed, AllocError>
+) -> Result<Vec<usize>, AllocError>
     requires { HaveLeavesWithin (J.conjuncts judge.now).number (trees_of forest.now) }
-    ensures { IfOk result (AreBelow (length (trees_of forest.now))) }
+    ensures { IfOk result (λ numbers. AreBelow (length (trees_of forest.now)) numbers.items) }
 {
     let mut numbers = Vec::new(alloc);
     add_narrowing(judge, forest, component, Means::Closely, &mut numbers)?;
     add_narrowing(judge, forest, component, Means::Loosely, &mut numbers)?;
     add_narrowing(judge, forest, component, Means::ByKeys, &mut numbers)?;
-    Ok(Listed { numbers })
+    Ok(numbers)
 }
 
 /// Adds the conjuncts that narrow a component by these means, and by no nearer ones, while there are few.
@@ -407,47 +360,25 @@ fn is_narrowing<V: Ord, J: Guide<V>>(
     }
 }
 
-/// For each number of values the conjuncts' last ones, where they narrow the next.
-fn all_lasts<V, J: Judge<V>>(
-    alloc: Global,
+/// These conjuncts, with how many first values each and those before it use, of those before a component.
+fn with_lasts<V, J: Judge<V>>(
     judge: &J,
     forest: &Forest,
-    narrowing: &[Listed],
-    components: usize,
-) -> Result<Vec<Listed>, AllocError>
-    requires narrowing { AreAll (λ k. AreBelow (length (trees_of forest.now))) components narrowing.now }
-    requires leaves { HaveLeavesWithin (J.conjuncts judge.now).number (trees_of forest.now) }
-    requires room { components + 1 < 2 ^ 64 }
-    ensures { IfOk result (λ lists. AreAll (λ k. AreLasts (J.is_used judge.now) (trees_of forest.now) k (slice_index_or narrowing.now k [])) components lists.items) }
-{
-    let mut all = Vec::new(alloc);
-    for component in 0..components + 1 {
-        let conjuncts = &narrowing[component];
-        all.push(lasts_at(alloc, judge, forest, &conjuncts.numbers, component)?)?;
-    }
-    Ok(all)
-}
-
-/// For each of these conjuncts how many first values it and those before it use, of those before a component.
-fn lasts_at<V, J: Judge<V>>(
-    alloc: Global,
-    judge: &J,
-    forest: &Forest,
-    conjuncts: &[usize],
+    conjuncts: Vec<usize>,
     component: usize,
-) -> Result<Listed, AllocError>
-    requires conjuncts { AreBelow (length (trees_of forest.now)) conjuncts.now }
+) -> Result<Choosers, AllocError>
+    requires conjuncts { AreBelow (length (trees_of forest.now)) conjuncts.items }
     requires leaves { HaveLeavesWithin (J.conjuncts judge.now).number (trees_of forest.now) }
-    ensures { IfOk result (AreLasts (J.is_used judge.now) (trees_of forest.now) component conjuncts.now) }
+    ensures { IfOk result (AreChoosers (J.is_used judge.now) (trees_of forest.now) component) }
 {
-    let mut numbers = Vec::new(alloc);
+    let mut lasts = Vec::new(*conjuncts.allocator());
     let mut last = 0;
     for i in 0..conjuncts.len() {
         let root = forest.root(conjuncts[i]);
         last = last_used(judge, forest, root, component).max(last);
-        numbers.push(last)?;
+        lasts.push(last)?;
     }
-    Ok(Listed { numbers })
+    Ok(Choosers { conjuncts, lasts })
 }
 
 /// How many first components a tree uses of those before one.
@@ -484,55 +415,34 @@ fn last_of_leaf<V, J: Judge<V>>(judge: &J, of: usize, component: usize) -> usize
     last
 }
 
-/// For each number of values the conjuncts by which those of the next component are sifted.
-fn all_sifting<V: Ord, J: Guide<V>>(
-    alloc: Global,
-    judge: &J,
-    forest: &Forest,
-    ranges: &[Range<V>],
-    narrowing: &[Listed],
-) -> Result<Vec<Listed>, AllocError>
-    requires leaves { HaveLeavesWithin (J.conjuncts judge.now).number (trees_of forest.now) }
-    requires narrowing { AreAll (λ k. AreBelow (length (trees_of forest.now))) (length ranges.now) narrowing.now }
-    requires room { length ranges.now + 1 < 2 ^ 64 }
-    ensures { IfOk result (λ lists. AreAll (λ k. AreBelow (length (trees_of forest.now))) (length ranges.now) lists.items) }
-{
-    let mut sifting = Vec::new(alloc);
-    for component in 0..ranges.len() + 1 {
-        let narrowed = &narrowing[component];
-        sifting.push(sifting_at(judge, forest, ranges, narrowed, component)?)?;
-    }
-    Ok(sifting)
-}
-
 /// The conjuncts by which the values of a component are sifted, where none narrows it but by keys: those that use the fewest components before it, where the others before it have many rows.
 #[tactic(auto, using(crate::proofs::Numbers::below_push))]
 fn sifting_at<V: Ord, J: Guide<V>>(
     judge: &J,
     forest: &Forest,
     ranges: &[Range<V>],
-    narrowed: &Listed,
+    narrowed: &Vec<usize>,
     component: usize,
-) -> Result<Listed, AllocError>
+) -> Result<Vec<usize>, AllocError>
     requires leaves { HaveLeavesWithin (J.conjuncts judge.now).number (trees_of forest.now) }
-    requires narrowed { AreBelow (length (trees_of forest.now)) narrowed.now }
+    requires narrowed { AreBelow (length (trees_of forest.now)) narrowed.now.items }
     requires room { component + 1 < 2 ^ 64 }
-    ensures { IfOk result (AreBelow (length (trees_of forest.now))) }
+    ensures { IfOk result (λ numbers. AreBelow (length (trees_of forest.now)) numbers.items) }
 {
-    let mut numbers = Vec::new(*narrowed.numbers.allocator());
-    if is_narrowed(judge, forest, &narrowed.numbers, component) {
-        return Ok(Listed { numbers });
+    let mut numbers = Vec::new(*narrowed.allocator());
+    if is_narrowed(judge, forest, narrowed, component) {
+        return Ok(numbers);
     }
     let least = fewest_used(judge, forest, component);
     if !are_many(ranges, least, component) {
-        return Ok(Listed { numbers });
+        return Ok(numbers);
     }
     for conjunct in 0..forest.count() {
         if used_by_sieve(judge, forest, forest.root(conjunct), component) == least {
             numbers.push(conjunct)?;
         }
     }
-    Ok(Listed { numbers })
+    Ok(numbers)
 }
 
 /// Whether one of these conjuncts narrows a component without keys.

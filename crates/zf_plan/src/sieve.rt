@@ -1,11 +1,12 @@
 //! How the values of a range are sifted by conjuncts that use few of the values before it.
 ghost use Rattle.std.specs.Prelude.{◌≡◌, ◌<◌, ◌≤◌, ℕ, [], length, slice_index_or, None, IsTrue, IfOk, OnOk, OnErr};
-ghost use Rattle.zf_walk.specs.Picked.{AreWithin, picked};
+ghost use Rattle.zf_walk.specs.Picked.{picked};
 ghost use Rattle.zf_plan.specs.Groves.{trees_of};
 ghost use Rattle.zf_plan.specs.Knowing.{Remembers, AreBelow};
-ghost use Rattle.zf_plan.specs.Choosing.{AreLasts, StaysChoice};
+ghost use Rattle.zf_plan.specs.Choosing.{StaysChoice};
 ghost use Rattle.zf_plan.specs.Sieves.{AreSifted, IsGreatest, IsOneFalse};
-ghost use Rattle.zf_plan.specs.Places.{IsPosed};
+ghost use Rattle.zf_plan.specs.Plans.{AreChoosers};
+ghost use Rattle.zf_plan.specs.Places.{IsAsked};
 
 use crate::choice::Choice;
 use crate::evaluating::evaluate;
@@ -24,22 +25,19 @@ pub fn sift<V: Ord, J: Guide<V>>(
     memo: &mut Memo,
     choice: &mut Choice,
 ) -> Result<usize, AllocError>
-    requires sound { IsPosed V.cmp J.conjuncts J.is_used problem.now }
-    requires conjuncts { AreBelow (length (trees_of problem.now.forest.now)) by.now.conjuncts.now }
-    requires lasts { AreLasts (J.is_used problem.now.judge.now) (trees_of problem.now.forest.now) (length places.now) by.now.conjuncts.now by.now.lasts.now }
-    requires within { AreWithin problem.now.ranges.now places.now }
+    requires asked { IsAsked V.cmp J.conjuncts J.is_used J.is_key problem.now places.now memo.old }
+    requires by { AreChoosers (J.is_used problem.now.judge.now) (trees_of problem.now.forest.now) (length places.now) by.now }
     requires deeper { length places.now < length problem.now.ranges.now }
-    requires remembers { Remembers (J.conjuncts problem.now.judge.now) (J.is_used problem.now.judge.now) problem.now.ranges.now places.now memo.old }
     ensures remembers { Remembers (J.conjuncts problem.now.judge.now) (J.is_used problem.now.judge.now) problem.now.ranges.now places.now memo.new }
     ensures same { memo.new.tests ≡ memo.old.tests }
     ensures few { IfOk result (λ due. due ≤ length places.now) }
     ensures choice { IfOk result (λ due. StaysChoice (J.conjuncts problem.now.judge.now) (trees_of problem.now.forest.now) problem.now.ranges.now (length places.now) due places.now choice.new) }
     ensures refused { OnErr result (choice.old ≡ None → choice.new ≡ None) }
 {
-    mark_passing(problem, places, by.conjuncts, memo, &mut choice.passes)?;
+    mark_passing(problem, places, &by.conjuncts, memo, &mut choice.passes)?;
     choice.all = false;
     choice.marked = true;
-    Ok(greatest(by.lasts))
+    Ok(greatest(&by.lasts))
 }
 
 /// Chooses all values of the next range until the same first values come again, of which the answer counts as many as these use. What the conjuncts say of each value is known by then.
@@ -60,11 +58,9 @@ fn mark_passing<V: Ord, J: Guide<V>>(
     memo: &mut Memo,
     passes: &mut Vec<bool>,
 ) -> Result<(), AllocError>
-    requires sound { IsPosed V.cmp J.conjuncts J.is_used problem.now }
+    requires asked { IsAsked V.cmp J.conjuncts J.is_used J.is_key problem.now places.now memo.old }
     requires conjuncts { AreBelow (length (trees_of problem.now.forest.now)) conjuncts.now }
-    requires within { AreWithin problem.now.ranges.now places.now }
     requires deeper { length places.now < length problem.now.ranges.now }
-    requires remembers { Remembers (J.conjuncts problem.now.judge.now) (J.is_used problem.now.judge.now) problem.now.ranges.now places.now memo.old }
     ensures remembers { Remembers (J.conjuncts problem.now.judge.now) (J.is_used problem.now.judge.now) problem.now.ranges.now places.now memo.new }
     ensures same { memo.new.tests ≡ memo.old.tests }
     ensures sifted { OnOk result (AreSifted (J.conjuncts problem.now.judge.now) (trees_of problem.now.forest.now) problem.now.ranges.now conjuncts.now places.now (length (slice_index_or problem.now.ranges.now (length places.now) [])) passes.new.items) }
@@ -92,10 +88,8 @@ fn is_one_false<V: Ord, J: Guide<V>>(
     conjuncts: &[usize],
     memo: &mut Memo,
 ) -> Result<bool, AllocError>
-    requires sound { IsPosed V.cmp J.conjuncts J.is_used problem.now }
+    requires asked { IsAsked V.cmp J.conjuncts J.is_used J.is_key problem.now places.now memo.old }
     requires conjuncts { AreBelow (length (trees_of problem.now.forest.now)) conjuncts.now }
-    requires within { AreWithin problem.now.ranges.now places.now }
-    requires remembers { Remembers (J.conjuncts problem.now.judge.now) (J.is_used problem.now.judge.now) problem.now.ranges.now places.now memo.old }
     ensures remembers { Remembers (J.conjuncts problem.now.judge.now) (J.is_used problem.now.judge.now) problem.now.ranges.now places.now memo.new }
     ensures same { memo.new.tests ≡ memo.old.tests }
     ensures is_false { IfOk result (λ found. IsTrue found → IsOneFalse (J.conjuncts problem.now.judge.now) (trees_of problem.now.forest.now) conjuncts.now (picked problem.now.ranges.now places.now)) }

@@ -1,8 +1,8 @@
 //! The steps of a search.
-ghost use Rattle.std.specs.Prelude.{◌≡◌, ◌≢◌, ◌<◌, ◌≤◌, None, [], length, slice_index_or, IsTrue, IfOk, OnOk, OnErr, ℕ, take};
+ghost use Rattle.std.specs.Prelude.{◌≡◌, ◌≢◌, ◌<◌, ◌≤◌, true, None, [], length, slice_index_or, IsTrue, IfOk, OnOk, OnErr, ℕ, take};
 ghost use Rattle.std.specs.Option.{option_copied};
 ghost use Rattle.zf_walk.specs.declared.judge.Truth.TheVariants.{False};
-ghost use Rattle.zf_walk.specs.Picked.{AreWithin, picked};
+ghost use Rattle.zf_walk.specs.Picked.{picked};
 ghost use Rattle.zf_plan.specs.Trees.{planted};
 ghost use Rattle.zf_plan.specs.Groves.{trees_of};
 ghost use Rattle.zf_plan.specs.Keys.{AreKeyed};
@@ -11,7 +11,7 @@ ghost use Rattle.zf_plan.specs.Choosing.{IsChoice, StaysChoice};
 ghost use Rattle.zf_plan.specs.Marks.{mark_at};
 ghost use Rattle.zf_plan.specs.Counts.{IsPlain, Counts, CountsOn, IsCounted, all_of};
 ghost use Rattle.zf_walk.specs.Seen.{unseen};
-ghost use Rattle.zf_plan.specs.Places.{IsPosed, bound, path, found_before, seen_at, AreHeld, AreSeen, IsAt, IsKept, IsMarked, Finds, Stands, Goes, Gives, KeepsEvents, Passes, PassesOpen, is_over};
+ghost use Rattle.zf_plan.specs.Places.{IsAsked, IsPosed, bound, path, found_before, seen_at, AreHeld, AreSeen, IsAt, IsKept, Enters, Finds, Stands, Goes, Gives, KeepsEvents, Passes, PassesOpen, is_over};
 ghost use Rattle.zf_plan.specs.Blaming.{IsBlamed};
 
 use crate::blame::first_bits;
@@ -22,7 +22,6 @@ use crate::guide::Guide;
 use crate::memo::Memo;
 use crate::moves::{descend, jump, retreat};
 use crate::place::Place;
-use crate::plan::Choosers;
 use crate::problem::Problem;
 use crate::sieve::{sift, wait};
 use std::alloc::AllocError;
@@ -35,11 +34,9 @@ fn test_row<V: Ord, J: Guide<V>>(
     before: Truth,
     memo: &mut Memo,
 ) -> Result<Truth, AllocError>
-    requires sound { IsPosed V.cmp J.conjuncts J.is_used problem.now }
-    requires within { AreWithin problem.now.ranges.now places.now }
+    requires asked { IsAsked V.cmp J.conjuncts J.is_used J.is_key problem.now places.now memo.old }
     requires before { before ≢ False }
     requires so_far { IsSoFar (J.conjuncts problem.now.judge.now) (trees_of problem.now.forest.now) (picked problem.now.ranges.now places.now) (NeedsBelow (J.conjuncts problem.now.judge.now) (trees_of problem.now.forest.now) (length places.now)) before }
-    requires remembers { Remembers (J.conjuncts problem.now.judge.now) (J.is_used problem.now.judge.now) problem.now.ranges.now places.now memo.old }
     ensures remembers { Remembers (J.conjuncts problem.now.judge.now) (J.is_used problem.now.judge.now) problem.now.ranges.now places.now memo.new }
     ensures more { memo.old.tests ≤ memo.new.tests }
     ensures finds { IfOk result (Finds V.cmp (J.conjuncts problem.now.judge.now) (trees_of problem.now.forest.now) (length problem.now.ranges.now) (option_copied problem.now.after) (picked problem.now.ranges.now places.now)) }
@@ -48,13 +45,12 @@ fn test_row<V: Ord, J: Guide<V>>(
     if !is_reached(problem.after, problem.ranges, places) {
         return Ok(Truth::False);
     }
-    let due = &problem.plan.due[places.len()];
-    let tested = memo.test(problem, places, &due.numbers, before)?;
+    let layer = problem.layer(places.len());
+    let tested = memo.test(problem, places, &layer.due, before)?;
     if let Truth::False = tested {
         return Ok(Truth::False);
     }
-    let touched = &problem.plan.touched[places.len()];
-    test_trees(problem, places, &touched.numbers, tested, memo)
+    test_trees(problem, places, &layer.touched, tested, memo)
 }
 
 /// The same where the leaves that are conjuncts and need just this row are known to be True. Where it is False no event begins with that row, and else it is the truth of the conjuncts that need no more values.
@@ -64,11 +60,9 @@ fn test_told<V: Ord, J: Guide<V>>(
     before: Truth,
     memo: &mut Memo,
 ) -> Result<Truth, AllocError>
-    requires sound { IsPosed V.cmp J.conjuncts J.is_used problem.now }
-    requires within { AreWithin problem.now.ranges.now places.now }
+    requires asked { IsAsked V.cmp J.conjuncts J.is_used J.is_key problem.now places.now memo.old }
     requires before { before ≢ False }
     requires so_far { IsSoFar (J.conjuncts problem.now.judge.now) (trees_of problem.now.forest.now) (picked problem.now.ranges.now places.now) (NeedsBelow (J.conjuncts problem.now.judge.now) (trees_of problem.now.forest.now) (length places.now)) before }
-    requires remembers { Remembers (J.conjuncts problem.now.judge.now) (J.is_used problem.now.judge.now) problem.now.ranges.now places.now memo.old }
     requires told { AreHeld (J.conjuncts problem.now.judge.now) (trees_of problem.now.forest.now) (picked problem.now.ranges.now places.now) (length places.now) }
     ensures remembers { Remembers (J.conjuncts problem.now.judge.now) (J.is_used problem.now.judge.now) problem.now.ranges.now places.now memo.new }
     ensures same { memo.new.tests ≡ memo.old.tests }
@@ -77,8 +71,8 @@ fn test_told<V: Ord, J: Guide<V>>(
     if !is_reached(problem.after, problem.ranges, places) {
         return Ok(Truth::False);
     }
-    let asked = &problem.plan.touched[places.len()];
-    test_trees(problem, places, &asked.numbers, before, memo)
+    let layer = problem.layer(places.len());
+    test_trees(problem, places, &layer.touched, before, memo)
 }
 
 /// Tests the row of the bound values: of the leaves that need the last one, as far as it was not seen before what they come to.
@@ -87,12 +81,11 @@ fn test<V: Ord, J: Guide<V>>(
     place: &Place,
     memo: &mut Memo,
 ) -> Result<Truth, AllocError>
-    requires sound { IsPosed V.cmp J.conjuncts J.is_used problem.now }
+    requires asked { IsAsked V.cmp J.conjuncts J.is_used J.is_key problem.now (bound place.now) memo.old }
     requires at { IsAt problem.now.ranges.now place.now }
     requires before { found_before place.now.found.items place.now.depth ≢ False }
     requires so_far { IsSoFar (J.conjuncts problem.now.judge.now) (trees_of problem.now.forest.now) (path problem.now.ranges.now place.now) (NeedsBelow (J.conjuncts problem.now.judge.now) (trees_of problem.now.forest.now) place.now.depth) (found_before place.now.found.items place.now.depth) }
     requires seen { (k : ℕ) → k < place.now.depth → AreSeen (J.conjuncts problem.now.judge.now) (trees_of problem.now.forest.now) problem.now.ranges.now (take k place.now.places.items) (seen_at place.now k) }
-    requires remembers { Remembers (J.conjuncts problem.now.judge.now) (J.is_used problem.now.judge.now) problem.now.ranges.now (bound place.now) memo.old }
     ensures remembers { Remembers (J.conjuncts problem.now.judge.now) (J.is_used problem.now.judge.now) problem.now.ranges.now (bound place.now) memo.new }
     ensures more { memo.old.tests ≤ memo.new.tests }
     ensures finds { IfOk result (Finds V.cmp (J.conjuncts problem.now.judge.now) (trees_of problem.now.forest.now) (length problem.now.ranges.now) (option_copied problem.now.after) (path problem.now.ranges.now place.now)) }
@@ -109,10 +102,8 @@ fn test<V: Ord, J: Guide<V>>(
 
 /// What is known, with each value of the next range, of the leaves that are conjuncts and need it as the last; nothing where tests are counted.
 fn see<V: Ord, J: Guide<V>>(problem: &Problem<V, J>, places: &[usize], memo: &Memo) -> Seen
-    requires sound { IsPosed V.cmp J.conjuncts J.is_used problem.now }
-    requires within { AreWithin problem.now.ranges.now places.now }
+    requires asked { IsAsked V.cmp J.conjuncts J.is_used J.is_key problem.now places.now memo.now }
     requires deeper { length places.now < length problem.now.ranges.now }
-    requires remembers { Remembers (J.conjuncts problem.now.judge.now) (J.is_used problem.now.judge.now) problem.now.ranges.now places.now memo.now }
     ensures seen { AreSeen (J.conjuncts problem.now.judge.now) (trees_of problem.now.forest.now) problem.now.ranges.now places.now result }
     ensures plain { IsPlain (J.conjuncts problem.now.judge.now) (trees_of problem.now.forest.now) problem.now.plan.now → result ≡ unseen }
 {
@@ -123,100 +114,40 @@ fn see<V: Ord, J: Guide<V>>(problem: &Problem<V, J>, places: &[usize], memo: &Me
     if range.values.len() == 0 {
         return Seen::none();
     }
-    let due = &problem.plan.due[places.len() + 1];
-    memo.seen(problem, places, &due.numbers)
+    let layer = problem.layer(places.len() + 1);
+    memo.seen(problem, places, &layer.due)
 }
 
-/// Chooses the values of the next range that are tried. Answers of how many first values the choice was made.
+/// Chooses the values of the next range that are tried; where all were chosen for the same first values, those that remain when it is sifted. Answers of how many first values the choice was made.
 fn choose_at<V: Ord, J: Guide<V>>(
     problem: &Problem<V, J>,
     places: &[usize],
+    again: bool,
     memo: &mut Memo,
     choice: &mut Choice,
 ) -> Result<usize, AllocError>
-    requires sound { IsPosed V.cmp J.conjuncts J.is_used problem.now }
-    requires keys { AreKeyed (J.conjuncts problem.now.judge.now) (J.is_key problem.now.judge.now) problem.now.ranges.now problem.now.keys.now }
-    requires within { AreWithin problem.now.ranges.now places.now }
+    requires asked { IsAsked V.cmp J.conjuncts J.is_used J.is_key problem.now places.now memo.old }
     requires deeper { length places.now < length problem.now.ranges.now }
-    requires remembers { Remembers (J.conjuncts problem.now.judge.now) (J.is_used problem.now.judge.now) problem.now.ranges.now places.now memo.old }
+    requires waits { again ≡ true → choice.old ≡ None }
     ensures remembers { Remembers (J.conjuncts problem.now.judge.now) (J.is_used problem.now.judge.now) problem.now.ranges.now places.now memo.new }
     ensures same { memo.new.tests ≡ memo.old.tests }
     ensures few { IfOk result (λ due. due ≤ length places.now) }
     ensures choice { IfOk result (λ due. StaysChoice (J.conjuncts problem.now.judge.now) (trees_of problem.now.forest.now) problem.now.ranges.now (length places.now) due places.now choice.new) }
-    ensures all { OnOk result (IsPlain (J.conjuncts problem.now.judge.now) (trees_of problem.now.forest.now) problem.now.plan.now → choice.new ≡ None) }
-    ensures granted { OnErr result (IsPlain (J.conjuncts problem.now.judge.now) (trees_of problem.now.forest.now) problem.now.plan.now → ⊥) }
+    ensures all { OnOk result (problem.now.plan.now.is_plain ≡ true → choice.new ≡ None) }
+    ensures granted { OnErr result (problem.now.plan.now.is_plain ≡ true → ⊥) }
+    ensures refused { OnErr result (again ≡ true → choice.new ≡ None) }
 {
-    let sifting_lasts = &problem.plan.sifting_lasts[places.len()];
-    if sifting_lasts.numbers.len() > 0 {
-        return Ok(wait(&sifting_lasts.numbers, choice));
+    let layer = problem.layer(places.len());
+    if again {
+        if layer.sifting.conjuncts.len() == 0 {
+            return Ok(0);
+        }
+        return sift(problem, places, &layer.sifting, memo, choice);
     }
-    let narrowing = &problem.plan.narrowing[places.len()];
-    let lasts = &problem.plan.lasts[places.len()];
-    let by = Choosers {
-        conjuncts: &narrowing.numbers,
-        lasts: &lasts.numbers,
-    };
-    choose(problem, places, &by, memo, choice)
-}
-
-/// Chooses the values of the next range that remain when it is sifted. Answers of how many first values the choice was made.
-fn sift_at<V: Ord, J: Guide<V>>(
-    problem: &Problem<V, J>,
-    places: &[usize],
-    memo: &mut Memo,
-    choice: &mut Choice,
-) -> Result<usize, AllocError>
-    requires sound { IsPosed V.cmp J.conjuncts J.is_used problem.now }
-    requires within { AreWithin problem.now.ranges.now places.now }
-    requires deeper { length places.now < length problem.now.ranges.now }
-    requires remembers { Remembers (J.conjuncts problem.now.judge.now) (J.is_used problem.now.judge.now) problem.now.ranges.now places.now memo.old }
-    requires waits { choice.old ≡ None }
-    ensures remembers { Remembers (J.conjuncts problem.now.judge.now) (J.is_used problem.now.judge.now) problem.now.ranges.now places.now memo.new }
-    ensures same { memo.new.tests ≡ memo.old.tests }
-    ensures few { IfOk result (λ due. due ≤ length places.now) }
-    ensures choice { IfOk result (λ due. StaysChoice (J.conjuncts problem.now.judge.now) (trees_of problem.now.forest.now) problem.now.ranges.now (length places.now) due places.now choice.new) }
-    ensures all { OnOk result (IsPlain (J.conjuncts problem.now.judge.now) (trees_of problem.now.forest.now) problem.now.plan.now → choice.new ≡ None) }
-    ensures granted { OnErr result (IsPlain (J.conjuncts problem.now.judge.now) (trees_of problem.now.forest.now) problem.now.plan.now → ⊥) }
-    ensures refused { OnErr result (choice.new ≡ None) }
-{
-    let sifting = &problem.plan.sifting[places.len()];
-    if sifting.numbers.len() == 0 {
-        return Ok(0);
+    if layer.sifting.lasts.len() > 0 {
+        return Ok(wait(&layer.sifting.lasts, choice));
     }
-    let sifting_lasts = &problem.plan.sifting_lasts[places.len()];
-    let by = Choosers {
-        conjuncts: &sifting.numbers,
-        lasts: &sifting_lasts.numbers,
-    };
-    sift(problem, places, &by, memo, choice)
-}
-
-/// Chooses the values of the next range that remain when it is sifted, where all were chosen till now.
-fn choose_again<V: Ord, J: Guide<V>>(
-    problem: &Problem<V, J>,
-    place: &mut Place,
-    memo: &mut Memo,
-    choice: &mut Choice,
-) -> Result<(), AllocError>
-    requires sound { IsPosed V.cmp J.conjuncts J.is_used problem.now }
-    requires at { IsAt problem.now.ranges.now place.old }
-    requires deeper { place.old.depth < length problem.now.ranges.now }
-    requires remembers { Remembers (J.conjuncts problem.now.judge.now) (J.is_used problem.now.judge.now) problem.now.ranges.now (bound place.old) memo.old }
-    requires waits { choice.old ≡ None }
-    requires kept { IsKept (J.conjuncts problem.now.judge.now) (trees_of problem.now.forest.now) problem.now.ranges.now place.old.marks.stamps.items (bound place.old) place.old.depth choice.old (mark_at place.old.marks place.old.depth) }
-    ensures remembers { Remembers (J.conjuncts problem.now.judge.now) (J.is_used problem.now.judge.now) problem.now.ranges.now (bound place.old) memo.new }
-    ensures same { memo.new.tests ≡ memo.old.tests }
-    ensures place { IsMarked place.old place.new }
-    ensures kept { IsKept (J.conjuncts problem.now.judge.now) (trees_of problem.now.forest.now) problem.now.ranges.now place.new.marks.stamps.items (bound place.old) place.old.depth choice.new (mark_at place.new.marks place.old.depth) }
-    ensures choice { OnOk result (StaysChoice (J.conjuncts problem.now.judge.now) (trees_of problem.now.forest.now) problem.now.ranges.now place.old.depth (mark_at place.new.marks place.old.depth).due (bound place.old) choice.new) }
-    ensures all { OnOk result (IsPlain (J.conjuncts problem.now.judge.now) (trees_of problem.now.forest.now) problem.now.plan.now → choice.old ≡ None → choice.new ≡ None) }
-    ensures granted { OnErr result (IsPlain (J.conjuncts problem.now.judge.now) (trees_of problem.now.forest.now) problem.now.plan.now → ⊥) }
-    ensures err { OnErr result (place.new ≡ place.old) }
-{
-    let depth = place.depth;
-    let due = sift_at(problem, &place.places[..depth], memo, choice)?;
-    place.marks.keep(depth, due);
-    Ok(())
+    choose(problem, places, &layer.narrowing, memo, choice)
 }
 
 /// Chooses the values of the next range that are tried, unless the choice that was made of it before is one still.
@@ -226,29 +157,19 @@ fn choose_next<V: Ord, J: Guide<V>>(
     memo: &mut Memo,
     choice: &mut Choice,
 ) -> Result<(), AllocError>
-    requires sound { IsPosed V.cmp J.conjuncts J.is_used problem.now }
-    requires keys { AreKeyed (J.conjuncts problem.now.judge.now) (J.is_key problem.now.judge.now) problem.now.ranges.now problem.now.keys.now }
+    requires asked { IsAsked V.cmp J.conjuncts J.is_used J.is_key problem.now (bound place.old) memo.old }
     requires at { IsAt problem.now.ranges.now place.old }
     requires deeper { place.old.depth < length problem.now.ranges.now }
-    requires remembers { Remembers (J.conjuncts problem.now.judge.now) (J.is_used problem.now.judge.now) problem.now.ranges.now (bound place.old) memo.old }
     requires kept { IsKept (J.conjuncts problem.now.judge.now) (trees_of problem.now.forest.now) problem.now.ranges.now place.old.marks.stamps.items (bound place.old) place.old.depth choice.old (mark_at place.old.marks place.old.depth) }
-    ensures remembers { Remembers (J.conjuncts problem.now.judge.now) (J.is_used problem.now.judge.now) problem.now.ranges.now (bound place.old) memo.new }
-    ensures same { memo.new.tests ≡ memo.old.tests }
-    ensures place { IsMarked place.old place.new }
-    ensures kept { IsKept (J.conjuncts problem.now.judge.now) (trees_of problem.now.forest.now) problem.now.ranges.now place.new.marks.stamps.items (bound place.old) place.old.depth choice.new (mark_at place.new.marks place.old.depth) }
+    ensures enters { Enters J.conjuncts J.is_used problem.now place.old memo.old choice.old result place.new memo.new choice.new }
     ensures choice { OnOk result (StaysChoice (J.conjuncts problem.now.judge.now) (trees_of problem.now.forest.now) problem.now.ranges.now place.old.depth (mark_at place.new.marks place.old.depth).due (bound place.old) choice.new) }
-    ensures all { OnOk result (IsPlain (J.conjuncts problem.now.judge.now) (trees_of problem.now.forest.now) problem.now.plan.now → choice.old ≡ None → choice.new ≡ None) }
-    ensures granted { OnErr result (IsPlain (J.conjuncts problem.now.judge.now) (trees_of problem.now.forest.now) problem.now.plan.now → ⊥) }
-    ensures err { OnErr result (place.new ≡ place.old) }
 {
     let depth = place.depth;
-    if place.marks.is_still(depth) {
-        if !choice.is_waiting() {
-            return Ok(());
-        }
-        return choose_again(problem, place, memo, choice);
+    let again = place.marks.is_still(depth);
+    if choice.stays(again) {
+        return Ok(());
     }
-    let due = choose_at(problem, &place.places[..depth], memo, choice)?;
+    let due = choose_at(problem, &place.places[..depth], again, memo, choice)?;
     place.marks.keep(depth, due);
     Ok(())
 }
@@ -260,21 +181,13 @@ fn enter<V: Ord, J: Guide<V>>(
     memo: &mut Memo,
     choice: &mut Choice,
 ) -> Result<(), AllocError>
-    requires sound { IsPosed V.cmp J.conjuncts J.is_used problem.now }
-    requires keys { AreKeyed (J.conjuncts problem.now.judge.now) (J.is_key problem.now.judge.now) problem.now.ranges.now problem.now.keys.now }
+    requires asked { IsAsked V.cmp J.conjuncts J.is_used J.is_key problem.now (bound place.old) memo.old }
     requires at { IsAt problem.now.ranges.now place.old }
     requires deeper { place.old.depth < length problem.now.ranges.now }
-    requires remembers { Remembers (J.conjuncts problem.now.judge.now) (J.is_used problem.now.judge.now) problem.now.ranges.now (bound place.old) memo.old }
     requires kept { IsKept (J.conjuncts problem.now.judge.now) (trees_of problem.now.forest.now) problem.now.ranges.now place.old.marks.stamps.items (bound place.old) place.old.depth choice.old (mark_at place.old.marks place.old.depth) }
-    ensures remembers { Remembers (J.conjuncts problem.now.judge.now) (J.is_used problem.now.judge.now) problem.now.ranges.now (bound place.old) memo.new }
-    ensures same { memo.new.tests ≡ memo.old.tests }
-    ensures place { IsMarked place.old place.new }
-    ensures kept { IsKept (J.conjuncts problem.now.judge.now) (trees_of problem.now.forest.now) problem.now.ranges.now place.new.marks.stamps.items (bound place.old) place.old.depth choice.new (mark_at place.new.marks place.old.depth) }
+    ensures enters { Enters J.conjuncts J.is_used problem.now place.old memo.old choice.old result place.new memo.new choice.new }
     ensures choice { OnOk result (IsChoice (J.conjuncts problem.now.judge.now) (trees_of problem.now.forest.now) problem.now.ranges.now (path problem.now.ranges.now place.old) (slice_index_or problem.now.ranges.now place.old.depth []) choice.new) }
     ensures blamed { OnOk result (IsBlamed (J.conjuncts problem.now.judge.now) (trees_of problem.now.forest.now) problem.now.ranges.now place.old.places.items place.old.depth 0 choice.new (mark_at place.new.marks place.old.depth)) }
-    ensures all { OnOk result (IsPlain (J.conjuncts problem.now.judge.now) (trees_of problem.now.forest.now) problem.now.plan.now → choice.old ≡ None → choice.new ≡ None) }
-    ensures granted { OnErr result (IsPlain (J.conjuncts problem.now.judge.now) (trees_of problem.now.forest.now) problem.now.plan.now → ⊥) }
-    ensures err { OnErr result (place.new ≡ place.old) }
 {
     choose_next(problem, place, memo, choice)?;
     let depth = place.depth;
@@ -295,7 +208,7 @@ fn enter<V: Ord, J: Guide<V>>(
 fn pass<V: Ord, J: Guide<V>>(problem: &Problem<V, J>, place: &mut Place)
     requires sound { IsPosed V.cmp J.conjuncts J.is_used problem.now }
     requires at { IsAt problem.now.ranges.now place.old }
-    ensures { Passes V.cmp problem.now.ranges.now (option_copied problem.now.after) problem.now.plan.now.blames.items place.old place.new }
+    ensures { Passes V.cmp (J.conjuncts problem.now.judge.now) (J.is_used problem.now.judge.now) (trees_of problem.now.forest.now) problem.now.ranges.now (option_copied problem.now.after) place.old place.new }
 {
     place.fresh = false;
     let depth = place.depth;
@@ -307,11 +220,8 @@ fn pass<V: Ord, J: Guide<V>>(problem: &Problem<V, J>, place: &mut Place)
         return;
     }
     let mark = place.marks.choices[depth - 1];
-    place.marks.accuse(
-        depth - 1,
-        mark.is_open,
-        mark.blame | problem.plan.blames[depth],
-    );
+    let blame = mark.blame | problem.layer(depth).blame;
+    place.marks.accuse(depth - 1, mark.is_open, blame);
 }
 
 /// Passes the row of all values, with which there is an event.

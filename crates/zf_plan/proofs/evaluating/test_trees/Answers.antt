@@ -7,8 +7,8 @@ pub loop-i-init : goal.loop-i-init
 loop-i-init g c =
     let l = g.J.Judge.conjuncts c.args.problem.now.judge.now in
     let row = picked c.args.problem.now.ranges.now c.args.places.now in
-    let long = length-picked c.args.problem.now.ranges.now c.args.places.now c.requires.within in (
-      c.requires.remembers,
+    let long = length-picked c.args.problem.now.ranges.now c.args.places.now c.requires.asked.within in (
+      c.requires.asked.remembers,
       refl,
       c.requires.before,
       (λ e. refl),
@@ -21,7 +21,7 @@ loop-i-preserved g c =
     let trees = trees_of c.args.problem.now.forest.now in
     let row = picked c.args.problem.now.ranges.now c.args.places.now in
     let k = length c.args.places.now in
-    let long = length-picked c.args.problem.now.ranges.now c.args.places.now c.requires.within in
+    let long = length-picked c.args.problem.now.ranges.now c.args.places.now c.requires.asked.within in
     let i = c.loop-i.i in
     let conjunct = get_or c.args.conjuncts.now i 0 in
     let before = c.loop-i.invariant in
@@ -41,7 +41,7 @@ returns-in-False-clause-so_far g c =
     let trees = trees_of c.args.problem.now.forest.now in
     let row = picked c.args.problem.now.ranges.now c.args.places.now in
     let k = length c.args.places.now in
-    let long = length-picked c.args.problem.now.ranges.now c.args.places.now c.requires.within in
+    let long = length-picked c.args.problem.now.ranges.now c.args.places.now c.requires.asked.within in
     let i = c.loop-i.i in
     let conjunct = get_or c.args.conjuncts.now i 0 in
     let before = c.loop-i.invariant in
@@ -58,7 +58,7 @@ returns-clause-so_far g c =
     let trees = trees_of c.args.problem.now.forest.now in
     let row = picked c.args.problem.now.ranges.now c.args.places.now in
     let k = length c.args.places.now in
-    let long = length-picked c.args.problem.now.ranges.now c.args.places.now c.requires.within in
+    let long = length-picked c.args.problem.now.ranges.now c.args.places.now c.requires.asked.within in
     let all : c.loop-i.i ≡ length c.args.conjuncts.now = omega (arith, c.loop-i-test.false, c.loop-i.auto.i-end) in
     first-all l trees k row long c.args.conjuncts.now c.loop-i.all
     (subst (λ i. IsSoFar l trees row (IsFirst l trees k c.args.conjuncts.now i) c.loop-i.all) all c.loop-i.invariant.4)

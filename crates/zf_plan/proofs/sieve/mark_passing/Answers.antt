@@ -7,15 +7,17 @@ use Rattle.zf_plan.proofs.sieve.mark_passing.Goals as goal
 pub loop-place-init : goal.loop-place-init
 loop-place-init g c = record {
   same = search rules;
-  remembers = c.requires.remembers;
+  remembers = c.requires.asked.remembers;
   tests = refl;
   passes = subst (AreSifted (g.J.Judge.conjuncts c.args.problem.now.judge.now)
       (trees_of c.args.problem.now.forest.now) c.args.problem.now.ranges.now c.args.conjuncts.now c.args.places.now 0) (sym c.clear.ensures.items)
       (sifted-none (g.J.Judge.conjuncts c.args.problem.now.judge.now) (trees_of c.args.problem.now.forest.now) c.args.problem.now.ranges.now c.args.conjuncts.now c.args.places.now);
 }
 
-pub is_one_false-requires-clause-within : goal.is_one_false-requires-clause-within
-is_one_false-requires-clause-within g c =
+pub is_one_false-requires-clause-asked : goal.is_one_false-requires-clause-asked
+is_one_false-requires-clause-asked g c =
+    let l = g.J.Judge.conjuncts c.args.problem.now.judge.now in
+    let uses = g.J.Judge.is_used c.args.problem.now.judge.now in
     let ranges = c.args.problem.now.ranges.now in
     let places = c.args.places.now in
     let k = length places in
@@ -24,18 +26,13 @@ is_one_false-requires-clause-within g c =
     let column = range-is ranges k c.index-ranges-next.result c.requires.deeper c.index-ranges-next.is in
     let there : place < length (get_or ranges k []) = omega (arith, c.loop-place-test.true, c.len-place-end.ensures, v.ok.0, ap length c.range.view_is, ap length column) in
     let longer : c.deref.result.now ≡ places ++ place ∷ [] = c.deref.ensures.value ∙ c.in_ok-push.ensures.items ∙ ap (λ (js : List ℕ). js ++ place ∷ []) c.loop-place.invariant.same in
-    subst (AreWithin ranges) (sym longer) (within-push ranges places place c.requires.within c.requires.deeper there)
-
-pub is_one_false-requires-clause-remembers : goal.is_one_false-requires-clause-remembers
-is_one_false-requires-clause-remembers g c =
-    let l = g.J.Judge.conjuncts c.args.problem.now.judge.now in
-    let uses = g.J.Judge.is_used c.args.problem.now.judge.now in
-    let ranges = c.args.problem.now.ranges.now in
-    let places = c.args.places.now in
-    let place = c.loop-place.place in
-    let longer : c.deref.result.now ≡ places ++ place ∷ [] = c.deref.ensures.value ∙ c.in_ok-push.ensures.items ∙ ap (λ (js : List ℕ). js ++ place ∷ []) c.loop-place.invariant.same in
-    subst (λ (js : List ℕ). Remembers l uses ranges js c.forget.new.self) (sym longer)
-    (remembers-longer l uses ranges places place c.loop-place.memo c.forget.new.self c.loop-place.invariant.remembers c.forget.ensures)
+    record {
+      sound = c.requires.asked.sound;
+      keys = c.requires.asked.keys;
+      within = subst (AreWithin ranges) (sym longer) (within-push ranges places place c.requires.asked.within c.requires.deeper there);
+      remembers = subst (λ (js : List ℕ). Remembers l uses ranges js c.forget.new.self) (sym longer)
+          (remembers-longer l uses ranges places place c.loop-place.memo c.forget.new.self c.loop-place.invariant.remembers c.forget.ensures);
+    }
 
 pub returns-in_err-is_false-clause-remembers : goal.returns-in_err-is_false-clause-remembers
 returns-in_err-is_false-clause-remembers g c =

@@ -1,5 +1,6 @@
-use Rattle.zf_plan.proofs.Prelude.{◌∙◌, ◌≡◌, cond, Err, length, None, Ok, OnErr, refl, Result, Some, trees_of}
-use Rattle.zf_plan.specs.Choosing.{passing}
+use Rattle.zf_plan.proofs.Prelude.{◌∙◌, ◌≡◌, AreBelow, cond, Err, length, None, Ok, OnErr, refl, Result, Some, subst, sym, trees_of}
+use Rattle.zf_plan.specs.Choosing.{AreLasts, passing}
+use Rattle.zf_plan.specs.Sieves.{IsGreatest}
 use Rattle.zf_plan.proofs.Sieving.{all-still, sifted-stays}
 use Rattle.zf_plan.proofs.sieve.sift.Goals as goal
 
@@ -8,14 +9,21 @@ on-err (Ok x) P p = tt
 on-err (Err e) P p = p
 
 pub returns-clause-few : goal.returns-clause-few
-returns-clause-few g c = c.greatest.ensures.least (length c.args.places.now) (λ i h. (c.requires.lasts.each i h).0)
+returns-clause-few g c =
+    let k = length c.args.places.now in
+    c.greatest.ensures.least k (subst (λ ns. IsGreatest ns k) (sym c.deref-2.ensures.value) (λ i h. (c.requires.by.lasts.each i h).0))
 
 pub returns-clause-choice : goal.returns-clause-choice
 returns-clause-choice g c =
-    sifted-stays (g.J.Judge.conjuncts c.args.problem.now.judge.now) (trees_of c.args.problem.now.forest.now) c.args.problem.now.ranges.now
-    (length c.args.places.now) c.greatest.result c.args.places.now (g.J.Judge.is_used c.args.problem.now.judge.now)
-    (g.met.J.Judge.follow_used c.args.problem.now.judge.now) c.requires.sound.due c.requires.within refl c.requires.deeper c.args.by.now.conjuncts.now
-    c.args.by.now.lasts.now c.requires.conjuncts c.requires.lasts c.requires.sound.leaves
+    let uses = g.J.Judge.is_used c.args.problem.now.judge.now in
+    let trees = trees_of c.args.problem.now.forest.now in
+    let k = length c.args.places.now in
+    let conjuncts = subst (AreBelow (length trees)) (sym c.deref.ensures.value) c.requires.by.conjuncts in
+    let lasts = subst (λ cs. AreLasts uses trees k cs c.deref-2.result.now) (sym c.deref.ensures.value)
+    (subst (AreLasts uses trees k c.args.by.now.conjuncts.items) (sym c.deref-2.ensures.value) c.requires.by.lasts) in
+    sifted-stays (g.J.Judge.conjuncts c.args.problem.now.judge.now) trees c.args.problem.now.ranges.now k c.greatest.result c.args.places.now uses
+    (g.met.J.Judge.follow_used c.args.problem.now.judge.now) c.requires.asked.sound.due c.requires.asked.within refl c.requires.deeper c.deref.result.now
+    c.deref-2.result.now conjuncts lasts c.requires.asked.sound.leaves
     c.greatest.ensures.all c.mark_passing.new.passes.items c.in_ok-mark_passing.ensures.sifted
 
 pub returns-in_err-mark_passing-clause-refused : goal.returns-in_err-mark_passing-clause-refused

@@ -1,109 +1,46 @@
-use Rattle.zf_plan.proofs.Prelude.{◌<◌, ◌∙◌, ◌≡◌, arith, get_or, get_or_default, length, sym, subst, Remembers}
-use Rattle.zf_plan.specs.Stamps.{memory_of}
-use Rattle.zf_plan.proofs.Looking.{looks-later, stamp-there, looks-known, asks-settled, asks-stamped, asks-remembers}
+use Rattle.zf_plan.proofs.Prelude.{◌∙◌, arith, sym}
+use Rattle.zf_plan.proofs.Looking.{asks-remembers, asks-settled, asks-stamped, looked-at, looks-known, looks-later, stamp-read, stamp-there}
 use Rattle.zf_plan.proofs.memo.Memo.look.Goals as goal
 
 pub returns-then-leaf-places-clause-known : goal.returns-then-leaf-places-clause-known
 returns-then-leaf-places-clause-known g c =
-    let l = g.J.Judge.conjuncts c.args.judge.now in
-    let uses = g.J.Judge.is_used c.args.judge.now in
-    let keep = g.met.J.Judge.kept c.args.judge.now in
-    let places = c.args.places.now in
-    let of = c.args.of in
     let m = c.self.inside in
-    let s = c.index-leaf.result.now in
-    let r : Remembers l uses c.args.ranges.now places (memory_of m.stamps.items m.leaves.items m.tables.each.items m.tests) =
-    subst (Remembers l uses c.args.ranges.now places) (sym c.self.view_is) c.requires.remembers in
-    looks-later l keep uses c.args.ranges.now places c.requires.within m.stamps.items m.leaves.items c.self.invariant m.tables.each.items m.tests r of
-    c.requires.of s c.index-leaf.ensures c.if-leaf-places.true
+    let at = looked-at (g.J.Judge.conjuncts c.args.judge.now) (g.J.Judge.is_used c.args.judge.now) c.args.ranges.now c.args.places.now m.stamps.items m.leaves.items m.tables.each.items m.tests
+    _ c.args.of c.index-leaf.result.now (g.met.J.Judge.kept c.args.judge.now) c.requires.within c.self.invariant (sym c.self.view_is) c.requires.remembers c.requires.of c.index-leaf.ensures in
+    looks-later at c.if-leaf-places.true
 
 pub index-stamp-requires : goal.index-stamp-requires
 index-stamp-requires g c =
-    let l = g.J.Judge.conjuncts c.args.judge.now in
-    let uses = g.J.Judge.is_used c.args.judge.now in
-    let keep = g.met.J.Judge.kept c.args.judge.now in
-    let places = c.args.places.now in
-    let of = c.args.of in
     let m = c.self.inside in
-    let s = c.index-leaf.result.now in
-    let r : Remembers l uses c.args.ranges.now places (memory_of m.stamps.items m.leaves.items m.tables.each.items m.tests) =
-    subst (Remembers l uses c.args.ranges.now places) (sym c.self.view_is) c.requires.remembers in
-    omega (
-      arith,
-      stamp-there l keep uses c.args.ranges.now places c.requires.within m.stamps.items m.leaves.items c.self.invariant m.tables.each.items m.tests
-          r of c.requires.of s c.index-leaf.ensures,
-      m.stamps.ok.0,
-    )
+    let at = looked-at (g.J.Judge.conjuncts c.args.judge.now) (g.J.Judge.is_used c.args.judge.now) c.args.ranges.now c.args.places.now m.stamps.items m.leaves.items m.tables.each.items m.tests
+    _ c.args.of c.index-leaf.result.now (g.met.J.Judge.kept c.args.judge.now) c.requires.within c.self.invariant (sym c.self.view_is) c.requires.remembers c.requires.of c.index-leaf.ensures in
+    omega (arith, stamp-there at, m.stamps.ok.0)
 
 pub returns-then-leaf-stamp-clause-known : goal.returns-then-leaf-stamp-clause-known
 returns-then-leaf-stamp-clause-known g c =
-    let l = g.J.Judge.conjuncts c.args.judge.now in
-    let uses = g.J.Judge.is_used c.args.judge.now in
-    let keep = g.met.J.Judge.kept c.args.judge.now in
-    let places = c.args.places.now in
-    let of = c.args.of in
     let m = c.self.inside in
-    let s = c.index-leaf.result.now in
-    let r : Remembers l uses c.args.ranges.now places (memory_of m.stamps.items m.leaves.items m.tables.each.items m.tests) =
-    subst (Remembers l uses c.args.ranges.now places) (sym c.self.view_is) c.requires.remembers in
-    let within : s.due < length m.stamps.items = stamp-there l keep uses c.args.ranges.now places c.requires.within m.stamps.items m.leaves.items
-    c.self.invariant m.tables.each.items m.tests r of c.requires.of s c.index-leaf.ensures in
-    let now : c.index-stamp.result.now ≡ get_or m.stamps.items s.due 0 =
-    c.index-stamp.ensures ∙ get_or_default m.stamps.items s.due c.index-stamp.result.now 0 within in
-    looks-known l keep uses c.args.ranges.now places c.requires.within m.stamps.items m.leaves.items c.self.invariant m.tables.each.items m.tests r of
-    c.requires.of s c.index-leaf.ensures c.if-leaf-places.false (c.if-leaf-stamp.true ∙ now)
+    let at = looked-at (g.J.Judge.conjuncts c.args.judge.now) (g.J.Judge.is_used c.args.judge.now) c.args.ranges.now c.args.places.now m.stamps.items m.leaves.items m.tables.each.items m.tests
+    _ c.args.of c.index-leaf.result.now (g.met.J.Judge.kept c.args.judge.now) c.requires.within c.self.invariant (sym c.self.view_is) c.requires.remembers c.requires.of c.index-leaf.ensures in
+    looks-known at c.if-leaf-places.false (c.if-leaf-stamp.true ∙ stamp-read at c.index-stamp.result.now c.index-stamp.ensures)
 
 pub invariant_of-self-2 : goal.invariant_of-self-2
 invariant_of-self-2 g c =
-    let l = g.J.Judge.conjuncts c.args.judge.now in
-    let uses = g.J.Judge.is_used c.args.judge.now in
-    let keep = g.met.J.Judge.kept c.args.judge.now in
-    let places = c.args.places.now in
-    let of = c.args.of in
     let m = c.self.inside in
-    let s = c.index-leaf.result.now in
-    let r : Remembers l uses c.args.ranges.now places (memory_of m.stamps.items m.leaves.items m.tables.each.items m.tests) =
-    subst (Remembers l uses c.args.ranges.now places) (sym c.self.view_is) c.requires.remembers in
-    let within : s.due < length m.stamps.items = stamp-there l keep uses c.args.ranges.now places c.requires.within m.stamps.items m.leaves.items
-    c.self.invariant m.tables.each.items m.tests r of c.requires.of s c.index-leaf.ensures in
-    let now : c.index-stamp.result.now ≡ get_or m.stamps.items s.due 0 =
-    c.index-stamp.ensures ∙ get_or_default m.stamps.items s.due c.index-stamp.result.now 0 within in
-    asks-stamped l keep uses c.args.ranges.now places c.requires.within m.stamps.items m.leaves.items c.self.invariant m.tables.each.items m.tests r of
-    c.requires.of s c.index-leaf.ensures c.if-leaf-places.false c.in_ok-truth.truth c.in_ok-truth.ensures.says c.index-stamp.result.now now
+    let at = looked-at (g.J.Judge.conjuncts c.args.judge.now) (g.J.Judge.is_used c.args.judge.now) c.args.ranges.now c.args.places.now m.stamps.items m.leaves.items m.tables.each.items m.tests
+    _ c.args.of c.index-leaf.result.now (g.met.J.Judge.kept c.args.judge.now) c.requires.within c.self.invariant (sym c.self.view_is) c.requires.remembers c.requires.of c.index-leaf.ensures in
+    asks-stamped at c.if-leaf-places.false c.in_ok-truth.truth c.in_ok-truth.ensures.says c.index-stamp.result.now (stamp-read at c.index-stamp.result.now c.index-stamp.ensures)
 
 pub returns-clause-remembers : goal.returns-clause-remembers
 returns-clause-remembers g c =
-    let l = g.J.Judge.conjuncts c.args.judge.now in
-    let uses = g.J.Judge.is_used c.args.judge.now in
-    let keep = g.met.J.Judge.kept c.args.judge.now in
-    let places = c.args.places.now in
-    let of = c.args.of in
     let m = c.self.inside in
-    let s = c.index-leaf.result.now in
-    let r : Remembers l uses c.args.ranges.now places (memory_of m.stamps.items m.leaves.items m.tables.each.items m.tests) =
-    subst (Remembers l uses c.args.ranges.now places) (sym c.self.view_is) c.requires.remembers in
-    let within : s.due < length m.stamps.items = stamp-there l keep uses c.args.ranges.now places c.requires.within m.stamps.items m.leaves.items
-    c.self.invariant m.tables.each.items m.tests r of c.requires.of s c.index-leaf.ensures in
-    let now : c.index-stamp.result.now ≡ get_or m.stamps.items s.due 0 =
-    c.index-stamp.ensures ∙ get_or_default m.stamps.items s.due c.index-stamp.result.now 0 within in
-    asks-remembers l keep uses c.args.ranges.now places c.requires.within m.stamps.items m.leaves.items c.self.invariant m.tables.each.items m.tests r of
-    c.requires.of s c.index-leaf.ensures c.if-leaf-places.false c.in_ok-truth.truth c.in_ok-truth.ensures.says c.index-stamp.result.now now
+    let at = looked-at (g.J.Judge.conjuncts c.args.judge.now) (g.J.Judge.is_used c.args.judge.now) c.args.ranges.now c.args.places.now m.stamps.items m.leaves.items m.tables.each.items m.tests
+    _ c.args.of c.index-leaf.result.now (g.met.J.Judge.kept c.args.judge.now) c.requires.within c.self.invariant (sym c.self.view_is) c.requires.remembers c.requires.of c.index-leaf.ensures in
+    asks-remembers at c.if-leaf-places.false c.in_ok-truth.truth c.in_ok-truth.ensures.says c.index-stamp.result.now (stamp-read at c.index-stamp.result.now c.index-stamp.ensures)
     c.truth_of.new.self.each.items m.tests c.in_ok-truth.ensures.known
 
 pub returns-clause-known : goal.returns-clause-known
 returns-clause-known g c =
-    let l = g.J.Judge.conjuncts c.args.judge.now in
-    let uses = g.J.Judge.is_used c.args.judge.now in
-    let keep = g.met.J.Judge.kept c.args.judge.now in
-    let places = c.args.places.now in
-    let of = c.args.of in
     let m = c.self.inside in
-    let s = c.index-leaf.result.now in
-    let r : Remembers l uses c.args.ranges.now places (memory_of m.stamps.items m.leaves.items m.tables.each.items m.tests) =
-    subst (Remembers l uses c.args.ranges.now places) (sym c.self.view_is) c.requires.remembers in
-    let within : s.due < length m.stamps.items = stamp-there l keep uses c.args.ranges.now places c.requires.within m.stamps.items m.leaves.items
-    c.self.invariant m.tables.each.items m.tests r of c.requires.of s c.index-leaf.ensures in
-    let now : c.index-stamp.result.now ≡ get_or m.stamps.items s.due 0 =
-    c.index-stamp.ensures ∙ get_or_default m.stamps.items s.due c.index-stamp.result.now 0 within in
-    asks-settled l keep uses c.args.ranges.now places c.requires.within m.stamps.items m.leaves.items c.self.invariant m.tables.each.items m.tests r of
-    c.requires.of s c.index-leaf.ensures c.if-leaf-places.false c.in_ok-truth.truth c.in_ok-truth.ensures.says c.index-stamp.result.now now
+    let at = looked-at (g.J.Judge.conjuncts c.args.judge.now) (g.J.Judge.is_used c.args.judge.now) c.args.ranges.now c.args.places.now m.stamps.items m.leaves.items m.tables.each.items m.tests
+    _ c.args.of c.index-leaf.result.now (g.met.J.Judge.kept c.args.judge.now) c.requires.within c.self.invariant (sym c.self.view_is) c.requires.remembers c.requires.of c.index-leaf.ensures in
+    asks-settled at c.if-leaf-places.false c.in_ok-truth.truth c.in_ok-truth.ensures.says c.index-stamp.result.now (stamp-read at c.index-stamp.result.now c.index-stamp.ensures)

@@ -23,9 +23,6 @@ over-requires-clause-sound g c =
 pub over-requires-clause-plain : goal.over-requires-clause-plain
 over-requires-clause-plain g c = λ e. record {
   flat = subst (λ n. IsFlat n (trees_of c.in_ok-forest.forest)) c.count.ensures c.in_ok-forest.ensures;
-  none
-      = c.in_ok-plan.ensures.none;
-  unsifted = c.in_ok-plan.ensures.unsifted;
   plain = c.in_ok-plan.ensures.plain;
 }
 

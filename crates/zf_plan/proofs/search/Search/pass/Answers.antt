@@ -14,15 +14,7 @@ invariant_of-self g c =
         named = sound.named;
         due = sound.due;
         leaves = sound.leaves;
-        plan = record {
-          due = plan.due;
-          touched = plan.touched;
-          narrowing = plan.narrowing;
-          lasts = plan.lasts;
-          sifting = plan.sifting;
-          sifting_lasts = plan.sifting_lasts;
-          blames = plan.blames;
-        };
+        plan = record { all = plan.all; each = plan.each; bare = λ e. absurd (false≢true e) };
       };
       stands = leaves-stand (g.J.Judge.conjuncts w.judge) (g.J.Judge.is_used w.judge) (trees_of w.forest) w.ranges.items w.place w.memo w.choices.items
           c.self.invariant.stands c.args.count c.leave.new.place c.leave.ensures;

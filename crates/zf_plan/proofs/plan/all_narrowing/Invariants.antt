@@ -1,7 +1,0 @@
-use Rattle.zf_plan.proofs.Prelude.{length, trees_of, AreBelow}
-use Rattle.zf_plan.proofs.Numbers.{AreSoFar}
-use Rattle.zf_plan.proofs.plan.all_narrowing.Given as goal
-
--- There is a list for each number so far.
-abbrev pub invariant-loop-component : goal.invariant-loop-component
-invariant-loop-component g l = AreSoFar (λ k. AreBelow (length (trees_of l.forest))) l.component l.narrowing.items
