@@ -56,9 +56,13 @@ show_options =
     let bound = with_sizes (with_rule held (option_rule (codes "only"))) in
     with_format (with_rule (with_rule bound (option_rule (codes "limit"))) (flag_rule (codes "tests")))
 
+-- `FILE SCHEMA [NAME=SIZE]...`
+abbrev pub with_schema : App → App
+with_schema app = with_rule (with_rule (with_rule app (required_rule (codes "FILE"))) (required_rule (codes "SCHEMA"))) sizes_rule
+
 -- `show [--after TEXT] [--with TEXT] [--only TEXT] [--numbers N] [--size N] [--limit N] [--tests] [--json] [--details] FILE SCHEMA [NAME=SIZE]...`
 abbrev pub show_app : App
-show_app = with_rule (with_rule (with_rule show_options (required_rule (codes "FILE"))) (required_rule (codes "SCHEMA"))) sizes_rule
+show_app = with_schema show_options
 
 -- the options of `why`
 abbrev pub why_options : App
@@ -66,7 +70,7 @@ why_options = with_format (with_sizes (with_rule (new_app (codes "why")) (option
 
 -- `why [--with TEXT] [--numbers N] [--size N] [--json] [--details] FILE SCHEMA [NAME=SIZE]...`
 abbrev pub why_app : App
-why_app = with_rule (with_rule (with_rule why_options (required_rule (codes "FILE"))) (required_rule (codes "SCHEMA"))) sizes_rule
+why_app = with_schema why_options
 
 -- the options of `reach`
 abbrev pub reach_options : App
@@ -74,18 +78,26 @@ reach_options =
     let written = with_rule (with_rule (new_app (codes "reach")) (option_rule (codes "find"))) (flag_rule (codes "dot")) in
     with_format (with_sizes (with_rule written (option_rule (codes "limit"))))
 
+-- `FILE STATE INIT OPERATION... [NAME=SIZE]...`
+abbrev pub with_machine : App → App
+with_machine app =
+    let with_state = with_rule (with_rule app (required_rule (codes "FILE"))) (required_rule (codes "STATE")) in
+    with_rule (with_rule with_state (required_rule (codes "INIT"))) operations_rule
+
 -- `reach [--find SCHEMA] [--dot] [--limit N] [--numbers N] [--size N] [--json] [--details] FILE STATE INIT OPERATION... [NAME=SIZE]...`
 abbrev pub reach_app : App
-reach_app =
-    let with_state = with_rule (with_rule reach_options (required_rule (codes "FILE"))) (required_rule (codes "STATE")) in
-    with_rule (with_rule with_state (required_rule (codes "INIT"))) operations_rule
+reach_app = with_machine reach_options
 
 -- `zf [--version]`, which needs a subcommand, and whose words do not begin with its own name
 abbrev pub zf_top : App
 zf_top = record (new_app (codes "zf")) { top = record (new_app (codes "zf")).top { has_version = true; no_binary_name = true; subcommand_required = true } }
 
+-- `why` and `reach`
+abbrev pub with_questions : App → App
+with_questions app = with_subcommand (with_subcommand app why_app.top) reach_app.top
+
 abbrev pub zf_app : App
-zf_app = with_subcommand (with_subcommand (with_subcommand (with_subcommand zf_top check_app.top) show_app.top) why_app.top) reach_app.top
+zf_app = with_questions (with_subcommand (with_subcommand zf_top check_app.top) show_app.top)
 
 -- the argument is the rule, and is for its own command alone
 abbrev pub IsArg : Arg → Rule → Type 0

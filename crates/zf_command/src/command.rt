@@ -1,5 +1,7 @@
 //! The command that `clap` is given, one small function for each argument.
 ghost use Rattle.std.specs.Prelude.{◌≡◌, IfOk, codes};
+ghost use Rattle.clap.specs.Words.{App};
+ghost use Rattle.zf_command.specs.Apps as spec;
 ghost use Rattle.zf_command.specs.Apps.{IsArg, IsCommand, IsTop, check_app, details_rule, flag_rule, operations_rule, option_rule, reach_app, required_rule, show_app, sizes_rule, types_rule, why_app, zf_app, zf_top};
 
 use clap::{Arg, ArgAction, Command};
@@ -15,15 +17,10 @@ const FAULTS_TOLD: &str = "Writes after each fault what it is about";
 pub fn zf<'a>(alloc: Global) -> Result<Command<'a>, AllocError>
     ensures { IfOk result (λ c. IsTop c zf_app) }
 {
-    let check = check_command(alloc)?;
-    let show = show_command(alloc)?;
-    let why = why_command(alloc)?;
-    let reach = reach_command(alloc)?;
     let command = top_command(alloc)?
-        .subcommand(check)?
-        .subcommand(show)?
-        .subcommand(why)?
-        .subcommand(reach)?;
+        .subcommand(check_command(alloc)?)?
+        .subcommand(show_command(alloc)?)?;
+    let command = with_questions(alloc, command)?;
     Ok(command)
 }
 
@@ -40,16 +37,24 @@ fn top_command<'a>(alloc: Global) -> Result<Command<'a>, AllocError>
     Ok(command)
 }
 
+/// The subcommands `why` and `reach`, behind those that are there.
+fn with_questions<'a>(alloc: Global, command: Command<'a>) -> Result<Command<'a>, AllocError>
+    ensures { (app : App) → IsCommand command.entry app → IfOk result (λ c. IsCommand c (spec.with_questions app)) }
+{
+    let command = command
+        .subcommand(why_command(alloc)?)?
+        .subcommand(reach_command(alloc)?)?;
+    Ok(command)
+}
+
 /// `check [-t] [--json] [--details] FILE`
 fn check_command<'a>(alloc: Global) -> Result<Command<'a>, AllocError>
     ensures { IfOk result (λ c. IsCommand c check_app) }
 {
     let command = Command::new(alloc, "check")
         .about("Writes the faults of a specification, one a line")
-        .arg(types_arg(alloc))?
-        .arg(json_arg(alloc))?
-        .arg(details_arg(alloc, FAULTS_TOLD))?
-        .arg(file_arg(alloc))?;
+        .arg(types_arg(alloc))?;
+    let command = with_format(alloc, command, FAULTS_TOLD)?.arg(file_arg(alloc))?;
     Ok(command)
 }
 
@@ -64,17 +69,11 @@ fn show_command<'a>(alloc: Global) -> Result<Command<'a>, AllocError>
             alloc,
             "Writes only the bindings in which some components have these values, a line of only these components",
         ))?
-        .arg(only_arg(alloc))?
-        .arg(numbers_arg(alloc))?
-        .arg(size_arg(alloc))?
+        .arg(only_arg(alloc))?;
+    let command = with_sizes(alloc, command)?
         .arg(limit_arg(alloc, "Writes at most so many bindings, 1 to 1000000000"))?
-        .arg(tests_arg(alloc))?
-        .arg(json_arg(alloc))?
-        .arg(details_arg(alloc, FAULTS_TOLD))?
-        .arg(file_arg(alloc))?
-        .arg(name_arg(alloc, "SCHEMA", "The name of the schema"))?
-        .arg(sizes_arg(alloc))?;
-    Ok(command)
+        .arg(tests_arg(alloc))?;
+    with_schema(alloc, with_format(alloc, command, FAULTS_TOLD)?)
 }
 
 /// `why [--with TEXT] [--numbers N] [--size N] [--json] [--details] FILE SCHEMA [NAME=SIZE]...`
@@ -86,18 +85,13 @@ fn why_command<'a>(alloc: Global) -> Result<Command<'a>, AllocError>
         .arg(with_arg(
             alloc,
             "Asks only of the bindings in which some components have these values, a line of only these components",
-        ))?
-        .arg(numbers_arg(alloc))?
-        .arg(size_arg(alloc))?
-        .arg(json_arg(alloc))?
-        .arg(details_arg(
-            alloc,
-            "Writes after each fault what it is about, after a relation what its sides come to",
-        ))?
-        .arg(file_arg(alloc))?
-        .arg(name_arg(alloc, "SCHEMA", "The name of the schema"))?
-        .arg(sizes_arg(alloc))?;
-    Ok(command)
+        ))?;
+    let command = with_format(
+        alloc,
+        with_sizes(alloc, command)?,
+        "Writes after each fault what it is about, after a relation what its sides come to",
+    )?;
+    with_schema(alloc, command)
 }
 
 /// `reach [--find SCHEMA] [--dot] [--limit N] [--numbers N] [--size N] [--json] [--details] FILE STATE INIT OPERATION... [NAME=SIZE]...`
@@ -111,11 +105,47 @@ fn reach_command<'a>(alloc: Global) -> Result<Command<'a>, AllocError>
         .arg(limit_arg(
             alloc,
             "Writes at most so many states, or meets with --find, 1 to 1000000",
-        ))?
-        .arg(numbers_arg(alloc))?
-        .arg(size_arg(alloc))?
-        .arg(json_arg(alloc))?
-        .arg(details_arg(alloc, FAULTS_TOLD))?
+        ))?;
+    let command = with_format(alloc, with_sizes(alloc, command)?, FAULTS_TOLD)?;
+    with_machine(alloc, command)
+}
+
+/// `[--numbers N] [--size N]`
+fn with_sizes<'a>(alloc: Global, command: Command<'a>) -> Result<Command<'a>, AllocError>
+    ensures { (app : App) → IsCommand command.entry app → IfOk result (λ c. IsCommand c (spec.with_sizes app)) }
+{
+    let command = command.arg(numbers_arg(alloc))?.arg(size_arg(alloc))?;
+    Ok(command)
+}
+
+/// `[--json] [--details]`
+fn with_format<'a>(
+    alloc: Global,
+    command: Command<'a>,
+    help: &'a str,
+) -> Result<Command<'a>, AllocError>
+    ensures { (app : App) → IsCommand command.entry app → IfOk result (λ c. IsCommand c (spec.with_format app)) }
+{
+    let command = command.arg(json_arg(alloc))?.arg(details_arg(alloc, help))?;
+    Ok(command)
+}
+
+/// `FILE SCHEMA [NAME=SIZE]...`
+fn with_schema<'a>(alloc: Global, command: Command<'a>) -> Result<Command<'a>, AllocError>
+    ensures { (app : App) → IsCommand command.entry app → IfOk result (λ c. IsCommand c (spec.with_schema app)) }
+{
+    let command = command
+        .arg(file_arg(alloc))?
+        .arg(name_arg(alloc, "SCHEMA", "The name of the schema"))?
+        .arg(sizes_arg(alloc))?;
+    Ok(command)
+}
+
+/// `FILE STATE INIT OPERATION... [NAME=SIZE]...`
+fn with_machine<'a>(alloc: Global, command: Command<'a>) -> Result<Command<'a>, AllocError>
+    ensures { (app : App) → IsCommand command.entry app → IfOk result (λ c. IsCommand c (spec.with_machine app)) }
+{
+    let command = command
         .arg(file_arg(alloc))?
         .arg(name_arg(alloc, "STATE", "The name of the schema of the state"))?
         .arg(name_arg(

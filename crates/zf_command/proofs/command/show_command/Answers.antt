@@ -7,13 +7,7 @@ returns c =
     let told = with_about _ _ _ _ (c.new.ensures.app, c.new.ensures.local) c.about.ensures in
     let after = with_one_more _ _ _ _ _ told c.after_arg.ensures c.in_ok-arg.ensures in
     let held = with_one_more _ _ _ _ _ after c.with_arg.ensures c.in_ok-arg-2.ensures in
-    let some = with_one_more _ _ _ _ _ held c.only_arg.ensures c.in_ok-arg-3.ensures in
-    let numbered = with_one_more _ _ _ _ _ some c.numbers_arg.ensures c.in_ok-arg-4.ensures in
-    let sized = with_one_more _ _ _ _ _ numbered c.size_arg.ensures c.in_ok-arg-5.ensures in
-    let limited = with_one_more _ _ _ _ _ sized c.limit_arg.ensures c.in_ok-arg-6.ensures in
-    let counted = with_one_more _ _ _ _ _ limited c.tests_arg.ensures c.in_ok-arg-7.ensures in
-    let formed = with_one_more _ _ _ _ _ counted c.json_arg.ensures c.in_ok-arg-8.ensures in
-    let detailed = with_one_more _ _ _ _ _ formed c.details_arg.ensures c.in_ok-arg-9.ensures in
-    let one = with_one_more _ _ _ _ _ detailed c.file_arg.ensures c.in_ok-arg-10.ensures in
-    let two = with_one_more _ _ _ _ _ one c.name_arg.ensures c.in_ok-arg-11.ensures in
-    with_one_more _ _ _ _ _ two c.sizes_arg.ensures c.in_ok-command.ensures
+    let some = with_one_more _ _ _ _ _ held c.only_arg.ensures c.in_ok-command.ensures in
+    let limited = with_one_more _ _ _ _ _ (c.in_ok-with_sizes.ensures _ some) c.limit_arg.ensures c.in_ok-arg-3.ensures in
+    let counted = with_one_more _ _ _ _ _ limited c.tests_arg.ensures c.in_ok-command-2.ensures in
+    c.with_schema.ensures _ (c.in_ok-with_format.ensures _ counted)

@@ -5,11 +5,5 @@ use Rattle.zf_command.proofs.command.why_command.Goals as goal
 pub returns : goal.returns
 returns c =
     let told = with_about _ _ _ _ (c.new.ensures.app, c.new.ensures.local) c.about.ensures in
-    let held = with_one_more _ _ _ _ _ told c.with_arg.ensures c.in_ok-arg.ensures in
-    let numbered = with_one_more _ _ _ _ _ held c.numbers_arg.ensures c.in_ok-arg-2.ensures in
-    let sized = with_one_more _ _ _ _ _ numbered c.size_arg.ensures c.in_ok-arg-3.ensures in
-    let formed = with_one_more _ _ _ _ _ sized c.json_arg.ensures c.in_ok-arg-4.ensures in
-    let detailed = with_one_more _ _ _ _ _ formed c.details_arg.ensures c.in_ok-arg-5.ensures in
-    let one = with_one_more _ _ _ _ _ detailed c.file_arg.ensures c.in_ok-arg-6.ensures in
-    let two = with_one_more _ _ _ _ _ one c.name_arg.ensures c.in_ok-arg-7.ensures in
-    with_one_more _ _ _ _ _ two c.sizes_arg.ensures c.in_ok-command.ensures
+    let held = with_one_more _ _ _ _ _ told c.with_arg.ensures c.in_ok-command.ensures in
+    c.with_schema.ensures _ (c.in_ok-command-2.ensures _ (c.in_ok-with_sizes.ensures _ held))
