@@ -175,18 +175,10 @@ pub fn choose<V: Ord, J: Guide<V>>(
         None => {
             choice.all = true;
             choice.waits = false;
-            Ok(made_of(&by.conjuncts, places))
+            if by.conjuncts.len() == 0 {
+                return Ok(0);
+            }
+            Ok(places.len())
         }
-    }
-}
-
-/// Of how many first values it was made that none of these conjuncts leaves fewer: where there is none, of no value.
-fn made_of(conjuncts: &[usize], places: &[usize]) -> usize
-    ensures { result ≤ length places.now }
-{
-    if conjuncts.len() == 0 {
-        0
-    } else {
-        places.len()
     }
 }

@@ -487,10 +487,8 @@ fn used_by_sieve<V: Ord, J: Guide<V>>(
     requires leaves { HasLeavesWithin (J.conjuncts judge.now).number (tree_at (trees_made forest.now) part) }
     requires room { component + 1 < 2 ^ 64 }
 {
-    if !is_touched(judge, forest, part, component + 1) {
-        return component;
-    }
-    if !is_due_within(judge, forest, part, component + 1) {
+    let due = component + 1;
+    if !is_touched(judge, forest, part, due) || !is_due_within(judge, forest, part, due) {
         return component;
     }
     last_used(judge, forest, part, component)
