@@ -1,5 +1,5 @@
 -- A leaf is looked at: what is known of it, and what is once it was asked for.
-use Rattle.zf_plan.proofs.Prelude.{[], ◌+◌, ◌<◌, Bool, ◌∙◌, ◌≡◌, ◌≤◌, ap, arith, get_or, get_or-replicate, get_or_default, inl, inr, length, length-replicate, List, map, None, Option, refl, replicate, set, slice_get, slice_get-get_or, slice_get_within, Some, subst, sym, take, ℕ, cases_eq, get_or-set_other, get_or-set_same, length-map, length-set, Conjuncts, KeepTruths, AreDueWithin, AreWithin, picked, IsKnown, leaf, Remembers, Tells, True, Truth}
+use Rattle.zf_plan.proofs.Prelude.{◌+◌, ◌<◌, Bool, ◌∙◌, ◌≡◌, ◌≤◌, ap, arith, get_or, get_or-replicate, get_or_default, inl, inr, length, length-replicate, List, map, None, Option, refl, replicate, set, slice_get, slice_get-get_or, slice_get_within, Some, subst, sym, take, ℕ, cases_eq, get_or-set_other, get_or-set_same, length-map, length-set, Conjuncts, KeepTruths, AreDueWithin, AreWithin, picked, IsKnown, leaf, Remembers, Tells, True, Truth}
 use Rattle.std.proofs.lemmas.List.{ext_get_or}
 use Rattle.zf_walk.specs.Tables.{AreTrue}
 use Rattle.zf_walk.specs.declared.table.Table.{Table}
@@ -10,7 +10,8 @@ use Rattle.zf_plan.proofs.Knowing.{known-later, known-told, settled-leaf}
 use Rattle.zf_plan.proofs.Stamping.{asked-dues, asked-stamped, asked-truths, due-at, known-at, known-not, known-now, stamped-at}
 
 -- what holds of a leaf that is looked at
-pub record IsLookedAt {V : Type 0} (l : Conjuncts V) (uses : ℕ → ℕ → Bool) (ranges : List (List V)) (places stamps : List ℕ) (leaves : List Stamped) (tables : List (Option Table)) (tests of : ℕ) (s : Stamped) : Type 0 where
+pub record IsLookedAt {V : Type 0} (l : Conjuncts V) (uses : ℕ → ℕ → Bool) (ranges : List (List V)) (places stamps : List ℕ) (leaves : List Stamped)
+    (tables : List (Option Table)) (tests of : ℕ) (s : Stamped) : Type 0 where
   pub keep : KeepTruths l
   pub within : AreWithin ranges places
   pub stamped : AreStamped stamps leaves
@@ -18,7 +19,8 @@ pub record IsLookedAt {V : Type 0} (l : Conjuncts V) (uses : ℕ → ℕ → Boo
   pub inside : of < l.number
   pub is : s ≡ get_or leaves of s
 
-pub looked-at : {V : Type 0} (l : Conjuncts V) (uses : ℕ → ℕ → Bool) (ranges : List (List V)) (places stamps : List ℕ) (leaves : List Stamped) (tables : List (Option Table)) (tests : ℕ) (now : Memory) (of : ℕ) (s : Stamped)
+pub looked-at : {V : Type 0} (l : Conjuncts V) (uses : ℕ → ℕ → Bool) (ranges : List (List V)) (places stamps : List ℕ) (leaves : List Stamped)
+    (tables : List (Option Table)) (tests : ℕ) (now : Memory) (of : ℕ) (s : Stamped)
     → KeepTruths l → AreWithin ranges places → AreStamped stamps leaves → now ≡ memory_of stamps leaves tables tests → Remembers l uses ranges places now → of < l.number → s ≡ get_or leaves of s
     → IsLookedAt l uses ranges places stamps leaves tables tests of s
 looked-at l uses ranges places stamps leaves tables tests now of s keep within stamped view remembers m is = record {

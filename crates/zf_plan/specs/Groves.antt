@@ -2,7 +2,7 @@
 use Rattle.std.specs.Prelude.{◌≡◌, ℕ, ◌<◌, List, [], ◌∷◌, ◌++◌, length, map, All, Some, slice_get}
 use Rattle.zf_plan.specs.declared.node.Node.{Node}
 use Rattle.zf_plan.specs.declared.node.Node.TheVariants.{Leaf, Not, And, Or}
-use Rattle.zf_plan.specs.Trees.{Tree, leaf, negated, both, either, tree_at}
+use Rattle.zf_plan.specs.Trees.{Tree, leaf, negated, both, either, tree_at, HasLeavesWithin}
 
 -- nodes, and the places of those whose trees are conjuncts
 pub record Grove : Type 0 where
@@ -28,6 +28,11 @@ trees_made g = trees_onto [] g.nodes
 -- the trees that are conjuncts, in order
 abbrev pub trees_of : Grove → List Tree
 trees_of g = map (tree_at (trees_made g)) g.roots
+
+-- the tree at this place is made, and has leaves within so many
+pub record IsPart (n : ℕ) (g : Grove) (place : ℕ) : Type 0 where
+  pub made : place < length (trees_made g)
+  pub leaves : HasLeavesWithin n (tree_at (trees_made g) place)
 
 -- the places that a node names come before this one
 abbrev pub IsOver : ℕ → Node → Type 0

@@ -1,8 +1,8 @@
 //! How the values of a range are chosen that are tried.
 ghost use Rattle.std.specs.Prelude.{◌≡◌, ◌<◌, ◌≤◌, ◌+◌, [], length, slice_index_or, IsTrue, IfOk, IfSome, OnOk, OnErr, Ok, None};
 ghost use Rattle.zf_walk.specs.Picked.{AreWithin, picked};
-ghost use Rattle.zf_plan.specs.Trees.{tree_at, HasLeavesWithin};
-ghost use Rattle.zf_plan.specs.Groves.{trees_made, trees_of};
+ghost use Rattle.zf_plan.specs.Trees.{tree_at};
+ghost use Rattle.zf_plan.specs.Groves.{trees_made, trees_of, IsPart};
 ghost use Rattle.zf_plan.specs.Knowing.{Remembers, AreBelow};
 ghost use Rattle.zf_plan.specs.Choices.{Leaves, StaysIn};
 ghost use Rattle.zf_plan.specs.Choosing.{Narrows, StaysChoice};
@@ -30,8 +30,7 @@ fn gather<V: Ord, J: Guide<V>>(
     gathered: &mut Vec<usize>,
 ) -> Result<bool, AllocError>
     requires asked { IsAsked V.cmp J.conjuncts J.is_used J.is_key problem.now places.now memo.old }
-    requires part { part < length (trees_made problem.now.forest.now) }
-    requires leaves { HasLeavesWithin (J.conjuncts problem.now.judge.now).number (tree_at (trees_made problem.now.forest.now) part) }
+    requires part { IsPart (J.conjuncts problem.now.judge.now).number problem.now.forest.now part }
     requires deeper { length places.now < length problem.now.ranges.now }
     ensures remembers { Remembers (J.conjuncts problem.now.judge.now) (J.is_used problem.now.judge.now) problem.now.ranges.now places.now memo.new }
     ensures same { memo.new.tests ≡ memo.old.tests }
@@ -175,18 +174,10 @@ pub fn choose<V: Ord, J: Guide<V>>(
         None => {
             choice.all = true;
             choice.waits = false;
-            Ok(made_of(&by.conjuncts, places))
+            if by.conjuncts.len() == 0 {
+                return Ok(0);
+            }
+            Ok(places.len())
         }
-    }
-}
-
-/// Of how many first values it was made that none of these conjuncts leaves fewer: where there is none, of no value.
-fn made_of(conjuncts: &[usize], places: &[usize]) -> usize
-    ensures { result ≤ length places.now }
-{
-    if conjuncts.len() == 0 {
-        0
-    } else {
-        places.len()
     }
 }

@@ -2,8 +2,8 @@
 ghost use Rattle.std.specs.Prelude.{◌≡◌, ◌≢◌, ◌<◌, Ok, [], ℕ, true, length, slice_index_or, IfOk, IfSome};
 ghost use Rattle.zf_walk.specs.declared.judge.Truth.TheVariants.{False};
 ghost use Rattle.zf_walk.specs.Picked.{picked};
-ghost use Rattle.zf_plan.specs.Trees.{tree_at, HasLeavesWithin};
-ghost use Rattle.zf_plan.specs.Groves.{trees_made, trees_of};
+ghost use Rattle.zf_plan.specs.Trees.{tree_at};
+ghost use Rattle.zf_plan.specs.Groves.{trees_made, trees_of, IsPart};
 ghost use Rattle.zf_plan.specs.Knowing.{Remembers, IsKnown, IsSettled, IsSoFar, IsLeafOrBelow, IsAmong, AreBelow, touches};
 ghost use Rattle.zf_plan.specs.Places.{IsAsked};
 
@@ -23,8 +23,7 @@ pub fn evaluate<V: Ord, J: Guide<V>>(
     memo: &mut Memo,
 ) -> Result<Option<Truth>, AllocError>
     requires asked { IsAsked V.cmp J.conjuncts J.is_used J.is_key problem.now places.now memo.old }
-    requires part { part < length (trees_made problem.now.forest.now) }
-    requires leaves { HasLeavesWithin (J.conjuncts problem.now.judge.now).number (tree_at (trees_made problem.now.forest.now) part) }
+    requires part { IsPart (J.conjuncts problem.now.judge.now).number problem.now.forest.now part }
     ensures remembers { Remembers (J.conjuncts problem.now.judge.now) (J.is_used problem.now.judge.now) problem.now.ranges.now places.now memo.new }
     ensures same { memo.new.tests ≡ memo.old.tests }
     ensures known { IfOk result (IsKnown (J.conjuncts problem.now.judge.now) (tree_at (trees_made problem.now.forest.now) part) (picked problem.now.ranges.now places.now)) }
@@ -65,8 +64,7 @@ fn told<V: Ord, J: Guide<V>>(
     memo: &Memo,
 ) -> Option<Truth>
     requires asked { IsAsked V.cmp J.conjuncts J.is_used J.is_key problem.now places.now memo.now }
-    requires part { part < length (trees_made problem.now.forest.now) }
-    requires leaves { HasLeavesWithin (J.conjuncts problem.now.judge.now).number (tree_at (trees_made problem.now.forest.now) part) }
+    requires part { IsPart (J.conjuncts problem.now.judge.now).number problem.now.forest.now part }
     ensures { IfSome result (IsSettled (J.conjuncts problem.now.judge.now) (tree_at (trees_made problem.now.forest.now) part) (picked problem.now.ranges.now places.now)) }
 {
     match problem.forest.node(part) {

@@ -1,7 +1,7 @@
 //! Which leaves and which conjuncts a value that is bound concerns.
 ghost use Rattle.std.specs.Prelude.{◌≡◌, ◌+◌, ◌^◌, ◌<◌, ◌≤◌, ℕ, true, false, [], length, IfOk, OnOk, MatchOption};
-ghost use Rattle.zf_plan.specs.Trees.{tree_at, HasLeavesWithin, HaveLeavesWithin};
-ghost use Rattle.zf_plan.specs.Groves.{trees_made, trees_of};
+ghost use Rattle.zf_plan.specs.Trees.{tree_at, HaveLeavesWithin};
+ghost use Rattle.zf_plan.specs.Groves.{trees_made, trees_of, IsPart};
 ghost use Rattle.zf_plan.specs.Knowing.{AreBelow, IsLeafDue, touches};
 ghost use Rattle.zf_plan.specs.Choosing.{UsesFirst};
 ghost use Rattle.zf_walk.specs.Seen.{HasBit};
@@ -170,8 +170,7 @@ fn due_at<V, J: Judge<V>>(
 
 /// The leaf that a tree is, if it is one that needs so many values.
 fn leaf_due<V, J: Judge<V>>(judge: &J, forest: &Forest, part: usize, due: usize) -> Option<usize>
-    requires part { part < length (trees_made forest.now) }
-    requires leaves { HasLeavesWithin (J.conjuncts judge.now).number (tree_at (trees_made forest.now) part) }
+    requires part { IsPart (J.conjuncts judge.now).number forest.now part }
     ensures { MatchOption result ((c : ℕ) → IsLeafDue (J.conjuncts judge.now) due (tree_at (trees_made forest.now) part) c → ⊥) (IsLeafDue (J.conjuncts judge.now) due (tree_at (trees_made forest.now) part)) }
 {
     match forest.node(part) {
@@ -202,8 +201,7 @@ fn touched_at<V, J: Judge<V>>(
 
 /// Whether a tree that is no leaf has a leaf that needs so many values.
 fn is_touched_inside<V, J: Judge<V>>(judge: &J, forest: &Forest, part: usize, due: usize) -> bool
-    requires part { part < length (trees_made forest.now) }
-    requires leaves { HasLeavesWithin (J.conjuncts judge.now).number (tree_at (trees_made forest.now) part) }
+    requires part { IsPart (J.conjuncts judge.now).number forest.now part }
     ensures { result ≡ touches_inside (J.conjuncts judge.now) due (tree_at (trees_made forest.now) part) }
 {
     match forest.node(part) {
@@ -220,8 +218,7 @@ fn is_touched_inside<V, J: Judge<V>>(judge: &J, forest: &Forest, part: usize, du
 
 /// Whether a tree has a leaf that needs so many values.
 fn is_touched<V, J: Judge<V>>(judge: &J, forest: &Forest, part: usize, due: usize) -> bool
-    requires part { part < length (trees_made forest.now) }
-    requires leaves { HasLeavesWithin (J.conjuncts judge.now).number (tree_at (trees_made forest.now) part) }
+    requires part { IsPart (J.conjuncts judge.now).number forest.now part }
     ensures { result ≡ touches (J.conjuncts judge.now) due (tree_at (trees_made forest.now) part) }
 {
     match forest.node(part) {
@@ -256,8 +253,7 @@ fn blame_at<V, J: Judge<V>>(judge: &J, forest: &Forest, due: usize) -> u64
 
 /// Which of so many first components a tree uses.
 fn used_by<V, J: Judge<V>>(judge: &J, forest: &Forest, part: usize, components: usize) -> u64
-    requires part { part < length (trees_made forest.now) }
-    requires leaves { HasLeavesWithin (J.conjuncts judge.now).number (tree_at (trees_made forest.now) part) }
+    requires part { IsPart (J.conjuncts judge.now).number forest.now part }
     requires few { components ≤ 64 }
     ensures { HasBits (J.is_used judge.now) result components (tree_at (trees_made forest.now) part) }
 {
@@ -343,8 +339,7 @@ fn is_narrowing<V: Ord, J: Guide<V>>(
     component: usize,
     means: Means,
 ) -> bool
-    requires part { part < length (trees_made forest.now) }
-    requires leaves { HasLeavesWithin (J.conjuncts judge.now).number (tree_at (trees_made forest.now) part) }
+    requires part { IsPart (J.conjuncts judge.now).number forest.now part }
 {
     match forest.node(part) {
         Node::Leaf(of) => judge.narrows(of, component, means),
@@ -383,8 +378,7 @@ fn with_lasts<V, J: Judge<V>>(
 
 /// How many first components a tree uses of those before one.
 fn last_used<V, J: Judge<V>>(judge: &J, forest: &Forest, part: usize, component: usize) -> usize
-    requires part { part < length (trees_made forest.now) }
-    requires leaves { HasLeavesWithin (J.conjuncts judge.now).number (tree_at (trees_made forest.now) part) }
+    requires part { IsPart (J.conjuncts judge.now).number forest.now part }
     ensures few { result ≤ component }
     ensures first { UsesFirst (J.is_used judge.now) result component (tree_at (trees_made forest.now) part) }
 {
@@ -483,14 +477,11 @@ fn used_by_sieve<V: Ord, J: Guide<V>>(
     part: usize,
     component: usize,
 ) -> usize
-    requires part { part < length (trees_made forest.now) }
-    requires leaves { HasLeavesWithin (J.conjuncts judge.now).number (tree_at (trees_made forest.now) part) }
+    requires part { IsPart (J.conjuncts judge.now).number forest.now part }
     requires room { component + 1 < 2 ^ 64 }
 {
-    if !is_touched(judge, forest, part, component + 1) {
-        return component;
-    }
-    if !is_due_within(judge, forest, part, component + 1) {
+    let due = component + 1;
+    if !is_touched(judge, forest, part, due) || !is_due_within(judge, forest, part, due) {
         return component;
     }
     last_used(judge, forest, part, component)
@@ -498,8 +489,7 @@ fn used_by_sieve<V: Ord, J: Guide<V>>(
 
 /// Whether no leaf of a tree needs more values than so many.
 fn is_due_within<V: Ord, J: Guide<V>>(judge: &J, forest: &Forest, part: usize, due: usize) -> bool
-    requires part { part < length (trees_made forest.now) }
-    requires leaves { HasLeavesWithin (J.conjuncts judge.now).number (tree_at (trees_made forest.now) part) }
+    requires part { IsPart (J.conjuncts judge.now).number forest.now part }
 {
     match forest.node(part) {
         Node::Leaf(of) => judge.due(of) <= due,

@@ -10,7 +10,6 @@ ghost use Rattle.zf_plan.specs.Exchanges.{exchanged};
 ghost use Rattle.zf_plan.specs.Places.{IsSound, Leaves, begun};
 ghost use Rattle.zf_plan.specs.Counts.{IsPlain};
 ghost use Rattle.zf_plan.specs.Progress.{SameProblem, counted};
-ghost use Rattle.zf_plan.specs.Keys.{AreKeyed};
 
 use crate::choice::{Choice, all_chosen};
 use crate::forest::Forest;
@@ -21,7 +20,7 @@ use crate::memo::Memo;
 use crate::place::Place;
 use crate::plan::Plan;
 use crate::problem::Problem;
-use crate::steps::next_answer;
+use crate::steps::{next_answer, pass_event};
 use std::alloc::{AllocError, Global};
 use std::marker::Model;
 use zf_walk::{Range, Row, Seen, Step, Truth, pick};
@@ -139,7 +138,7 @@ impl<'a, V: Ord + Drop, J: Guide<V> + Drop> Search<'a, V, J> {
         let plain = plan.is_plain;
         let places = vec![in alloc; 0; ranges.len()]?;
         let memo = Memo::new(alloc, &judge, &ranges)?;
-        let keys = keys_by(alloc, &judge, &ranges, plain)?;
+        let keys = all_keys(alloc, &judge, &ranges, plain)?;
         let choices = all_chosen(alloc, ranges.len())?;
         let found = vec![in alloc; Truth::True; ranges.len()]?;
         let marks = Marks::new(alloc, ranges.len())?;
@@ -262,14 +261,10 @@ fn leave(place: &mut Place, count: usize)
     requires { place.old.depth ≤ length place.old.marks.choices.items }
     ensures { Leaves count place.old place.new }
 {
-    place.fresh = false;
     if count < place.depth {
         place.depth = count;
     }
-    if place.depth == 0 {
-        return;
-    }
-    place.marks.accuse(place.depth - 1, true, 0);
+    pass_event(place);
 }
 
 /// The ranges, some of them exchanged for others.
@@ -297,39 +292,19 @@ fn put<V: Drop>(ranges: &mut Vec<Range<V>>, place: usize, other: Option<Range<V>
     }
 }
 
-/// The keys for each leaf; none where tests are counted.
-fn keys_by<V: Ord, J: Guide<V>>(
-    alloc: Global,
-    judge: &J,
-    ranges: &[Range<V>],
-    plain: bool,
-) -> Result<Vec<Keyed>, AllocError>
-    requires { AreDueWithin (J.conjuncts judge.now) (length ranges.now) }
-    ensures { IfOk result (λ all. AreKeyed (J.conjuncts judge.now) (J.is_key judge.now) ranges.now all.items) }
-{
-    if plain {
-        return Ok(Vec::new(alloc));
-    }
-    all_keys(alloc, judge, ranges)
-}
-
 /// Whether there may be a row, or tests are counted all the same.
 fn may_begin<V>(ranges: &[Range<V>], plain: bool) -> bool
     ensures plain { plain ≡ true → result ≡ true }
     ensures none { result ≡ false → (row : List V) → IsRowOf ranges.now row → ⊥ }
 {
-    plain || !has_empty(ranges)
-}
-
-/// Whether a range has no value.
-fn has_empty<V>(ranges: &[Range<V>]) -> bool
-    ensures { result ≡ true → (row : List V) → IsRowOf ranges.now row → ⊥ }
-{
+    if plain {
+        return true;
+    }
     for i in 0..ranges.len() {
         let range = &ranges[i];
         if range.values.len() == 0 {
-            return true;
+            return false;
         }
     }
-    false
+    true
 }

@@ -40,16 +40,6 @@ pub fn sift<V: Ord, J: Guide<V>>(
     Ok(greatest(&by.lasts))
 }
 
-/// Chooses all values of the next range until the same first values come again, of which the answer counts as many as these use. What the conjuncts say of each value is known by then.
-pub fn wait(lasts: &[usize], choice: &mut Choice) -> usize
-    ensures all { choice.new ≡ None }
-    ensures least { (n : ℕ) → IsGreatest lasts.now n → result ≤ n }
-{
-    choice.all = true;
-    choice.waits = true;
-    greatest(lasts)
-}
-
 /// Marks for each value of the next range whether it passes.
 fn mark_passing<V: Ord, J: Guide<V>>(
     problem: &Problem<V, J>,
@@ -105,7 +95,7 @@ fn is_one_false<V: Ord, J: Guide<V>>(
 }
 
 /// The greatest of these numbers; 0 where there is none.
-fn greatest(numbers: &[usize]) -> usize
+pub fn greatest(numbers: &[usize]) -> usize
     ensures all { IsGreatest numbers.now result }
     ensures least { (n : ℕ) → IsGreatest numbers.now n → result ≤ n }
 {

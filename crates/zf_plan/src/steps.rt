@@ -23,7 +23,7 @@ use crate::memo::Memo;
 use crate::moves::{descend, jump, retreat};
 use crate::place::Place;
 use crate::problem::Problem;
-use crate::sieve::{sift, wait};
+use crate::sieve::{greatest, sift};
 use std::alloc::AllocError;
 use zf_walk::{Seen, Step, Truth, is_reached};
 
@@ -118,7 +118,7 @@ fn see<V: Ord, J: Guide<V>>(problem: &Problem<V, J>, places: &[usize], memo: &Me
     memo.seen(problem, places, &layer.due)
 }
 
-/// Chooses the values of the next range that are tried; where all were chosen for the same first values, those that remain when it is sifted. Answers of how many first values the choice was made.
+/// Chooses the values of the next range that are tried; where all were chosen for the same first values, those that remain when it is sifted: what the conjuncts say of each value is known by then. Answers of how many first values the choice was made.
 fn choose_at<V: Ord, J: Guide<V>>(
     problem: &Problem<V, J>,
     places: &[usize],
@@ -145,7 +145,9 @@ fn choose_at<V: Ord, J: Guide<V>>(
         return sift(problem, places, &layer.sifting, memo, choice);
     }
     if layer.sifting.lasts.len() > 0 {
-        return Ok(wait(&layer.sifting.lasts, choice));
+        choice.all = true;
+        choice.waits = true;
+        return Ok(greatest(&layer.sifting.lasts));
     }
     choose(problem, places, &layer.narrowing, memo, choice)
 }
@@ -224,8 +226,8 @@ fn pass<V: Ord, J: Guide<V>>(problem: &Problem<V, J>, place: &mut Place)
     place.marks.accuse(depth - 1, mark.is_open, blame);
 }
 
-/// Passes the row of all values, with which there is an event.
-fn pass_event(place: &mut Place)
+/// Passes the row of the bound values, the last of which is open from now on: there may be an event that begins with them.
+pub fn pass_event(place: &mut Place)
     requires { place.old.depth ≤ length place.old.marks.choices.items }
     ensures { PassesOpen place.old place.new }
 {

@@ -31,7 +31,8 @@ returns-in_ok-mark-in-Some-clause-choice g c =
     (subst (λ n. KeepsChosen n (Some left) c.mark.new.self) count c.in_ok-mark-in-Some.ensures)
     (stays-narrowed l trees ranges (length places) last places uses
     (g.met.J.Judge.follow_used c.args.problem.now.judge.now) c.requires.asked.sound.due c.requires.asked.within refl
-    (get_or conjuncts i 0) conjunct (c.requires.asked.sound.leaves (get_or conjuncts i 0) (leaf 0) conjunct) (subst (λ n. UsesFirst uses n (length places) (tree_at trees (get_or conjuncts i 0))) (sym read) (lasts.each i inside).1) left narrows)
+    (get_or conjuncts i 0) conjunct (c.requires.asked.sound.leaves (get_or conjuncts i 0) (leaf 0) conjunct)
+    (subst (λ n. UsesFirst uses n (length places) (tree_at trees (get_or conjuncts i 0))) (sym read) (lasts.each i inside).1) left narrows)
 
 pub returns-in_ok-mark-in-Some-clause-few : goal.returns-in_ok-mark-in-Some-clause-few
 returns-in_ok-mark-in-Some-clause-few g c =

@@ -1,25 +1,18 @@
-use Rattle.zf_plan.proofs.Prelude.{◌-◌, ◌≡◌, ap, arith, inl, inr, refl, subst, true, Place}
-use Rattle.zf_plan.specs.Marks.{Accuses}
+use Rattle.zf_plan.proofs.Prelude.{◌≤◌, arith, inl, inr, length, refl, subst, sym, Place}
+use Rattle.zf_plan.specs.Places.{PassesOpen}
 use Rattle.zf_plan.proofs.search.leave.Goals.{else-count-place, then-count-place}
 use Rattle.zf_plan.proofs.search.leave.Goals as goal
 
+pub pass_event-requires : goal.pass_event-requires
+pass_event-requires c = elim c.if-count-place.branch [
+  | then-count-place w ↦ subst (λ (p : Place). p.depth ≤ length p.marks.choices.items) (sym w.place-is) (omega (arith, w.if-count-place.true, c.requires))
+  | else-count-place w ↦ subst (λ (p : Place). p.depth ≤ length p.marks.choices.items) (sym w.place-is) c.requires
+]
+
 pub returns : goal.returns
 returns c =
-    let q : Place = c.if-count-place.place in
-    let marks = c.accuse.new.self in
+    let passed = λ (p : Place). PassesOpen p c.pass_event.new.place in
     elim c.if-count-place.branch [
-      | then-count-place w ↦
-          let deep : q.depth ≡ c.args.count = ap (λ (p : Place). p.depth) w.place-is in
-          let notes = subst (λ m. Accuses (q.depth - 1) true 0 m marks) (ap (λ (p : Place). p.marks) w.place-is) c.accuse.ensures in (
-            c.args.count,
-            inr (refl, (omega (arith, w.if-count-place.true))),
-            inr (q.depth - 1, omega (arith, deep, c.if-place-eq0.false), ap (λ (p : Place). record p { marks = marks }) w.place-is, notes),
-          )
-      | else-count-place w ↦
-          let deep : q.depth ≡ c.args.place.now.depth = ap (λ (p : Place). p.depth) w.place-is in
-          let notes = subst (λ m. Accuses (q.depth - 1) true 0 m marks) (ap (λ (p : Place). p.marks) w.place-is) c.accuse.ensures in (
-            c.args.place.now.depth,
-            inl (refl, w.if-count-place.false),
-            inr (q.depth - 1, omega (arith, deep, c.if-place-eq0.false), ap (λ (p : Place). record p { marks = marks }) w.place-is, notes),
-          )
+      | then-count-place w ↦ (c.args.count, inr (refl, omega (arith, w.if-count-place.true)), subst passed w.place-is c.pass_event.ensures)
+      | else-count-place w ↦ (c.args.place.now.depth, inl (refl, w.if-count-place.false), subst passed w.place-is c.pass_event.ensures)
     ]

@@ -41,10 +41,10 @@ returns-then-again-clause-refused g c =
 pub returns-then-len-gt0-clause-few : goal.returns-then-len-gt0-clause-few
 returns-then-len-gt0-clause-few g c =
     let k = length c.args.places.now in
-    c.wait.ensures.least k (subst (λ ns. IsGreatest ns k) (sym c.deref.ensures.value) (λ i h. (c.layer-layer.ensures.layer.sifting.lasts.each i h).0))
+    c.greatest.ensures.least k (subst (λ ns. IsGreatest ns k) (sym c.deref.ensures.value) (λ i h. (c.layer-layer.ensures.layer.sifting.lasts.each i h).0))
 
 pub returns-then-len-gt0-clause-choice : goal.returns-then-len-gt0-clause-choice
-returns-then-len-gt0-clause-choice g c = λ others w e first i v more at out is. absurd (out (subst (λ ch. IsChosen ch i) (sym c.wait.ensures.all) tt))
+returns-then-len-gt0-clause-choice g c = λ others w e first i v more at out is. absurd (out tt)
 
 pub returns-clause-all : goal.returns-clause-all
 returns-clause-all g c =

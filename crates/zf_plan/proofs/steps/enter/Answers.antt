@@ -20,5 +20,6 @@ returns-clause-blamed g c =
     ∙ sym (get_or_default q.marks.choices.items q.depth unmarked c.index-mark.result.now inside) ∙ ap (mark_at q.marks) deep in
     let due : c.index-mark.result.now.due ≡ (mark_at q.marks p.depth).due = ap (λ (m : Mark). m.due) mark in
     let blame : (mark_at c.accuse-2.new.self p.depth).blame ≡ c.first_bits.result = ap (λ i. (mark_at c.accuse-2.new.self i).blame) (sym deep) ∙ c.accuse-2.ensures.blame in
-    blamed-choice l trees ranges p.places.items p.depth (mark_at q.marks p.depth).due c.choose_next.new.choice (mark_at c.accuse-2.new.self p.depth) (length-bound ranges p c.requires.at) made.enters.kept.few
+    blamed-choice l trees ranges p.places.items p.depth (mark_at q.marks p.depth).due c.choose_next.new.choice (mark_at c.accuse-2.new.self p.depth)
+    (length-bound ranges p c.requires.at) made.enters.kept.few
     (λ i low. subst (λ w. HasBit w i) (sym blame) (c.first_bits.ensures i (omega (arith, low, due)))) made.choice

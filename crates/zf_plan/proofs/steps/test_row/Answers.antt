@@ -1,4 +1,4 @@
-use Rattle.zf_plan.proofs.Prelude.{◌∙◌, [], arith, length, option_copied, subst, sym, Err, IfOk, Ok, Result, length-picked, picked, False, IsSoFar, trees_of}
+use Rattle.zf_plan.proofs.Prelude.{◌∙◌, arith, length, option_copied, subst, sym, Err, IfOk, Ok, Result, length-picked, picked, False, IsSoFar, trees_of}
 use Rattle.zf_plan.specs.Counts.{all_of, Counts, CountsFound, CountsOn, IsPlain}
 use Rattle.zf_plan.specs.Knowing.{IsAmong, IsLeafOrBelow, NeedsWithin}
 use Rattle.zf_plan.specs.Plans.{AreDue, AreTouched}
@@ -80,7 +80,8 @@ test_trees-requires g c =
       conjuncts = touched.below;
       touched = touched-each l trees k numbers touched;
       before = c.in_default.not-False;
-      so_far = so-tested l trees keep c.requires.asked.sound.leaves ranges places c.requires.asked.within leaves due c.args.before c.in_ok-tested.tested tested.0 c.requires.before tested.1 c.requires.so_far;
+      so_far = so-tested l trees keep c.requires.asked.sound.leaves ranges places c.requires.asked.within leaves due c.args.before c.in_ok-tested.tested
+          tested.0 c.requires.before tested.1 c.requires.so_far;
     }
 
 pub returns : goal.returns

@@ -1,4 +1,4 @@
-use Rattle.zf_plan.proofs.Prelude.{◌∙◌, [], length, option_copied, subst, sym, Err, IfOk, Ok, Result, length-picked, picked, IsSoFar, trees_of}
+use Rattle.zf_plan.proofs.Prelude.{◌∙◌, length, option_copied, subst, sym, Err, IfOk, Ok, Result, length-picked, picked, IsSoFar, trees_of}
 use Rattle.zf_plan.specs.Knowing.{IsAmong, NeedsWithin}
 use Rattle.zf_plan.specs.Plans.{AreTouched}
 use Rattle.zf_plan.specs.Places.{Finds}

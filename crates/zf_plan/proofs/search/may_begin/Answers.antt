@@ -1,9 +1,9 @@
 use Rattle.zf_plan.proofs.Prelude.{◌≡◌, [], ap, arith, get_or, length, range-is}
 use Rattle.zf_plan.proofs.Stepping.{empty-none}
-use Rattle.zf_plan.proofs.search.has_empty.Goals as goal
+use Rattle.zf_plan.proofs.search.may_begin.Goals as goal
 
-pub returns-then-len-eq0 : goal.returns-then-len-eq0
-returns-then-len-eq0 g c = λ _ row m.
+pub returns-then-len-eq0-clause-none : goal.returns-then-len-eq0-clause-none
+returns-then-len-eq0-clause-none g c = λ _ row m.
     let ranges = c.args.ranges.now in
     let i = c.loop-i.i in
     let v = c.range.inside.values in
