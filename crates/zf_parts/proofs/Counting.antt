@@ -1,5 +1,5 @@
 -- Digits that count numbers: one that changes, and what is carried over from it.
-use Rattle.zf_parts.proofs.Prelude.{◌+◌, ◌<◌, ◌∙◌, ◌∷◌, ◌≡◌, [], All, ap, arith, length, List, refl, subst, suc, sym, Value, zero, ℕ}
+use Rattle.zf_parts.proofs.Prelude.{◌+◌, ◌<◌, ◌∙◌, ◌∷◌, ◌≡◌, [], All, ap, arith, inl, inr, length, List, refl, subst, suc, sym, Value, zero, ℕ}
 use Rattle.std.proofs.Common.{◌*◌, ◌-◌, ◌≤◌, add-mul, drop, get_or, mul_assoc, replicate}
 use Rattle.std.proofs.Math.ListN.{set}
 use Rattle.std.proofs.Math.Nat.{mul-le-mul_right}
@@ -57,6 +57,11 @@ pub some_behind : (ranges : List (List Value)) (i : ℕ) → 0 < total ranges �
 some_behind ranges zero some = some
 some_behind [] (suc i) some = some
 some_behind (r ∷ ranges) (suc i) some = some_behind ranges i (some_rest (length r) (total ranges) some).0
+
+pub some_value : (ranges : List (List Value)) (j : ℕ) → j < length ranges → 0 < total ranges → 0 < length (get_or ranges j [])
+some_value [] j near some = absurd (omega (arith, near))
+some_value (r ∷ ranges) zero near some = some_first r ranges some
+some_value (r ∷ ranges) (suc j) near some = some_value ranges j (omega (arith, near)) (some_rest (length r) (total ranges) some).0
 
 -- ---- counting on
 

@@ -294,7 +294,7 @@ module _ (pages : List Page) (q e at : ℕ) (h : IsPlaced pages e q at) (p : Pag
       | inr bit ↦
           let entry : entries (i / 1024) ≡ at + 1025 = ap entries same ∙ is ∙ h.entry_is in
           inr (placed_has (set pages at x) (entries (i / 1024)) q at x i entry (set_here pages at x inside) (keeps ∙ own_number) same ∙ bit
-              ∙ sym (placed_has pages (entries (i / 1024)) q at p i entry stands own_number same))
+          ∙ sym (placed_has pages (entries (i / 1024)) q at p i entry stands own_number same))
     ]
   ]
 

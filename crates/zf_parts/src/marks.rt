@@ -45,8 +45,7 @@ impl Marks {
     {
         let entry = self.entries.get(number / MANY) as usize;
         if entry == 0 {
-            self.entries
-                .put(number / MANY, (number % MANY + 1) as u64)?;
+            self.entries.put(number / MANY, (number % MANY + 1) as u64)?;
             return Ok(());
         }
         let place = self.open(entry, number / MANY)?;
