@@ -205,38 +205,6 @@ placed_has pages e q at y n is there own here =
     ap (λ k. page_has (counted_page pages k) e n) place ∙ ap (λ f. page_has f e n) there
     ∙ cond-true (eqb y.number (n / 1024)) (bit_of y n) (eqb e (n % 1024 + 1)) (eq-eqb y.number (n / 1024) (own ∙ sym here))
 
--- and where none is
-pub low_entry : (pages : List Page) (e n : ℕ) → e ≤ 1024 → has_in pages e n ≡ eqb e (n % 1024 + 1)
-low_entry pages e n low = let none : e - 1024 ≡ 0 = omega (arith, low) in ap (λ k. page_has (counted_page pages k) e n) none
-
-pub far_entry : (pages : List Page) (e n : ℕ) → 1024 < e → length pages ≤ e - 1025 → has_in pages e n ≡ eqb e (n % 1024 + 1)
-far_entry pages e n high far =
-    let place : e - 1024 ≡ suc (e - 1025) = omega (arith, high) in
-    ap (λ k. page_has (counted_page pages k) e n) place ∙ ap (λ f. page_has f e n) (slice_get_past pages (e - 1025) far)
-
-pub other_entry : (pages : List Page) (e n : ℕ) (y : Page) → 1024 < e → slice_get pages (e - 1025) ≡ Some y → (y.number ≡ n / 1024 → ⊥) → has_in pages e n ≡ eqb e (n % 1024 + 1)
-other_entry pages e n y high there other =
-    let place : e - 1024 ≡ suc (e - 1025) = omega (arith, high) in
-    ap (λ k. page_has (counted_page pages k) e n) place ∙ ap (λ f. page_has f e n) there ∙ not_here y e n other
-
--- the first number of a page
-pub first_there : (pages : List Page) (e n : ℕ) → e ≡ n % 1024 + 1 → has_in pages e n ≡ true
-first_there pages e n is = low_entry pages e n (omega (arith, is, mod-lt n {m = 1024} (omega arith))) ∙ eq-eqb e (n % 1024 + 1) is
-
-pub first_others : (pages : List Page) (old new : ℕ → ℕ) (n : ℕ) → old (n / 1024) ≡ 0 → new (n / 1024) ≡ n % 1024 + 1 → ((k : ℕ) → (k ≡ n / 1024) ⊎ (new k ≡ old k))
-    → (i : ℕ) → (i ≡ n) ⊎ (has_in pages (new (i / 1024)) i ≡ has_in pages (old (i / 1024)) i)
-first_others pages old new n none is others i = elim (others (i / 1024)) [
-  | inr same ↦ inr (ap (λ e. has_in pages e i) same)
-  | inl here ↦ elim (cases_eq (i % 1024) (n % 1024)) [
-    | inl place ↦ inl (one_split i n 1024 here place)
-    | inr other ↦ inr (
-        ap (λ k. has_in pages (new k) i) here ∙ ap (λ e. has_in pages e i) is
-        ∙ low_entry pages (n % 1024 + 1) i (omega (arith, mod-lt n {m = 1024} (omega arith)))
-        ∙ ne_eqb (n % 1024 + 1) (i % 1024 + 1) (λ e. other (omega (arith, e)))
-        ∙ sym (ap (λ k. has_in pages (old k) i) here ∙ ap (λ e. has_in pages e i) none ∙ low_entry pages 0 i (omega arith) ∙ no_one 0 i (inl refl)))
-  ]
-]
-
 -- a page more
 module _ (pages : List Page) (q : ℕ) (x : Page) (own : x.number ≡ q) where
   pushed_at : (j e n : ℕ) → (n / 1024 ≡ q → ⊥) → page_has (counted_page (pages ++ x ∷ []) j) e n ≡ page_has (counted_page pages j) e n
@@ -365,31 +333,6 @@ module _ (p : Page) (m : ℕ) where
     omega (arith, found_near words_of m w is fits some, word_in_page m),
   )
 
-module _ (entry m : ℕ) where
-  pub one_ahead : 0 < entry → entry ≤ 1024 → m < m / 1024 * 1024 + entry
-      → IsSight (λ n. eqb entry (n % 1024 + 1)) m (Marked (m / 1024 * 1024 + entry - 1)) × (reached (Marked (m / 1024 * 1024 + entry - 1)) ≤ (m / 1024 + 1) * 1024)
-  one_ahead some few near = (
-    (
-      omega (arith, some, near),
-      eq-eqb entry ((m / 1024 * 1024 + entry - 1) % 1024 + 1) (omega (arith, some, few, div-add-mod' (m / 1024 * 1024 + entry - 1) 1024, mod-lt (m / 1024 * 1024 + entry - 1) {m = 1024} (omega arith))),
-      λ n later before. ne_eqb entry (n % 1024 + 1) (λ e. absurd (omega (arith, e, later, before, some, few, div-add-mod' m 1024, div-add-mod' n 1024, mod-lt n {m = 1024} (omega arith)))),
-    ),
-    omega (arith, some, few),
-  )
-
-  pub none_ahead : (1024 < entry) ⊎ (m / 1024 * 1024 + entry ≤ m)
-      → IsSight (λ n. eqb entry (n % 1024 + 1)) m (Free (m / 1024 * 1024 + 1024)) × (reached (Free (m / 1024 * 1024 + 1024)) ≤ (m / 1024 + 1) * 1024)
-  none_ahead far = (
-    (
-      omega (arith, div-add-mod' m 1024, mod-lt m {m = 1024} (omega arith)),
-      λ n later before. ne_eqb entry (n % 1024 + 1) (λ e. elim far [
-        | inl high ↦ absurd (omega (arith, e, high, mod-lt n {m = 1024} (omega arith)))
-        | inr behind ↦ absurd (omega (arith, e, behind, later, before, div-add-mod' n 1024, div-add-mod' m 1024, mod-lt n {m = 1024} (omega arith)))
-      ]),
-    ),
-    omega arith,
-  )
-
 in_page : (m n : ℕ) → m ≤ n → n < (m / 1024 + 1) * 1024 → n / 1024 ≡ m / 1024
 in_page m n later before = omega (arith, later, before, div-add-mod' m 1024, div-add-mod' n 1024, mod-lt m {m = 1024} (omega arith), mod-lt n {m = 1024} (omega arith))
 
@@ -401,21 +344,3 @@ as_sight has marked m same (Marked found) (later, is, none) near = (
   λ n from before. same n (in_page m n from (omega (arith, near, before))) ∙ none n from before,
 )
 as_sight has marked m same (Free next) (later, none) near = (later, λ n from before. same n (in_page m n from (omega (arith, near, before))) ∙ none n from before)
-
--- none from one number on, and from another on
-pub none_from : (has : ℕ → Bool) (from m end : ℕ) → ((i : ℕ) → from ≤ i → i < m → has i ≡ false) → ((i : ℕ) → m ≤ i → i < end → has i ≡ false) → (i : ℕ) → from ≤ i → i < end → has i ≡ false
-none_from has from m end first then i later before = elim (cases_lt i m) [ inl low ↦ first i later low | inr high ↦ then i high before ]
-
--- no page up to another has an entry
-pub none_in_pages : (pages : List Page) (entries : ℕ → ℕ) (m next : ℕ) → entries (m / 1024) ≡ 0 → m / 1024 < next → ((k : ℕ) → m / 1024 < k → k < next → entries k ≡ 0)
-    → IsSight (λ n. has_in pages (entries (n / 1024)) n) m (Free (next * 1024))
-none_in_pages pages entries m next here behind none = (
-  omega (arith, behind, div-add-mod' m 1024, mod-lt m {m = 1024} (omega arith)),
-  λ n later before. ap (λ e. has_in pages e n) (all n later before) ∙ low_entry pages 0 n (omega arith) ∙ no_one 0 n (inl refl),
-) where
-  all : (n : ℕ) → m ≤ n → n < next * 1024 → entries (n / 1024) ≡ 0
-  all n later before = elim (cases_eq (n / 1024) (m / 1024)) [
-    | inl same ↦ ap entries same ∙ here
-    | inr other ↦ none (n / 1024) (omega (arith, other, later, div-add-mod' m 1024, div-add-mod' n 1024, mod-lt m {m = 1024} (omega arith), mod-lt n {m = 1024} (omega arith)))
-        (omega (arith, before, div-add-mod' n 1024))
-  ]
