@@ -17,7 +17,7 @@ pub mod Fronting
 pub mod Passing
 pub mod FrontLines
 pub mod Numbering
-pub mod Dividing
+pub mod Counting
 pub mod Weighing
 pub mod Passed
 pub mod Unwritten

@@ -1,11 +1,10 @@
 -- Numbers of values that stand in ranges: they ascend as the values do.
 use Rattle.zf_parts.proofs.Prelude.{◌+◌, ◌<◌, ◌∙◌, ◌∷◌, ◌≡◌, ◌⊎◌, [], ap, arith, inl, inr, length, List, Option, refl, Some, subst, suc, sym, zero, ℕ, All, slice_cmp, Ordering, Equal, Greater, Less, Contains, ComesAfter, value_order, Value, values_at, AllPairs}
-use Rattle.std.proofs.Common.{◌*◌, ◌/◌, ◌%◌, ◌≤◌, drop, get_or, map}
-use Rattle.std.proofs.Math.Nat.{mod-lt, mul-le-mul_left, mul-le-mul_right}
+use Rattle.std.proofs.Common.{◌*◌, ◌≤◌, drop, get_or, map}
+use Rattle.std.proofs.Math.Nat.{mul-le-mul_left, mul-le-mul_right}
 use Rattle.std.proofs.lemmas.Bool.{cases_eq, cases_lt}
 use Rattle.std.proofs.lemmas.Cmp.{tied_itself}
 use Rattle.std.proofs.lemmas.List.Elements.{All-cons, All-head, All-nil, All-tail}
-use Rattle.std.proofs.lemmas.Nat.{div-add-mod'}
 use Rattle.std.proofs.lemmas.Option.{get_or_from_slice_get, slice_get-get_or, slice_get_within}
 use Rattle.std.specs.List.{cons_option}
 use Rattle.std.specs.Ordering.{ordering_then}
@@ -13,11 +12,11 @@ use Rattle.std.specs.Prelude.{slice_get, slice_index_or}
 use Rattle.zf_value.specs.contracts.plain.ValueOrd.TheImpl.Laws as order_laws
 use Rattle.zf_walk.proofs.Numbering.{one_digit}
 use Rattle.zf_walk.proofs.Order.{IsNth, less-at, nth}
-use Rattle.zf_walk.proofs.Picks.{IsRowOf-length, nth-at, picked-cons, slice_get-nth}
-use Rattle.zf_walk.specs.Picked.{AreWithin, picked}
+use Rattle.zf_walk.proofs.Picks.{IsRowOf-length, nth-at, slice_get-nth}
+use Rattle.zf_walk.specs.Picked.{AreWithin}
 use Rattle.zf_walk.specs.RowLaws.{AreAscending}
 use Rattle.zf_walk.specs.Rows.{IsRowOf}
-use Rattle.zf_parts.specs.Numbers.{digits, IsNumber, ranges_at, total, weights}
+use Rattle.zf_parts.specs.Numbers.{IsNumber, ranges_at, total, weights}
 use Rattle.zf_parts.proofs.Orders.{never_itself, same_row}
 use Rattle.zf_parts.proofs.Told.{got}
 
@@ -118,41 +117,17 @@ some_number ranges row are (p ∷ places) below =
     let (rest, h) = some_number ranges row are places (All-tail (λ q. q < length ranges) p places below) in
     (d * total (ranges_at ranges places) + rest, one_more ranges row p places v d rest at there h)
 
--- ---- the digits of a number
+-- ---- digits
 
-within_more : (r : List Value) (ranges : List (List Value)) (d : ℕ) (places : List ℕ) → d < length r → AreWithin ranges places → AreWithin (r ∷ ranges) (d ∷ places)
+pub within_more : (r : List Value) (ranges : List (List Value)) (d : ℕ) (places : List ℕ) → d < length r → AreWithin ranges places → AreWithin (r ∷ ranges) (d ∷ places)
 within_more r ranges d places near h = record { few = let f = h.few in omega (arith, f); each = each } where
   each : (k : ℕ) → k < length (d ∷ places) → get_or (d ∷ places) k 0 < length (get_or (r ∷ ranges) k [])
   each zero l = near
   each (suc k) l = h.each k (omega (arith, l))
 
-pub has_digits : (ranges : List (List Value)) (n : ℕ) → n < total ranges
-    → AreWithin ranges (digits (weights ranges) n) × IsNumber ranges (picked ranges (digits (weights ranges) n)) n
-has_digits [] n l = (record { few = omega arith; each = λ k h. absurd (omega (arith, h)) }, omega (arith, l))
-has_digits (r ∷ ranges) n l =
-    let some : 0 < total ranges = elim (cases_lt 0 (total ranges)) [
-      | inl is ↦ is
-      | inr none ↦ absurd (omega (arith, l, mul-le-mul_left {m = total ranges} {n = 0} (length r) (omega (arith, none))))
-    ] in
-    let whole : n / total ranges * total ranges + n % total ranges ≡ n = div-add-mod' n (total ranges) in
-    let near : n / total ranges < length r = elim (cases_lt (n / total ranges) (length r)) [
-      | inl is ↦ is
-      | inr far ↦ absurd (omega (arith, l, whole, mul-le-mul_right {m = length r} {n = n / total ranges} (total ranges) (omega (arith, far))))
-    ] in
-    let (within, number) = has_digits ranges (n % total ranges) (mod-lt n {m = total ranges} some) in
-    let all = within_more r ranges (n / total ranges) (digits (weights ranges) (n % total ranges)) near within in
-    let (x, at, is) = picked-cons r ranges (n / total ranges) (digits (weights ranges) (n % total ranges)) all in (
-      all,
-      subst (λ vs. IsNumber (r ∷ ranges) vs n) (sym is) (n / total ranges, n % total ranges, slice_get-nth r (n / total ranges) x at, number, sym whole),
-    )
-
-pub length_digits : (ws : List ℕ) (n : ℕ) → length (digits ws n) ≡ length ws
-length_digits [] n = refl
-length_digits (w ∷ ws) n = ap suc (length_digits ws (n % w))
-
 -- ---- weights
 
-some_rest : (l t : ℕ) → 0 < l * t → (0 < t) × (t ≤ l * t)
+pub some_rest : (l t : ℕ) → 0 < l * t → (0 < t) × (t ≤ l * t)
 some_rest l t h = elim (cases_lt 0 t) [
   | inr none ↦ absurd (omega (arith, h, mul-le-mul_left {m = t} {n = 0} l (omega (arith, none))))
   | inl some ↦ elim (cases_lt 0 l) [
@@ -160,12 +135,6 @@ some_rest l t h = elim (cases_lt 0 t) [
     | inr none ↦ absurd (omega (arith, h, mul-le-mul_right {m = l} {n = 0} t (omega (arith, none))))
   ]
 ]
-
-pub some_weights : (ranges : List (List Value)) → 0 < total ranges → All (λ w. 0 < w) (weights ranges)
-some_weights [] some = All-nil (λ w. 0 < w)
-some_weights (r ∷ ranges) some =
-    let rest = (some_rest (length r) (total ranges) some).0 in
-    All-cons (λ w. 0 < w) (total ranges) (weights ranges) rest (some_weights ranges rest)
 
 -- those behind have no more rows
 pub fewer_behind : (ranges : List (List Value)) (places : List ℕ) (i : ℕ) → 0 < total (ranges_at ranges places)

@@ -1,5 +1,5 @@
 -- Parts as numbers: the places of a part's values in their ranges are its digits. No public clause rests on this file.
-use Rattle.std.specs.Prelude.{◌≡◌, ◌⊎◌, ℕ, ◌+◌, ◌*◌, ◌/◌, ◌%◌, ◌<◌, ◌≤◌, Bool, cond, eqb, true, false, List, [], ◌∷◌, length, map, All, Option, Some, None, slice_get, slice_index_or}
+use Rattle.std.specs.Prelude.{◌≡◌, ◌⊎◌, ℕ, zero, suc, ◌+◌, ◌-◌, ◌*◌, ◌/◌, ◌%◌, ◌<◌, ◌≤◌, Bool, cond, eqb, true, false, List, [], ◌∷◌, length, map, All, Option, Some, None, slice_get, slice_index_or}
 use Rattle.std.specs.Int.{bit_at}
 use Rattle.zf_format.specs.declared.format.Format.{Format}
 use Rattle.zf_lines.specs.declared.fault.Status.{Status}
@@ -18,9 +18,12 @@ use Rattle.zf_walk.specs.Rows.{ComesAfter, IsLater}
 use Rattle.zf_meaning.specs.Environments.{Environment}
 use Rattle.zf_enum.specs.Property.{property}
 use Rattle.zf_parts.specs.declared.marks.Marks.{Marks}
-use Rattle.zf_parts.specs.declared.marks.Page.{Page}
+use Rattle.zf_parts.specs.declared.page.Sight.{Sight}
+use Rattle.zf_parts.specs.declared.page.Sight.TheVariants.{Free, Marked}
+use Rattle.zf_parts.specs.declared.page.Page.{Page}
 use Rattle.zf_parts.specs.declared.meeting.Met.{Met}
 use Rattle.zf_parts.specs.declared.weights.Weights.{Weights}
+use Rattle.zf_parts.specs.declared.words.Words.{Words}
 use Rattle.zf_places.specs.Places.{values_at}
 
 -- ---- numbers
@@ -46,10 +49,11 @@ IsNumber [] (v ∷ values) n = ⊥
 IsNumber (range ∷ ranges) [] n = ⊥
 IsNumber (range ∷ ranges) (v ∷ values) n = (d : ℕ) × (rest : ℕ) × (slice_get range d ≡ Some v) × IsNumber ranges values rest × (n ≡ d * total ranges + rest)
 
--- the digits of a number
-abbrev pub digits : (weights : List ℕ) → ℕ → List ℕ
-digits [] n = []
-digits (w ∷ ws) n = n / w ∷ digits ws (n % w)
+-- what digits count
+abbrev pub counted : List (List Value) → (digits : List ℕ) → ℕ
+counted [] digits = 0
+counted (range ∷ ranges) [] = 0
+counted (range ∷ ranges) (d ∷ digits) = d * total ranges + counted ranges digits
 
 -- each place is that of a range, and there are some rows, but no more than so many
 pub record AreWeights (ranges : List (List Value)) (places : List ℕ) (w : Weights) : Type 0 where
@@ -70,8 +74,8 @@ page_word (Some page) number word = cond (eqb page.number number) (slice_index_o
 abbrev pub word_in : (places : List ℕ) → List Page → ℕ → ℕ
 word_in places pages k = page_word (slice_get pages (slice_index_or places (k / 16) 0)) (k / 16) (k % 16)
 
-abbrev pub word_at : Marks → ℕ → ℕ
-word_at marks k = word_in marks.places.items marks.pages.items k
+abbrev pub word_at : Words → ℕ → ℕ
+word_at words k = word_in words.places.items words.pages.items k
 
 -- a page stands at its place
 pub record IsKept (places : List ℕ) (pages : List Page) (number at : ℕ) : Type 0 where
@@ -80,9 +84,43 @@ pub record IsKept (places : List ℕ) (pages : List Page) (number at : ℕ) : Ty
   pub there : slice_get pages at ≡ Some page
   pub is : page.number ≡ number
 
--- a bit for each number
+-- the bit of a number in its page
+abbrev pub bit_of : Page → ℕ → Bool
+bit_of page n = eqb (bit_at (slice_index_or page.words (n / 64 % 16) 0) (n % 64)) 1
+
+-- pages, counted from 1
+abbrev pub counted_page : List Page → ℕ → Option Page
+counted_page pages zero = None
+counted_page pages (suc place) = slice_get pages place
+
+-- of a page its bits; where it is not there the number of the entry, counted from 1
+abbrev pub page_has : Option Page → (entry : ℕ) → ℕ → Bool
+page_has None entry n = eqb entry (n % 1024 + 1)
+page_has (Some page) entry n = cond (eqb page.number (n / 1024)) (bit_of page n) (eqb entry (n % 1024 + 1))
+
+-- behind the numbers of a page an entry is a place
+abbrev pub has_in : List Page → (entry : ℕ) → ℕ → Bool
+has_in pages entry n = page_has (counted_page pages (entry - 1024)) entry n
+
 abbrev pub is_marked : Marks → ℕ → Bool
-is_marked marks n = eqb (bit_at (word_at marks (n / 64)) (n % 64)) 1
+is_marked marks n = has_in marks.pages.items (word_at marks.entries (n / 1024)) n
+
+-- an entry is the place of a page
+pub record IsPlaced (pages : List Page) (entry number at : ℕ) : Type 0 where
+  pub entry_is : entry ≡ at + 1025
+  pub page : Page
+  pub there : slice_get pages at ≡ Some page
+  pub is : page.number ≡ number
+
+-- up to where it is told
+abbrev pub reached : Sight → ℕ
+reached (Marked found) = found + 1
+reached (Free next) = next
+
+-- what is told of the numbers from one on
+abbrev pub IsSight : (has : ℕ → Bool) → ℕ → Sight → Type 0
+IsSight has number (Marked found) = (number ≤ found) × (has found ≡ true) × ((n : ℕ) → number ≤ n → n < found → has n ≡ false)
+IsSight has number (Free next) = (number < next) × ((n : ℕ) → number ≤ n → n < next → has n ≡ false)
 
 -- no number from one on and below another is marked
 abbrev pub AreFree : Marks → ℕ → ℕ → Type 0

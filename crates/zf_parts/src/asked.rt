@@ -10,3 +10,10 @@ pub struct Parts<'p, 'a> {
     pub schema: &'p Flat<'a>,
     pub after: Option<&'p [Value]>,
 }
+
+/// Parts, and how many of them at most, if there is a limit.
+#[derive(Clone, Copy)]
+pub struct Wanted<'p, 'a> {
+    pub parts: Parts<'p, 'a>,
+    pub limit: Option<u64>,
+}

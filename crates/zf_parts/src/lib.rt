@@ -9,9 +9,11 @@ pub mod laws;
 mod listing;
 mod marks;
 mod meeting;
+mod page;
 mod part_row;
 mod showing;
 mod weights;
+mod words;
 
 pub use asked::Parts;
 pub use fronts::{are_first, show_fronts};

@@ -11,7 +11,7 @@ ghost use Rattle.zf_parts.specs.Shown.{StopsParts, WritesParts};
 ghost use Rattle.zf_parts.specs.Written.{part_wording};
 ghost use Rattle.zf_term.specs.SchemaViews.{schema_of};
 
-use crate::asked::Parts;
+use crate::asked::Wanted;
 use crate::last::{write_last, write_out};
 use crate::meeting::Met;
 use crate::part_row::PartRow;
@@ -29,38 +29,39 @@ use zf_value::value::Value;
 /// Writes the lines of the parts that were met, and the last line.
 pub fn write_met<S: Ranged, W: Write>(
     style: &Style<'_>,
-    parts: Parts<'_, '_>,
+    wanted: Wanted<'_, '_>,
     search: &S,
     met: &Met,
-    limit: Option<u64>,
     writer: &mut Counted<W>,
 ) -> Result<Status, RunFault>
     requires unfailed { failures_of writer.old ≡ 0 }
-    requires limited { HasLimit limit }
-    requires marked { AreAllMarked (S.Search.goal search.now).environment (schema_of parts.flat.now) (S.Search.stage search.now) parts.places.now (option_copied parts.after) met.now }
-    ensures ok { IfOk result (λ status. (text : List ℕ) × WritesParts (part_wording style.now.format style.now.elements.now (schema_of parts.entry.schema.now).comps (schema_of parts.entry.flat.now).comps) limit (S.Search.goal search.now).environment (schema_of parts.entry.flat.now) (S.Search.stage search.now) parts.entry.places.now (option_copied parts.entry.after) text status × Appends (W.contents (device_of writer.old)) (W.contents (device_of writer.new)) text) }
-    ensures err { OnErr result (StopsParts (part_wording style.now.format style.now.elements.now (schema_of parts.entry.schema.now).comps (schema_of parts.entry.flat.now).comps) limit (S.Search.goal search.now).environment (schema_of parts.entry.flat.now) (S.Search.stage search.now) parts.entry.places.now (option_copied parts.entry.after) (W.contents (device_of writer.old)) (W.contents (device_of writer.new))) }
+    requires limited { HasLimit wanted.limit }
+    requires marked { AreAllMarked (S.Search.goal search.now).environment (schema_of wanted.parts.flat.now) (S.Search.stage search.now) wanted.parts.places.now (option_copied wanted.parts.after) met.now }
+    ensures ok { IfOk result (λ status. (text : List ℕ) × WritesParts (part_wording style.now.format style.now.elements.now (schema_of wanted.entry.parts.schema.now).comps (schema_of wanted.entry.parts.flat.now).comps) wanted.entry.limit (S.Search.goal search.now).environment (schema_of wanted.entry.parts.flat.now) (S.Search.stage search.now) wanted.entry.parts.places.now (option_copied wanted.entry.parts.after) text status × Appends (W.contents (device_of writer.old)) (W.contents (device_of writer.new)) text) }
+    ensures err { OnErr result (StopsParts (part_wording style.now.format style.now.elements.now (schema_of wanted.entry.parts.schema.now).comps (schema_of wanted.entry.parts.flat.now).comps) wanted.entry.limit (S.Search.goal search.now).environment (schema_of wanted.entry.parts.flat.now) (S.Search.stage search.now) wanted.entry.parts.places.now (option_copied wanted.entry.parts.after) (W.contents (device_of writer.old)) (W.contents (device_of writer.new))) }
     ensures count { failures_of writer.new ≡ write_failures result }
     ensures unread { read_failures result ≡ 0 }
 {
-    let ranges = search.ranges();
+    let parts = wanted.parts;
     let mut printed = Printed::new(style, parts.schema)?;
     let mut line = Vec::new(style.alloc);
-    let mut digits = vec![in style.alloc; 0; parts.places.len()]?;
-    let mut left = limit;
+    let ranges = search.ranges();
+    let mut row = PartRow::new(style.alloc, ranges, parts.places)?;
+    let mut left = wanted.limit;
+    let mut last = 0;
     let mut from = 0;
     'parts: loop {
         let number = met.marks.next(from, met.end);
         if number == met.end {
             return write_end(&mut line, style, parts.flat, &met.out, writer);
         }
-        met.weights.split(number, &mut digits);
-        let row = PartRow::new(ranges, parts.places, &digits);
+        row.go_on(number - last);
         write_row(&mut printed, style, parts.schema, &row, writer)?;
         left = one_less(left);
         if is_spent(left) {
             return write_last(&mut line, style, true, writer);
         }
+        last = number;
         from = number + 1;
     }
 }

@@ -1,23 +1,20 @@
 //! Numbers that are marked.
-ghost use Rattle.std.specs.Int.{bit_at};
-ghost use Rattle.std.specs.Prelude.{◌≡◌, ◌⊎◌, ◌+◌, ◌*◌, ◌<◌, ◌≤◌, ◌^◌, ◌/◌, ◌%◌, ℕ, eqb, false, length, MatchOption, true, IfOk, OnOk, slice_index_or, slice_get, Some};
-ghost use Rattle.zf_parts.specs.Numbers.{AreFree, IsKept, is_marked, word_at};
+ghost use Rattle.std.specs.Prelude.{◌≡◌, ◌⊎◌, ◌+◌, ◌<◌, ◌≤◌, ◌/◌, ◌%◌, ◌^◌, ℕ, eqb, false, true, MatchOption, IfOk, OnOk};
+ghost use Rattle.zf_parts.specs.Numbers.{AreFree, has_in, IsSight, is_marked, IsPlaced, word_at};
 
+use crate::page::{Page, Sight, bit_ahead, entry_ahead, has_bit, page_of, set_bit};
+use crate::words::Words;
 use std::alloc::{AllocError, Global};
 
-/// Which numbers are marked: a bit each, in pages, of which only those with a mark are kept.
+/// How many numbers a page has.
+const MANY: usize = 1_024;
+
+/// Which numbers are marked: of those of a page the first that comes is its entry. With the second one the page is made, with a bit for each.
 #[derive(Drop)]
 pub struct Marks {
-    /// Where each page is, if it is kept.
-    pub places: Vec<usize>,
+    /// Of each page 0, or the place of its only number, from 1 on, or, from 1,025 on, that of the page.
+    pub entries: Words,
     pub pages: Vec<Page>,
-}
-
-/// The bits of 1,024 numbers that follow one another.
-#[derive(Drop)]
-pub struct Page {
-    pub number: usize,
-    pub words: [u64; 16],
 }
 
 impl Marks {
@@ -26,7 +23,7 @@ impl Marks {
         ensures { (n : ℕ) → is_marked result n ≡ false }
     {
         Marks {
-            places: Vec::new(alloc),
+            entries: Words::new(alloc),
             pages: Vec::new(alloc),
         }
     }
@@ -34,39 +31,10 @@ impl Marks {
     pub fn has(&self, number: usize) -> bool
         ensures { result ≡ is_marked self.now number }
     {
-        (self.word(number / 64) >> (number % 64)) & 1 == 1
-    }
-
-    /// A word of its page, or 0 where that isn't kept.
-    fn word(&self, word: usize) -> u64
-        ensures { result ≡ word_at self.now word }
-    {
-        match self.place(word / 16) {
-            None => 0,
-            Some(place) => self.word_there(place, word),
-        }
-    }
-
-    /// A word of the page at this place.
-    fn word_there(&self, place: usize, word: usize) -> u64
-        requires { IsKept self.now.places.items self.now.pages.items (word / 16) place }
-        ensures { result ≡ word_at self.now word }
-    {
-        self.pages[place].words[word % 16]
-    }
-
-    /// The place of a page, if it is kept.
-    fn place(&self, page: usize) -> Option<usize>
-        ensures { MatchOption result ((k : ℕ) → k / 16 ≡ page → word_at self.now k ≡ 0) (λ place. IsKept self.now.places.items self.now.pages.items page place) }
-    {
-        let place = place_in(&self.places, page);
-        if place >= self.pages.len() {
-            return None;
-        }
-        if self.pages[place].number == page {
-            Some(place)
-        } else {
-            None
+        let entry = self.entries.get(number / MANY) as usize;
+        match place_of(&self.pages, entry, number / MANY) {
+            None => entry == number % MANY + 1,
+            Some(place) => has_bit(&self.pages[place], number),
         }
     }
 
@@ -75,43 +43,29 @@ impl Marks {
         ensures there { OnOk result (is_marked self.new number ≡ true) }
         ensures others { OnOk result ((n : ℕ) → (n ≡ number) ⊎ (is_marked self.new n ≡ is_marked self.old n)) }
     {
-        let word = number / 64;
-        let place = self.open(word / 16)?;
-        let page = &mut self.pages[place];
-        page.words[word % 16] = page.words[word % 16] | 1u64 << (number % 64);
+        let entry = self.entries.get(number / MANY) as usize;
+        if entry == 0 {
+            self.entries.put(number / MANY, (number % MANY + 1) as u64)?;
+            return Ok(());
+        }
+        let place = self.open(entry, number / MANY)?;
+        set_bit(&mut self.pages[place], number);
         Ok(())
     }
 
-    /// The place of a page, which is made if it is not kept.
-    fn open(&mut self, page: usize) -> Result<usize, AllocError>
-        requires { page + 1 < 2 ^ 64 }
-        ensures kept { IfOk result (IsKept self.new.places.items self.new.pages.items page) }
-        ensures same { OnOk result ((k : ℕ) → word_at self.new k ≡ word_at self.old k) }
+    /// The place of a page with this entry, which is made if it is not kept.
+    fn open(&mut self, entry: usize, page: usize) -> Result<usize, AllocError>
+        requires entry { entry ≡ word_at self.old.entries page }
+        ensures kept { IfOk result (IsPlaced self.new.pages.items (word_at self.new.entries page) page) }
+        ensures same { OnOk result ((n : ℕ) → is_marked self.new n ≡ is_marked self.old n) }
     {
-        if let Some(place) = self.place(page) {
+        if let Some(place) = place_of(&self.pages, entry, page) {
             return Ok(place);
         }
-        self.reach(page)?;
         let last = self.pages.len();
-        self.pages.push(Page {
-            number: page,
-            words: [0; 16],
-        })?;
-        self.places[page] = last;
+        self.pages.push(page_of(entry, page))?;
+        self.entries.put(page, (last + MANY + 1) as u64)?;
         Ok(last)
-    }
-
-    /// Makes the places reach beyond a page.
-    fn reach(&mut self, page: usize) -> Result<(), AllocError>
-        requires { page + 1 < 2 ^ 64 }
-        ensures there { OnOk result (page < length self.new.places.items) }
-        ensures same { OnOk result ((k : ℕ) → slice_index_or self.new.places.items k 0 ≡ slice_index_or self.old.places.items k 0) }
-        ensures pages { self.new.pages ≡ self.old.pages }
-    {
-        if page < self.places.len() {
-            return Ok(());
-        }
-        self.places.resize(page + 1, 0)
     }
 
     /// The next number that is marked, from one on, or the end.
@@ -124,26 +78,45 @@ impl Marks {
     {
         let mut number = from;
         while number < end {
-            let word = number / 64;
-            match self.place(word / 16) {
-                None => number = (word / 16 + 1) * 1024,
-                Some(place) => {
-                    let bits = self.word_there(place, word) >> (number % 64);
-                    if bits != 0 {
-                        let found = number + bits.trailing_zeros() as usize;
-                        return if found < end { found } else { end };
-                    }
-                    number = (word + 1) * 64;
-                }
+            match self.ahead(number) {
+                Sight::Marked(found) => return if found < end { found } else { end },
+                Sight::Free(next) => number = next,
             }
         }
         end
     }
+
+    /// What is marked from a number on: of its page, or that none is in some pages.
+    fn ahead(&self, number: usize) -> Sight
+        requires { number < 134217728 }
+        ensures { IsSight (is_marked self.now) number result }
+    {
+        let page = number / MANY;
+        let entry = self.entries.get(page) as usize;
+        if entry == 0 {
+            return Sight::Free(self.entries.past(page) * MANY);
+        }
+        match place_of(&self.pages, entry, page) {
+            None => entry_ahead(entry, number),
+            Some(place) => bit_ahead(&self.pages[place], number),
+        }
+    }
 }
 
-/// The place of a page that is listed, or the first one.
-fn place_in(places: &[usize], page: usize) -> usize
-    ensures { result ≡ slice_index_or places.now page 0 }
+/// The place of a page with this entry, if it is kept.
+fn place_of(pages: &[Page], entry: usize, number: usize) -> Option<usize>
+    ensures { MatchOption result ((n : ℕ) → n / 1024 ≡ number → has_in pages.now entry n ≡ eqb entry (n % 1024 + 1)) (λ place. IsPlaced pages.now entry number place) }
 {
-    if page < places.len() { places[page] } else { 0 }
+    if entry <= MANY {
+        return None;
+    }
+    let place = entry - (MANY + 1);
+    if place >= pages.len() {
+        return None;
+    }
+    if pages[place].number == number {
+        Some(place)
+    } else {
+        None
+    }
 }

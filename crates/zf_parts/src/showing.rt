@@ -13,7 +13,7 @@ ghost use Rattle.zf_parts.specs.Shown.{StopsParts, WritesParts};
 ghost use Rattle.zf_parts.specs.Written.{part_wording};
 ghost use Rattle.zf_term.specs.SchemaViews.{schema_of};
 
-use crate::asked::Parts;
+use crate::asked::{Parts, Wanted};
 use crate::collecting::{Collected, collect};
 use crate::last::{write_last, write_out};
 use crate::listing::write_met;
@@ -49,7 +49,7 @@ pub fn show_parts<S: Ranged, W: Write>(
         None => show_collected(style, parts, search, limit, writer),
         Some(weights) => {
             let met = meet_all(style.alloc, parts, weights, search)?;
-            write_met(style, parts, search, &met, limit, writer)
+            write_met(style, Wanted { parts, limit }, search, &met, writer)
         }
     }
 }

@@ -1,7 +1,6 @@
 //! Numbers of parts: the places of their values in the ranges of the components are digits. So numbers ascend as parts do.
-ghost use Rattle.std.specs.Prelude.{◌≡◌, ◌*◌, ◌-◌, ◌<◌, ◌≤◌, ◌/◌, ◌%◌, length, [], All, IfOk, IfSome, slice_index_or};
-ghost use Rattle.zf_parts.specs.Numbers as spec;
-ghost use Rattle.zf_parts.specs.Numbers.{AreWeights, IsNumber, ranges_at, total};
+ghost use Rattle.std.specs.Prelude.{◌≡◌, ◌<◌, length, [], All, IfOk, IfSome, slice_index_or};
+ghost use Rattle.zf_parts.specs.Numbers.{AreWeights, IsNumber, ranges_at};
 ghost use Rattle.zf_places.specs.Places.{values_at};
 
 use std::alloc::{AllocError, Global};
@@ -47,7 +46,7 @@ pub fn weights_of(
 }
 
 /// How many values a component may have.
-fn count_at(ranges: &[Range<Value>], place: usize) -> usize
+pub fn count_at(ranges: &[Range<Value>], place: usize) -> usize
     requires { place < length ranges.now }
     ensures { result ≡ length (slice_index_or ranges.now place []) }
 {
@@ -70,33 +69,4 @@ impl Weights {
         }
         number
     }
-
-    /// Puts the digits of a number into their places. Most are those of the number before.
-    pub fn split(&self, number: usize, digits: &mut Vec<usize>)
-        requires all { length digits.old.items ≡ length self.now.each.items }
-        requires some { All (λ w. 0 < w) self.now.each.items }
-        ensures { digits.new.items ≡ spec.digits self.now.each.items number }
-    {
-        let mut rest = number;
-        for i in 0..self.each.len() {
-            let weight = self.each[i];
-            let digit = quotient(rest, weight, digits[i]);
-            digits[i] = digit;
-            rest -= digit * weight;
-        }
-    }
-}
-
-/// A quotient. Where it is the one that is guessed, nothing is divided.
-fn quotient(number: usize, weight: usize, guess: usize) -> usize
-    requires { 0 < weight }
-    ensures value { result ≡ number / weight }
-    ensures rest { (result * weight ≤ number) × (number - result * weight ≡ number % weight) }
-{
-    if let Some(low) = guess.checked_mul(weight) {
-        if low <= number && number - low < weight {
-            return guess;
-        }
-    }
-    number / weight
 }

@@ -1,10 +1,10 @@
--- The parts that are left have numbers from here on, and the lines of the others are written.
-use Rattle.zf_parts.proofs.Prelude.{◌≡◌, length}
-use Rattle.std.proofs.Common.{◌-◌}
+-- The parts that are left have numbers from here on, the lines of the others are written, and the row is that of the last number.
+use Rattle.zf_parts.proofs.Prelude.{◌≡◌}
+use Rattle.std.proofs.Common.{◌-◌, ◌≤◌}
 use Rattle.std.specs.Option.{option_copied}
 use Rattle.zf_lines.specs.LastLine.{IsPrinted}
 use Rattle.zf_lines.specs.Counts.{device_of, failures_of}
-use Rattle.zf_parts.specs.Numbers.{ranges_at}
+use Rattle.zf_parts.specs.Numbers.{counted, ranges_at}
 use Rattle.zf_parts.specs.Written.{part_wording}
 use Rattle.zf_term.specs.SchemaViews.{schema_of}
 use Rattle.zf_parts.proofs.Unwritten.{Listing}
@@ -12,12 +12,14 @@ use Rattle.zf_parts.proofs.listing.write_met.Given as goal
 
 abbrev pub invariant-parts : goal.invariant-parts
 invariant-parts g l =
-    Listing (part_wording l.style.format l.style.elements.now (schema_of l.parts.schema.now).comps (schema_of l.parts.flat.now).comps) l.fn.limit
+    Listing (part_wording l.style.format l.style.elements.now (schema_of l.parts.schema.now).comps (schema_of l.parts.flat.now).comps) l.fn.wanted.limit
     (g.S.Search.goal l.search).environment (schema_of l.parts.flat.now) (g.S.Search.stage l.search) l.parts.places.now (option_copied l.parts.after) l.met
     l.from l.left (g.W.Write.contents (device_of l.initial.writer)) (g.W.Write.contents (device_of l.writer))
     × IsPrinted l.style.format l.style.elements.now (schema_of l.parts.schema.now).comps (ranges_at (g.S.Search.stage l.search).ranges l.parts.places.now) l.printed
     × (failures_of l.writer ≡ 0)
-    × (length l.digits.items ≡ length l.parts.places.now)
+    × (l.row.ranges ≡ ranges_at (g.S.Search.stage l.search).ranges l.parts.places.now)
+    × (counted l.row.ranges l.row.digits ≡ l.last)
+    × (l.last ≤ l.from)
 
 abbrev pub decreases-parts : goal.decreases-parts
 decreases-parts g l = l.met.end - l.from

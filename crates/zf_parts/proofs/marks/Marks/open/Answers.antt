@@ -1,12 +1,13 @@
-use Rattle.zf_parts.proofs.Prelude.{◌++◌, ◌∙◌, ◌∷◌, ◌≡◌, [], ap, length, refl, rules}
-use Rattle.std.proofs.Common.{replicate}
-use Rattle.zf_parts.proofs.Marking.{opened, zeros_behind}
+use Rattle.zf_parts.proofs.Prelude.{◌∙◌, ◌≡◌, ap, rules, subst, sym}
+use Rattle.std.proofs.Common.{◌/◌, ◌%◌, ◌+◌, eqb}
+use Rattle.zf_parts.specs.Numbers.{has_in, word_at}
+use Rattle.zf_parts.proofs.Marking.{page_more}
 use Rattle.zf_parts.proofs.marks.Marks.open.Goals as goal
 
 pub returns-clause-same : goal.returns-clause-same
 returns-clause-same c =
-    let at : c.len-last.result ≡ length c.reach.new.self.pages.items = search rules in
-    opened c.args.self.now.places.items c.reach.new.self.places.items c.args.self.now.pages.items c.args.page (record { number = c.args.page; words = replicate 16 0 })
-    c.in_ok-reach.ensures.same c.in_ok-reach.ensures.there c.in_default.ensures refl (zeros_behind [] 16) c.push.new.self.items c.len-last.result
-    (c.in_ok-push.ensures.items ∙ ap (λ p. p.items ++ record { number = c.args.page; words = replicate 16 0 } ∷ []) c.in_ok-reach.ensures.pages)
-    (at ∙ ap (λ p. length p.items) c.in_ok-reach.ensures.pages)
+    page_more c.args.self.now.pages.items c.args.page c.page_of.result c.page_of.ensures.number (word_at c.args.self.now.entries) (word_at c.put.new.self)
+    (search rules) c.in_ok-put.ensures.others
+    (λ n here. ap (λ e. has_in c.args.self.now.pages.items e n) (sym c.requires.entry) ∙ subst (λ ps. has_in ps c.args.entry n ≡ eqb c.args.entry (n % 1024 + 1)) c.deref.ensures.value (c.in_default.ensures n here) ∙ ap (λ e. eqb e (n % 1024 + 1)) c.requires.entry)
+    (λ n. c.page_of.ensures.bits n ∙ ap (λ e. eqb e (n % 1024 + 1)) c.requires.entry)
+    c.push.new.self.items c.in_ok-push.ensures.items

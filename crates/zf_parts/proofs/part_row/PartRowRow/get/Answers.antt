@@ -10,14 +10,14 @@ pub value_at-requires-clause-index : goal.value_at-requires-clause-index
 value_at-requires-clause-index c =
     let w = c.self.inside in
     let near = subst (λ n. c.args.i < n) (sym (ap (λ r. length (picked r.ranges r.digits)) c.self.view_is)
-    ∙ length-picked (ranges_at w.ranges.now w.places.now) w.digits.now c.self.invariant.1) c.requires in
+    ∙ length-picked (ranges_at w.ranges.now w.places.now) w.digits.items c.self.invariant.1) c.requires in
     near
 
 pub value_at-requires-clause-place : goal.value_at-requires-clause-place
 value_at-requires-clause-place c =
     let w = c.self.inside in
     let near = subst (λ n. c.args.i < n) (sym (ap (λ r. length (picked r.ranges r.digits)) c.self.view_is)
-    ∙ length-picked (ranges_at w.ranges.now w.places.now) w.digits.now c.self.invariant.1) c.requires in
+    ∙ length-picked (ranges_at w.ranges.now w.places.now) w.digits.items c.self.invariant.1) c.requires in
     let few = c.self.invariant.1.few in
     omega (arith, near, few, length_ranges w.ranges.now w.places.now)
 

@@ -7,4 +7,4 @@ use Rattle.zf_parts.proofs.part_row.PartRowRow.len.Goals as goal
 pub returns : goal.returns
 returns c =
     let w = c.self.inside in
-    sym (length-picked (ranges_at w.ranges.now w.places.now) w.digits.now c.self.invariant.1) ∙ ap (λ r. length (picked r.ranges r.digits)) c.self.view_is
+    sym (length-picked (ranges_at w.ranges.now w.places.now) w.digits.items c.self.invariant.1) ∙ ap (λ r. length (picked r.ranges r.digits)) c.self.view_is
