@@ -15,11 +15,6 @@ use Rattle.zf_term.specs.SchemaViews.{schema_of}
 use Rattle.zf_walk.specs.Picked.{picked}
 use Rattle.zf_parts.proofs.listing.write_met.Goals as goal
 
-pub new-row-requires-clause-some : goal.new-row-requires-clause-some
-new-row-requires-clause-some g c =
-    let weighs = c.requires.marked.weights in
-    subst (λ rs. 0 < total (ranges_at rs c.args.wanted.parts.places.now)) (sym c.ranges-ranges.ensures.is) (subst (λ t. 0 < t) weighs.count weighs.some)
-
 pub parts-init : goal.parts-init
 parts-init g c = (
   listing_first _ _ _ _ _ _ _ _ _ c.requires.limited,

@@ -1,4 +1,4 @@
-use Rattle.std.proofs.Common.{◌<◌, ◌≡◌, ◌∙◌, [], ap, arith, get_or, length, Some, subst, sym}
+use Rattle.std.proofs.Common.{◌<◌, ◌≡◌, ◌∙◌, [], ap, get_or, length, subst, sym}
 use Rattle.std.specs.Prelude.{slice_get}
 use Rattle.zf_parts.specs.Numbers.{ranges_at}
 use Rattle.zf_walk.proofs.Picks.{length-picked, slice_get-picked}
@@ -10,7 +10,7 @@ digit_at-requires c =
     let w = c.self.inside in
     let near = subst (λ n. c.args.i < n) (sym (ap (λ r. length (picked r.ranges r.digits)) c.self.view_is)
     ∙ length-picked (ranges_at w.ranges.now w.places.now) w.digits.items c.self.invariant.1) c.requires in
-    near
+    subst (λ ds. c.args.i < length ds) (sym c.deref.ensures.value) near
 
 pub returns : goal.returns
 returns c =
@@ -19,4 +19,4 @@ returns c =
     ∙ length-picked (ranges_at w.ranges.now w.places.now) w.digits.items c.self.invariant.1) c.requires in
     subst (λ r. slice_get (picked r.ranges r.digits) c.args.i ≡ slice_get (get_or r.ranges c.args.i []) c.digit_at.result) c.self.view_is
     (slice_get-picked (ranges_at w.ranges.now w.places.now) w.digits.items c.args.i c.self.invariant.1 near
-    ∙ ap (slice_get (get_or (ranges_at w.ranges.now w.places.now) c.args.i [])) (sym c.digit_at.ensures))
+    ∙ ap (slice_get (get_or (ranges_at w.ranges.now w.places.now) c.args.i [])) (sym (c.digit_at.ensures ∙ ap (λ ds. get_or ds c.args.i 0) c.deref.ensures.value)))

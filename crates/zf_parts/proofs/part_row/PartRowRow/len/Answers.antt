@@ -1,4 +1,4 @@
-use Rattle.std.proofs.Common.{◌∙◌, ap, length, sym}
+use Rattle.std.proofs.Common.{◌∙◌, ◌≡◌, ap, arith, length, sym}
 use Rattle.zf_parts.specs.Numbers.{ranges_at}
 use Rattle.zf_walk.proofs.Picks.{length-picked}
 use Rattle.zf_walk.specs.Picked.{picked}
@@ -7,4 +7,5 @@ use Rattle.zf_parts.proofs.part_row.PartRowRow.len.Goals as goal
 pub returns : goal.returns
 returns c =
     let w = c.self.inside in
-    sym (length-picked (ranges_at w.ranges.now w.places.now) w.digits.items c.self.invariant.1) ∙ ap (λ r. length (picked r.ranges r.digits)) c.self.view_is
+    let long : c.len.result ≡ length w.digits.items = omega (arith, c.len.ensures, w.digits.ok.0) in
+    long ∙ sym (length-picked (ranges_at w.ranges.now w.places.now) w.digits.items c.self.invariant.1) ∙ ap (λ r. length (picked r.ranges r.digits)) c.self.view_is
