@@ -1,4 +1,5 @@
-use Rattle.zf_plan.proofs.Prelude.{◌≢◌, ahead_of, Bool, Conjuncts, false, False, Ordering, Takes, Tree, true, Truth, AreWithin, Err, Ok, Remembers, rules, OnErr, Result, set, Stands, Option, List, None, get_or_default, ◌<◌, ◌+◌, bound, ◌-◌, ◌≤◌, ◌∙◌, ◌≡◌, ap, arith, get_or, inl, inr, length, subst, sym, take, ℕ, option_copied, cases_eq, get_or-set_other, get_or-set_same, length-set, IsAt, IsTruthOf, picked, Out, True, IsSoFar, trees_of, path, planted, Place}
+use Rattle.zf_plan.proofs.Prelude.{◌≢◌, ahead_of, Bool, Conjuncts, False, Ordering, Takes, Tree, true, Truth, AreWithin, Remembers, rules, set, Stands, Option, List, None, get_or_default, ◌<◌, ◌+◌, bound, ◌-◌, ◌≤◌, ◌∙◌, ◌≡◌, ap, arith, get_or, inl, inr, length, subst, sym, take, ℕ, option_copied, cases_eq, get_or-set_other, get_or-set_same, length-set, IsAt, IsTruthOf, picked, Out, True, IsSoFar, trees_of, path, planted, Place}
+use Rattle.zf_plan.proofs.Results.{on-err}
 use Rattle.zf_plan.proofs.Marking.{kept-chosen, landed-marked}
 use Rattle.zf_plan.specs.Counts.{all_of, below_it, Counts, CountsFound, IsCounted, IsPlain}
 use Rattle.zf_plan.specs.Knowing.{NeedsWithin}
@@ -17,10 +18,6 @@ use Rattle.zf_plan.proofs.steps.step_on.Goals as goal
 
 was-none : (choices : List (Option (List ℕ))) (k : ℕ) (other : Option (List ℕ)) → k < length choices → get_or choices k None ≡ None → get_or choices k other ≡ None
 was-none choices k other near none = sym (get_or_default choices k None other near) ∙ none
-
-on-err : {T E : Type 0} (r : Result T E) (P : Type 0) → P → OnErr r P
-on-err (Ok x) P p = tt
-on-err (Err e) P p = p
 
 -- what holds where a whole row is an answer, with its truth
 record Answered {V : Type 0} (cmp : V → V → Ordering) (l : Conjuncts V) (uses : ℕ → ℕ → Bool) (trees : List Tree) (ranges : List (List V)) (after : Option (List V)) (p q : Place)

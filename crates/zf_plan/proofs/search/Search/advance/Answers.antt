@@ -1,14 +1,11 @@
-use Rattle.zf_plan.proofs.Prelude.{◌≡◌, Bool, Conjuncts, List, Option, Ordering, path, Place, Step, Tree, ℕ, Err, Ok, refl, Result, subst, sym, option_copied, OnErr, trees_of, KeepsEvents, Stands, planted, Gives, Holds, Breaks, End}
+use Rattle.zf_plan.proofs.Prelude.{◌≡◌, Bool, Conjuncts, List, Option, Ordering, path, Place, Step, Tree, ℕ, refl, subst, sym, option_copied, trees_of, KeepsEvents, Stands, planted, Gives, Holds, Breaks, End}
 use Rattle.zf_plan.specs.Counts.{IsCounted}
 use Rattle.zf_walk.specs.Tests.{cut, IsNumberOfTests}
 use Rattle.zf_plan.specs.Memories.{Memory}
+use Rattle.zf_plan.proofs.Results.{on-err}
 use Rattle.zf_plan.proofs.Counting.{answered, answered-tests, Basis, basis-of}
 use Rattle.zf_plan.proofs.Stepping.{setting-of, SameAhead-from, over-from}
 use Rattle.zf_plan.proofs.search.Search.advance.Goals as goal
-
-on_err : {T E : Type 0} (r : Result T E) (P : Type 0) → P → OnErr r P
-on_err (Ok x) P p = tt
-on_err (Err e) P p = p
 
 -- the tests up to the answer of a step are counted
 tests-of : {V : Type 0} {cmp : V → V → Ordering} {l : Conjuncts V} {ranges : List (List V)} {after : Option (List V)} (basis : Basis cmp l ranges after) (s : Conjuncts V) (uses : ℕ → ℕ → Bool)
@@ -32,7 +29,7 @@ returns-in_err-next_answer-clause-refused g c =
     c.next_answer.new.choices) c.deref.ensures.value c.in_err-next_answer.ensures.stands in
     let same = subst (λ rs. KeepsEvents g.V.Ord.cmp (planted l (trees_of w.forest)) rs (option_copied w.after) w.place c.next_answer.new.place)
     c.deref.ensures.value c.in_err-next_answer.ensures.refused in
-    rw (← c.self.view_is) (on_err c.from_residual.result _ (SameAhead-from given w.place c.next_answer.new.place st.at here.at same, refl))
+    rw (← c.self.view_is) (on-err c.from_residual.result _ (SameAhead-from given w.place c.next_answer.new.place st.at here.at same, refl))
 
 pub returns-in_err-next_answer-clause-ended : goal.returns-in_err-next_answer-clause-ended
 returns-in_err-next_answer-clause-ended g c =
