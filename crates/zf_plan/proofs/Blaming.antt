@@ -1,19 +1,17 @@
 -- On what it is to be blamed that no event begins with the values of a range.
-use Rattle.zf_plan.proofs.Prelude.{◌++◌, ◌+◌, ◌-◌, ◌<◌, ◌∙◌, ◌∷◌, ◌≡◌, ◌≤◌, ◌⊎◌, [], ap, append_assoc, arith, Bool, both, Conjuncts, drop, drop_more, either, false, False, get_or, get_or-append_seam, get_or-take, get_or_append_left, get_or_from_slice_get, HasLeavesWithin, HaveLeavesWithin, inl, inr, IsChosen, IsNth, IsRowOf, IsRowOf-length, IsTreeTruth, leaf, length, length-append, length-picked, List, max, negated, None, nth, opposite, Option, picked, picked-push, refl, slice_get, slice_get-nth, slice_get_within, subst, suc, sym, take, Tree, tree_at, true, Truth, zero, ℕ, cases_eq, cases_lt, AreDueWithin, AreWithin, AreWithin-push, IsNextChoice}
+use Rattle.zf_plan.proofs.Prelude.{◌++◌, ◌+◌, ◌-◌, ◌<◌, ◌∙◌, ◌∷◌, ◌≡◌, ◌≤◌, ◌⊎◌, [], ap, append_assoc, arith, Bool, Conjuncts, drop, drop_more, false, False, get_or, get_or-append_seam, get_or-take, get_or_append_left, get_or_from_slice_get, HaveLeavesWithin, inl, inr, IsChosen, IsNth, IsRowOf, IsRowOf-length, leaf, length, length-append, length-picked, List, max, nth, Option, picked, picked-push, refl, slice_get-nth, slice_get_within, subst, suc, sym, take, Tree, tree_at, true, zero, ℕ, cases_eq, cases_lt, AreDueWithin, AreWithin, AreWithin-push, IsNextChoice}
 use Rattle.std.specs.Prelude.{bit_or}
 use Rattle.std.specs.Int.{bit_at}
 use Rattle.std.proofs.lemmas.List.{take-append-le}
 use Rattle.std.proofs.lemmas.Nat.Bits.{bit_at-lt, bit_at_or}
-use Rattle.zf_walk.proofs.Picks.{slice_get-picked}
 use Rattle.zf_walk.specs.ConjunctLaws.{FollowUsed}
 use Rattle.zf_walk.specs.Seen.{HasBit}
 use Rattle.zf_plan.specs.Blaming.{AreAlike, Covers, HasBits, IsBlamed}
 use Rattle.zf_plan.specs.Choosing.{IsFailed, StaysChoice}
 use Rattle.zf_plan.specs.Knowing.{IsRefuted, touches}
 use Rattle.zf_plan.specs.declared.marks.Mark.{Mark}
-use Rattle.zf_plan.proofs.Marking.{get-left, get-right}
+use Rattle.zf_plan.proofs.Marking.{each-leaf, same-get, tree-follows}
 use Rattle.zf_plan.proofs.Moving.{tail-row}
-use Rattle.zf_plan.proofs.TreeTruths.{both-kept, either-kept}
 
 -- ---- bits
 
@@ -29,17 +27,14 @@ or-left a b i h = bit_at_or a b i ∙ max-left (bit_at a i) (bit_at b i) h (bit_
 pub or-right : (a b i : ℕ) → HasBit b i → HasBit (bit_or a b) i
 or-right a b i h = bit_at_or a b i ∙ max-right (bit_at a i) (bit_at b i) (bit_at-lt a i) h
 
+bits-more : (uses : ℕ → ℕ → Bool) (a b k : ℕ) → ((i : ℕ) → HasBit a i → HasBit b i) → (tree : Tree) → HasBits uses a k tree → HasBits uses b k tree
+bits-more uses a b k f = each-leaf (λ c. (i : ℕ) → i < k → uses c i ≡ true → HasBit a i) (λ c. (i : ℕ) → i < k → uses c i ≡ true → HasBit b i) (λ c h i low is. f i (h i low is))
+
 pub bits-left : (uses : ℕ → ℕ → Bool) (a b k : ℕ) (tree : Tree) → HasBits uses a k tree → HasBits uses (bit_or a b) k tree
-bits-left uses a b k (leaf c) h = λ i low is. or-left a b i (h i low is)
-bits-left uses a b k (negated x) h = bits-left uses a b k x h
-bits-left uses a b k (both x y) h = (bits-left uses a b k x h.0, bits-left uses a b k y h.1)
-bits-left uses a b k (either x y) h = (bits-left uses a b k x h.0, bits-left uses a b k y h.1)
+bits-left uses a b k = bits-more uses a (bit_or a b) k (or-left a b)
 
 pub bits-right : (uses : ℕ → ℕ → Bool) (a b k : ℕ) (tree : Tree) → HasBits uses b k tree → HasBits uses (bit_or a b) k tree
-bits-right uses a b k (leaf c) h = λ i low is. or-right a b i (h i low is)
-bits-right uses a b k (negated x) h = bits-right uses a b k x h
-bits-right uses a b k (both x y) h = (bits-right uses a b k x h.0, bits-right uses a b k y h.1)
-bits-right uses a b k (either x y) h = (bits-right uses a b k x h.0, bits-right uses a b k y h.1)
+bits-right uses a b k = bits-more uses b (bit_or a b) k (or-right a b)
 
 -- one conjunct more, or one number of values more
 module _ {V : Type 0} (l : Conjuncts V) (uses : ℕ → ℕ → Bool) (trees : List Tree) where
@@ -54,34 +49,6 @@ module _ {V : Type 0} (l : Conjuncts V) (uses : ℕ → ℕ → Bool) (trees : L
     | inl e ↦ absurd (let z : true ≡ false = sym at ∙ ap (λ i. touches l k (tree_at trees i)) e ∙ not in cc)
     | inr ne ↦ h j (omega (arith, m, ne)) at
   ]
-
--- ---- rows that agree
-
-module _ {V : Type 0} (ranges : List (List V)) (places others : List ℕ) (w : AreWithin ranges places) (v : AreWithin ranges others)
-    (long : length others ≡ length places) (word : ℕ) (alike : AreAlike word places others) where
-  same-alike : (more : List V) (i : ℕ) → (length places ≤ i) ⊎ HasBit word i → slice_get (picked ranges places ++ more) i ≡ slice_get (picked ranges others ++ more) i
-  same-alike more i h = elim (cases_lt i (length places)) [
-    | inr far ↦ get-right (picked ranges places) (picked ranges others) more i
-        (length-picked ranges places w ∙ sym long ∙ sym (length-picked ranges others v)) (omega (arith, far, length-picked ranges places w))
-    | inl near ↦ elim h [
-      | inl far ↦ absurd (omega arith)
-      | inr bit ↦ get-left (picked ranges places) more i (omega (arith, near, length-picked ranges places w))
-          ∙ slice_get-picked ranges places i w near ∙ ap (slice_get (get_or ranges i [])) (sym (alike i (omega (arith, near, long)) bit))
-          ∙ sym (slice_get-picked ranges others i v (omega (arith, near, long))) ∙ sym (get-left (picked ranges others) more i (omega (arith, near, long, length-picked ranges others v)))
-    ]
-  ]
-
-module _ {V : Type 0} (l : Conjuncts V) (uses : ℕ → ℕ → Bool) (follow : FollowUsed l uses) (word k : ℕ) (row other : List V)
-    (same : (i : ℕ) → (k ≤ i) ⊎ HasBit word i → slice_get row i ≡ slice_get other i) (due : AreDueWithin l (length row)) (long : length other ≡ length row) where
-  -- trees follow what their leaves use
-  tree-follows : (tree : Tree) → HasLeavesWithin l.number tree → HasBits uses word k tree → (t : Truth) → IsTreeTruth l tree row t → IsTreeTruth l tree other t
-  tree-follows (leaf c) m u t h = follow c row other t m (due c m) (omega (arith, due c m, long))
-      (λ i is. elim (cases_lt i k) [ inl low ↦ same i (inr (u i low is)) | inr far ↦ same i (inl far) ]) h
-  tree-follows (negated a) m u t h = tree-follows a m u (opposite t) h
-  tree-follows (both a b) m u t h = both-kept (IsTreeTruth l a row) (IsTreeTruth l a other) (IsTreeTruth l b row) (IsTreeTruth l b other)
-      (tree-follows a m.0 u.0) (tree-follows b m.1 u.1) t h
-  tree-follows (either a b) m u t h = either-kept (IsTreeTruth l a row) (IsTreeTruth l a other) (IsTreeTruth l b row) (IsTreeTruth l b other)
-      (tree-follows a m.0 u.0) (tree-follows b m.1 u.1) t h
 
 -- ---- the places of a row that begins with these values
 
@@ -146,9 +113,11 @@ module _ {V : Type 0} (l : Conjuncts V) (uses : ℕ → ℕ → Bool) (trees : L
       let touched : touches l d (tree_at trees r.0) ≡ true = subst (λ n. touches l n (tree_at trees r.0) ≡ true) (length-picked ranges here w ∙ long) r.3 in (
         r.0,
         r.1,
-        tree-follows l uses follow word d (picked ranges here ++ more) (picked ranges first ++ more)
-            (λ i h. same-alike ranges here first w v near word agree more i (subst (λ n. (n ≤ i) ⊎ HasBit word i) (sym long) h))
-            (λ c m. omega (arith, due c m, a, b)) b (tree_at trees r.0) (leaves r.0 (leaf 0) r.1) (covers r.0 r.1 touched) False (r.2 more),
+        tree-follows l uses follow (picked ranges here ++ more) (picked ranges first ++ more) (λ i. (d ≤ i) ⊎ HasBit word i)
+            (λ i h. same-get ranges here first w v near (HasBit word) (λ j bit low. sym (agree j (omega (arith, low, near)) bit)) more i (subst (λ n. (n ≤ i) ⊎ HasBit word i) (sym long) h))
+            (λ c m. omega (arith, due c m, a, b)) b (λ c. (i : ℕ) → i < d → uses c i ≡ true → HasBit word i)
+            (λ c u i is. elim (cases_lt i d) [ inl low ↦ inr (u i low is) | inr far ↦ inl far ])
+            (tree_at trees r.0) (leaves r.0 (leaf 0) r.1) (covers r.0 r.1 touched) False (r.2 more),
       )
 
 module _ {V : Type 0} (l : Conjuncts V) (trees : List Tree) (ranges : List (List V)) (places : List ℕ) (k : ℕ) (near : k < length ranges) where
@@ -241,11 +210,4 @@ module _ {V : Type 0} (l : Conjuncts V) (trees : List Tree) (ranges : List (List
     | inr not ↦ stays others w long
         (take-same due others (take k places) (omega (arith, few, long)) (omega (arith, few, all))
         (λ j low. alike j (omega (arith, low, few, long)) (bits j low) ∙ sym (get_or-take k places j 0 (omega (arith, low, few))))) i v more at not m
-  ]
-
-  -- where none is left out
-  pub blamed-all : (places : List ℕ) (k : ℕ) (choice : Option (List ℕ)) (mark : Mark) → choice ≡ None → IsBlamed l trees ranges places k 0 choice mark
-  blamed-all places k choice mark all closed others w long alike i v more at out m = elim out [
-    | inl low ↦ absurd (omega arith)
-    | inr not ↦ absurd (not (subst (λ c. IsChosen c i) (sym all) tt))
   ]

@@ -446,19 +446,12 @@ module _ {V : Type 0} (l : Conjuncts V) (trees : List Tree) (k : ℕ) (leaves : 
 
 module _ {V : Type 0} {cmp : V → V → Ordering} {l : Conjuncts V} {ranges : List (List V)} {after : Option (List V)} (given : Basis cmp l ranges after) where
   -- a place at a row that is ahead
-  module _ (p : Place) (all : List ℕ) (e : all ≡ p.places.items) (f : p.fresh ≡ true) (choices : List (Option (List ℕ))) (old new : ℕ) (h : IsCounted cmp l ranges after p old choices) where
-    pub counted-here : Counts cmp l ranges after (picked ranges (take p.depth all)) all_of old
-    counted-here = subst (λ is. Counts cmp l ranges after (picked ranges (take p.depth is)) all_of old) (sym e) (subst (λ b. Counts cmp l ranges after (path ranges p) (λ tail. b) old) f h.counts)
+  module _ (p : Place) (f : p.fresh ≡ true) (choices : List (Option (List ℕ))) (old new : ℕ) (h : IsCounted cmp l ranges after p old choices) where
+    pub counted-here : Counts cmp l ranges after (path ranges p) all_of old
+    counted-here = subst (λ b. Counts cmp l ranges after (path ranges p) (λ tail. b) old) f h.counts
 
-    pub counted-still : Counts cmp l ranges after (picked ranges (take p.depth all)) all_of new → IsCounted cmp l ranges after p new choices
-    counted-still k = record {
-      counts = subst (λ b. Counts cmp l ranges after (path ranges p) (λ tail. b) new) (sym f) (subst (λ is. Counts cmp l ranges after (picked ranges (take p.depth is)) all_of new) e k);
-      whole = h.whole;
-      unseen = h.unseen;
-    }
-
-    pub counted-out : Counts cmp l ranges after (picked ranges (take p.depth all)) none_of new → IsCounted cmp l ranges after (record p { fresh = false }) new choices
-    counted-out k = record { counts = subst (λ is. Counts cmp l ranges after (picked ranges (take p.depth is)) none_of new) e k; whole = h.whole; unseen = h.unseen }
+    pub counted-still : Counts cmp l ranges after (path ranges p) all_of new → IsCounted cmp l ranges after p new choices
+    counted-still k = record { counts = subst (λ b. Counts cmp l ranges after (path ranges p) (λ tail. b) new) (sym f) k; whole = h.whole; unseen = h.unseen }
 
   pub found-false : (line : List V) (t : Truth) (tests : ℕ) → t ≡ False → CountsFound cmp l ranges after line t tests → Counts cmp l ranges after line none_of tests
   found-false line False tests e h = h

@@ -1,4 +1,5 @@
 mod Prelude
+pub mod Results
 pub mod Groves
 pub mod Knowing
 pub mod TreeTruths

@@ -19,11 +19,10 @@ pub record IsLookedAt {V : Type 0} (l : Conjuncts V) (uses : ℕ → ℕ → Boo
   pub inside : of < l.number
   pub is : s ≡ get_or leaves of s
 
-pub looked-at : {V : Type 0} (l : Conjuncts V) (uses : ℕ → ℕ → Bool) (ranges : List (List V)) (places stamps : List ℕ) (leaves : List Stamped)
-    (tables : List (Option Table)) (tests : ℕ) (now : Memory) (of : ℕ) (s : Stamped)
-    → KeepTruths l → AreWithin ranges places → AreStamped stamps leaves → now ≡ memory_of stamps leaves tables tests → Remembers l uses ranges places now → of < l.number → s ≡ get_or leaves of s
-    → IsLookedAt l uses ranges places stamps leaves tables tests of s
-looked-at l uses ranges places stamps leaves tables tests now of s keep within stamped view remembers m is = record {
+pub looked-at : {V : Type 0} {l : Conjuncts V} {uses : ℕ → ℕ → Bool} {ranges : List (List V)} {places stamps : List ℕ} {leaves : List Stamped} {tables : List (Option Table)}
+    {tests : ℕ} {now : Memory} {of : ℕ} {s : Stamped} → AreStamped stamps leaves → now ≡ memory_of stamps leaves tables tests → Remembers l uses ranges places now
+    → KeepTruths l → AreWithin ranges places → of < l.number → s ≡ get_or leaves of s → IsLookedAt l uses ranges places stamps leaves tables tests of s
+looked-at {V} {l} {uses} {ranges} {places} stamped view remembers keep within m is = record {
   keep = keep;
   within = within;
   stamped = stamped;

@@ -8,6 +8,7 @@ use Rattle.zf_walk.specs.Tests.{cut}
 use Rattle.zf_plan.specs.Choosing.{StaysChoice, UsesFirst}
 use Rattle.zf_plan.specs.Marks.{AreNew, is_still, mark_at, unmarked}
 use Rattle.zf_plan.specs.Places.{AreKept, IsKept}
+use Rattle.zf_plan.specs.Trees.{EachLeaf}
 use Rattle.zf_plan.specs.declared.marks.Mark.{Mark}
 use Rattle.zf_plan.specs.declared.marks.Marks.{Marks}
 use Rattle.zf_walk.specs.declared.seen.Seen.{Seen}
@@ -45,45 +46,43 @@ row-front (r ∷ ranges) (i ∷ places) (j ∷ others) w v e tail m =
     subst (λ row. IsRowOf (r ∷ ranges) (row ++ tail)) (sym a.2)
     ((i, n.within, n.is), row-front ranges places others (AreWithin-tail r ranges i places w) (AreWithin-tail r ranges j others v) (omega arith) tail rest.1)
 
+-- where the places are the same of which P holds
 module _ {V : Type 0} (ranges : List (List V)) (places others : List ℕ) (w : AreWithin ranges places) (v : AreWithin ranges others) (long : length others ≡ length places)
-    (n : ℕ) (first : take n others ≡ take n places) where
-  first-same : (i : ℕ) → i < n → get_or places i 0 ≡ get_or others i 0
-  first-same i low = sym (get_or-take n places i 0 low) ∙ ap (λ is. get_or is i 0) (sym first) ∙ get_or-take n others i 0 low
-
-  same-get : (more : List V) (i : ℕ) → (length places ≤ i) ⊎ (i < n) → slice_get (picked ranges places ++ more) i ≡ slice_get (picked ranges others ++ more) i
+    (P : ℕ → Type 0) (agree : (i : ℕ) → P i → i < length places → get_or places i 0 ≡ get_or others i 0) where
+  pub same-get : (more : List V) (i : ℕ) → (length places ≤ i) ⊎ P i → slice_get (picked ranges places ++ more) i ≡ slice_get (picked ranges others ++ more) i
   same-get more i h = elim (cases_lt i (length places)) [
     | inr far ↦ get-right (picked ranges places) (picked ranges others) more i
         (length-picked ranges places w ∙ sym long ∙ sym (length-picked ranges others v)) (omega (arith, far, length-picked ranges places w))
     | inl near ↦ elim h [
       | inl far ↦ absurd (omega arith)
-      | inr low ↦ get-left (picked ranges places) more i (omega (arith, near, length-picked ranges places w))
-          ∙ slice_get-picked ranges places i w near ∙ ap (slice_get (get_or ranges i [])) (first-same i low)
-          ∙ sym (slice_get-picked ranges others i v (omega arith)) ∙ sym (get-left (picked ranges others) more i (omega (arith, near, long, length-picked ranges others v)))
+      | inr p ↦ get-left (picked ranges places) more i (omega (arith, near, length-picked ranges places w))
+          ∙ slice_get-picked ranges places i w near ∙ ap (slice_get (get_or ranges i [])) (agree i p near)
+          ∙ sym (slice_get-picked ranges others i v (omega (arith, near, long))) ∙ sym (get-left (picked ranges others) more i (omega (arith, near, long, length-picked ranges others v)))
     ]
   ]
 
 -- ---- trees follow what their leaves use
 
-module _ {V : Type 0} (l : Conjuncts V) (uses : ℕ → ℕ → Bool) (follow : FollowUsed l uses) (n k : ℕ) (row other : List V)
-    (same : (i : ℕ) → (k ≤ i) ⊎ (i < n) → slice_get row i ≡ slice_get other i) (due : AreDueWithin l (length row)) (long : length other ≡ length row) where
-  tree-follows : (tree : Tree) → HasLeavesWithin l.number tree → UsesFirst uses n k tree → (t : Truth) → IsTreeTruth l tree row t → IsTreeTruth l tree other t
-  tree-follows (leaf c) m u t h = follow c row other t m (due c m) (omega (arith, due c m, long))
-      (λ i is. elim (cases_lt i n) [
-        | inl low ↦ same i (inr low)
-        | inr high ↦ elim (cases_lt i k) [ inl between ↦ absurd (false≢true (sym (u i high between) ∙ is)) | inr far ↦ same i (inl far) ]
-      ]) h
+module _ {V : Type 0} (l : Conjuncts V) (uses : ℕ → ℕ → Bool) (follow : FollowUsed l uses) (row other : List V) (Q : ℕ → Type 0)
+    (same : (i : ℕ) → Q i → slice_get row i ≡ slice_get other i) (due : AreDueWithin l (length row)) (long : length other ≡ length row)
+    (P : ℕ → Type 0) (used : (c : ℕ) → P c → (i : ℕ) → uses c i ≡ true → Q i) where
+  pub tree-follows : (tree : Tree) → HasLeavesWithin l.number tree → EachLeaf P tree → (t : Truth) → IsTreeTruth l tree row t → IsTreeTruth l tree other t
+  tree-follows (leaf c) m u t h = follow c row other t m (due c m) (omega (arith, due c m, long)) (λ i is. same i (used c u i is)) h
   tree-follows (negated a) m u t h = tree-follows a m u (opposite t) h
   tree-follows (both a b) m u t h = both-kept (IsTreeTruth l a row) (IsTreeTruth l a other) (IsTreeTruth l b row) (IsTreeTruth l b other)
       (tree-follows a m.0 u.0) (tree-follows b m.1 u.1) t h
   tree-follows (either a b) m u t h = either-kept (IsTreeTruth l a row) (IsTreeTruth l a other) (IsTreeTruth l b row) (IsTreeTruth l b other)
       (tree-follows a m.0 u.0) (tree-follows b m.1 u.1) t h
 
+pub each-leaf : (P Q : ℕ → Type 0) → ((c : ℕ) → P c → Q c) → (tree : Tree) → EachLeaf P tree → EachLeaf Q tree
+each-leaf P Q f (leaf c) u = f c u
+each-leaf P Q f (negated a) u = each-leaf P Q f a u
+each-leaf P Q f (both a b) u = (each-leaf P Q f a u.0, each-leaf P Q f b u.1)
+each-leaf P Q f (either a b) u = (each-leaf P Q f a u.0, each-leaf P Q f b u.1)
+
 -- more first components
 pub uses-more : (uses : ℕ → ℕ → Bool) (n m k : ℕ) → n ≤ m → (tree : Tree) → UsesFirst uses n k tree → UsesFirst uses m k tree
-uses-more uses n m k h (leaf c) u = λ i low high. u i (omega arith) high
-uses-more uses n m k h (negated a) u = uses-more uses n m k h a u
-uses-more uses n m k h (both a b) u = (uses-more uses n m k h a u.0, uses-more uses n m k h b u.1)
-uses-more uses n m k h (either a b) u = (uses-more uses n m k h a u.0, uses-more uses n m k h b u.1)
+uses-more uses n m k h = each-leaf (λ c. (i : ℕ) → n ≤ i → i < k → uses c i ≡ false) (λ c. (i : ℕ) → m ≤ i → i < k → uses c i ≡ false) (λ c u i low high. u i (omega arith) high)
 
 -- ---- choices
 
@@ -101,9 +100,16 @@ module _ {V : Type 0} (l : Conjuncts V) (trees : List Tree) (ranges : List (List
       let m = row-front ranges places others w v (e ∙ sym long) (x ∷ more) is in
       let a : length (picked ranges places ++ x ∷ more) ≡ length ranges = length-row (picked ranges places ++ x ∷ more) m in
       let b : length (picked ranges others ++ x ∷ more) ≡ length ranges = length-row (picked ranges others ++ x ∷ more) is in
-      tree-follows l uses follow n k (picked ranges places ++ x ∷ more) (picked ranges others ++ x ∷ more)
-      (λ c h. same-get ranges places others w v (e ∙ sym long) n first (x ∷ more) c (subst (λ d. (d ≤ c) ⊎ (c < n)) (sym long) h))
-      (λ c m. omega (arith, due c m, a)) (b ∙ sym a) tree leaves u False (h m) where
+      tree-follows l uses follow (picked ranges places ++ x ∷ more) (picked ranges others ++ x ∷ more) (λ i. (k ≤ i) ⊎ (i < n))
+      (λ c h. same-get ranges places others w v (e ∙ sym long) (λ i. i < n)
+      (λ i low near. sym (get_or-take n places i 0 low) ∙ ap (λ is. get_or is i 0) (sym first) ∙ get_or-take n others i 0 low)
+      (x ∷ more) c (subst (λ d. (d ≤ c) ⊎ (c < n)) (sym long) h))
+      (λ c m. omega (arith, due c m, a)) (b ∙ sym a) (λ c. (i : ℕ) → n ≤ i → i < k → uses c i ≡ false)
+      (λ c u i is. elim (cases_lt i n) [
+        | inl low ↦ inr low
+        | inr high ↦ elim (cases_lt i k) [ inl between ↦ absurd (false≢true (sym (u i high between) ∙ is)) | inr far ↦ inl far ]
+      ])
+      tree leaves u False (h m) where
         length-row : (row : List V) → IsRowOf ranges row → length row ≡ length ranges
         length-row row m = IsRowOf-length ranges row m
 
@@ -122,16 +128,6 @@ module _ {V : Type 0} (l : Conjuncts V) (trees : List Tree) (ranges : List (List
       → is_still stamps mark ≡ true → AreWithin ranges places → length places ≡ k
       → IsChoice l trees ranges (picked ranges places) (get_or ranges k []) choice
   still-choice stamps places k choice mark h is w long = h.still is (let f = h.few in omega arith) places w long refl
-
-  -- another one, where that is not
-  pub not-kept : (stamps places : List ℕ) (k : ℕ) (choice other : Option (List ℕ)) (mark : Mark) → IsKept l trees ranges stamps places k choice mark
-      → is_still stamps mark ≡ false → IsKept l trees ranges stamps places k other mark
-  not-kept stamps places k choice other mark h no' = record {
-    few = h.few;
-    past = h.past;
-    small = h.small;
-    still = λ is. absurd (false≢true (sym no' ∙ is));
-  }
 
   -- all values, which are always a choice
   pub kept-all : (stamps places : List ℕ) (k : ℕ) (choice other : Option (List ℕ)) (mark : Mark) → (is_still stamps mark ≡ true → other ≡ None)

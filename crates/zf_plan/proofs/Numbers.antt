@@ -15,14 +15,6 @@ IsLast uses trees k conjuncts m last = (last ≤ k) × UsesFirst uses last k (tr
 abbrev pub AreLastsSoFar : (ℕ → ℕ → Bool) → List Tree → ℕ → List ℕ → ℕ → List ℕ → Type 0
 AreLastsSoFar uses trees k conjuncts i lasts = (length lasts ≡ i) × ((m : ℕ) → m < length lasts → IsLast uses trees k conjuncts m (get_or lasts m 0))
 
-push-all : {X : Type 0} (P : X → Type 0) (xs : List X) (x d : X) → ((i : ℕ) → i < length xs → P (get_or xs i d)) → P x → (i : ℕ) → i < length (xs ++ x ∷ []) → P (get_or (xs ++ x ∷ []) i d)
-push-all P xs x d h p i l = elim (cases_lt i (length xs)) [
-  | inl old ↦ subst P (sym (get_or_append_left xs (x ∷ []) d i old)) (h i old)
-  | inr new ↦
-      let here : i ≡ length xs = omega (arith, length-append xs (x ∷ [])) in
-      subst P (sym (ap (λ k. get_or (xs ++ x ∷ []) k d) here ∙ get_or-append_seam xs x [] d)) p
-]
-
 -- one item more, by the places of the items
 pub each_push : {X : Type 0} (P : ℕ → X → Type 0) (xs : List X) (x d : X) → ((i : ℕ) → i < length xs → P i (get_or xs i d)) → P (length xs) x → (i : ℕ)
     → i < length (xs ++ x ∷ []) → P i (get_or (xs ++ x ∷ []) i d)
@@ -35,7 +27,7 @@ each_push P xs x d h p i l = elim (cases_lt i (length xs)) [
 
 -- one number more
 pub below_push : (n : ℕ) (js : List ℕ) (j : ℕ) → AreBelow n js → j < n → AreBelow n (js ++ j ∷ [])
-below_push n js j h l = push-all (λ k. k < n) js j 0 h l
+below_push n js j h l = each_push (λ i k. k < n) js j 0 h l
 
 -- the layers so far
 abbrev pub AreSoFar : (ℕ → Layer → Type 0) → ℕ → List Layer → Type 0

@@ -139,8 +139,8 @@ module _ {V : Type 0} (l : Conjuncts V) (uses : ℕ → ℕ → Bool) (ranges : 
     tables = subst (AreTrue l uses ranges) (sym g.tables) r.tables;
   }
 
-  pub remembers-shorter : (m : Memory) → Remembers l uses ranges (places ++ i ∷ []) m → Remembers l uses ranges places m
-  remembers-shorter m r = let told = r.tells in record {
+  pub remembers-shorter : (m : Memory) (js : List ℕ) → js ≡ places ++ i ∷ [] → Remembers l uses ranges js m → Remembers l uses ranges places m
+  remembers-shorter m js longer h = let r = subst (λ ks. Remembers l uses ranges ks m) longer h in let told = r.tells in record {
     dues = r.dues;
     tells = record {
       all = told.all;

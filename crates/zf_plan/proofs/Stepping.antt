@@ -1,5 +1,5 @@
 -- The steps of a search: rows that hold no event are passed, and a whole row is an answer.
-use Rattle.zf_plan.proofs.Prelude.{Bool, suc, zero, ◌++◌, ◌+◌, ◌<◌, ◌∙◌, ◌∷◌, ◌≡◌, ◌≤◌, ◌⊎◌, [], ap, arith, cond, drop, eqb, false, get_or, inl, inr, length, List, None, Option, refl, set, Some, subst, sym, take, true, ℕ, cases_eq, false≢true, get_or-replicate, get_or-set_other, get_or-set_same, length-replicate, length-set, take-take, take_all, IsTotalOrder, ◌≢◌, slice_get, Ordering, Equal, Less, reaches-under, IsFrontOf-picked, IsRowOf-front, IsRowOf-length, picked-nil, slice_get-nth, Conjuncts, HaveOneTruth, IsTruthOf, KeepTruths, Event, IsEvent, AreWithin, picked, above, below, is_reached, reaches, Ahead, AreAllAhead, AreDueWithin, ended, IsAhead, SameAhead, Takes, ComesAfter, IsRowOf, False, Out, Truth, True, Step, Breaks, End, Holds, IsChoice, IsChosen, Remembers, ahead_of, bound, Gives, GoesOn, is_over, IsAt, IsHopeless, IsSoFar, IsSound, KeepsEvents, Lands, LandsNext, path, Stands, steps_left, planted, Tree, Place}
+use Rattle.zf_plan.proofs.Prelude.{Err, IfOk, Ok, Result, length-picked, Bool, suc, zero, ◌++◌, ◌+◌, ◌<◌, ◌∙◌, ◌∷◌, ◌≡◌, ◌≤◌, ◌⊎◌, [], ap, arith, cond, drop, eqb, false, get_or, inl, inr, length, List, None, Option, refl, set, Some, subst, sym, take, true, ℕ, cases_eq, false≢true, get_or-replicate, get_or-set_other, get_or-set_same, length-replicate, length-set, take-take, take_all, IsTotalOrder, ◌≢◌, slice_get, Ordering, Equal, Less, reaches-under, IsFrontOf-picked, IsRowOf-front, IsRowOf-length, picked-nil, slice_get-nth, Conjuncts, HaveOneTruth, IsTruthOf, KeepTruths, Event, IsEvent, AreWithin, picked, above, below, is_reached, reaches, Ahead, AreAllAhead, AreDueWithin, ended, IsAhead, SameAhead, Takes, ComesAfter, IsRowOf, False, Out, Truth, True, Step, Breaks, End, Holds, IsChoice, IsChosen, Remembers, ahead_of, bound, Gives, GoesOn, is_over, IsAt, IsHopeless, IsSoFar, IsSound, KeepsEvents, Lands, LandsNext, path, Stands, steps_left, planted, Tree, Place}
 use Rattle.zf_walk.proofs.Reaching.{IsLater-from, later-reached, unreached, IsAhead-from, IsAhead-to}
 use Rattle.zf_walk.proofs.Truths.{IsTruthOf-false, IsTruthOf-only}
 use Rattle.zf_plan.specs.Marks.{AreNew, mark_at, unmarked}
@@ -10,9 +10,10 @@ use Rattle.zf_plan.specs.Blaming.{IsBlamed}
 use Rattle.zf_plan.specs.Choosing.{IsFailed}
 use Rattle.zf_plan.proofs.Blaming.{blamed-as, blamed-skips}
 use Rattle.zf_plan.proofs.Marking.{kept-chosen, kept-first, moved-on}
-use Rattle.zf_plan.specs.Knowing.{IsRefuted, NeedsBelow, NeedsWithin}
+use Rattle.zf_plan.specs.Knowing.{IsAmong, IsRefuted, NeedsBelow, NeedsWithin}
+use Rattle.zf_plan.specs.Plans.{AreTouched}
 use Rattle.zf_plan.proofs.Forgetting.{are-forgotten}
-use Rattle.zf_plan.proofs.SoFar.{so-fewer, so-longer, so-none, so-refuted, so-whole}
+use Rattle.zf_plan.proofs.SoFar.{so-fewer, so-longer, so-none, so-refuted, so-whole, so-within}
 use Rattle.zf_walk.specs.Tables.{AreTrue}
 use Rattle.zf_plan.specs.Memories.{AreDues, Forgets, IsNew, Memory}
 use Rattle.zf_plan.specs.declared.plan.Plan.{Plan}
@@ -76,6 +77,12 @@ module _ {V : Type 0} {cmp : V → V → Ordering} {l : Conjuncts V} {used : ℕ
 
   -- ---- rows that hold no event
 
+  -- a row on which a conjunct is False is that of no event
+  pub failed-none : (row : List V) (e : Event V) → IsEvent cmp (planted l trees) ranges after e → row ≡ e.row → IsFailed l trees row → ⊥
+  failed-none row e ev is r =
+      let m = IsRowOf-length ranges e.row ev.within in
+      ev.not_false (IsTruthOf-false (planted l trees) one e.row r.0 e.truth r.1 (let d = due r.0 r.1 in omega arith) (subst (λ w. (planted l trees).says r.0 w False) is r.2) ev.truth_of)
+
   hopeless-none : (road : List V) → length road ≤ length ranges → IsHopeless cmp l trees (length ranges) after road → (e : Event V) (tail : List V)
       → IsEvent cmp (planted l trees) ranges after e → road ++ tail ≡ e.row → ⊥
   hopeless-none road short (inl r) e tail ev is =
@@ -83,23 +90,12 @@ module _ {V : Type 0} {cmp : V → V → Ordering} {l : Conjuncts V} {used : ℕ
       let long : length (road ++ tail) ≡ length ranges = ap length is ∙ m in
       false≢true (sym (unreached cmp given.total after (length ranges) road tail (given.sound).named (omega arith) r) ∙ ap (is_reached cmp after (length ranges)) is
       ∙ later-reached cmp given.total after (length ranges) e.row (given.sound).named m ev.later)
-  hopeless-none road short (inr r) e tail ev is =
-      let m = IsRowOf-length ranges e.row ev.within in
-      ev.not_false (IsTruthOf-false (planted l trees) one e.row r.0 e.truth r.1 (let d = due r.0 r.1 in omega arith) (subst (λ row. (planted l trees).says r.0 row False) is (r.2 tail)) ev.truth_of)
-
-  -- a row on which a conjunct is False is that of no event
-  pub failed-none : (row : List V) (e : Event V) → IsEvent cmp (planted l trees) ranges after e → row ≡ e.row → IsFailed l trees row → ⊥
-  failed-none row e ev is r =
-      let m = IsRowOf-length ranges e.row ev.within in
-      ev.not_false (IsTruthOf-false (planted l trees) one e.row r.0 e.truth r.1 (let d = due r.0 r.1 in omega arith) (subst (λ w. (planted l trees).says r.0 w False) is r.2) ev.truth_of)
+  hopeless-none road short (inr r) e tail ev is = failed-none (road ++ tail) e ev is (r.0, r.1, r.2 tail)
 
   -- a value that is not chosen begins no event
   pub unchosen-none : (row range : List V) (choice : Option (List ℕ)) (i : ℕ) (v : V) → IsChoice l trees ranges row range choice → slice_get range i ≡ Some v
       → (IsChosen choice i → ⊥) → (e : Event V) (tail : List V) → IsEvent cmp (planted l trees) ranges after e → row ++ v ∷ tail ≡ e.row → ⊥
-  unchosen-none row range choice i v chosen at out e tail ev is =
-      let m = IsRowOf-length ranges e.row ev.within in
-      let r = chosen i v tail at out (subst (IsRowOf ranges) (sym is) ev.within) in
-      ev.not_false (IsTruthOf-false (planted l trees) one e.row r.0 e.truth r.1 (let d = due r.0 r.1 in omega arith) (subst (λ row. (planted l trees).says r.0 row False) is r.2) ev.truth_of)
+  unchosen-none row range choice i v chosen at out e tail ev is = failed-none (row ++ v ∷ tail) e ev is (chosen i v tail at out (subst (IsRowOf ranges) (sym is) ev.within))
 
   -- ---- moves
 
@@ -294,6 +290,15 @@ module _ {V : Type 0} {cmp : V → V → Ordering} {l : Conjuncts V} {used : ℕ
   finds-from row False r h = inr (so-refuted l trees (NeedsWithin l trees (length row)) row h)
   finds-from row True r h = (r, h)
   finds-from row Out r h = (r, h)
+
+  -- the same where memory may end
+  pub finds-ok : {E : Type 0} (places numbers : List ℕ) (r : Result Truth E) → AreWithin ranges places → is_reached cmp after (length ranges) (picked ranges places) ≡ true
+      → AreTouched l trees (length places) (length trees) numbers → IfOk r (IsSoFar l trees (picked ranges places) (IsAmong l trees (length places) numbers))
+      → IfOk r (Finds cmp l trees (length ranges) after (picked ranges places))
+  finds-ok places numbers (Err e) w reached touched h = tt
+  finds-ok places numbers (Ok t) w reached touched h = finds-from (picked ranges places) t reached
+      (subst (λ n. IsSoFar l trees (picked ranges places) (NeedsWithin l trees n) t) (sym (length-picked ranges places w))
+      (so-within l trees (length places) (picked ranges places) numbers t touched h))
 
   -- False
   pub finds-hopeless : (row : List V) (t : Truth) → t ≡ False → Finds cmp l trees (length ranges) after row t → IsHopeless cmp l trees (length ranges) after row

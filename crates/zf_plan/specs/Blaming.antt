@@ -4,17 +4,14 @@ use Rattle.zf_walk.specs.Conjuncts.{Conjuncts}
 use Rattle.zf_walk.specs.Picked.{AreWithin, picked}
 use Rattle.zf_walk.specs.Rows.{IsRowOf}
 use Rattle.zf_walk.specs.Seen.{HasBit}
-use Rattle.zf_plan.specs.Trees.{Tree, leaf, negated, both, either, tree_at}
+use Rattle.zf_plan.specs.Trees.{EachLeaf, Tree, tree_at}
 use Rattle.zf_plan.specs.Knowing.{touches}
 use Rattle.zf_plan.specs.Choosing.{IsChosen, IsFailed}
 use Rattle.zf_plan.specs.declared.marks.Mark.{Mark}
 
 -- of the first k components the word has a bit for each that the tree uses
 abbrev pub HasBits : (ℕ → ℕ → Bool) → ℕ → ℕ → Tree → Type 0
-HasBits uses word k (leaf c) = (i : ℕ) → i < k → uses c i ≡ true → HasBit word i
-HasBits uses word k (negated a) = HasBits uses word k a
-HasBits uses word k (both a b) = HasBits uses word k a × HasBits uses word k b
-HasBits uses word k (either a b) = HasBits uses word k a × HasBits uses word k b
+HasBits uses word k = EachLeaf (λ c. (i : ℕ) → i < k → uses c i ≡ true → HasBit word i)
 
 -- the word has a bit for each of the first k components that one of the first n conjuncts uses which have a leaf that needs k values
 abbrev pub Covers : {V : Type 0} → Conjuncts V → (ℕ → ℕ → Bool) → List Tree → ℕ → ℕ → ℕ → Type 0

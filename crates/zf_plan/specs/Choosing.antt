@@ -4,7 +4,7 @@ use Rattle.zf_walk.specs.declared.judge.Truth.TheVariants.{False}
 use Rattle.zf_walk.specs.Conjuncts.{Conjuncts}
 use Rattle.zf_walk.specs.Picked.{AreWithin, picked}
 use Rattle.zf_walk.specs.Rows.{IsRowOf}
-use Rattle.zf_plan.specs.Trees.{Tree, leaf, negated, both, either, IsTreeTruth, tree_at}
+use Rattle.zf_plan.specs.Trees.{EachLeaf, IsTreeTruth, Tree, tree_at}
 
 -- the numbers, from n on, of those that are marked as passing
 abbrev pub passing : ℕ → List Bool → List ℕ
@@ -35,10 +35,7 @@ IsChoice {V} l trees ranges row range choice = (i : ℕ) (v : V) (more : List V)
 
 -- of the first k components no leaf of the tree uses one from n on
 abbrev pub UsesFirst : (ℕ → ℕ → Bool) → ℕ → ℕ → Tree → Type 0
-UsesFirst uses n k (leaf c) = (i : ℕ) → n ≤ i → i < k → uses c i ≡ false
-UsesFirst uses n k (negated a) = UsesFirst uses n k a
-UsesFirst uses n k (both a b) = UsesFirst uses n k a × UsesFirst uses n k b
-UsesFirst uses n k (either a b) = UsesFirst uses n k a × UsesFirst uses n k b
+UsesFirst uses n k = EachLeaf (λ c. (i : ℕ) → n ≤ i → i < k → uses c i ≡ false)
 
 -- of the first k components each of these conjuncts uses at most so many first ones
 pub record AreLasts (uses : ℕ → ℕ → Bool) (trees : List Tree) (k : ℕ) (conjuncts lasts : List ℕ) : Type 0 where

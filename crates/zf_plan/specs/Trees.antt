@@ -43,6 +43,13 @@ due_of l (negated a) = due_of l a
 due_of l (both a b) = max (due_of l a) (due_of l b)
 due_of l (either a b) = max (due_of l a) (due_of l b)
 
+-- P holds of each leaf of a tree
+abbrev pub EachLeaf : (ℕ → Type 0) → Tree → Type 0
+EachLeaf P (leaf c) = P c
+EachLeaf P (negated a) = EachLeaf P a
+EachLeaf P (both a b) = EachLeaf P a × EachLeaf P b
+EachLeaf P (either a b) = EachLeaf P a × EachLeaf P b
+
 -- the leaves of a tree are among the first n
 abbrev pub HasLeavesWithin : ℕ → Tree → Type 0
 HasLeavesWithin n (leaf c) = c < n

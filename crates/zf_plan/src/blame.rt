@@ -1,22 +1,8 @@
 //! Components as the bits of words.
-ghost use Rattle.std.specs.Prelude.{◌≡◌, ◌<◌, ◌≤◌, ℕ, true};
+ghost use Rattle.std.specs.Prelude.{◌<◌, ◌≤◌, ℕ};
 ghost use Rattle.zf_walk.specs.Seen.{HasBit};
 
-/// Whether a word has the bit of a component.
-fn has_bit(word: u64, component: usize) -> bool
-    ensures { HasBit word component → result ≡ true }
-{
-    component < 64 && (word >> component) & 1 == 1
-}
-
-/// A word with the bit of one component more.
-pub fn with_bit(word: u64, component: usize) -> u64
-    requires { component < 64 }
-    ensures more { (i : ℕ) → HasBit word i → HasBit result i }
-    ensures this { HasBit result component }
-{
-    word | 1u64 << component
-}
+use zf_walk::has_bit;
 
 /// The word of so many first components.
 pub fn first_bits(number: usize) -> u64

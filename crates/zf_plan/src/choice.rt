@@ -38,7 +38,8 @@ impl Choice {
     pub fn mark(&mut self, length: usize) -> Result<(), AllocError>
         ensures { OnOk result (KeepsChosen length self.old self.new) }
     {
-        if self.all || self.marked || !are_many(self.places.len(), length) {
+        let places = self.places.len();
+        if self.all || self.marked || places.saturating_mul(places) <= length {
             return Ok(());
         }
         self.passes = marked(&self.places, length)?;
@@ -87,23 +88,12 @@ fn first_passing(passes: &[bool], from: usize, end: usize) -> usize
     ensures up { from ≤ result }
     ensures skipped { (i : ℕ) → from ≤ i → i < result → Contains (passing 0 passes.now) i → ⊥ }
 {
-    for place in from..end {
-        if is_passing(passes, place) {
+    for place in from..end.min(passes.len()) {
+        if passes[place] {
             return place;
         }
     }
     end
-}
-
-/// Whether a place is marked as passing.
-fn is_passing(passes: &[bool], place: usize) -> bool
-    ensures { Contains (passing 0 passes.now) place → result ≡ true }
-{
-    if place < passes.len() {
-        passes[place]
-    } else {
-        false
-    }
 }
 
 /// The least of these places from one on, up to the end.
@@ -120,11 +110,6 @@ fn least_from(places: &[usize], from: usize, end: usize) -> usize
         }
     }
     least
-}
-
-/// Whether to look through so many places for each of them takes longer than to look through a range of this length.
-fn are_many(places: usize, length: usize) -> bool {
-    places.saturating_mul(places) > length
 }
 
 /// For each place of a range of this length whether it is one of these.

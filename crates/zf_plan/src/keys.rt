@@ -47,7 +47,7 @@ pub fn all_keys<V: Ord, J: Guide<V>>(
     Ok(all)
 }
 
-/// The keys for a leaf. They are made where it may be asked often what it leaves of many values.
+/// The keys for a leaf, up to the first value of the last component that it needs which has none. They are made where it may be asked often what it leaves of many values.
 fn keys_of<V: Ord, J: Guide<V>>(
     alloc: Global,
     judge: &J,
@@ -59,28 +59,15 @@ fn keys_of<V: Ord, J: Guide<V>>(
     ensures { IfOk result (λ keys. (k : ℕ) → (J.conjuncts judge.now).due leaf ≡ k + 1 → AreKeys (J.is_key judge.now leaf) (slice_index_or ranges.now k []) keys.items) }
 {
     let due = judge.due(leaf);
+    let mut keys = Vec::new(alloc);
     if due == 0 || !has_many_rows(judge, ranges, leaf, due - 1) {
-        return Ok(Vec::new(alloc));
+        return Ok(keys);
     }
     let range = &ranges[due - 1];
-    if range.values.len() < 32 {
-        return Ok(Vec::new(alloc));
+    let count = range.values.len();
+    if count < 32 {
+        return Ok(keys);
     }
-    keys_at(alloc, judge, ranges, leaf, range.values.len())
-}
-
-/// The keys of so many values of the last component that a leaf needs, up to the first that has none.
-fn keys_at<V: Ord, J: Guide<V>>(
-    alloc: Global,
-    judge: &J,
-    ranges: &[Range<V>],
-    leaf: usize,
-    count: usize,
-) -> Result<Vec<u64>, AllocError>
-    requires { leaf < (J.conjuncts judge.now).number }
-    ensures { IfOk result (λ keys. (k : ℕ) → (J.conjuncts judge.now).due leaf ≡ k + 1 → AreKeys (J.is_key judge.now leaf) (slice_index_or ranges.now k []) keys.items) }
-{
-    let mut keys = Vec::new(alloc);
     for place in 0..count {
         match judge.key(leaf, ranges, &[], Some(place))? {
             None => return Ok(keys),

@@ -116,7 +116,14 @@ impl Memo {
         requires remembers { Remembers (J.conjuncts problem.now.judge.now) (J.is_used problem.now.judge.now) problem.now.ranges.now places.now self.now }
         ensures { AreSeenOf (J.conjuncts problem.now.judge.now) problem.now.ranges.now places.now leaves.now (length leaves.now) result }
     {
-        seen_of_all(problem, places, leaves, &self.tables)
+        let mut all = Seen::all();
+        for i in 0..leaves.len() {
+            let seen = self
+                .tables
+                .seen(problem.judge, problem.ranges, leaves[i], places);
+            all = all.and(seen);
+        }
+        all
     }
 
     /// What is known of a leaf. Where it has the values that it needs and is not known, it is asked for.
@@ -228,26 +235,6 @@ fn cleared(leaf: Stamped, due: usize) -> Stamped
     } else {
         leaf
     }
-}
-
-/// What is known of these leaves.
-fn seen_of_all<V: Ord, J: Guide<V>>(
-    problem: &Problem<V, J>,
-    places: &[usize],
-    leaves: &[usize],
-    tables: &Tables,
-) -> Seen
-    requires leaves { AreLeaves (J.conjuncts problem.now.judge.now) (length places.now + 1) leaves.now }
-    requires some { AreWithin problem.now.ranges.now (places.now ++ 0 ∷ []) }
-    requires known { AreTrue (J.conjuncts problem.now.judge.now) (J.is_used problem.now.judge.now) problem.now.ranges.now tables.now.each.items }
-    ensures { AreSeenOf (J.conjuncts problem.now.judge.now) problem.now.ranges.now places.now leaves.now (length leaves.now) result }
-{
-    let mut all = Seen::all();
-    for i in 0..leaves.len() {
-        let seen = tables.seen(problem.judge, problem.ranges, leaves[i], places);
-        all = all.and(seen);
-    }
-    all
 }
 
 /// Tests these leaves.

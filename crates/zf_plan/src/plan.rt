@@ -8,12 +8,11 @@ ghost use Rattle.zf_walk.specs.Seen.{HasBit};
 ghost use Rattle.zf_plan.specs.Blaming.{Covers, HasBits};
 ghost use Rattle.zf_plan.specs.Plans.{touches_inside, AreChoosers, AreDue, AreTouched, IsBare, IsLayer, IsPlan};
 
-use crate::blame::with_bit;
 use crate::forest::Forest;
 use crate::guide::{Guide, Means};
 use crate::node::Node;
 use std::alloc::{AllocError, Global};
-use zf_walk::{Judge, Range};
+use zf_walk::{Judge, Range, with_bit};
 
 /// By how many conjuncts a component is narrowed at most: each is asked for every row of the values before.
 const MOST_NARROWING: usize = 256;
@@ -45,78 +44,52 @@ pub struct Plan {
 }
 
 impl Plan {
+    /// A plan for these ranges, or, where it is plain, one by which no component is narrowed or sifted.
     pub fn new<V: Ord, J: Guide<V>>(
         alloc: Global,
         judge: &J,
         forest: &Forest,
         ranges: &[Range<V>],
+        is_plain: bool,
     ) -> Result<Plan, AllocError>
         requires leaves { HaveLeavesWithin (J.conjuncts judge.now).number (trees_of forest.now) }
         requires room { length ranges.now + 1 < 2 ^ 64 }
         ensures plan { IfOk result (IsPlan (J.conjuncts judge.now) (J.is_used judge.now) (trees_of forest.now) (length ranges.now)) }
-        ensures not_plain { IfOk result (λ p. p.is_plain ≡ false) }
+        ensures plain { IfOk result (λ p. p.is_plain ≡ is_plain) }
     {
         let mut layers = Vec::new(alloc);
         for number in 0..ranges.len() + 1 {
-            layers.push(layer_at(alloc, judge, forest, ranges, number)?)?;
+            let mut layer = plain_layer(alloc, judge, forest, number)?;
+            if !is_plain {
+                add_choosers(judge, forest, ranges, &mut layer, number)?;
+            }
+            layers.push(layer)?;
         }
-        Ok(Plan {
-            layers,
-            is_plain: false,
-        })
-    }
-
-    /// One by which no component is narrowed or sifted.
-    pub fn plain<V, J: Judge<V>>(
-        alloc: Global,
-        judge: &J,
-        forest: &Forest,
-        components: usize,
-    ) -> Result<Plan, AllocError>
-        requires leaves { HaveLeavesWithin (J.conjuncts judge.now).number (trees_of forest.now) }
-        requires room { components + 1 < 2 ^ 64 }
-        ensures plan { IfOk result (IsPlan (J.conjuncts judge.now) (J.is_used judge.now) (trees_of forest.now) components) }
-        ensures plain { IfOk result (λ p. p.is_plain ≡ true) }
-    {
-        let mut layers = Vec::new(alloc);
-        for number in 0..components + 1 {
-            layers.push(plain_layer(alloc, judge, forest, number)?)?;
-        }
-        Ok(Plan {
-            layers,
-            is_plain: true,
-        })
+        Ok(Plan { layers, is_plain })
     }
 }
 
-/// What so many values concern.
-fn layer_at<V: Ord, J: Guide<V>>(
-    alloc: Global,
+/// Adds the conjuncts by which the component after so many is narrowed or sifted.
+fn add_choosers<V: Ord, J: Guide<V>>(
     judge: &J,
     forest: &Forest,
     ranges: &[Range<V>],
+    layer: &mut Layer,
     number: usize,
-) -> Result<Layer, AllocError>
+) -> Result<(), AllocError>
     requires leaves { HaveLeavesWithin (J.conjuncts judge.now).number (trees_of forest.now) }
     requires room { number + 1 < 2 ^ 64 }
-    ensures { IfOk result (IsLayer (J.conjuncts judge.now) (J.is_used judge.now) (trees_of forest.now) number) }
+    requires layer { IsLayer (J.conjuncts judge.now) (J.is_used judge.now) (trees_of forest.now) number layer.old }
+    ensures { OnOk result (IsLayer (J.conjuncts judge.now) (J.is_used judge.now) (trees_of forest.now) number layer.new) }
 {
-    let due = due_at(alloc, judge, forest, number)?;
-    let touched = touched_at(alloc, judge, forest, number)?;
-    let narrowing = narrowing_at(alloc, judge, forest, number)?;
+    let narrowing = narrowing_at(*layer.due.allocator(), judge, forest, number)?;
     let sifting = sifting_at(judge, forest, ranges, &narrowing, number)?;
-    let narrowing = with_lasts(judge, forest, narrowing, number)?;
-    let sifting = with_lasts(judge, forest, sifting, number)?;
-    Ok(Layer {
-        due,
-        touched,
-        narrowing,
-        sifting,
-        blame: blame_at(judge, forest, number),
-    })
+    layer.narrowing = with_lasts(judge, forest, narrowing, number)?;
+    layer.sifting = with_lasts(judge, forest, sifting, number)?;
+    Ok(())
 }
 
-/// The same where no component is narrowed or sifted.
+/// What so many values concern, where no component is narrowed or sifted.
 fn plain_layer<V, J: Judge<V>>(
     alloc: Global,
     judge: &J,

@@ -73,7 +73,7 @@ impl<'a, V: Ord + Drop, J: Guide<V> + Drop> Search<'a, V, J> {
         ensures events { IfOk result (λ w. AreAllAhead V.cmp (planted (J.conjuncts judge) (trees_of forest)) ranges.items (option_copied after.entry) w.stage.ahead) }
         ensures first { IfOk result (λ w. w.stage.last ≡ None) }
     {
-        let plan = Plan::new(alloc, &judge, &forest, &ranges)?;
+        let plan = Plan::new(alloc, &judge, &forest, &ranges, false)?;
         let search = Search::over(judge, forest, ranges, after, plan)?;
         Ok(search)
     }
@@ -94,7 +94,7 @@ impl<'a, V: Ord + Drop, J: Guide<V> + Drop> Search<'a, V, J> {
         ensures first { IfOk result (λ w. (w.stage.last ≡ None) × (w.tests ≡ 0) × IsTrue w.counts) }
     {
         let forest = Forest::flat(alloc, judge.count())?;
-        let plan = Plan::plain(alloc, &judge, &forest, ranges.len())?;
+        let plan = Plan::new(alloc, &judge, &forest, &ranges, true)?;
         let search = Search::over(judge, forest, ranges, after, plan)?;
         Ok(search)
     }

@@ -93,10 +93,9 @@ fn test<V: Ord, J: Guide<V>>(
 {
     let row = &place.places[..place.depth];
     match place.told() {
-        None => test_row(problem, row, place.so_far(), memo),
         Some(Truth::True) => test_told(problem, row, place.so_far(), memo),
         Some(Truth::False) => Ok(Truth::False),
-        Some(Truth::Out) => test_row(problem, row, place.so_far(), memo),
+        _ => test_row(problem, row, place.so_far(), memo),
     }
 }
 

@@ -1,5 +1,5 @@
 -- The truths that a table has marked, a bit each.
-use Rattle.zf_walk.proofs.Prelude.{◌*◌, ◌++◌, ◌+◌, ◌-◌, ◌<◌, ◌∙◌, ◌∷◌, ◌≡◌, ◌⊎◌, [], ap, arith, drop, get_or, inl, inr, length, List, refl, replicate, set, subst, suc, sym, zero, ℕ, cases_eq, drop_more, get_or-set_other, get_or-set_same, get_or_append_left, Contains, combinations, HavePlaces, number, Truth, False, Out, True, Table, Used}
+use Rattle.zf_walk.proofs.Prelude.{◌*◌, ◌++◌, ◌+◌, ◌-◌, ◌<◌, ◌∙◌, ◌∷◌, ◌≡◌, ◌⊎◌, [], ap, arith, drop, get_or, inl, inr, length, List, refl, set, subst, sym, ℕ, cases_eq, drop_more, get_or-set_other, get_or-set_same, get_or_append_left, Contains, combinations, HavePlaces, number, Truth, False, Out, True, Table, Used}
 use Rattle.std.specs.Prelude.{◌/◌, ◌%◌, bit_and, bit_or, max, min}
 use Rattle.std.specs.Int.{bit_at}
 use Rattle.std.proofs.Math.Seq.{get_or-append_seam}
@@ -38,17 +38,6 @@ module _ (old seen : List Seen) (new : Seen) (number w : ℕ) (truth : Truth) (s
         ]
     | inr other ↦ inl (subst (λ s. IsSeen s (n % w) t) (get_or-set_other seen (number / w) (n / w) new unseen other ∙ same (n / w)) m)
   ]
-
-nothing-replicate : (m k : ℕ) → get_or (replicate m unseen) k unseen ≡ unseen
-nothing-replicate zero k = refl
-nothing-replicate (suc m) zero = refl
-nothing-replicate (suc m) (suc k) = nothing-replicate m k
-
--- where nothing is known, behind others
-pub nothing-behind : (ss : List Seen) (m k : ℕ) → get_or (ss ++ replicate m unseen) k unseen ≡ get_or ss k unseen
-nothing-behind [] m k = nothing-replicate m k
-nothing-behind (s ∷ ss) m zero = refl
-nothing-behind (s ∷ ss) m (suc k) = nothing-behind ss m k
 
 -- ---- several conjuncts
 

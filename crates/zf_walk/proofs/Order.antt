@@ -1,5 +1,5 @@
 -- The order of rows, value by value, over any totally ordered values.
-use Rattle.zf_walk.proofs.Prelude.{◌++◌, ◌<◌, ◌∙◌, ◌∷◌, ◌≡◌, ◌≤◌, ◌⊎◌, [], ap, arith, Bool, drop, false, get_or, inl, inr, length, List, refl, sym, take, true, ℕ, false≢true, tied_itself, get_or_default, IsTotalOrder, slice_cmp, ordering_reverse, ordering_then, AllPairs, Contains, Ordering, Equal, Greater, Less, first_of, reaches, under, IsFrontOf, IsRowOf, TiesAreEqual}
+use Rattle.zf_walk.proofs.Prelude.{◌++◌, ◌<◌, ◌∙◌, ◌∷◌, ◌≡◌, ◌≤◌, ◌⊎◌, [], ap, arith, Bool, drop, false, get_or, inl, inr, length, List, refl, sym, take, true, ℕ, false≢true, tied_itself, get_or_default, IsTotalOrder, slice_cmp, ordering_reverse, ordering_then, AllPairs, Contains, Ordering, Equal, Greater, Less, first_of, reaches, under, TiesAreEqual}
 
 -- x stands at place i
 pub record IsNth {V : Type 0} (range : List V) (i : ℕ) (x : V) : Type 0 where
@@ -51,22 +51,6 @@ module _ {V : Type 0} (cmp : V → V → Ordering) (o : IsTotalOrder cmp) where
   under-push (y ∷ path) test x [] = refl
   under-push (y ∷ path) test x (v ∷ row) = ap (first_of (cmp y v)) (under-push path test x row)
 
-  -- tests that agree on the rows of the later ranges
-  pub under-agree : (path : List V) (f g : List V → Bool) (ranges : List (List V)) (row : List V) → IsRowOf ranges row
-      → ((tail : List V) → IsRowOf (drop (length path) ranges) tail → f tail ≡ g tail) → under cmp path f row ≡ under cmp path g row
-  under-agree [] f g ranges row m h = h row m
-  under-agree (x ∷ path) f g ranges [] m h = refl
-  under-agree (x ∷ path) f g [] (v ∷ row) m h = absurd m
-  under-agree (x ∷ path) f g (range ∷ ranges) (v ∷ row) m h = ap (first_of (cmp x v)) (under-agree path f g ranges row m.1 h)
-
-  -- the same for rows of the first ranges
-  pub under-front : (path : List V) (f g : List V → Bool) (ranges : List (List V)) (row : List V) → IsFrontOf ranges row
-      → ((tail : List V) → IsFrontOf (drop (length path) ranges) tail → f tail ≡ g tail) → under cmp path f row ≡ under cmp path g row
-  under-front [] f g ranges row m h = h row m
-  under-front (x ∷ path) f g ranges [] m h = refl
-  under-front (x ∷ path) f g [] (v ∷ row) m h = absurd m
-  under-front (x ∷ path) f g (range ∷ ranges) (v ∷ row) m h = ap (first_of (cmp x v)) (under-front path f g ranges row m.1 h)
-
   pub under-at : (path : List V) (f : List V → Bool) (tail : List V) → under cmp path f (path ++ tail) ≡ f tail
   under-at [] f tail = refl
   under-at (x ∷ path) f tail = let e : cmp x x ≡ Equal = tied_itself o x in rw e (under-at path f tail)
@@ -95,15 +79,6 @@ module _ {V : Type 0} (cmp : V → V → Ordering) (o : IsTotalOrder cmp) where
   reaches-front [] (v ∷ row) l = absurd (omega arith)
   reaches-front (x ∷ whole) [] l = refl
   reaches-front (x ∷ whole) (v ∷ row) l = ap (first_of (cmp x v)) (reaches-front whole row (omega arith))
-
-  pub reaches-both : (path row : List V) → reaches cmp false path row ≡ true → reaches cmp true path row ≡ true
-  reaches-both [] row h = absurd (false≢true h)
-  reaches-both (x ∷ path) [] h = h
-  reaches-both (x ∷ path) (v ∷ row) h = go (cmp x v) (reaches-both path row) h where
-    go : (q : Ordering) → (reaches cmp false path row ≡ true → reaches cmp true path row ≡ true) → first_of q (reaches cmp false path row) ≡ true → first_of q (reaches cmp true path row) ≡ true
-    go Less ih k = refl
-    go Equal ih k = ih k
-    go Greater ih k = k
 
   -- where values that tie are one
   module _ (ties : TiesAreEqual cmp) where

@@ -90,14 +90,6 @@ IsRowOf-length (r ∷ ranges) (v ∷ row) m = let ih = IsRowOf-length ranges row
 pub IsFrontOf-length : {V : Type 0} (ranges : List (List V)) (row : List V) → IsFrontOf ranges row → length row ≤ length ranges
 IsFrontOf-length ranges row f = let e = IsRowOf-length (take (length row) ranges) row f in omega (arith, length-take (length row) ranges)
 
--- a row of all ranges has nothing behind it
-pub nothing-more : {V : Type 0} (ranges : List (List V)) (row tail : List V) → length row ≡ length ranges → IsRowOf ranges (row ++ tail) → row ++ tail ≡ row
-nothing-more [] [] [] l m = refl
-nothing-more [] [] (v ∷ tail) l m = absurd m
-nothing-more [] (v ∷ row) tail l m = absurd m
-nothing-more (r ∷ ranges) [] tail l m = absurd (omega arith)
-nothing-more (r ∷ ranges) (v ∷ row) tail l m = ap (λ w. v ∷ w) (nothing-more ranges row tail (omega arith) m.1)
-
 -- a range that is read
 pub range-is : {V : Type 0} (ranges : List (List V)) (k : ℕ) (r : List V) → k < length ranges → r ≡ get_or ranges k r → get_or ranges k [] ≡ r
 range-is ranges k r h e = get_or_default ranges k [] r h ∙ sym e

@@ -29,12 +29,13 @@ of-not_greater Greater h = absurd (h refl)
 
 module _ {V : Type 0} (cmp : V → V → Ordering) (o : IsTotalOrder cmp) where
   -- one value of both
-  pub reaches-drop : (here : Bool) (named row : List V) (i : ℕ) (x v : V) → i < length named → x ≡ get_or named i x → slice_get row i ≡ Some v
-      → reaches cmp here (drop i named) (drop i row) ≡ first_of (cmp x v) (reaches cmp here (drop (i + 1) named) (drop (i + 1) row))
-  reaches-drop here named row i x v l e f =
+  pub reaches-drop : (here : Bool) (named row : List V) (i : ℕ) (x v : V) (q : Ordering) → i < length named → x ≡ get_or named i x → slice_get row i ≡ Some v → q ≡ cmp x v
+      → first_of q (reaches cmp here (drop (i + 1) named) (drop (i + 1) row)) ≡ reaches cmp here (drop i named) (drop i row)
+  reaches-drop here named row i x v q l e f is =
       let n : drop i named ≡ x ∷ drop (i + 1) named = drop_more named i x l ∙ ap (λ y. y ∷ drop (i + 1) named) (sym e) in
       let r : drop i row ≡ v ∷ drop (i + 1) row = drop_more row i v (slice_get_within row i v f) ∙ ap (λ y. y ∷ drop (i + 1) row) (get_or_from_slice_get row i v v f) in
-      ap (λ ys. reaches cmp here ys (drop i row)) n ∙ ap (λ ys. reaches cmp here (x ∷ drop (i + 1) named) ys) r
+      ap (λ p. first_of p (reaches cmp here (drop (i + 1) named) (drop (i + 1) row))) is
+      ∙ sym (ap (λ ys. reaches cmp here ys (drop i row)) n ∙ ap (λ ys. reaches cmp here (x ∷ drop (i + 1) named) ys) r)
 
   -- a front of the named row
   front-told : (named row : List V) (here : Bool) → length row ≤ length named → reaches cmp here (take (length row) named) row ≡ first_of (slice_cmp cmp (take (length row) named) row) here

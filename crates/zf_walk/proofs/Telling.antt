@@ -1,10 +1,8 @@
 -- What tables tell of conjuncts is so.
-use Rattle.zf_walk.proofs.Prelude.{◌*◌, ◌++◌, ◌+◌, ◌<◌, ◌^◌, ◌∙◌, ◌∷◌, ◌≡◌, ◌≤◌, [], ap, arith, Bool, false, get_or, inl, inr, length, length-append, List, None, Option, refl, replicate, set, Some, subst, suc, sym, true, zero, ℕ, cases_eq, cases_lt, false≢true, get_or-set_other, get_or-set_same, get_or_append_left, get_or_default, length-set, IfSome, slice_get, Conjuncts, FollowUsed, AreWithin, picked, Truth, Table, Used}
+use Rattle.zf_walk.proofs.Prelude.{◌*◌, ◌++◌, ◌+◌, ◌<◌, ◌^◌, ◌∙◌, ◌∷◌, ◌≡◌, ◌≤◌, [], ap, arith, Bool, false, get_or, inl, inr, length, length-append, List, None, Option, refl, set, Some, subst, suc, sym, true, zero, ℕ, cases_eq, cases_lt, false≢true, get_or-set_other, get_or-set_same, get_or_append_left, get_or_default, length-set, IfSome, slice_get, Conjuncts, FollowUsed, AreWithin, picked, Truth, Table, Used}
 use Rattle.std.proofs.Math.Seq.{get_or-append_seam}
-use Rattle.zf_walk.specs.declared.entry.Entry.{Entry}
 use Rattle.zf_walk.specs.declared.entry.Entry.TheVariants.{Unknown}
-use Rattle.zf_walk.specs.Seen.{IsSeen, unseen}
-use Rattle.zf_walk.specs.Tables.{told, number, combinations, HavePlaces, Fits, MayKeep, AreUsed, IsMarked, IsTableOf, AreTables, known_in}
+use Rattle.zf_walk.specs.Tables.{told, number, combinations, HavePlaces, Fits, Keeps, AreUsed, IsMarked, IsTableOf, AreTables}
 use Rattle.zf_walk.proofs.Marking.{unmarked-new}
 use Rattle.zf_walk.proofs.Lists.{Contains-head, Contains-nil, Contains-left, Contains-right, Contains-either, Contains-cases}
 use Rattle.zf_walk.proofs.Picks.{slice_get-picked, length-picked}
@@ -69,7 +67,7 @@ combinations-more (w ∷ us) u = let e = ap (λ n. w.count * n) (combinations-mo
 
 -- ---- what is known of one conjunct
 
-module _ {V : Type 0} (s : Conjuncts V) (uses : ℕ → ℕ → Bool) (ranges : List (List V)) (c : ℕ) where
+module _ {V : Type 0} {s : Conjuncts V} {uses : ℕ → ℕ → Bool} {ranges : List (List V)} {c : ℕ} where
   -- nothing is known in a new table
   pub table-new : (t : Table) → AreUsed ranges (uses c) (s.due c) t.used.items → combinations t.used.items < 2 ^ 64 → t.entries.items ≡ [] → t.seen.items ≡ [] → IsTableOf s uses ranges c t
   table-new t used few none nothing = record {
@@ -79,22 +77,13 @@ module _ {V : Type 0} (s : Conjuncts V) (uses : ℕ → ℕ → Bool) (ranges : 
     marks = λ places u w l m. absurd (unmarked-new t (number 0 t.used.items places) u nothing m);
   }
 
-  module _ (places : List ℕ) (w : AreWithin ranges places) (due : s.due c ≡ length places) where
-    pub table-fits : (o : Option Table) → IfSome o (IsTableOf s uses ranges c) → IfSome o (Fits places)
-    table-fits None h = tt
-    table-fits (Some t) h = record { used = places-used ranges (uses c) (s.due c) t.used.items places h.used w due; few = h.few }
-
-    pub known-so : (o : Option Table) (u : Truth) → IfSome o (IsTableOf s uses ranges c) → known_in o places ≡ Some u → s.says c (picked ranges places) u
-    known-so None u h e = absurd (cc)
-    known-so (Some t) u h e = h.truths places u w due e
+  module _ {old : Table} (h : IsTableOf s uses ranges c old) {places : List ℕ} (w : AreWithin ranges places) (due : s.due c ≡ length places) where
+    pub table-fits : Fits places old
+    table-fits = record { used = places-used ranges (uses c) (s.due c) old.used.items places h.used w due; few = h.few }
 
     -- a truth that is kept is one on each row that agrees in what is used
-    pub kept-so : FollowUsed s uses → c < s.number → (kept : Truth) → s.says c (picked ranges places) kept → (o p : Option Table) → MayKeep places kept o p
-        → IfSome o (IsTableOf s uses ranges c) → IfSome p (IsTableOf s uses ranges c)
-    kept-so follow near kept says None None k h = tt
-    kept-so follow near kept says None (Some new) k h = absurd k
-    kept-so follow near kept says (Some old) None k h = absurd k
-    kept-so follow near kept says (Some old) (Some new) k h = record {
+    pub kept-so : FollowUsed s uses → c < s.number → (kept : Truth) → s.says c (picked ranges places) kept → (new : Table) → Keeps places kept old new → IsTableOf s uses ranges c new
+    kept-so follow near kept says new k = record {
       used = subst (AreUsed ranges (uses c) (s.due c)) (sym k.used) h.used;
       few = subst (λ us. combinations us < 2 ^ 64) (sym k.used) h.few;
       truths = λ others u v l e. elim (k.truths others u e) [
@@ -119,9 +108,9 @@ module _ {V : Type 0} (s : Conjuncts V) (uses : ℕ → ℕ → Bool) (ranges : 
 pub tables-none : {V : Type 0} (s : Conjuncts V) (uses : ℕ → ℕ → Bool) (ranges : List (List V)) (ts : List (Option Table)) → ts ≡ [] → AreTables s uses ranges 0 ts
 tables-none s uses ranges ts e = record { all = ap length e; each = λ c l. absurd (omega arith) }
 
-module _ {V : Type 0} (s : Conjuncts V) (uses : ℕ → ℕ → Bool) (ranges : List (List V)) (n : ℕ) (ts : List (Option Table)) (a : AreTables s uses ranges n ts) where
-  pub table-at : (c : ℕ) (o : Option Table) → c < n → o ≡ get_or ts c o → IfSome o (IsTableOf s uses ranges c)
-  table-at c o near is = subst (λ p. IfSome p (IsTableOf s uses ranges c)) (get_or_default ts c None o (omega (arith, a.all)) ∙ sym is) (a.each c near)
+module _ {V : Type 0} {s : Conjuncts V} {uses : ℕ → ℕ → Bool} {ranges : List (List V)} {n : ℕ} {ts : List (Option Table)} (a : AreTables s uses ranges n ts) where
+  pub table-at : (c : ℕ) (o : Option Table) (t : Table) → c < n → o ≡ get_or ts c o → o ≡ Some t → IsTableOf s uses ranges c t
+  table-at c o t near is some = subst (λ p. IfSome p (IsTableOf s uses ranges c)) (get_or_default ts c None o (omega (arith, a.all)) ∙ sym is ∙ some) (a.each c near)
 
   pub tables-more : (o : Option Table) → IfSome o (IsTableOf s uses ranges n) → AreTables s uses ranges (n + 1) (ts ++ o ∷ [])
   tables-more o h = record {
@@ -142,16 +131,3 @@ module _ {V : Type 0} (s : Conjuncts V) (uses : ℕ → ℕ → Bool) (ranges : 
       | inr other ↦ subst (λ p. IfSome p (IsTableOf s uses ranges d)) (sym (get_or-set_other ts c d o None other)) (a.each d l)
     ];
   }
-
--- ---- entries
-
-unknown-replicate : (m k : ℕ) → get_or (replicate m Unknown) k Unknown ≡ Unknown
-unknown-replicate zero k = refl
-unknown-replicate (suc m) zero = refl
-unknown-replicate (suc m) (suc k) = unknown-replicate m k
-
--- entries that are not known, behind others
-pub unknown-behind : (es : List Entry) (m k : ℕ) → get_or (es ++ replicate m Unknown) k Unknown ≡ get_or es k Unknown
-unknown-behind [] m k = unknown-replicate m k
-unknown-behind (e ∷ es) m zero = refl
-unknown-behind (e ∷ es) m (suc k) = unknown-behind es m k

@@ -40,10 +40,6 @@ pub record Fits (places : List ℕ) (t : Table) : Type 0 where
 abbrev pub known : Table → List ℕ → Option Truth
 known t places = told (slice_index_or t.entries.items (number 0 t.used.items places) Unknown)
 
-abbrev pub known_in : Option Table → List ℕ → Option Truth
-known_in None places = None
-known_in (Some t) places = known t places
-
 -- that is marked as the truth on the rows with this number
 abbrev pub IsMarked : Table → ℕ → Truth → Type 0
 IsMarked t n u = (0 < t.width) × IsSeen (slice_index_or t.seen.items (n / t.width) unseen) (n % t.width) u
@@ -54,12 +50,6 @@ pub record Keeps (places : List ℕ) (kept : Truth) (old new : Table) : Type 0 w
   pub truths : (others : List ℕ) (t : Truth) → known new others ≡ Some t
       → (known old others ≡ Some t) ⊎ ((number 0 old.used.items others ≡ number 0 old.used.items places) × (t ≡ kept))
   pub marks : (n : ℕ) (t : Truth) → IsMarked new n t → IsMarked old n t ⊎ ((n ≡ number 0 old.used.items places) × (t ≡ kept))
-
-abbrev pub MayKeep : List ℕ → Truth → Option Table → Option Table → Type 0
-MayKeep places kept None None = Unit {0}
-MayKeep places kept None (Some new) = ⊥
-MayKeep places kept (Some old) None = ⊥
-MayKeep places kept (Some old) (Some new) = Keeps places kept old new
 
 -- those of the first n components that are used, with the numbers of their values
 pub record AreUsed {V : Type 0} (ranges : List (List V)) (uses : ℕ → Bool) (n : ℕ) (us : List Used) : Type 0 where

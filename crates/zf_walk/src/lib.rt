@@ -18,6 +18,6 @@ pub use picked::{Picked, pick};
 pub use range::Range;
 pub use reach::is_reached;
 pub use row::Row;
-pub use seen::{Seen, has_bit};
+pub use seen::{Seen, has_bit, with_bit};
 pub use step::Step;
 pub use tables::Tables;

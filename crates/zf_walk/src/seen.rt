@@ -79,15 +79,18 @@ impl Seen {
 
 /// Whether a word has the bit of a place.
 pub fn has_bit(word: u64, place: usize) -> bool
-    ensures { result ≡ true → HasBit word place }
+    ensures only { result ≡ true → HasBit word place }
+    ensures all { HasBit word place → result ≡ true }
 {
     place < 64 && (word >> place) & 1 == 1
 }
 
 /// A word with the bit of one place more.
-fn with_bit(word: u64, place: usize) -> u64
+pub fn with_bit(word: u64, place: usize) -> u64
     requires { place < 64 }
-    ensures { (i : ℕ) → HasBit result i → HasBit word i ⊎ (i ≡ place) }
+    ensures only { (i : ℕ) → HasBit result i → HasBit word i ⊎ (i ≡ place) }
+    ensures more { (i : ℕ) → HasBit word i → HasBit result i }
+    ensures this { HasBit result place }
 {
     word | 1u64 << place
 }

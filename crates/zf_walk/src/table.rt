@@ -1,6 +1,5 @@
 //! What is known of the truths of one conjunct.
 ghost use Rattle.std.specs.Prelude.{◌≡◌, ◌⊎◌, ◌+◌, ◌<◌, ◌≤◌, ◌^◌, ◌++◌, ◌∷◌, [], ℕ, drop, length, slice_index_or, IfSome, IsTrue};
-ghost use Rattle.zf_walk.specs.declared.entry.Entry.TheVariants.{Unknown};
 ghost use Rattle.zf_walk.specs.declared.judge.Truth.{Truth};
 ghost use Rattle.zf_walk.specs.Seen.{IsSeen, unseen};
 ghost use Rattle.zf_walk.specs.Tables.{Fits, IsMarked, Keeps, known, number};
@@ -47,7 +46,7 @@ impl Table {
         ensures { Keeps places.now truth self.old self.new }
     {
         let number = self.number(places);
-        if self.reach(number) {
+        if reach(&mut self.entries, number, Entry::Unknown) {
             self.entries[number] = Entry::of(truth);
         }
         self.mark(number, truth);
@@ -60,15 +59,12 @@ impl Table {
         ensures entries { self.new.entries.items ≡ self.old.entries.items }
         ensures marks { (n : ℕ) (t : Truth) → IsMarked self.new n t → IsMarked self.old n t ⊎ ((n ≡ number) × (t ≡ truth)) }
     {
-        if self.width == 0 {
-            return;
-        }
-        if self.width > 64 {
+        if self.width == 0 || self.width > 64 {
             return;
         }
         let front = number / self.width;
         let last = number % self.width;
-        if self.reach_seen(front) {
+        if reach(&mut self.seen, front, Seen::none()) {
             self.seen[front] = self.seen[front].with(last, truth);
         }
     }
@@ -135,34 +131,16 @@ impl Table {
         }
         number
     }
+}
 
-    /// Makes what is known with each last digit reach beyond a number of the others, with nothing in what is new, if there is room for it.
-    fn reach_seen(&mut self, front: usize) -> bool
-        requires { front + 1 < 2 ^ 64 }
-        ensures used { self.new.used.items ≡ self.old.used.items }
-        ensures entries { self.new.entries.items ≡ self.old.entries.items }
-        ensures width { self.new.width ≡ self.old.width }
-        ensures same { (k : ℕ) → slice_index_or self.new.seen.items k unseen ≡ slice_index_or self.old.seen.items k unseen }
-        ensures there { IsTrue result → front < length self.new.seen.items }
-    {
-        if front < self.seen.len() {
-            return true;
-        }
-        self.seen.resize(front + 1, Seen::none()).is_ok()
+/// Makes a list reach beyond a number, with nothing known in what is new, if there is room for it.
+fn reach<T: Copy>(list: &mut Vec<T>, number: usize, nothing: T) -> bool
+    requires { number + 1 < 2 ^ 64 }
+    ensures same { (k : ℕ) → slice_index_or list.new.items k nothing ≡ slice_index_or list.old.items k nothing }
+    ensures there { IsTrue result → number < length list.new.items }
+{
+    if number < list.len() {
+        return true;
     }
-
-    /// Makes the entries reach beyond a number, with nothing known in those that are new, if there is room for them.
-    fn reach(&mut self, number: usize) -> bool
-        requires { number + 1 < 2 ^ 64 }
-        ensures used { self.new.used.items ≡ self.old.used.items }
-        ensures width { self.new.width ≡ self.old.width }
-        ensures seen { self.new.seen.items ≡ self.old.seen.items }
-        ensures same { (k : ℕ) → slice_index_or self.new.entries.items k Unknown ≡ slice_index_or self.old.entries.items k Unknown }
-        ensures there { IsTrue result → number < length self.new.entries.items }
-    {
-        if number < self.entries.len() {
-            return true;
-        }
-        self.entries.resize(number + 1, Entry::Unknown).is_ok()
-    }
+    list.resize(number + 1, nothing).is_ok()
 }

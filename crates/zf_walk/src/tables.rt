@@ -1,10 +1,10 @@
 //! What is known of the truths of all conjuncts.
-ghost use Rattle.std.specs.Prelude.{◌≡◌, ◌+◌, ◌*◌, ◌<◌, ◌≤◌, ◌++◌, ◌∷◌, ℕ, length, [], slice_index_or, IsTrue, IfOk, IfSome};
+ghost use Rattle.std.specs.Prelude.{◌≡◌, ◌+◌, ◌<◌, ◌≤◌, ◌++◌, ◌∷◌, ℕ, length, [], IfOk, IfSome};
 ghost use Rattle.zf_walk.specs.declared.judge.Truth.{Truth};
 ghost use Rattle.zf_walk.specs.Seen.{IsSeen};
 ghost use Rattle.zf_walk.specs.Progress.{AreDueWithin};
 ghost use Rattle.zf_walk.specs.Picked.{AreWithin, picked};
-ghost use Rattle.zf_walk.specs.Tables.{AreTrue, Fits, IsTableOf, MayKeep, known_in};
+ghost use Rattle.zf_walk.specs.Tables.{AreTrue, IsTableOf};
 
 use crate::judge::{Judge, Truth};
 use crate::picked::Picked;
@@ -57,8 +57,10 @@ impl Tables {
         ensures says { IfOk result ((J.conjuncts judge.now).says conjunct (picked ranges.now places.now)) }
         ensures known { AreTrue (J.conjuncts judge.now) (J.is_used judge.now) ranges.now self.new.each.items }
     {
-        if let Some(truth) = find_in(&self.each[conjunct], places) {
-            return Ok(truth);
+        if let Some(table) = &self.each[conjunct] {
+            if let Some(truth) = table.find(places) {
+                return Ok(truth);
+            }
         }
         self.find_out(judge, ranges, conjunct, places)
     }
@@ -101,30 +103,10 @@ impl Tables {
     {
         let row = Picked::new(ranges, places);
         let truth = judge.judge(conjunct, &row)?;
-        keep_in(&mut self.each[conjunct], places, truth);
+        if let Some(table) = &mut self.each[conjunct] {
+            table.keep(places, truth);
+        }
         Ok(truth)
-    }
-}
-
-/// The truth on the row at these places, if there is a table and it is known.
-fn find_in(table: &Option<Table>, places: &[usize]) -> Option<Truth>
-    requires { IfSome table.now (Fits places.now) }
-    ensures { result ≡ known_in table.now places.now }
-{
-    match table {
-        None => None,
-        Some(table) => table.find(places),
-    }
-}
-
-/// Keeps the truth on the row at these places, if there is a table with room for it.
-fn keep_in(table: &mut Option<Table>, places: &[usize], truth: Truth)
-    requires { IfSome table.old (Fits places.now) }
-    ensures { MayKeep places.now truth table.old table.new }
-{
-    match table {
-        None => {}
-        Some(table) => table.keep(places, truth),
     }
 }
 
@@ -148,9 +130,10 @@ fn table_of<V, J: Judge<V>>(
     let mut combinations = 1;
     let mut repeats = false;
     for component in 0..due {
-        let count = count_of(ranges, component);
+        let range = &ranges[component];
+        let count = range.values.len();
         if judge.uses(conjunct, component) {
-            if !have_room(combinations, count, *room) {
+            if count == 0 || combinations > *room / count {
                 return Ok(None);
             }
             used.push(Used { component, count })?;
@@ -188,20 +171,4 @@ fn width_of(used: &[Used], combinations: usize) -> usize {
     } else {
         last.count
     }
-}
-
-/// How many values a component may have.
-fn count_of<V>(ranges: &[Range<V>], component: usize) -> usize
-    requires { component < length ranges.now }
-    ensures { result ≡ length (slice_index_or ranges.now component []) }
-{
-    let range = &ranges[component];
-    range.values.len()
-}
-
-/// Whether there is room for so many combinations with each of these values, of which there are some.
-fn have_room(combinations: usize, count: usize, room: usize) -> bool
-    ensures { IsTrue result → combinations * count ≤ room }
-{
-    count > 0 && combinations <= room / count
 }

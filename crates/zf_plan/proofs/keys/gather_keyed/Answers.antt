@@ -28,3 +28,9 @@ loop-place-preserved c = elim c.if-keys-place.branch [
         ],
       )
 ]
+
+pub returns : goal.returns
+returns c = record {
+  stay = c.loop-place.invariant.0;
+  all = λ i low e. c.loop-place.invariant.1 i (omega (arith, low, c.loop-place-test.false, c.loop-place.auto.place-end)) e;
+}

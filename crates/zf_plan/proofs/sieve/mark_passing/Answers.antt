@@ -36,23 +36,15 @@ is_one_false-requires-clause-asked g c =
 
 pub returns-in_err-is_false-clause-remembers : goal.returns-in_err-is_false-clause-remembers
 returns-in_err-is_false-clause-remembers g c =
-    let l = g.J.Judge.conjuncts c.args.problem.now.judge.now in
-    let uses = g.J.Judge.is_used c.args.problem.now.judge.now in
-    let ranges = c.args.problem.now.ranges.now in
-    let places = c.args.places.now in
-    let place = c.loop-place.place in
-    let longer : c.deref.result.now ≡ places ++ place ∷ [] = c.deref.ensures.value ∙ c.in_ok-push.ensures.items ∙ ap (λ (js : List ℕ). js ++ place ∷ []) c.loop-place.invariant.same in
-    remembers-shorter l uses ranges places place c.is_one_false.new.memo (subst (λ (js : List ℕ). Remembers l uses ranges js c.is_one_false.new.memo) longer c.in_err-is_false.ensures.remembers)
+    remembers-shorter (g.J.Judge.conjuncts c.args.problem.now.judge.now) (g.J.Judge.is_used c.args.problem.now.judge.now) c.args.problem.now.ranges.now
+    c.args.places.now c.loop-place.place c.is_one_false.new.memo c.deref.result.now
+    (c.deref.ensures.value ∙ c.in_ok-push.ensures.items ∙ ap (λ (js : List ℕ). js ++ c.loop-place.place ∷ []) c.loop-place.invariant.same) c.in_err-is_false.ensures.remembers
 
 pub returns-in_err-push-2-clause-remembers : goal.returns-in_err-push-2-clause-remembers
 returns-in_err-push-2-clause-remembers g c =
-    let l = g.J.Judge.conjuncts c.args.problem.now.judge.now in
-    let uses = g.J.Judge.is_used c.args.problem.now.judge.now in
-    let ranges = c.args.problem.now.ranges.now in
-    let places = c.args.places.now in
-    let place = c.loop-place.place in
-    let longer : c.deref.result.now ≡ places ++ place ∷ [] = c.deref.ensures.value ∙ c.in_ok-push.ensures.items ∙ ap (λ (js : List ℕ). js ++ place ∷ []) c.loop-place.invariant.same in
-    remembers-shorter l uses ranges places place c.is_one_false.new.memo (subst (λ (js : List ℕ). Remembers l uses ranges js c.is_one_false.new.memo) longer c.in_ok-is_false.ensures.remembers)
+    remembers-shorter (g.J.Judge.conjuncts c.args.problem.now.judge.now) (g.J.Judge.is_used c.args.problem.now.judge.now) c.args.problem.now.ranges.now
+    c.args.places.now c.loop-place.place c.is_one_false.new.memo c.deref.result.now
+    (c.deref.ensures.value ∙ c.in_ok-push.ensures.items ∙ ap (λ (js : List ℕ). js ++ c.loop-place.place ∷ []) c.loop-place.invariant.same) c.in_ok-is_false.ensures.remembers
 
 pub loop-place-preserved : goal.loop-place-preserved
 loop-place-preserved g c =
@@ -68,8 +60,7 @@ loop-place-preserved g c =
     let longer : c.deref.result.now ≡ places ++ place ∷ [] = c.deref.ensures.value ∙ pushed in
     record {
       same = c.truncate.ensures.items ∙ ap (take (length places)) pushed ∙ take-append_seam places (place ∷ []);
-      remembers = remembers-shorter l uses ranges places place c.is_one_false.new.memo
-          (subst (λ (js : List ℕ). Remembers l uses ranges js c.is_one_false.new.memo) longer c.in_ok-is_false.ensures.remembers);
+      remembers = remembers-shorter l uses ranges places place c.is_one_false.new.memo c.deref.result.now longer c.in_ok-is_false.ensures.remembers;
       tests = c.in_ok-is_false.ensures.same ∙ c.forget.ensures.tests ∙ now.tests;
       passes = subst (AreSifted l trees ranges conjuncts places (place + 1)) (sym c.in_ok-push-2.ensures.items)
           (sifted-more l trees ranges conjuncts places place c.loop-place.passes.items _ now.passes

@@ -1,12 +1,9 @@
-use Rattle.zf_plan.proofs.Prelude.{◌∙◌, ◌≡◌, AreBelow, cond, Err, length, None, Ok, OnErr, refl, Result, Some, subst, sym, trees_of}
+use Rattle.zf_plan.proofs.Prelude.{◌∙◌, ◌≡◌, AreBelow, cond, length, None, refl, Some, subst, sym, trees_of}
 use Rattle.zf_plan.specs.Choosing.{AreLasts, passing}
 use Rattle.zf_plan.specs.Sieves.{IsGreatest}
 use Rattle.zf_plan.proofs.Sieving.{all-still, sifted-stays}
+use Rattle.zf_plan.proofs.Results.{on-err}
 use Rattle.zf_plan.proofs.sieve.sift.Goals as goal
-
-on-err : {T E : Type 0} (r : Result T E) (P : Type 0) → P → OnErr r P
-on-err (Ok x) P p = tt
-on-err (Err e) P p = p
 
 pub returns-clause-few : goal.returns-clause-few
 returns-clause-few g c =

@@ -1,25 +1,53 @@
-use Rattle.zf_plan.proofs.Prelude.{AreWithin, Err, Ok, Remembers, rules, OnErr, Result, set, Stands, Option, List, None, get_or_default, ◌<◌, ◌+◌, bound, ◌-◌, ◌≤◌, ◌∙◌, ◌≡◌, ap, arith, get_or, inl, inr, length, refl, subst, sym, take, ℕ, option_copied, cases_eq, get_or-set_other, get_or-set_same, length-set, IsAt, IsTruthOf, picked, Out, True, IsSoFar, trees_of, path, planted, Place}
+use Rattle.zf_plan.proofs.Prelude.{◌≢◌, ahead_of, Bool, Conjuncts, False, Ordering, Takes, Tree, true, Truth, AreWithin, Remembers, rules, set, Stands, Option, List, None, get_or_default, ◌<◌, ◌+◌, bound, ◌-◌, ◌≤◌, ◌∙◌, ◌≡◌, ap, arith, get_or, inl, inr, length, subst, sym, take, ℕ, option_copied, cases_eq, get_or-set_other, get_or-set_same, length-set, IsAt, IsTruthOf, picked, Out, True, IsSoFar, trees_of, path, planted, Place}
+use Rattle.zf_plan.proofs.Results.{on-err}
 use Rattle.zf_plan.proofs.Marking.{kept-chosen, landed-marked}
-use Rattle.zf_plan.specs.Counts.{below_it, Counts, IsCounted, IsPlain}
+use Rattle.zf_plan.specs.Counts.{all_of, below_it, Counts, CountsFound, IsCounted, IsPlain}
 use Rattle.zf_plan.specs.Knowing.{NeedsWithin}
 use Rattle.std.specs.Vec.{with_item}
-use Rattle.zf_plan.specs.Memories.{Forgets}
+use Rattle.zf_plan.specs.Memories.{Forgets, Memory}
 use Rattle.zf_plan.specs.Marks.{mark_at}
-use Rattle.zf_plan.specs.Places.{AreSeen, Finds, IsFound, IsKept}
+use Rattle.zf_plan.specs.Places.{AreSeen, Finds, IsFound, IsKept, PassesOpen}
+use Rattle.zf_plan.specs.declared.plan.Plan.{Plan}
 use Rattle.zf_plan.proofs.Seeing.{seen-all, unseen-all}
 use Rattle.zf_plan.proofs.Moving.{length-bound, length-path}
 use Rattle.zf_plan.specs.Blaming.{IsBlamed}
 use Rattle.zf_plan.proofs.Jumping.{jumps, jumps-counted, opened-is, passed-is, passes-open-stand, passes-stand}
-use Rattle.zf_plan.proofs.Stepping.{before-found, descends, descends-stand, stands-refused, finds-hopeless, finds-reached, finds-whole, gives-end, passes, retreats, retreats-stand, rests-still, setting-of, takes-whole}
+use Rattle.zf_plan.proofs.Stepping.{before-found, descends, descends-stand, stands-refused, finds-hopeless, finds-reached, finds-whole, gives-end, passes, retreats, retreats-stand, rests-still, Setting, setting-of, takes-whole}
 use Rattle.zf_plan.proofs.Counting.{basis-of, counted-descends, counted-here, counted-retreats, counted-still, counts-whole, found-false, found-other}
 use Rattle.zf_plan.proofs.steps.step_on.Goals as goal
 
 was-none : (choices : List (Option (List ℕ))) (k : ℕ) (other : Option (List ℕ)) → k < length choices → get_or choices k None ≡ None → get_or choices k other ≡ None
 was-none choices k other near none = sym (get_or_default choices k None other near) ∙ none
 
-on-err : {T E : Type 0} (r : Result T E) (P : Type 0) → P → OnErr r P
-on-err (Ok x) P p = tt
-on-err (Err e) P p = p
+-- what holds where a whole row is an answer, with its truth
+record Answered {V : Type 0} (cmp : V → V → Ordering) (l : Conjuncts V) (uses : ℕ → ℕ → Bool) (trees : List Tree) (ranges : List (List V)) (after : Option (List V)) (p q : Place)
+    (old : ℕ) (new : Memory) (choices : List (Option (List ℕ))) (truth t : Truth) : Type 0 where
+  pub stands : Stands l uses trees ranges q new choices
+  pub takes : Takes cmp (planted l trees) ranges after (ahead_of ranges p) (record { row = path ranges q; truth = t }) (ahead_of ranges q) × (q.depth ≡ length ranges)
+  pub counts : IsCounted cmp l ranges after p old choices → (Counts cmp l ranges after (path ranges p) all_of old → CountsFound cmp l ranges after (path ranges p) truth new.tests)
+      → IsCounted cmp l ranges after q new.tests choices
+
+answered : {V : Type 0} {cmp : V → V → Ordering} {l : Conjuncts V} {uses : ℕ → ℕ → Bool} {trees : List Tree} {ranges : List (List V)} {after : Option (List V)} {planned : Plan}
+    → Setting cmp l uses trees ranges after planned → (p q : Place) (old new : Memory) (choices : List (Option (List ℕ))) (truth t : Truth) → truth ≡ t → Stands l uses trees ranges p old choices
+    → Remembers l uses ranges (bound p) new → p.fresh ≡ true → length ranges ≤ p.depth → truth ≢ False → Finds cmp l trees (length ranges) after (path ranges p) truth → PassesOpen p q
+    → Answered cmp l uses trees ranges after p q old.tests new choices truth t
+answered {V} {cmp} {l} {uses} {trees} {ranges} {after} given p q old new choices truth t e st remembers fresh over ne finds passed =
+    let is = opened-is p q passed in
+    let at : IsAt ranges p = st.at in
+    let basis = basis-of given.total given.one_truth given.kept given.sound in
+    let whole : length (path ranges p) ≡ length ranges = omega (arith, length-path ranges p at, at.shallow, over) in
+    record {
+      stands = passes-open-stand given uses p q new choices (rests-still l uses trees ranges p old new choices st remembers) passed;
+      takes = takes-whole given p q t at fresh over (finds-reached given (path ranges p) truth ne finds).0
+          (subst (IsTruthOf (planted l trees) (path ranges p)) e (finds-whole given (path ranges p) truth whole ne finds)) (λ z. ne (e ∙ z))
+          (ap (λ (w : Place). w.fresh) is) (ap (λ (w : Place). w.places.items) is) (ap (λ (w : Place). w.depth) is);
+      counts = λ h found. subst (λ w. IsCounted cmp l ranges after w new.tests choices) (sym is) (record {
+        counts = counts-whole basis (take p.depth p.places.items) at.within new.tests (omega (arith, length-bound ranges p at, over))
+            (found-other basis (path ranges p) truth new.tests ne (found (counted-here basis p fresh choices old.tests new.tests h)));
+        whole = h.whole;
+        unseen = h.unseen;
+      });
+    }
 
 pub returns-then-place-eq0-clause-goes : goal.returns-then-place-eq0-clause-goes
 returns-then-place-eq0-clause-goes g c =
@@ -30,7 +58,6 @@ pub returns-then-not-place : goal.returns-then-not-place
 returns-then-not-place g c =
     let l = g.J.Judge.conjuncts c.args.problem.now.judge.now in
     let uses = g.J.Judge.is_used c.args.problem.now.judge.now in
-    let trees = trees_of c.args.problem.now.forest.now in
     let ranges = c.args.problem.now.ranges.now in
     let after = option_copied c.args.problem.now.after in
     let p : Place = c.args.place.now in
@@ -128,16 +155,10 @@ returns-in_err-enter-clause-err g c = on-err c.from_residual-in_err-enter.result
 
 pub returns-in_err-truth-clause-counts : goal.returns-in_err-truth-clause-counts
 returns-in_err-truth-clause-counts g c = λ plain h.
-    let l = g.J.Judge.conjuncts c.args.problem.now.judge.now in
-    let uses = g.J.Judge.is_used c.args.problem.now.judge.now in
-    let trees = trees_of c.args.problem.now.forest.now in
-    let ranges = c.args.problem.now.ranges.now in
-    let after = option_copied c.args.problem.now.after in
     let p : Place = c.args.place.now in
     let basis = basis-of g.met.V.Ord.total (g.met.J.Judge.one_truth c.args.problem.now.judge.now) (g.met.J.Judge.kept c.args.problem.now.judge.now) c.requires.sound in
-    let at = c.requires.stands.at in
-    let here = counted-here basis p p.places.items refl c.if-not-place.false c.args.choices.now c.args.memo.now.tests c.test.new.memo.tests h in
-    counted-still basis p p.places.items refl c.if-not-place.false c.args.choices.now c.args.memo.now.tests c.test.new.memo.tests h
+    let here = counted-here basis p c.if-not-place.false c.args.choices.now c.args.memo.now.tests c.test.new.memo.tests h in
+    counted-still basis p c.if-not-place.false c.args.choices.now c.args.memo.now.tests c.test.new.memo.tests h
     (c.in_err-truth.ensures.counts plain h.unseen here)
 
 pub returns-in-False : goal.returns-in-False
@@ -159,7 +180,7 @@ returns-in-False g c =
     let truth = c.in_ok-truth.truth in
     let finds : Finds g.V.Ord.cmp l trees (length ranges) after (path ranges p) truth = c.in_ok-truth.ensures.finds in
     let found = λ (plain : IsPlain l trees c.args.problem.now.plan.now) (h : IsCounted g.V.Ord.cmp l ranges after p tests choices).
-    c.in_ok-truth.ensures.counts plain h.unseen (counted-here basis p p.places.items refl c.if-not-place.false choices tests c.test.new.memo.tests h) in
+    c.in_ok-truth.ensures.counts plain h.unseen (counted-here basis p c.if-not-place.false choices tests c.test.new.memo.tests h) in
     let q : Place = c.pass.new.place in
     let is = passed-is g.V.Ord.cmp l uses trees ranges after p q c.pass.ensures in
     let hopeless = finds-hopeless given (path ranges p) truth c.in-False.is finds in
@@ -196,7 +217,7 @@ returns-then-depth-problem g c =
     let truth = c.in_ok-truth.truth in
     let finds : Finds g.V.Ord.cmp l trees (length ranges) after (path ranges p) truth = c.in_ok-truth.ensures.finds in
     let found-so = λ (plain : IsPlain l trees c.args.problem.now.plan.now) (h : IsCounted g.V.Ord.cmp l ranges after p tests choices).
-    c.in_ok-truth.ensures.counts plain h.unseen (counted-here basis p p.places.items refl c.if-not-place.false choices tests c.test.new.memo.tests h) in
+    c.in_ok-truth.ensures.counts plain h.unseen (counted-here basis p c.if-not-place.false choices tests c.test.new.memo.tests h) in
     let marked = c.enter.ensures.enters.place in
     let marks = c.enter.new.place.marks in
     let now : Place = record p { marks = marks; found = with_item p.found p.depth c.in_ok-truth.truth; seen = with_item p.seen p.depth c.see.result } in
@@ -265,80 +286,30 @@ returns-then-depth-problem g c =
 
 pub returns-in-True : goal.returns-in-True
 returns-in-True g c =
-    let l = g.J.Judge.conjuncts c.args.problem.now.judge.now in
-    let uses = g.J.Judge.is_used c.args.problem.now.judge.now in
-    let trees = trees_of c.args.problem.now.forest.now in
-    let ranges = c.args.problem.now.ranges.now in
-    let after = option_copied c.args.problem.now.after in
-    let p : Place = c.args.place.now in
-    let one = g.met.J.Judge.one_truth c.args.problem.now.judge.now in
-    let keep = g.met.J.Judge.kept c.args.problem.now.judge.now in
-    let given = setting-of g.met.V.Ord.total one keep c.requires.sound in
-    let basis = basis-of g.met.V.Ord.total one keep c.requires.sound in
-    let st = c.requires.stands in
-    let at : IsAt ranges p = st.at in
-    let tests = c.args.memo.now.tests in
-    let choices = c.args.choices.now in
-    let truth = c.in_ok-truth.truth in
-    let finds : Finds g.V.Ord.cmp l trees (length ranges) after (path ranges p) truth = c.in_ok-truth.ensures.finds in
-    let found = λ (plain : IsPlain l trees c.args.problem.now.plan.now) (h : IsCounted g.V.Ord.cmp l ranges after p tests choices).
-    c.in_ok-truth.ensures.counts plain h.unseen (counted-here basis p p.places.items refl c.if-not-place.false choices tests c.test.new.memo.tests h) in
-    let q : Place = c.pass_event.new.place in
-    let is = opened-is p q c.pass_event.ensures in
-    let whole : length (path ranges p) ≡ length ranges = omega (arith, length-path ranges p at, at.shallow, c.if-depth-problem.false) in
-    let so = finds-whole given (path ranges p) truth whole c.in_default.not-False finds in
+    let judge = c.args.problem.now.judge.now in
+    let given = setting-of g.met.V.Ord.total (g.met.J.Judge.one_truth judge) (g.met.J.Judge.kept judge) c.requires.sound in
+    let done = answered given c.args.place.now c.pass_event.new.place c.args.memo.now c.test.new.memo c.args.choices.now c.in_ok-truth.truth True c.in-True.is
+    c.requires.stands c.in_ok-truth.ensures.remembers c.if-not-place.false c.if-depth-problem.false c.in_default.not-False c.in_ok-truth.ensures.finds c.pass_event.ensures in
     record {
-      stands = passes-open-stand given uses p q c.test.new.memo choices
-          (rests-still l uses trees ranges p c.args.memo.now c.test.new.memo choices st c.in_ok-truth.ensures.remembers) c.pass_event.ensures;
-      goes = takes-whole given p q True at c.if-not-place.false c.if-depth-problem.false (finds-reached given (path ranges p) truth c.in_default.not-False finds).0
-          (subst (IsTruthOf (planted l trees) (path ranges p)) c.in-True.is so) (λ e. cc) (ap (λ (w : Place). w.fresh) is) (ap (λ (w : Place). w.places.items) is) (ap (λ (w : Place). w.depth) is);
+      stands = done.stands;
+      goes = done.takes;
       err = tt;
-      counts = λ plain h. subst (λ w. IsCounted g.V.Ord.cmp l ranges after w c.test.new.memo.tests choices) (sym is) (record {
-        counts = counts-whole basis (take p.depth p.places.items) at.within c.test.new.memo.tests (omega (arith, length-bound ranges p at, c.if-depth-problem.false))
-            (found-other basis (path ranges p) truth c.test.new.memo.tests c.in_default.not-False (found plain h));
-        whole = h.whole;
-        unseen = h.unseen;
-      });
+      counts = λ plain h. done.counts h (c.in_ok-truth.ensures.counts plain h.unseen);
       more = c.in_ok-truth.ensures.more;
       over = search rules;
     }
 
 pub returns-in-Out : goal.returns-in-Out
 returns-in-Out g c =
-    let l = g.J.Judge.conjuncts c.args.problem.now.judge.now in
-    let uses = g.J.Judge.is_used c.args.problem.now.judge.now in
-    let trees = trees_of c.args.problem.now.forest.now in
-    let ranges = c.args.problem.now.ranges.now in
-    let after = option_copied c.args.problem.now.after in
-    let p : Place = c.args.place.now in
-    let one = g.met.J.Judge.one_truth c.args.problem.now.judge.now in
-    let keep = g.met.J.Judge.kept c.args.problem.now.judge.now in
-    let given = setting-of g.met.V.Ord.total one keep c.requires.sound in
-    let basis = basis-of g.met.V.Ord.total one keep c.requires.sound in
-    let st = c.requires.stands in
-    let at : IsAt ranges p = st.at in
-    let tests = c.args.memo.now.tests in
-    let choices = c.args.choices.now in
-    let truth = c.in_ok-truth.truth in
-    let finds : Finds g.V.Ord.cmp l trees (length ranges) after (path ranges p) truth = c.in_ok-truth.ensures.finds in
-    let found = λ (plain : IsPlain l trees c.args.problem.now.plan.now) (h : IsCounted g.V.Ord.cmp l ranges after p tests choices).
-    c.in_ok-truth.ensures.counts plain h.unseen (counted-here basis p p.places.items refl c.if-not-place.false choices tests c.test.new.memo.tests h) in
-    let q : Place = c.pass_event.new.place in
-    let is = opened-is p q c.pass_event.ensures in
-    let whole : length (path ranges p) ≡ length ranges = omega (arith, length-path ranges p at, at.shallow, c.if-depth-problem.false) in
-    let so = finds-whole given (path ranges p) truth whole c.in_default.not-False finds in
+    let judge = c.args.problem.now.judge.now in
+    let given = setting-of g.met.V.Ord.total (g.met.J.Judge.one_truth judge) (g.met.J.Judge.kept judge) c.requires.sound in
+    let done = answered given c.args.place.now c.pass_event.new.place c.args.memo.now c.test.new.memo c.args.choices.now c.in_ok-truth.truth Out c.in-Out.is
+    c.requires.stands c.in_ok-truth.ensures.remembers c.if-not-place.false c.if-depth-problem.false c.in_default.not-False c.in_ok-truth.ensures.finds c.pass_event.ensures in
     record {
-      stands = passes-open-stand given uses p q c.test.new.memo choices
-          (rests-still l uses trees ranges p c.args.memo.now c.test.new.memo choices st c.in_ok-truth.ensures.remembers) c.pass_event.ensures;
-      goes = takes-whole given p q Out at c.if-not-place.false c.if-depth-problem.false (finds-reached given (path ranges p) truth c.in_default.not-False finds).0
-          (subst (IsTruthOf (planted l trees) (path ranges p)) c.in-Out.is so) (λ e. cc) (ap (λ (w : Place). w.fresh) is) (ap (λ (w : Place). w.places.items) is) (ap (λ (w : Place). w.depth) is);
+      stands = done.stands;
+      goes = done.takes;
       err = tt;
-      counts = λ plain h. subst (λ w. IsCounted g.V.Ord.cmp l ranges after w c.test.new.memo.tests choices) (sym is) (record {
-        counts = counts-whole basis (take p.depth p.places.items) at.within c.test.new.memo.tests (omega (arith, length-bound ranges p at, c.if-depth-problem.false))
-            (found-other basis (path ranges p) truth c.test.new.memo.tests c.in_default.not-False (found plain h));
-        whole = h.whole;
-        unseen = h.unseen;
-      });
+      counts = λ plain h. done.counts h (c.in_ok-truth.ensures.counts plain h.unseen);
       more = c.in_ok-truth.ensures.more;
       over = search rules;
     }

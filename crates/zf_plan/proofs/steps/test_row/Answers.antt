@@ -1,18 +1,13 @@
-use Rattle.zf_plan.proofs.Prelude.{◌∙◌, arith, length, option_copied, subst, sym, Err, IfOk, Ok, Result, length-picked, picked, False, IsSoFar, trees_of}
+use Rattle.zf_plan.proofs.Prelude.{◌∙◌, arith, length, option_copied, subst, sym, picked, False, IsSoFar, trees_of}
 use Rattle.zf_plan.specs.Counts.{all_of, Counts, CountsFound, CountsOn, IsPlain}
-use Rattle.zf_plan.specs.Knowing.{IsAmong, IsLeafOrBelow, NeedsWithin}
+use Rattle.zf_plan.specs.Knowing.{IsLeafOrBelow, NeedsWithin}
 use Rattle.zf_plan.specs.Plans.{AreDue, AreTouched}
-use Rattle.zf_plan.specs.Places.{Finds}
 use Rattle.zf_plan.proofs.Numbers.{touched_flat}
 use Rattle.zf_plan.proofs.Seeing.{leaves-due}
-use Rattle.zf_plan.proofs.SoFar.{so-false, so-tested, so-within, touched-each}
-use Rattle.zf_plan.proofs.Stepping.{finds-from, finds-unreached, setting-of}
+use Rattle.zf_plan.proofs.SoFar.{so-false, so-tested, touched-each}
+use Rattle.zf_plan.proofs.Stepping.{finds-from, finds-ok, finds-unreached, setting-of}
 use Rattle.zf_plan.proofs.Counting.{basis-of, counts-tested, counts-unreached, due-all, due-ascending, due-here, found-false, kept-below}
 use Rattle.zf_plan.proofs.steps.test_row.Goals as goal
-
-if-ok : {T E : Type 0} (r : Result T E) (P Q : T → Type 0) → ((x : T) → P x → Q x) → IfOk r P → IfOk r Q
-if-ok (Ok x) P Q f h = f x h
-if-ok (Err e) P Q f h = tt
 
 pub returns-then-not-is_reached-clause-finds : goal.returns-then-not-is_reached-clause-finds
 returns-then-not-is_reached-clause-finds g c =
@@ -102,7 +97,6 @@ returns g c =
     let given = setting-of g.met.V.Ord.total (g.met.J.Judge.one_truth c.args.problem.now.judge.now) keep c.requires.asked.sound in
     let basis = basis-of g.met.V.Ord.total (g.met.J.Judge.one_truth c.args.problem.now.judge.now) keep c.requires.asked.sound in
     let reached = sym c.is_reached.ensures ∙ c.if-not-is_reached.false in
-    let long = length-picked ranges places c.requires.asked.within in
     let found = λ (plain : IsPlain l trees c.args.problem.now.plan.now) (counts : Counts g.V.Ord.cmp l ranges after row all_of c.args.memo.now.tests).
     let flat = plain.flat in
     counts-tested basis places c.requires.asked.within reached (kept-below l trees k row c.args.before flat c.requires.before c.requires.so_far) leaves
@@ -113,9 +107,7 @@ returns g c =
     record {
       remembers = c.test_trees.ensures.remembers;
       more = omega (arith, c.test_trees.ensures.same, c.in_ok-tested.ensures.more);
-      finds = if-ok c.test_trees.result (IsSoFar l trees row (IsAmong l trees k numbers)) (Finds g.V.Ord.cmp l trees (length ranges) after row)
-          (λ t h. finds-from given row t reached (subst (λ n. IsSoFar l trees row (NeedsWithin l trees n) t) (sym long) (so-within l trees k row numbers t touched h)))
-          c.test_trees.ensures.so_far;
+      finds = finds-ok given places numbers c.test_trees.result c.requires.asked.within reached touched c.test_trees.ensures.so_far;
       counts = λ plain counts.
           subst (λ r. CountsOn g.V.Ord.cmp l ranges after row r c.test_trees.new.memo.tests) (sym (c.test_trees.ensures.none (none plain)))
           (subst (CountsFound g.V.Ord.cmp l ranges after row c.in_ok-tested.tested) (sym c.test_trees.ensures.same) (found plain counts));

@@ -1,14 +1,8 @@
-use Rattle.zf_plan.proofs.Prelude.{◌∙◌, length, option_copied, subst, sym, Err, IfOk, Ok, Result, length-picked, picked, IsSoFar, trees_of}
-use Rattle.zf_plan.specs.Knowing.{IsAmong, NeedsWithin}
+use Rattle.zf_plan.proofs.Prelude.{◌∙◌, length, subst, sym, picked, trees_of}
 use Rattle.zf_plan.specs.Plans.{AreTouched}
-use Rattle.zf_plan.specs.Places.{Finds}
-use Rattle.zf_plan.proofs.SoFar.{so-told, so-within, touched-each}
-use Rattle.zf_plan.proofs.Stepping.{finds-from, finds-unreached, setting-of}
+use Rattle.zf_plan.proofs.SoFar.{so-told, touched-each}
+use Rattle.zf_plan.proofs.Stepping.{finds-ok, finds-unreached, setting-of}
 use Rattle.zf_plan.proofs.steps.test_told.Goals as goal
-
-if-ok : {T E : Type 0} (r : Result T E) (P Q : T → Type 0) → ((x : T) → P x → Q x) → IfOk r P → IfOk r Q
-if-ok (Ok x) P Q f h = f x h
-if-ok (Err e) P Q f h = tt
 
 pub returns-then-not-is_reached-clause-finds : goal.returns-then-not-is_reached-clause-finds
 returns-then-not-is_reached-clause-finds g c =
@@ -33,14 +27,7 @@ pub returns-clause-finds : goal.returns-clause-finds
 returns-clause-finds g c =
     let l = g.J.Judge.conjuncts c.args.problem.now.judge.now in
     let trees = trees_of c.args.problem.now.forest.now in
-    let ranges = c.args.problem.now.ranges.now in
-    let row = picked ranges c.args.places.now in
     let k = length c.args.places.now in
-    let numbers = c.deref.result.now in
     let touched = subst (AreTouched l trees k (length trees)) (sym c.deref.ensures.value) c.layer-layer.ensures.layer.touched in
     let given = setting-of g.met.V.Ord.total (g.met.J.Judge.one_truth c.args.problem.now.judge.now) (g.met.J.Judge.kept c.args.problem.now.judge.now) c.requires.asked.sound in
-    let reached = sym c.is_reached.ensures ∙ c.if-not-is_reached.false in
-    let long = length-picked ranges c.args.places.now c.requires.asked.within in
-    if-ok c.test_trees.result (IsSoFar l trees row (IsAmong l trees k numbers)) (Finds g.V.Ord.cmp l trees (length ranges) (option_copied c.args.problem.now.after) row)
-    (λ t h. finds-from given row t reached (subst (λ n. IsSoFar l trees row (NeedsWithin l trees n) t) (sym long) (so-within l trees k row numbers t touched h)))
-    c.test_trees.ensures.so_far
+    finds-ok given c.args.places.now c.deref.result.now c.test_trees.result c.requires.asked.within (sym c.is_reached.ensures ∙ c.if-not-is_reached.false) touched c.test_trees.ensures.so_far

@@ -5,13 +5,10 @@ use Rattle.zf_plan.proofs.memo.Memo.told.Goals as goal
 pub index-stamp-requires : goal.index-stamp-requires
 index-stamp-requires g c =
     let m = c.self.inside in
-    let at = looked-at (g.J.Judge.conjuncts c.args.judge.now) (g.J.Judge.is_used c.args.judge.now) c.args.ranges.now c.args.places.now m.stamps.items m.leaves.items m.tables.each.items m.tests
-    _ c.args.of c.index-leaf.result.now (g.met.J.Judge.kept c.args.judge.now) c.requires.within c.self.invariant (sym c.self.view_is) c.requires.remembers c.requires.of c.index-leaf.ensures in
+    let at = looked-at c.self.invariant (sym c.self.view_is) c.requires.remembers (g.met.J.Judge.kept c.args.judge.now) c.requires.within c.requires.of c.index-leaf.ensures in
     omega (arith, stamp-there at, m.stamps.ok.0)
 
 pub returns-then-leaf-stamp : goal.returns-then-leaf-stamp
 returns-then-leaf-stamp g c =
-    let m = c.self.inside in
-    let at = looked-at (g.J.Judge.conjuncts c.args.judge.now) (g.J.Judge.is_used c.args.judge.now) c.args.ranges.now c.args.places.now m.stamps.items m.leaves.items m.tables.each.items m.tests
-    _ c.args.of c.index-leaf.result.now (g.met.J.Judge.kept c.args.judge.now) c.requires.within c.self.invariant (sym c.self.view_is) c.requires.remembers c.requires.of c.index-leaf.ensures in
+    let at = looked-at c.self.invariant (sym c.self.view_is) c.requires.remembers (g.met.J.Judge.kept c.args.judge.now) c.requires.within c.requires.of c.index-leaf.ensures in
     looks-known at c.if-leaf-places.false (c.if-leaf-stamp.true ∙ stamp-read at c.index-stamp.result.now c.index-stamp.ensures)

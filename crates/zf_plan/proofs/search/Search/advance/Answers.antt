@@ -1,12 +1,23 @@
-use Rattle.zf_plan.proofs.Prelude.{Err, Ok, refl, Result, subst, sym, option_copied, OnErr, trees_of, KeepsEvents, Stands, planted, Gives, Holds, Breaks, End}
+use Rattle.zf_plan.proofs.Prelude.{◌≡◌, Bool, Conjuncts, List, Option, Ordering, path, Place, Step, Tree, ℕ, refl, subst, sym, option_copied, trees_of, KeepsEvents, Stands, planted, Gives, Holds, Breaks, End}
 use Rattle.zf_plan.specs.Counts.{IsCounted}
-use Rattle.zf_plan.proofs.Counting.{answered-tests, basis-of}
+use Rattle.zf_walk.specs.Tests.{cut, IsNumberOfTests}
+use Rattle.zf_plan.specs.Memories.{Memory}
+use Rattle.zf_plan.proofs.Results.{on-err}
+use Rattle.zf_plan.proofs.Counting.{answered, answered-tests, Basis, basis-of}
 use Rattle.zf_plan.proofs.Stepping.{setting-of, SameAhead-from, over-from}
 use Rattle.zf_plan.proofs.search.Search.advance.Goals as goal
 
-on_err : {T E : Type 0} (r : Result T E) (P : Type 0) → P → OnErr r P
-on_err (Ok x) P p = tt
-on_err (Err e) P p = p
+-- the tests up to the answer of a step are counted
+tests-of : {V : Type 0} {cmp : V → V → Ordering} {l : Conjuncts V} {ranges : List (List V)} {after : Option (List V)} (basis : Basis cmp l ranges after) (s : Conjuncts V) (uses : ℕ → ℕ → Bool)
+    (trees : List Tree) (p q : Place) (old new : Memory) (rs : List (List V)) (before given now : List (Option (List ℕ))) (found step : Step) → rs ≡ ranges → given ≡ before → found ≡ step
+    → Stands l uses trees rs q new now → IsCounted cmp l ranges after p old.tests before
+    → (IsCounted cmp l rs after p old.tests given → IsCounted cmp l rs after q new.tests now) → Gives cmp s rs after p found q
+    → (number : ℕ) × IsNumberOfTests cmp l ranges after (answered basis step (path ranges q)) number × (new.tests ≡ cut number)
+tests-of {V} {cmp} {l} {ranges} {after} basis s uses trees p q old new rs before given now found step same chosen is st counted counts gives =
+    let here = subst (λ xs. Stands l uses trees xs q new now) same st in
+    let there = subst (λ xs. IsCounted cmp l xs after q new.tests now) same
+    (counts (subst (λ xs. IsCounted cmp l xs after p old.tests given) (sym same) (subst (IsCounted cmp l ranges after p old.tests) (sym chosen) counted))) in
+    answered-tests basis s p q here.at new.tests now there step (subst (λ x. Gives cmp s ranges after p x q) is (subst (λ xs. Gives cmp s xs after p found q) same gives))
 
 pub returns-in_err-next_answer-clause-refused : goal.returns-in_err-next_answer-clause-refused
 returns-in_err-next_answer-clause-refused g c =
@@ -18,7 +29,7 @@ returns-in_err-next_answer-clause-refused g c =
     c.next_answer.new.choices) c.deref.ensures.value c.in_err-next_answer.ensures.stands in
     let same = subst (λ rs. KeepsEvents g.V.Ord.cmp (planted l (trees_of w.forest)) rs (option_copied w.after) w.place c.next_answer.new.place)
     c.deref.ensures.value c.in_err-next_answer.ensures.refused in
-    rw (← c.self.view_is) (on_err c.from_residual.result _ (SameAhead-from given w.place c.next_answer.new.place st.at here.at same, refl))
+    rw (← c.self.view_is) (on-err c.from_residual.result _ (SameAhead-from given w.place c.next_answer.new.place st.at here.at same, refl))
 
 pub returns-in_err-next_answer-clause-ended : goal.returns-in_err-next_answer-clause-ended
 returns-in_err-next_answer-clause-ended g c =
@@ -30,50 +41,23 @@ returns-in_err-next_answer-clause-ended g c =
 pub returns-in-Holds-clause-tests : goal.returns-in-Holds-clause-tests
 returns-in-Holds-clause-tests g c =
     let w = c.self.inside in
-    let l = g.J.Judge.conjuncts w.judge in
-    let s = planted l (trees_of w.forest) in
     let basis = basis-of g.met.V.Ord.total (g.met.J.Judge.one_truth w.judge) (g.met.J.Judge.kept w.judge) c.self.invariant.sound in
-    let q = c.next_answer.new.place in
-    let here = subst (λ rs. Stands l (g.J.Judge.is_used w.judge) (trees_of w.forest) rs q c.next_answer.new.memo c.next_answer.new.choices) c.deref.ensures.value c.in_ok-next_answer.ensures.stands in
-    let gives = subst (λ rs. Gives g.V.Ord.cmp s rs (option_copied w.after) w.place Holds q) c.deref.ensures.value
-    (subst (λ step. Gives g.V.Ord.cmp s c.deref.result.now (option_copied w.after) w.place step q) c.in-Holds.is c.in_ok-next_answer.ensures.gives) in
-    rw (← c.self.view_is) (λ e.
-    let before = subst (λ rs. IsCounted g.V.Ord.cmp l rs (option_copied w.after) w.place w.memo.tests c.deref_mut.result.now) (sym c.deref.ensures.value)
-    (subst (λ chosen. IsCounted g.V.Ord.cmp l w.ranges.items (option_copied w.after) w.place w.memo.tests chosen) (sym c.deref_mut.ensures.value) (c.self.invariant.counts e)) in
-    let counts = subst (λ rs. IsCounted g.V.Ord.cmp l rs (option_copied w.after) q c.next_answer.new.memo.tests c.next_answer.new.choices) c.deref.ensures.value
-    (c.in_ok-next_answer.ensures.counts (c.self.invariant.plain e) before) in
-    answered-tests basis s w.place q here.at c.next_answer.new.memo.tests c.next_answer.new.choices counts Holds gives)
+    rw (← c.self.view_is) (λ e. tests-of basis (planted (g.J.Judge.conjuncts w.judge) (trees_of w.forest)) (g.J.Judge.is_used w.judge) (trees_of w.forest) w.place c.next_answer.new.place
+    w.memo c.next_answer.new.memo c.deref.result.now w.choices.items c.deref_mut.result.now c.next_answer.new.choices _ Holds c.deref.ensures.value c.deref_mut.ensures.value
+    c.in-Holds.is c.in_ok-next_answer.ensures.stands (c.self.invariant.counts e) (c.in_ok-next_answer.ensures.counts (c.self.invariant.plain e)) c.in_ok-next_answer.ensures.gives)
 
 pub returns-in-Breaks-clause-tests : goal.returns-in-Breaks-clause-tests
 returns-in-Breaks-clause-tests g c =
     let w = c.self.inside in
-    let l = g.J.Judge.conjuncts w.judge in
-    let s = planted l (trees_of w.forest) in
     let basis = basis-of g.met.V.Ord.total (g.met.J.Judge.one_truth w.judge) (g.met.J.Judge.kept w.judge) c.self.invariant.sound in
-    let q = c.next_answer.new.place in
-    let here = subst (λ rs. Stands l (g.J.Judge.is_used w.judge) (trees_of w.forest) rs q c.next_answer.new.memo c.next_answer.new.choices) c.deref.ensures.value c.in_ok-next_answer.ensures.stands in
-    let gives = subst (λ rs. Gives g.V.Ord.cmp s rs (option_copied w.after) w.place Breaks q) c.deref.ensures.value
-    (subst (λ step. Gives g.V.Ord.cmp s c.deref.result.now (option_copied w.after) w.place step q) c.in-Breaks.is c.in_ok-next_answer.ensures.gives) in
-    rw (← c.self.view_is) (λ e.
-    let before = subst (λ rs. IsCounted g.V.Ord.cmp l rs (option_copied w.after) w.place w.memo.tests c.deref_mut.result.now) (sym c.deref.ensures.value)
-    (subst (λ chosen. IsCounted g.V.Ord.cmp l w.ranges.items (option_copied w.after) w.place w.memo.tests chosen) (sym c.deref_mut.ensures.value) (c.self.invariant.counts e)) in
-    let counts = subst (λ rs. IsCounted g.V.Ord.cmp l rs (option_copied w.after) q c.next_answer.new.memo.tests c.next_answer.new.choices) c.deref.ensures.value
-    (c.in_ok-next_answer.ensures.counts (c.self.invariant.plain e) before) in
-    answered-tests basis s w.place q here.at c.next_answer.new.memo.tests c.next_answer.new.choices counts Breaks gives)
+    rw (← c.self.view_is) (λ e. tests-of basis (planted (g.J.Judge.conjuncts w.judge) (trees_of w.forest)) (g.J.Judge.is_used w.judge) (trees_of w.forest) w.place c.next_answer.new.place
+    w.memo c.next_answer.new.memo c.deref.result.now w.choices.items c.deref_mut.result.now c.next_answer.new.choices _ Breaks c.deref.ensures.value c.deref_mut.ensures.value
+    c.in-Breaks.is c.in_ok-next_answer.ensures.stands (c.self.invariant.counts e) (c.in_ok-next_answer.ensures.counts (c.self.invariant.plain e)) c.in_ok-next_answer.ensures.gives)
 
 pub returns-in-End-clause-tests : goal.returns-in-End-clause-tests
 returns-in-End-clause-tests g c =
     let w = c.self.inside in
-    let l = g.J.Judge.conjuncts w.judge in
-    let s = planted l (trees_of w.forest) in
     let basis = basis-of g.met.V.Ord.total (g.met.J.Judge.one_truth w.judge) (g.met.J.Judge.kept w.judge) c.self.invariant.sound in
-    let q = c.next_answer.new.place in
-    let here = subst (λ rs. Stands l (g.J.Judge.is_used w.judge) (trees_of w.forest) rs q c.next_answer.new.memo c.next_answer.new.choices) c.deref.ensures.value c.in_ok-next_answer.ensures.stands in
-    let gives = subst (λ rs. Gives g.V.Ord.cmp s rs (option_copied w.after) w.place End q) c.deref.ensures.value
-    (subst (λ step. Gives g.V.Ord.cmp s c.deref.result.now (option_copied w.after) w.place step q) c.in-End.is c.in_ok-next_answer.ensures.gives) in
-    rw (← c.self.view_is) (λ e.
-    let before = subst (λ rs. IsCounted g.V.Ord.cmp l rs (option_copied w.after) w.place w.memo.tests c.deref_mut.result.now) (sym c.deref.ensures.value)
-    (subst (λ chosen. IsCounted g.V.Ord.cmp l w.ranges.items (option_copied w.after) w.place w.memo.tests chosen) (sym c.deref_mut.ensures.value) (c.self.invariant.counts e)) in
-    let counts = subst (λ rs. IsCounted g.V.Ord.cmp l rs (option_copied w.after) q c.next_answer.new.memo.tests c.next_answer.new.choices) c.deref.ensures.value
-    (c.in_ok-next_answer.ensures.counts (c.self.invariant.plain e) before) in
-    answered-tests basis s w.place q here.at c.next_answer.new.memo.tests c.next_answer.new.choices counts End gives)
+    rw (← c.self.view_is) (λ e. tests-of basis (planted (g.J.Judge.conjuncts w.judge) (trees_of w.forest)) (g.J.Judge.is_used w.judge) (trees_of w.forest) w.place c.next_answer.new.place
+    w.memo c.next_answer.new.memo c.deref.result.now w.choices.items c.deref_mut.result.now c.next_answer.new.choices _ End c.deref.ensures.value c.deref_mut.ensures.value
+    c.in-End.is c.in_ok-next_answer.ensures.stands (c.self.invariant.counts e) (c.in_ok-next_answer.ensures.counts (c.self.invariant.plain e)) c.in_ok-next_answer.ensures.gives)

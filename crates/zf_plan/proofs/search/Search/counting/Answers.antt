@@ -1,23 +1,23 @@
-use Rattle.zf_plan.proofs.Prelude.{◌≡◌, arith, length, subst, sym, option_copied, trees_of, IsPlan}
+use Rattle.zf_plan.proofs.Prelude.{length, subst, sym, option_copied, trees_of, IsPlan}
 use Rattle.zf_plan.specs.Trees.{IsFlat}
 use Rattle.zf_plan.proofs.Groves.{flat-leaves}
 use Rattle.zf_plan.proofs.Stepping.{ahead-begins}
 use Rattle.zf_plan.proofs.search.Search.counting.Goals as goal
 
-pub plain-requires-clause-leaves : goal.plain-requires-clause-leaves
-plain-requires-clause-leaves g c = flat-leaves (g.J.Judge.conjuncts c.args.judge).number (trees_of c.in_ok-forest.forest)
+pub new-requires-clause-leaves : goal.new-requires-clause-leaves
+new-requires-clause-leaves g c = flat-leaves (g.J.Judge.conjuncts c.args.judge).number (trees_of c.in_ok-forest.forest)
     (subst (λ n. IsFlat n (trees_of c.in_ok-forest.forest)) c.count.ensures c.in_ok-forest.ensures)
 
 pub over-requires-clause-sound : goal.over-requires-clause-sound
 over-requires-clause-sound g c =
-    let n : c.len.result ≡ length c.args.ranges.items = omega (arith, c.len.ensures, c.args.ranges.ok.0) in
     record {
       ascending = c.requires.ascending;
       ties = c.requires.ties;
       named = c.requires.named;
       due = c.requires.due;
       leaves = flat-leaves (g.J.Judge.conjuncts c.args.judge).number (trees_of c.in_ok-forest.forest) (subst (λ n. IsFlat n (trees_of c.in_ok-forest.forest)) c.count.ensures c.in_ok-forest.ensures);
-      plan = subst (λ k. IsPlan (g.J.Judge.conjuncts c.args.judge) (g.J.Judge.is_used c.args.judge) (trees_of c.in_ok-forest.forest) k c.in_ok-plan.plan) n c.in_ok-plan.ensures.plan;
+      plan = subst (λ rs. IsPlan (g.J.Judge.conjuncts c.args.judge) (g.J.Judge.is_used c.args.judge) (trees_of c.in_ok-forest.forest) (length rs) c.in_ok-plan.plan)
+          c.deref.ensures.value c.in_ok-plan.ensures.plan;
     }
 
 pub over-requires-clause-plain : goal.over-requires-clause-plain

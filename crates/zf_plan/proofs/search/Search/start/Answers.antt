@@ -14,4 +14,4 @@ over-requires-clause-sound g c =
     }
 
 pub over-requires-clause-plain : goal.over-requires-clause-plain
-over-requires-clause-plain g c = λ e. absurd (false≢true (sym c.in_ok-plan.ensures.not_plain ∙ e))
+over-requires-clause-plain g c = λ e. absurd (false≢true (sym c.in_ok-plan.ensures.plain ∙ e))

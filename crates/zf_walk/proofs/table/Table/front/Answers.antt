@@ -1,22 +1,16 @@
-use Rattle.zf_walk.proofs.Prelude.{◌+◌, ◌*◌, ◌<◌, arith, combinations, get_or}
+use Rattle.zf_walk.proofs.Prelude.{arith}
 use Rattle.zf_walk.proofs.Marking.{front-next, front-small}
 use Rattle.zf_walk.proofs.table.Table.front.Goals as goal
 
 pub overflow_mul-number : goal.overflow_mul-number
 overflow_mul-number c =
-    let us = c.args.self.now.used.items in
-    let u = c.index-used.result.now in
-    let small : c.loop-i.number * u.count + get_or c.args.places.now u.component 0 < combinations us =
-    front-small us c.args.places.now c.loop-i.number c.loop-i.i u c.index-used.ensures
+    let small = front-small c.args.self.now.used.items c.args.places.now c.loop-i.number c.loop-i.i c.index-used.result.now c.index-used.ensures
     (omega (arith, c.loop-i-test.true, c.requires.count)) c.if-used-places.false c.requires.fits.used (c.loop-i.invariant 0) in
     omega (arith, small, c.requires.fits.few)
 
 pub overflow_add-number : goal.overflow_add-number
 overflow_add-number c =
-    let us = c.args.self.now.used.items in
-    let u = c.index-used.result.now in
-    let small : c.loop-i.number * u.count + get_or c.args.places.now u.component 0 < combinations us =
-    front-small us c.args.places.now c.loop-i.number c.loop-i.i u c.index-used.ensures
+    let small = front-small c.args.self.now.used.items c.args.places.now c.loop-i.number c.loop-i.i c.index-used.result.now c.index-used.ensures
     (omega (arith, c.loop-i-test.true, c.requires.count)) c.if-used-places.false c.requires.fits.used (c.loop-i.invariant 0) in
     omega (arith, small, c.requires.fits.few)
 

@@ -1,5 +1,4 @@
-use Rattle.zf_walk.proofs.Prelude.{◌++◌, ◌-◌, ◌∙◌, ◌∷◌, ◌≡◌, [], ap, arith, drop, number, subst, Option, Some, sym}
-use Rattle.std.specs.Prelude.{IfSome}
+use Rattle.zf_walk.proofs.Prelude.{◌-◌, arith, subst}
 use Rattle.zf_walk.specs.Seen.{IsSeen}
 use Rattle.zf_walk.proofs.Marking.{seen-marked}
 use Rattle.zf_walk.proofs.table.Table.seen.Goals as goal

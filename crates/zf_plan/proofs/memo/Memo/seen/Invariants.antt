@@ -1,5 +1,5 @@
 use Rattle.zf_plan.specs.Testing.{AreSeenOf}
-use Rattle.zf_plan.proofs.memo.seen_of_all.Given as goal
+use Rattle.zf_plan.proofs.memo.Memo.seen.Given as goal
 
 -- What is known of the leaves so far.
 abbrev pub invariant-loop-i : goal.invariant-loop-i

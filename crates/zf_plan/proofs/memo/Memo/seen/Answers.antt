@@ -1,7 +1,7 @@
 use Rattle.zf_plan.proofs.Prelude.{arith, length, subst, ◌≡◌}
 use Rattle.zf_plan.specs.Testing.{AreSeenOf}
 use Rattle.zf_plan.proofs.Seeing.{seen-first, seen-more}
-use Rattle.zf_plan.proofs.memo.seen_of_all.Goals as goal
+use Rattle.zf_plan.proofs.memo.Memo.seen.Goals as goal
 
 pub loop-i-init : goal.loop-i-init
 loop-i-init g c = seen-first (g.J.Judge.conjuncts c.args.problem.now.judge.now) c.args.problem.now.ranges.now c.args.places.now c.args.leaves.now c.all-all.result c.all-all.ensures

@@ -1,6 +1,6 @@
 use Rattle.zf_plan.proofs.Prelude.{◌≡◌, ◌+◌, ℕ, [], get_or, length}
 use Rattle.zf_plan.specs.Keys.{AreKeys}
-use Rattle.zf_plan.proofs.keys.keys_at.Given as goal
+use Rattle.zf_plan.proofs.keys.keys_of.Given as goal
 
 -- Those of the values so far.
 abbrev pub invariant-loop-place : goal.invariant-loop-place

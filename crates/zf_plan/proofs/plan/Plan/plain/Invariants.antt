@@ -1,9 +1,0 @@
-use Rattle.zf_plan.proofs.Prelude.{trees_of}
-use Rattle.zf_plan.specs.Plans.{IsBare, IsLayer}
-use Rattle.zf_plan.proofs.Numbers.{AreSoFar}
-use Rattle.zf_plan.proofs.plan.Plan.plain.Given as goal
-
--- There is a bare layer for each number so far.
-abbrev pub invariant-loop-number : goal.invariant-loop-number
-invariant-loop-number g l =
-    AreSoFar (λ k layer. IsLayer (g.J.Judge.conjuncts l.judge) (g.J.Judge.is_used l.judge) (trees_of l.forest) k layer × IsBare layer) l.number l.layers.items
