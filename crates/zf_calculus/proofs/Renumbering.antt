@@ -1,5 +1,5 @@
 -- The list of new places says where each component is.
-use Rattle.zf_calculus.proofs.Prelude.{◌++◌, ◌+◌, ◌<◌, ◌∙◌, ◌∷◌, ◌≡◌, ◌≤◌, [], ap, arith, get_or, length, List, map, refl, Some, subst, sym, ℕ, get_or-map, length-map, map-append, slice_get-get_or, slice_get_past, place_in, AreFirst, in_full, one_more, unmoved, pushed, comp_of, conjunct_of, ResolvedTree, moved, Component, comp_named, new_place, place_of, place_or}
+use Rattle.zf_calculus.proofs.Prelude.{◌++◌, ◌+◌, ◌<◌, ◌∙◌, ◌∷◌, ◌≡◌, ◌≤◌, [], ap, arith, get_or, length, List, map, refl, Some, subst, sym, ℕ, append_assoc, get_or-map, length-map, map-append, slice_get-get_or, slice_get_past, place_in, AreFirst, in_full, one_more, unmoved, comp_of, conjunct_of, ResolvedTree, moved, Component, comp_named, new_place, place_of, place_or}
 use borrow.Author.Count.{below_more}
 use Rattle.zf_term.specs.declared.conjunct.Conjunct.{Conjunct}
 
@@ -45,12 +45,13 @@ taken_as_they_are f old new further same made =
 
 -- one conjunct further
 pub taken_step :
-    (f : ℕ → ℕ) (xs ys ahead rest : List Conjunct) (x y : Conjunct) (whole : List ResolvedTree) → ahead ≡ x ∷ rest → conjunct_of y ≡ moved f (conjunct_of x) → ys ≡ xs ++ y ∷ []
+    (f : ℕ → ℕ) (xs ys ahead rest : List Conjunct) (x : Conjunct) (whole : List ResolvedTree) → ahead ≡ x ∷ rest
+    → map conjunct_of ys ≡ map conjunct_of xs ++ moved f (conjunct_of x) ∷ []
     → map conjunct_of xs ++ map (moved f) (map conjunct_of ahead) ≡ whole
     → map conjunct_of ys ++ map (moved f) (map conjunct_of rest) ≡ whole
-taken_step f xs ys ahead rest x y whole step is push before =
+taken_step f xs ys ahead rest x whole step push before =
     let behind = map (moved f) (map conjunct_of rest) in
-    pushed conjunct_of xs ys y behind push
-    ∙ ap (λ (t : ResolvedTree). map conjunct_of xs ++ t ∷ behind) is
+    ap (λ (ts : List ResolvedTree). ts ++ behind) push
+    ∙ append_assoc (map conjunct_of xs) (moved f (conjunct_of x) ∷ []) behind
     ∙ ap (λ (zs : List Conjunct). map conjunct_of xs ++ map (moved f) (map conjunct_of zs)) (sym step)
     ∙ before

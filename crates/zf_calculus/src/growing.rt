@@ -8,7 +8,8 @@ ghost use Rattle.zf_term.specs.ShapeViews.{numbering};
 ghost use Rattle.zf_calculus.specs.Calculus.{Agree, Agrees, conjoined, new_place, empty_schema};
 ghost use Rattle.zf_calculus.specs.Steps.{Adds, Clashes, Includes, IsNext, OneClashes, Stops};
 ghost use Rattle.zf_calculus.specs.Growth.{HasLeftBeside, IsGrowing, IfStopped, constrained, equalities, equality, grown};
-ghost use Rattle.zf_term.specs.Limits.{IsTooLarge, KeepsTo};
+ghost use Rattle.zf_term.specs.Limits.{AreFew, IsTooLarge, KeepsTo};
+ghost use Rattle.zf_term.specs.LimitViews.{HasLeft};
 
 use crate::components::{agree, agrees, are_apart, join, join_all};
 use crate::limits::{COMPONENTS_MAX, CONJUNCTS_MAX, NODES_MAX, SETS_MAX};
@@ -61,29 +62,11 @@ impl<'a> Growing<'a> {
         ensures ok { IfOk result (λ g. (schema_of g.flat ≡ schema_of flat.entry) × IsGrowing g) }
         ensures passed { IfErr result (λ l. KeepsTo l (schema_of flat.entry) → ⊥) }
     {
-        // Before its nodes are counted, which descends as far as it is high.
-        if !none_too_high(&flat.conjuncts) {
-            return Err(Limit::Height);
-        }
-        if flat.components.len() > COMPONENTS_MAX {
-            return Err(Limit::Components);
-        }
-        if flat.conjuncts.len() > CONJUNCTS_MAX {
-            return Err(Limit::Conjuncts);
-        }
-        let Some(sets_left) = after_all_sets(flat.components.as_slice(), SETS_MAX) else {
-            return Err(Limit::Sets);
-        };
-        let Some(behind_sets) = after_all_nodes(flat.components.as_slice(), NODES_MAX) else {
-            return Err(Limit::Nodes);
-        };
-        let Some(nodes_left) = after_conjuncts(&flat.conjuncts, behind_sets) else {
-            return Err(Limit::Nodes);
-        };
+        let left = left_of(&flat)?;
         Ok(Growing {
             flat,
-            sets_left,
-            nodes_left,
+            sets_left: left.sets,
+            nodes_left: left.nodes,
         })
     }
 
@@ -117,16 +100,26 @@ impl<'a> Growing<'a> {
         ensures growing { OnOk result (IsGrowing self.new) }
         ensures err { IfErr result (λ e. IfStopped e (IsTooLarge (grown (schema_of self.old.flat) (comp_of component.entry)))) }
     {
-        let Some(sets_left) = after_sets(component.domains.get(), self.sets_left) else {
+        let left = self.left_behind(&component)?;
+        join(&mut self.flat.components, component)?;
+        self.sets_left = left.sets;
+        self.nodes_left = left.nodes;
+        Ok(())
+    }
+
+    /// What is left of the limits behind one more component, where there is room for its declared sets.
+    fn left_behind(&self, component: &Component<'a>) -> Result<Left, Stop<'a>>
+        requires { IsGrowing self.now }
+        ensures ok { IfOk result (λ l. AreFew (grown (schema_of self.now.flat) (comp_of component.now)).comps → HasLeft (grown (schema_of self.now.flat) (comp_of component.now)) l.sets l.nodes) }
+        ensures err { IfErr result (λ e. IfStopped e (IsTooLarge (grown (schema_of self.now.flat) (comp_of component.now)))) }
+    {
+        let Some(sets) = after_sets(component.domains.get(), self.sets_left) else {
             return Err(Stop::TooLarge(Limit::Sets));
         };
-        let Some(nodes_left) = after_nodes(component.domains.get(), self.nodes_left) else {
+        let Some(nodes) = after_nodes(component.domains.get(), self.nodes_left) else {
             return Err(Stop::TooLarge(Limit::Nodes));
         };
-        join(&mut self.flat.components, component)?;
-        self.sets_left = sets_left;
-        self.nodes_left = nodes_left;
-        Ok(())
+        Ok(Left { sets, nodes })
     }
 
     /// One more conjunct.
@@ -136,18 +129,29 @@ impl<'a> Growing<'a> {
         ensures growing { OnOk result (IsGrowing self.new) }
         ensures err { IfErr result (λ e. IfStopped e (IsTooLarge (constrained (schema_of self.old.flat) (conjunct_of conjunct.entry ∷ [])))) }
     {
-        let Some(nodes_left) = room_after(&conjunct, self.nodes_left) else {
+        let nodes_left = self.nodes_behind(&conjunct)?;
+        self.flat.conjuncts.push(conjunct)?;
+        self.nodes_left = nodes_left;
+        Ok(())
+    }
+
+    /// How many nodes are left behind one more conjunct, where there is room for it.
+    #[inline]
+    fn nodes_behind(&self, conjunct: &Conjunct<'a>) -> Result<usize, Stop<'a>>
+        requires { IsGrowing self.now }
+        ensures ok { IfOk result (λ left. HasLeft (constrained (schema_of self.now.flat) (conjunct_of conjunct.now ∷ [])) self.now.sets_left left) }
+        ensures err { IfErr result (λ e. IfStopped e (IsTooLarge (constrained (schema_of self.now.flat) (conjunct_of conjunct.now ∷ [])))) }
+    {
+        let Some(left) = room_after(conjunct, self.nodes_left) else {
             return Err(Stop::TooLarge(Limit::Nodes));
         };
         if self.flat.conjuncts.len() >= CONJUNCTS_MAX {
             return Err(Stop::TooLarge(Limit::Conjuncts));
         }
-        if !is_low(&conjunct, self.nodes_left - nodes_left) {
+        if !is_low(conjunct, self.nodes_left - left) {
             return Err(Stop::TooLarge(Limit::Height));
         }
-        self.flat.conjuncts.push(conjunct)?;
-        self.nodes_left = nodes_left;
-        Ok(())
+        Ok(left)
     }
 
     /// Another schema that is taken in: its components, and then its conjuncts.
@@ -257,6 +261,33 @@ impl<'a> Growing<'a> {
     }
 }
 
+/// What is left of the limits behind a schema, if it is within them.
+fn left_of<'a>(flat: &Flat<'a>) -> Result<Left, Limit>
+    ensures ok { IfOk result (λ l. HasLeft (schema_of flat.now) l.sets l.nodes) }
+    ensures passed { IfErr result (λ l. KeepsTo l (schema_of flat.now) → ⊥) }
+{
+    // Before its nodes are counted, which descends as far as it is high.
+    if !none_too_high(&flat.conjuncts) {
+        return Err(Limit::Height);
+    }
+    if flat.components.len() > COMPONENTS_MAX {
+        return Err(Limit::Components);
+    }
+    if flat.conjuncts.len() > CONJUNCTS_MAX {
+        return Err(Limit::Conjuncts);
+    }
+    let Some(sets) = after_all_sets(flat.components.as_slice(), SETS_MAX) else {
+        return Err(Limit::Sets);
+    };
+    let Some(behind_sets) = after_all_nodes(flat.components.as_slice(), NODES_MAX) else {
+        return Err(Limit::Nodes);
+    };
+    let Some(nodes) = after_conjuncts(&flat.conjuncts, behind_sets) else {
+        return Err(Limit::Nodes);
+    };
+    Ok(Left { sets, nodes })
+}
+
 /// Further conjuncts, whose components are at these places.
 pub fn take_moved<'a>(
     conjuncts: &mut Chunked<'a, Conjunct<'a>>,
@@ -283,8 +314,22 @@ fn take_numbered<'a>(
     ensures { OnOk result (map conjunct_of conjuncts.new ≡ map conjunct_of conjuncts.old ++ map (moved (numbering places.now)) (map conjunct_of further.now)) }
 {
     for conjunct in further.iter() {
-        conjuncts.push(conjunct.moved(arena, places)?)?;
+        push_moved(conjuncts, arena, conjunct, places)?;
     }
+    Ok(())
+}
+
+/// One further conjunct.
+#[inline]
+fn push_moved<'a>(
+    conjuncts: &mut Chunked<'a, Conjunct<'a>>,
+    arena: &'a Bump,
+    conjunct: &Conjunct<'a>,
+    places: &Option<Lasting<'a, Items<'a, usize>>>,
+) -> Result<(), AllocError>
+    ensures { OnOk result (map conjunct_of conjuncts.new ≡ map conjunct_of conjuncts.old ++ moved (numbering places.now) (conjunct_of conjunct.now) ∷ []) }
+{
+    conjuncts.push(conjunct.moved(arena, places)?)?;
     Ok(())
 }
 

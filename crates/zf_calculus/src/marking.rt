@@ -3,9 +3,10 @@ ghost use Rattle.std.specs.Prelude.{◌≡◌, ◌++◌, ℕ, IfErr, IfOk, List,
 ghost use Rattle.zf_term.specs.SchemaViews.{comp_of, schema_of};
 ghost use Rattle.zf_reference.specs.NumberingViews.{place_in};
 ghost use Rattle.zf_calculus.specs.Calculus as spec;
-ghost use Rattle.zf_calculus.specs.Calculus.{Agree, MarkAgrees, comp, decorated, delta, new_place, prime, xi};
+ghost use Rattle.zf_calculus.specs.Calculus.{Agree, MarkAgrees, comp, conjoined, decorated, delta, new_place, prime, xi};
 ghost use Rattle.zf_calculus.specs.Steps.{IsNext, MarkClashes, OneClashes, Stops};
 ghost use Rattle.zf_calculus.specs.Growth.{IfStopped, IsGrowing};
+ghost use Rattle.zf_term.specs.Limits.{IsTooLarge};
 
 use crate::components::agree;
 use crate::growing::Growing;
@@ -71,11 +72,39 @@ fn change<'a>(
     ensures each { IfOk result (λ p. length p.1 ≡ length (schema_of schema.now).comps) }
     ensures err { IfErr result (λ e. IfStopped e (Stops (OneClashes (schema_of schema.now).comps (decorated prime (schema_of schema.now)).comps) (Agree (schema_of schema.now).comps (decorated prime (schema_of schema.now)).comps) (delta (schema_of schema.now)))) }
 {
+    let after = state_after(arena, schema)?;
+    let before = copy(arena, schema, spare.and(&after))?;
+    both_states(arena, before, after)
+}
+
+/// The state after an operation, if its components agree with those of the schema.
+fn state_after<'a>(arena: &'a Bump, schema: &Measured<'a>) -> Result<Flat<'a>, Stop<'a>>
+    ensures agree { OnOk result (Agree (schema_of schema.now).comps (decorated prime (schema_of schema.now)).comps) }
+    ensures ok { IfOk result (λ f. schema_of f ≡ decorated prime (schema_of schema.now)) }
+    ensures err { IfErr result (λ e. IfStopped e (OneClashes (schema_of schema.now).comps (decorated prime (schema_of schema.now)).comps)) }
+{
     let flat = schema.flat();
     let after = decorate(arena, b"'", flat, Spare::none())?;
     agree(flat.components.as_slice(), after.components.as_slice())?;
-    let mut growing = copy(arena, schema, spare.and(&after))?;
-    let after = alike(&growing, after);
+    Ok(after)
+}
+
+/// A schema and its state after an operation, taken in; and where the components of that state are.
+fn both_states<'a>(
+    arena: &'a Bump,
+    before: Growing<'a>,
+    after: Flat<'a>,
+) -> Result<(Growing<'a>, Lasting<'a, Items<'a, usize>>), Stop<'a>>
+    requires limits { IsGrowing before }
+    requires alike { (strokes : List ℕ) × (schema_of after ≡ decorated strokes (schema_of before.flat)) }
+    ensures ok { IfOk result (λ p. IsNext (conjoined (schema_of before.entry.flat) (schema_of after.entry)) (schema_of p.0.flat)) }
+    ensures growing { IfOk result (λ p. IsGrowing p.0) }
+    ensures places { IfOk result (λ p. place_in p.1 ≡ new_place (schema_of after.entry).comps (conjoined (schema_of before.entry.flat) (schema_of after.entry)).comps) }
+    ensures each { IfOk result (λ p. length p.1 ≡ length (schema_of after.entry).comps) }
+    ensures err { IfErr result (λ e. IfStopped e (IsTooLarge (conjoined (schema_of before.entry.flat) (schema_of after.entry)))) }
+{
+    let after = alike(&before, after);
+    let mut growing = before;
     let places = growing.merge(arena, after)?;
     Ok((growing, places))
 }
