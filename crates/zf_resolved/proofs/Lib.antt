@@ -1,2 +1,3 @@
-pub mod MovedLists
+pub mod Renamings
+pub mod Moved
 pub mod Joining

@@ -1,5 +1,6 @@
-//! Resolved terms and conjuncts, with their components numbered anew.
+//! Resolved terms and conjuncts, with their names renamed, or their components numbered anew.
 #![tactic(auto)]
 
 pub mod conjunct;
 pub mod moving;
+pub mod renaming;
