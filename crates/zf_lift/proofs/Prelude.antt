@@ -25,8 +25,9 @@ pub use Rattle.zf_meaning.specs.Meaning.{AreLinked, Builds, HasOutcome, infinite
 pub use Rattle.zf_outcome.specs.Outcomes.{one_out, one_undefined, Several, values}
 pub use Rattle.zf_outcome.specs.Truths.{HasTwo, IsConjunction, IsConnected, IsDisjunction, IsEquivalence, IsExists, IsExistsOne, IsForAll, IsLink, IsOver, IsQuantified, IsTold, opposite}
 pub use Rattle.zf_lift.specs.Lifted.{AreEach, AreLifted, IsLifted, IsLonger}
-pub use Rattle.zf_lift.specs.Lifts.{at, is_liftable, Wherever}
-unfoldable pub use Rattle.zf_lift.specs.Lifts.{AreClosed, AreLifts, AreLinkLifts, AreLinksClosed, AreRangeLifts, AreRangesClosed, IsClosed, IsLift, IsPartClosed, IsPartLift}
-pub use Rattle.zf_lift.specs.Lists.{AreAllLifts, IsLinkClosed, IsLinkLift, IsRangeClosed, IsRangeLift}
+pub use Rattle.zf_lift.specs.Lifts.{at, is_liftable, Lifts, Wherever}
+unfoldable pub use Rattle.zf_lift.specs.Lifts.{AreLifts, AreLinkLifts, AreRangeLifts, IsClosed, IsLift, IsPartLift}
+pub use Rattle.zf_lift.specs.Lists.{AreAllLifts, IsLinkLift, IsRangeLift}
+pub use Rattle.zf_lift.specs.Gathering.{Follows, IsLater, IsNamed}
 pub use Rattle.zf_lift.specs.Needs.{all_need, links_need, need, part_need, place, ranges_need}
 pub use Rattle.zf_lift.specs.Same.{AreSame, AreSameLinks, AreSameRanges, IsSame, IsSamePart}

@@ -1,5 +1,5 @@
 -- Terms of one form are lifts, or closed, where their parts are.
-use Rattle.zf_lift.proofs.Prelude.{◌++◌, ◌<◌, ◌↔◌, ◌∙◌, ◌∷◌, ◌≡◌, ◌≤◌, [], ap, arith, Bool, false, length, List, None, Option, refl, subst, sym, true, ℕ, Reference, Component, Global, Local, Outcome, Truth, Value, Listed, Operator, Unary, Constant, Quantifier, Relation, Defined, absent, binary, bracket, builder, chain, constant, empty_set, link, links, listed, number, present, quantified, range, Ranges, ranges, reference, ResolvedLinks, ResolvedPart, ResolvedTree, ResolvedTrees, terms, unary, extent_found, extent_set, Context, Environment, outcome_in, outcome_or, longer, HasOutcome, IsTruth, AreEach, IsLifted, IsLonger, at, is_liftable, AreClosed, AreLifts, AreLinkLifts, AreLinksClosed, AreRangeLifts, AreRangesClosed, IsClosed, IsLift, IsPartClosed, IsPartLift, AreAllLifts, IsLinkClosed, IsLinkLift, IsRangeClosed, IsRangeLift, need, AreSameLinks, AreSameRanges, IsSame, IsSamePart}
+use Rattle.zf_lift.proofs.Prelude.{◌++◌, ◌<◌, ◌↔◌, ◌∙◌, ◌∷◌, ◌≡◌, ◌≤◌, [], ap, arith, Bool, false, length, List, None, Option, refl, subst, sym, true, ℕ, Reference, Component, Global, Local, Outcome, Truth, Value, Listed, Operator, Unary, Constant, Quantifier, Relation, Defined, absent, binary, bracket, builder, chain, constant, empty_set, link, links, listed, number, present, quantified, range, Ranges, ranges, reference, ResolvedLinks, ResolvedPart, ResolvedTree, ResolvedTrees, terms, unary, extent_found, extent_set, Context, Environment, outcome_in, outcome_or, longer, HasOutcome, IsTruth, AreEach, IsLifted, IsLonger, at, is_liftable, AreLifts, AreLinkLifts, AreRangeLifts, IsClosed, IsLift, IsPartLift, AreAllLifts, IsLinkLift, IsRangeLift, IsLater, Lifts, Wherever, need, AreSameLinks, AreSameRanges, IsSame, IsSamePart}
 use Rattle.std.specs.Prelude.{◌&&◌, is_some, Some}
 use Rattle.std.proofs.Common.{true≢false}
 use Rattle.zf_tree.specs.declared.symbol.Constant.TheVariants as constants
@@ -21,23 +21,36 @@ use Rattle.zf_lift.proofs.Longer as longer_ones
 
 -- ---- in longer environments
 
-pub lift_later : (b : ℕ) (f g e : Environment) (t u : ResolvedTree) → IsLonger f g → IsLift b f e t u → IsLift b g e t u
+pub itself : (f : Environment) (c : Bool) → IsLater f c f c
+itself f c = (longer_ones.itself f, λ k. k)
+
+pub still_later : (e f g : Environment) (b c d : Bool) → IsLater e b f c → IsLater f c g d → IsLater e b g d
+still_later e f g b c d h k = (longer_ones.further e f g h.0 k.0, λ x. h.1 (k.1 x))
+
+kept : (b m n : ℕ) (f g e : Environment) (c d : Bool) (P : Context → Context → Type 0) (Q : Type 0) → IsLater f c g d → Lifts c m n (Wherever b f e P) Q → Lifts d m n (Wherever b g e P) Q
+kept b m n f g e c d P Q h x = record { needs = x.needs; same = longer_ones.later b f g e P h.0 x.same; closed = λ k. x.closed (h.1 k) }
+
+pub lift_later : (b : ℕ) (f g e : Environment) (c d : Bool) (t u : ResolvedTree) → IsLater f c g d → IsLift b f e c t u → IsLift b g e d t u
 unfolding IsLift
-lift_later b f g e t u h x = record { needs = x.needs; same = longer_ones.later b f g e (λ c d. IsSame c t d u) h x.same }
+lift_later b f g e c d t u h x = kept b _ _ f g e c d (λ x y. IsSame x t y u) _ h x
 
-pub range_later : (b : ℕ) (f g e : Environment) (p q : ℕ × ResolvedTree) → IsLonger f g → IsRangeLift b f e p q → IsRangeLift b g e p q
-range_later b f g e p q h x = (x.0, lift_later b f g e p.1 q.1 h x.1)
+pub range_later : (b : ℕ) (f g e : Environment) (c d : Bool) (p q : ℕ × ResolvedTree) → IsLater f c g d → IsRangeLift b f e c p q → IsRangeLift b g e d p q
+range_later b f g e c d p q h x = (x.0, lift_later b f g e c d p.1 q.1 h x.1)
 
-pub link_later : (b : ℕ) (f g e : Environment) (p q : Relation × ResolvedTree) → IsLonger f g → IsLinkLift b f e p q → IsLinkLift b g e p q
-link_later b f g e p q h x = (x.0, lift_later b f g e p.1 q.1 h x.1)
+pub link_later : (b : ℕ) (f g e : Environment) (c d : Bool) (p q : Relation × ResolvedTree) → IsLater f c g d → IsLinkLift b f e c p q → IsLinkLift b g e d p q
+link_later b f g e c d p q h x = (x.0, lift_later b f g e c d p.1 q.1 h x.1)
 
-pub ranges_later : (b : ℕ) (f g e : Environment) (rs ss : Ranges) → IsLonger f g → AreRangeLifts b f e rs ss → AreRangeLifts b g e rs ss
+pub ranges_later : (b : ℕ) (f g e : Environment) (c d : Bool) (rs ss : Ranges) → IsLater f c g d → AreRangeLifts b f e c rs ss → AreRangeLifts b g e d rs ss
 unfolding AreRangeLifts
-ranges_later b f g e rs ss h x = record { needs = x.needs; same = longer_ones.later b f g e (λ c d. AreSameRanges c rs d ss) h x.same }
+ranges_later b f g e c d rs ss h x = kept b _ _ f g e c d (λ x y. AreSameRanges x rs y ss) _ h x
 
-pub part_later : (b : ℕ) (f g e : Environment) (p q : ResolvedPart) → IsLonger f g → IsPartLift b f e p q → IsPartLift b g e p q
+pub part_later : (b : ℕ) (f g e : Environment) (c d : Bool) (p q : ResolvedPart) → IsLater f c g d → IsPartLift b f e c p q → IsPartLift b g e d p q
 unfolding IsPartLift
-part_later b f g e p q h x = record { needs = x.needs; same = longer_ones.later b f g e (λ c d. IsSamePart c p d q) h x.same }
+part_later b f g e c d p q h x = kept b _ _ f g e c d (λ x y. IsSamePart x p y q) _ h x
+
+pub is_closed : (b : ℕ) (f e : Environment) (c : Bool) (t u : ResolvedTree) → IsLift b f e c t u → c ≡ true → IsClosed e u
+unfolding IsLift IsClosed
+is_closed b f e c t u h k = h.closed k
 
 -- ---- names
 
@@ -47,13 +60,15 @@ same_named e g row locals (Component i) h k = refl
 same_named e g row locals (Local i) h k = refl
 same_named e g row locals (Global i) h k = ap outcome_or (longer_ones.same_outcome e g i (k i refl) h)
 
-pub name_lift : (b : ℕ) (e f : Environment) (l : ℕ) (r : Reference) → ((i : ℕ) → r ≡ Global i → i < length e.outcomes) → IsLonger e f → IsLift b f e (reference l r) (reference l r)
-unfolding IsLift
-name_lift b e f l r k h = record {
+pub name_lift : (b : ℕ) (e f : Environment) (c : Bool) (l : ℕ) (r : Reference) → ((i : ℕ) → r ≡ Global i → i < length e.outcomes) → IsLonger e f
+    → (c ≡ true → IsClosed e (reference l r)) → IsLift b f e c (reference l r) (reference l r)
+unfolding IsLift IsClosed
+name_lift b e f c l r k h closed = record {
   needs = omega arith;
   same = λ g x row locals o.
       let y = longer_ones.further e f g h x in
       forms.same_reference (at g row locals) (at e row locals) l r (same_named e g row locals r y k) (longer_ones.same_globals e g y) (longer_ones.same_numbers e g y);
+  closed = closed;
 }
 
 pub local_closed : (e : Environment) (l i : ℕ) → IsClosed e (reference l (Local i))
@@ -66,199 +81,179 @@ global_closed e l i row locals = forms.same_reference (at e [] locals) (at e row
 
 -- ---- forms without parts
 
-pub number_lift : (b : ℕ) (f e : Environment) (l n : ℕ) → IsLift b f e (number l n) (number l n)
+pub number_lift : (b : ℕ) (f e : Environment) (c : Bool) (l n : ℕ) → IsLift b f e c (number l n) (number l n)
 unfolding IsLift
-number_lift b f e l n = record { needs = omega arith; same = λ g x row locals o. forms.same_number (at g row locals) (at e row locals) l n }
-
-pub number_closed : (e : Environment) (l n : ℕ) → IsClosed e (number l n)
-unfolding IsClosed
-number_closed e l n row locals = forms.same_number (at e [] locals) (at e row locals) l n
-
-pub constant_lift : (b : ℕ) (f e : Environment) (l : ℕ) (k : Constant) → IsLonger e f → IsLift b f e (constant l k) (constant l k)
-unfolding IsLift
-constant_lift b f e l k h = record {
+number_lift b f e c l n = record {
   needs = omega arith;
-  same = λ g x row locals o. forms.same_constant (at g row locals) (at e row locals) l k
-      (longer_ones.same_numbers e g (longer_ones.further e f g h x));
+  same = λ g x row locals o. forms.same_number (at g row locals) (at e row locals) l n;
+  closed = λ z row locals. forms.same_number (at e [] locals) (at e row locals) l n;
 }
 
-pub constant_closed : (e : Environment) (l : ℕ) (k : Constant) → IsClosed e (constant l k)
-unfolding IsClosed
-constant_closed e l k row locals = forms.same_constant (at e [] locals) (at e row locals) l k refl
-
-pub empty_set_lift : (b : ℕ) (f e : Environment) (l : ℕ) (t u : ResolvedTree) → need t ≤ need u → IsLift b f e (empty_set l t) (empty_set l u)
+pub constant_lift : (b : ℕ) (f e : Environment) (c : Bool) (l : ℕ) (k : Constant) → IsLonger e f → IsLift b f e c (constant l k) (constant l k)
 unfolding IsLift
-empty_set_lift b f e l t u h = record { needs = h; same = λ g x row locals o. forms.same_empty_set (at g row locals) (at e row locals) l t u }
+constant_lift b f e c l k h = record {
+  needs = omega arith;
+  same = λ g x row locals o. forms.same_constant (at g row locals) (at e row locals) l k (longer_ones.same_numbers e g (longer_ones.further e f g h x));
+  closed = λ z row locals. forms.same_constant (at e [] locals) (at e row locals) l k refl;
+}
 
-pub empty_set_closed : (e : Environment) (l : ℕ) (t : ResolvedTree) → IsClosed e (empty_set l t)
-unfolding IsClosed
-empty_set_closed e l t row locals = forms.same_empty_set (at e [] locals) (at e row locals) l t t
+pub empty_set_lift : (b : ℕ) (f e : Environment) (c : Bool) (l : ℕ) (t u : ResolvedTree) → need t ≤ need u → IsLift b f e c (empty_set l t) (empty_set l u)
+unfolding IsLift
+empty_set_lift b f e c l t u h = record {
+  needs = h;
+  same = λ g x row locals o. forms.same_empty_set (at g row locals) (at e row locals) l t u;
+  closed = λ z row locals. forms.same_empty_set (at e [] locals) (at e row locals) l u u;
+}
 
 -- ---- forms with operands
 
 -- without its brackets
-pub inner_lift : (b : ℕ) (f e : Environment) (l : ℕ) (t u : ResolvedTree) → IsLift b f e t u → IsLift b f e t (bracket l u)
+pub inner_lift : (b : ℕ) (f e : Environment) (c : Bool) (l : ℕ) (t u : ResolvedTree) → IsLift b f e c t u → IsLift b f e c t (bracket l u)
 unfolding IsLift
-inner_lift b f e l t u h = record { needs = h.needs; same = λ g x row locals o. let s = h.same g x row locals o in record { outcome = s.outcome; truth = s.truth; infinite = s.infinite } }
+inner_lift b f e c l t u h = record {
+  needs = h.needs;
+  same = λ g x row locals o. let s = h.same g x row locals o in record { outcome = s.outcome; truth = s.truth; infinite = s.infinite };
+  closed = λ z row locals. forms.same_bracket (at e [] locals) (at e row locals) l u u (h.closed z row locals);
+}
 
-pub bracket_closed : (e : Environment) (l : ℕ) (t : ResolvedTree) → IsClosed e t → IsClosed e (bracket l t)
-unfolding IsClosed
-bracket_closed e l t h row locals = forms.same_bracket (at e [] locals) (at e row locals) l t t (h row locals)
-
-pub listed_lift : (b : ℕ) (f e : Environment) (l : ℕ) (form : Listed) (ts us : ResolvedTrees) → AreLifts b f e ts us → IsLift b f e (listed l form ts) (listed l form us)
+pub listed_lift : (b : ℕ) (f e : Environment) (c : Bool) (l : ℕ) (form : Listed) (ts us : ResolvedTrees) → AreLifts b f e c ts us → IsLift b f e c (listed l form ts) (listed l form us)
 unfolding IsLift AreLifts
-listed_lift b f e l form ts us h = record { needs = h.needs; same = λ g x row locals o. forms.same_listed (at g row locals) (at e row locals) l form ts us (h.same g x row locals o) }
+listed_lift b f e c l form ts us h = record {
+  needs = h.needs;
+  same = λ g x row locals o. forms.same_listed (at g row locals) (at e row locals) l form ts us (h.same g x row locals o);
+  closed = λ z row locals. forms.same_listed (at e [] locals) (at e row locals) l form us us (h.closed z row locals);
+}
 
-pub listed_closed : (e : Environment) (l : ℕ) (form : Listed) (ts : ResolvedTrees) → AreClosed e ts → IsClosed e (listed l form ts)
-unfolding IsClosed AreClosed
-listed_closed e l form ts h row locals = forms.same_listed (at e [] locals) (at e row locals) l form ts ts (h row locals)
-
-pub unary_lift : (b : ℕ) (f e : Environment) (l : ℕ) (op : Unary) (t u : ResolvedTree) → IsLift b f e t u → IsLift b f e (unary l op t) (unary l op u)
+pub unary_lift : (b : ℕ) (f e : Environment) (c : Bool) (l : ℕ) (op : Unary) (t u : ResolvedTree) → IsLift b f e c t u → IsLift b f e c (unary l op t) (unary l op u)
 unfolding IsLift
-unary_lift b f e l op t u h = record { needs = h.needs; same = λ g x row locals o. forms.same_unary (at g row locals) (at e row locals) l op t u (h.same g x row locals o) }
+unary_lift b f e c l op t u h = record {
+  needs = h.needs;
+  same = λ g x row locals o. forms.same_unary (at g row locals) (at e row locals) l op t u (h.same g x row locals o);
+  closed = λ z row locals. forms.same_unary (at e [] locals) (at e row locals) l op u u (h.closed z row locals);
+}
 
-pub unary_closed : (e : Environment) (l : ℕ) (op : Unary) (t : ResolvedTree) → IsClosed e t → IsClosed e (unary l op t)
-unfolding IsClosed
-unary_closed e l op t h row locals = forms.same_unary (at e [] locals) (at e row locals) l op t t (h row locals)
-
-pub binary_lift : (b : ℕ) (f e : Environment) (l : ℕ) (op : Operator) (t u v w : ResolvedTree) → IsLift b f e t v → IsLift b f e u w → IsLift b f e (binary l op t u) (binary l op v w)
+pub binary_lift : (b : ℕ) (f e : Environment) (c : Bool) (l : ℕ) (op : Operator) (t u v w : ResolvedTree) → IsLift b f e c t v → IsLift b f e c u w
+    → IsLift b f e c (binary l op t u) (binary l op v w)
 unfolding IsLift
-binary_lift b f e l op t u v w h k = record {
+binary_lift b f e c l op t u v w h k = record {
   needs = omega (arith, h.needs, k.needs);
   same = λ g x row locals o. forms.same_binary (at g row locals)
       (at e row locals) l op t u v w (h.same g x row locals o) (k.same g x row locals o);
+  closed = λ z row locals. forms.same_binary (at e [] locals) (at e row locals) l op v w v w (h.closed z row locals) (k.closed z row locals);
 }
 
-pub binary_closed : (e : Environment) (l : ℕ) (op : Operator) (t u : ResolvedTree) → IsClosed e t → IsClosed e u → IsClosed e (binary l op t u)
-unfolding IsClosed
-binary_closed e l op t u h k row locals = forms.same_binary (at e [] locals) (at e row locals) l op t u t u (h row locals) (k row locals)
-
-pub chain_lift : (b : ℕ) (f e : Environment) (l : ℕ) (t u : ResolvedTree) (ks ls : ResolvedLinks) → IsLift b f e t u → AreLinkLifts b f e ks ls → IsLift b f e (chain l t ks) (chain l u ls)
+pub chain_lift : (b : ℕ) (f e : Environment) (c : Bool) (l : ℕ) (t u : ResolvedTree) (ks ls : ResolvedLinks) → IsLift b f e c t u → AreLinkLifts b f e c ks ls
+    → IsLift b f e c (chain l t ks) (chain l u ls)
 unfolding IsLift AreLinkLifts
-chain_lift b f e l t u ks ls h k = record {
+chain_lift b f e c l t u ks ls h k = record {
   needs = omega (arith, h.needs, k.needs);
   same = λ g x row locals o. forms.same_chain (at g row locals)
       (at e row locals) l t u ks ls (h.same g x row locals o) (k.same g x row locals o);
+  closed = λ z row locals. forms.same_chain (at e [] locals) (at e row locals) l u u ls ls (h.closed z row locals) (k.closed z row locals);
 }
-
-pub chain_closed : (e : Environment) (l : ℕ) (t : ResolvedTree) (ks : ResolvedLinks) → IsClosed e t → AreLinksClosed e ks → IsClosed e (chain l t ks)
-unfolding IsClosed AreLinksClosed
-chain_closed e l t ks h k row locals = forms.same_chain (at e [] locals) (at e row locals) l t t ks ks (h row locals) (k row locals)
 
 -- ---- forms that bind
 
 inside : (locals vs : List Value) (b m : ℕ) → length locals ≡ b → length vs ≡ m → length (locals ++ vs) ≡ b + m
 inside locals vs b m h k = omega (arith, length-append locals vs, h, k)
 
-pub builder_lift : (b : ℕ) (f e : Environment) (l : ℕ) (rs ss : Ranges) (p q t u : ResolvedPart) → AreRangeLifts b f e rs ss
-    → IsPartLift (b + variables_of ss) f e p q → IsPartLift (b + variables_of ss) f e t u → IsLift b f e (builder l rs p t) (builder l ss q u)
+pub builder_lift : (b : ℕ) (f e : Environment) (c : Bool) (l : ℕ) (rs ss : Ranges) (p q t u : ResolvedPart) → AreRangeLifts b f e c rs ss
+    → IsPartLift (b + variables_of ss) f e c p q → IsPartLift (b + variables_of ss) f e c t u → IsLift b f e c (builder l rs p t) (builder l ss q u)
 unfolding IsLift AreRangeLifts IsPartLift
-builder_lift b f e l rs ss p q t u h k m = record {
+builder_lift b f e c l rs ss p q t u h k m = record {
   needs = omega (arith, h.needs, k.needs, m.needs);
   same = λ g x row locals o. forms.same_builder (at g row locals) (at e row locals) l rs ss p q t u (h.same g x row locals o)
       (λ vs w. k.same g x row (locals ++ vs) (inside locals vs b (variables_of ss) o w))
       (λ vs w. m.same g x row (locals ++ vs) (inside locals vs b (variables_of ss) o w));
+  closed = λ z row locals. forms.same_builder (at e [] locals) (at e row locals) l ss ss q q u u (h.closed z row locals)
+      (λ vs w. k.closed z row (locals ++ vs)) (λ vs w. m.closed z row (locals ++ vs));
 }
 
-pub builder_closed : (e : Environment) (l : ℕ) (rs : Ranges) (p t : ResolvedPart) → AreRangesClosed e rs → IsPartClosed e p → IsPartClosed e t → IsClosed e (builder l rs p t)
-unfolding IsClosed AreRangesClosed IsPartClosed
-builder_closed e l rs p t h k m row locals =
-    forms.same_builder (at e [] locals) (at e row locals) l rs rs p p t t (h row locals) (λ vs w. k row (locals ++ vs)) (λ vs w. m row (locals ++ vs))
-
-pub quantified_lift : (b : ℕ) (f e : Environment) (l : ℕ) (n : Quantifier) (rs ss : Ranges) (p q : ResolvedPart) (t u : ResolvedTree)
-    → AreRangeLifts b f e rs ss → IsPartLift (b + variables_of ss) f e p q → IsLift (b + variables_of ss) f e t u → IsLift b f e (quantified l n rs p t) (quantified l n ss q u)
+pub quantified_lift : (b : ℕ) (f e : Environment) (c : Bool) (l : ℕ) (n : Quantifier) (rs ss : Ranges) (p q : ResolvedPart) (t u : ResolvedTree)
+    → AreRangeLifts b f e c rs ss → IsPartLift (b + variables_of ss) f e c p q → IsLift (b + variables_of ss) f e c t u
+    → IsLift b f e c (quantified l n rs p t) (quantified l n ss q u)
 unfolding IsLift AreRangeLifts IsPartLift
-quantified_lift b f e l n rs ss p q t u h k m = record {
+quantified_lift b f e c l n rs ss p q t u h k m = record {
   needs = omega (arith, h.needs, k.needs, m.needs);
   same = λ g x row locals o. forms.same_quantified (at g row locals) (at e row locals) l n rs ss p q t u (h.same g x row locals o)
       (λ vs w. k.same g x row (locals ++ vs) (inside locals vs b (variables_of ss) o w))
       (λ vs w. m.same g x row (locals ++ vs) (inside locals vs b (variables_of ss) o w));
+  closed = λ z row locals. forms.same_quantified (at e [] locals) (at e row locals) l n ss ss q q u u (h.closed z row locals)
+      (λ vs w. k.closed z row (locals ++ vs)) (λ vs w. m.closed z row (locals ++ vs));
 }
-
-pub quantified_closed : (e : Environment) (l : ℕ) (n : Quantifier) (rs : Ranges) (p : ResolvedPart) (t : ResolvedTree) → AreRangesClosed e rs
-    → IsPartClosed e p → IsClosed e t → IsClosed e (quantified l n rs p t)
-unfolding IsClosed AreRangesClosed IsPartClosed
-quantified_closed e l n rs p t h k m row locals =
-    forms.same_quantified (at e [] locals) (at e row locals) l n rs rs p p t t (h row locals) (λ vs w. k row (locals ++ vs)) (λ vs w. m row (locals ++ vs))
 
 -- ---- parts
 
-pub absent_lift : (b : ℕ) (f e : Environment) → IsPartLift b f e absent absent
+pub absent_lift : (b : ℕ) (f e : Environment) (c : Bool) → IsPartLift b f e c absent absent
 unfolding IsPartLift
-absent_lift b f e = record { needs = omega arith; same = λ g x row locals o. forms.same_absent (at g row locals) (at e row locals) }
+absent_lift b f e c = record {
+  needs = omega arith;
+  same = λ g x row locals o. forms.same_absent (at g row locals) (at e row locals);
+  closed = λ z row locals. forms.same_absent (at e [] locals) (at e row locals);
+}
 
-pub absent_closed : (e : Environment) → IsPartClosed e absent
-unfolding IsPartClosed
-absent_closed e row locals = forms.same_absent (at e [] locals) (at e row locals)
-
-pub present_lift : (b : ℕ) (f e : Environment) (t u : ResolvedTree) → IsLift b f e t u → IsPartLift b f e (present t) (present u)
+pub present_lift : (b : ℕ) (f e : Environment) (c : Bool) (t u : ResolvedTree) → IsLift b f e c t u → IsPartLift b f e c (present t) (present u)
 unfolding IsLift IsPartLift
-present_lift b f e t u h = record { needs = h.needs; same = λ g x row locals o. forms.same_present (at g row locals) (at e row locals) t u (h.same g x row locals o) }
-
-pub present_closed : (e : Environment) (t : ResolvedTree) → IsClosed e t → IsPartClosed e (present t)
-unfolding IsClosed IsPartClosed
-present_closed e t h row locals = forms.same_present (at e [] locals) (at e row locals) t t (h row locals)
+present_lift b f e c t u h = record {
+  needs = h.needs;
+  same = λ g x row locals o. forms.same_present (at g row locals) (at e row locals) t u (h.same g x row locals o);
+  closed = λ z row locals. forms.same_present (at e [] locals) (at e row locals) u u (h.closed z row locals);
+}
 
 -- ---- lists
 
-pub terms_lift : (b : ℕ) (f e : Environment) (ts us : List ResolvedTree) → AreAllLifts b f e ts us → AreLifts b f e (terms ts) (terms us)
+pub terms_lift : (b : ℕ) (f e : Environment) (c : Bool) (ts us : List ResolvedTree) → AreAllLifts b f e c ts us → AreLifts b f e c (terms ts) (terms us)
 unfolding IsLift AreLifts
-terms_lift b f e [] [] h = record { needs = omega arith; same = λ g x row locals o. forms.same_no_terms (at g row locals) (at e row locals) }
-terms_lift b f e [] (u ∷ us) h = absurd h
-terms_lift b f e (t ∷ ts) [] h = absurd h
-terms_lift b f e (t ∷ ts) (u ∷ us) h =
-    let rest = terms_lift b f e ts us h.1 in
+terms_lift b f e c [] [] h = record {
+  needs = omega arith;
+  same = λ g x row locals o. forms.same_no_terms (at g row locals) (at e row locals);
+  closed = λ z row locals. forms.same_no_terms (at e [] locals) (at e row locals);
+}
+terms_lift b f e c [] (u ∷ us) h = absurd h
+terms_lift b f e c (t ∷ ts) [] h = absurd h
+terms_lift b f e c (t ∷ ts) (u ∷ us) h =
+    let rest = terms_lift b f e c ts us h.1 in
     record {
       needs = omega (arith, h.0.needs, rest.needs);
       same = λ g x row locals o. forms.same_terms (at g row locals) (at e row locals) t u (terms ts) (terms us) (h.0.same g x row locals o) (rest.same g x row locals o);
+      closed = λ z row locals. forms.same_terms (at e [] locals) (at e row locals) u u (terms us) (terms us) (h.0.closed z row locals) (rest.closed z row locals);
     }
 
-pub terms_closed : (e : Environment) (ts us : List ResolvedTree) → AreEach (λ t u. IsClosed e u) ts us → AreClosed e (terms us)
-unfolding IsClosed AreClosed
-terms_closed e [] [] h row locals = forms.same_no_terms (at e [] locals) (at e row locals)
-terms_closed e [] (u ∷ us) h row locals = absurd h
-terms_closed e (t ∷ ts) [] h row locals = absurd h
-terms_closed e (t ∷ ts) (u ∷ us) h row locals = forms.same_terms (at e [] locals) (at e row locals) u u (terms us) (terms us) (h.0 row locals) (terms_closed e ts us h.1 row locals)
-
-pub ranges_lift : (b : ℕ) (f e : Environment) (rs ss : List (ℕ × ResolvedTree)) → AreEach (IsRangeLift b f e) rs ss → AreRangeLifts b f e (ranges rs) (ranges ss)
+pub ranges_lift : (b : ℕ) (f e : Environment) (c : Bool) (rs ss : List (ℕ × ResolvedTree)) → AreEach (IsRangeLift b f e c) rs ss → AreRangeLifts b f e c (ranges rs) (ranges ss)
 unfolding IsLift AreRangeLifts
-ranges_lift b f e [] [] h = record { needs = omega arith; same = λ g x row locals o. forms.same_no_ranges (at g row locals) (at e row locals) }
-ranges_lift b f e [] (s ∷ ss) h = absurd h
-ranges_lift b f e (r ∷ rs) [] h = absurd h
-ranges_lift b f e (r ∷ rs) (s ∷ ss) h =
-    let first = h.0.1 in let rest = ranges_lift b f e rs ss h.1 in
+ranges_lift b f e c [] [] h = record {
+  needs = omega arith;
+  same = λ g x row locals o. forms.same_no_ranges (at g row locals) (at e row locals);
+  closed = λ z row locals. forms.same_no_ranges (at e [] locals) (at e row locals);
+}
+ranges_lift b f e c [] (s ∷ ss) h = absurd h
+ranges_lift b f e c (r ∷ rs) [] h = absurd h
+ranges_lift b f e c (r ∷ rs) (s ∷ ss) h =
+    let first = h.0.1 in let rest = ranges_lift b f e c rs ss h.1 in
     record {
       needs = omega (arith, first.needs, rest.needs);
       same = λ g x row locals o. subst (λ n. AreSameRanges (at g row locals) (range r.0 r.1 (ranges rs)) (at e row locals) (range n s.1 (ranges ss))) h.0.0
           (forms.same_ranges (at g row locals) (at e row locals) r.0 r.1 s.1 (ranges rs) (ranges ss) (first.same g x row locals o) (rest.same g x row locals o));
+      closed = λ z row locals. forms.same_ranges (at e [] locals) (at e row locals) s.0 s.1 s.1 (ranges ss) (ranges ss) (first.closed z row locals) (rest.closed z row locals);
     }
 
-pub ranges_closed : (e : Environment) (rs ss : List (ℕ × ResolvedTree)) → AreEach (λ r s. IsRangeClosed e s) rs ss → AreRangesClosed e (ranges ss)
-unfolding IsClosed AreRangesClosed
-ranges_closed e [] [] h row locals = forms.same_no_ranges (at e [] locals) (at e row locals)
-ranges_closed e [] (s ∷ ss) h row locals = absurd h
-ranges_closed e (r ∷ rs) [] h row locals = absurd h
-ranges_closed e (r ∷ rs) (s ∷ ss) h row locals = forms.same_ranges (at e [] locals) (at e row locals) s.0 s.1 s.1 (ranges ss) (ranges ss) (h.0 row locals) (ranges_closed e rs ss h.1 row locals)
-
-pub links_lift : (b : ℕ) (f e : Environment) (ks ls : List (Relation × ResolvedTree)) → AreEach (IsLinkLift b f e) ks ls → AreLinkLifts b f e (links ks) (links ls)
+pub links_lift : (b : ℕ) (f e : Environment) (c : Bool) (ks ls : List (Relation × ResolvedTree)) → AreEach (IsLinkLift b f e c) ks ls → AreLinkLifts b f e c (links ks) (links ls)
 unfolding IsLift AreLinkLifts
-links_lift b f e [] [] h = record { needs = omega arith; same = λ g x row locals o. forms.same_no_links (at g row locals) (at e row locals) }
-links_lift b f e [] (k ∷ ls) h = absurd h
-links_lift b f e (k ∷ ks) [] h = absurd h
-links_lift b f e (k ∷ ks) (m ∷ ls) h =
-    let first = h.0.1 in let rest = links_lift b f e ks ls h.1 in
+links_lift b f e c [] [] h = record {
+  needs = omega arith;
+  same = λ g x row locals o. forms.same_no_links (at g row locals) (at e row locals);
+  closed = λ z row locals. forms.same_no_links (at e [] locals) (at e row locals);
+}
+links_lift b f e c [] (k ∷ ls) h = absurd h
+links_lift b f e c (k ∷ ks) [] h = absurd h
+links_lift b f e c (k ∷ ks) (m ∷ ls) h =
+    let first = h.0.1 in let rest = links_lift b f e c ks ls h.1 in
     record {
       needs = omega (arith, first.needs, rest.needs);
       same = λ g x row locals o. subst (λ r. AreSameLinks (at g row locals) (link k.0 k.1 (links ks)) (at e row locals) (link r m.1 (links ls))) h.0.0
           (forms.same_links (at g row locals) (at e row locals) k.0 k.1 m.1 (links ks) (links ls) (first.same g x row locals o) (rest.same g x row locals o));
+      closed = λ z row locals. forms.same_links (at e [] locals) (at e row locals) m.0 m.1 m.1 (links ls) (links ls) (first.closed z row locals) (rest.closed z row locals);
     }
-
-pub links_closed : (e : Environment) (ks ls : List (Relation × ResolvedTree)) → AreEach (λ k m. IsLinkClosed e m) ks ls → AreLinksClosed e (links ls)
-unfolding IsClosed AreLinksClosed
-links_closed e [] [] h row locals = forms.same_no_links (at e [] locals) (at e row locals)
-links_closed e [] (m ∷ ls) h row locals = absurd h
-links_closed e (k ∷ ks) [] h row locals = absurd h
-links_closed e (k ∷ ks) (m ∷ ls) h row locals = forms.same_links (at e [] locals) (at e row locals) m.0 m.1 m.1 (links ls) (links ls) (h.0 row locals) (links_closed e ks ls h.1 row locals)
 
 -- ---- the name of what a closed part comes to
 
@@ -310,12 +305,13 @@ no_infinite e (quantified l q rs p t) h = refl
 found_none : (n : Option ℕ) (o : Option Defined) → o ≡ None → unended (extent_set (extent_found o)) n ≡ None
 found_none n o h = ap (λ p. unended (extent_set (extent_found p)) n) h
 
-pub named_lift : (b : ℕ) (e f g : Environment) (l : ℕ) (t u : ResolvedTree) (x : Outcome) → IsLonger e f → length f.globals ≤ length f.outcomes
-    → g ≡ longer f (x ∷ []) → is_liftable e.numbers u ≡ true → IsClosed e u → IsLift b f e t u → IsBehind f [] b t x
-    → IsLift b g e (reference l (Global (length f.outcomes))) u
+pub named_lift : (b : ℕ) (e f g : Environment) (c : Bool) (l : ℕ) (t u : ResolvedTree) (x : Outcome) → IsLonger e f → length f.globals ≤ length f.outcomes
+    → g ≡ longer f (x ∷ []) → is_liftable e.numbers u ≡ true → IsClosed e u → IsLift b f e c t u → IsBehind f [] b t x
+    → IsLift b g e c (reference l (Global (length f.outcomes))) u
 unfolding IsLift IsClosed IsBehind
-named_lift b e f g l t u x e-f behind is liftable closed lift has = record {
+named_lift b e f g c l t u x e-f behind is liftable closed lift has = record {
   needs = omega arith;
+  closed = λ z. closed;
   same = λ h g-h row locals bound.
       let known : outcome_in (at h row locals) (Global (length f.outcomes)) ≡ x = ap outcome_or (longer_ones.new_outcome f g h x is g-h) in
       let bare : HasOutcome (at e [] locals) u x = ((lift.same f (longer_ones.itself f) [] locals bound).outcome x).0 (has locals bound) in
@@ -329,9 +325,9 @@ named_lift b e f g l t u x e-f behind is liftable closed lift has = record {
 }
 
 -- a lift outside binders has the truths of its term, and uses no more components
-pub is_lifted : (f e : Environment) (t u : ResolvedTree) → IsLift 0 f e t u → IsLifted f e t u
+pub is_lifted : (f e : Environment) (c : Bool) (t u : ResolvedTree) → IsLift 0 f e c t u → IsLifted f e t u
 unfolding IsLift
-is_lifted f e t u h = record {
+is_lifted f e c t u h = record {
   same = λ row a. (h.same f (longer_ones.itself f) row [] refl).truth a;
   uses = uses_no_more t u h.needs;
 }

@@ -3,3 +3,4 @@ pub mod Same
 pub mod Needs
 pub mod Lifts
 pub mod Lists
+pub mod Gathering

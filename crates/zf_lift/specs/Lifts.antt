@@ -31,35 +31,29 @@ pub record Keeps (m n : ℕ) (P : Type 0) : Type 0 where
   pub needs : m ≤ n
   pub same : P
 
-unfoldable pub IsLift : (n : ℕ) → Environment → Environment → ResolvedTree → ResolvedTree → Type 0
-IsLift n f e t u = Keeps (need t) (need u) (Wherever n f e (λ c d. IsSame c t d u))
+-- it needs no more and what is asked holds; and where it is closed, what is asked of that
+pub record Lifts (c : Bool) (m n : ℕ) (P Q : Type 0) : Type 0 where
+  pub needs : m ≤ n
+  pub same : P
+  pub closed : c ≡ true → Q
 
-unfoldable pub AreLifts : (n : ℕ) → Environment → Environment → ResolvedTrees → ResolvedTrees → Type 0
-AreLifts n f e ts us = Keeps (all_need ts) (all_need us) (Wherever n f e (λ c d. AreSame c ts d us))
+unfoldable pub IsLift : (n : ℕ) → Environment → Environment → Bool → ResolvedTree → ResolvedTree → Type 0
+IsLift n f e c t u = Lifts c (need t) (need u) (Wherever n f e (λ x y. IsSame x t y u)) (Whichever e (λ x y. IsSame x u y u))
 
-unfoldable pub AreRangeLifts : (n : ℕ) → Environment → Environment → Ranges → Ranges → Type 0
-AreRangeLifts n f e rs ss = Keeps (ranges_need rs) (ranges_need ss) (Wherever n f e (λ c d. AreSameRanges c rs d ss))
+unfoldable pub AreLifts : (n : ℕ) → Environment → Environment → Bool → ResolvedTrees → ResolvedTrees → Type 0
+AreLifts n f e c ts us = Lifts c (all_need ts) (all_need us) (Wherever n f e (λ x y. AreSame x ts y us)) (Whichever e (λ x y. AreSame x us y us))
 
-unfoldable pub AreLinkLifts : (n : ℕ) → Environment → Environment → ResolvedLinks → ResolvedLinks → Type 0
-AreLinkLifts n f e ks ls = Keeps (links_need ks) (links_need ls) (Wherever n f e (λ c d. AreSameLinks c ks d ls))
+unfoldable pub AreRangeLifts : (n : ℕ) → Environment → Environment → Bool → Ranges → Ranges → Type 0
+AreRangeLifts n f e c rs ss = Lifts c (ranges_need rs) (ranges_need ss) (Wherever n f e (λ x y. AreSameRanges x rs y ss)) (Whichever e (λ x y. AreSameRanges x ss y ss))
 
-unfoldable pub IsPartLift : (n : ℕ) → Environment → Environment → ResolvedPart → ResolvedPart → Type 0
-IsPartLift n f e p q = Keeps (part_need p) (part_need q) (Wherever n f e (λ c d. IsSamePart c p d q))
+unfoldable pub AreLinkLifts : (n : ℕ) → Environment → Environment → Bool → ResolvedLinks → ResolvedLinks → Type 0
+AreLinkLifts n f e c ks ls = Lifts c (links_need ks) (links_need ls) (Wherever n f e (λ x y. AreSameLinks x ks y ls)) (Whichever e (λ x y. AreSameLinks x ls y ls))
+
+unfoldable pub IsPartLift : (n : ℕ) → Environment → Environment → Bool → ResolvedPart → ResolvedPart → Type 0
+IsPartLift n f e c p q = Lifts c (part_need p) (part_need q) (Wherever n f e (λ x y. IsSamePart x p y q)) (Whichever e (λ x y. IsSamePart x q y q))
 
 unfoldable pub IsClosed : Environment → ResolvedTree → Type 0
-IsClosed e t = Whichever e (λ c d. IsSame c t d t)
-
-unfoldable pub AreClosed : Environment → ResolvedTrees → Type 0
-AreClosed e ts = Whichever e (λ c d. AreSame c ts d ts)
-
-unfoldable pub AreRangesClosed : Environment → Ranges → Type 0
-AreRangesClosed e rs = Whichever e (λ c d. AreSameRanges c rs d rs)
-
-unfoldable pub AreLinksClosed : Environment → ResolvedLinks → Type 0
-AreLinksClosed e ks = Whichever e (λ c d. AreSameLinks c ks d ks)
-
-unfoldable pub IsPartClosed : Environment → ResolvedPart → Type 0
-IsPartClosed e p = Whichever e (λ c d. IsSamePart c p d p)
+IsClosed e t = Whichever e (λ x y. IsSame x t y t)
 
 -- a form that builds a value, where these are the numbers: it is no predicate, and no infinite set
 abbrev pub is_liftable : (numbers : Option ℕ) → ResolvedTree → Bool

@@ -6,5 +6,5 @@ mod lifted;
 mod lifting;
 mod unlifted;
 
-pub use liftable::{is_asked, is_liftable};
+pub use liftable::{is_asked, is_liftable, rows_of};
 pub use lifted::{Lifted, lift};

@@ -38,8 +38,7 @@ pub fn is_liftable(term: &Resolved<'_>, env: &Env<'_, '_>) -> bool
 /// Whether what stands behind a relation is asked only for whether it has a member, and then need not be built: numbers, or a family of sets, behind a membership.
 pub fn is_asked(relation: Relation, term: &Resolved<'_>) -> bool {
     match relation {
-        Relation::Member => is_family(term),
-        Relation::NotMember => is_family(term),
+        Relation::Member | Relation::NotMember => is_family(term),
         _ => false,
     }
 }
@@ -51,8 +50,7 @@ fn is_family(term: &Resolved<'_>) -> bool {
         Resolved::Bracket(_, inner) => is_family(inner.get()),
         Resolved::Constant(_, _) => true,
         Resolved::Listed(_, Listed::Product, _) => true,
-        Resolved::Unary(_, Unary::Sign(Sign::Symbol(Prefix::Power)), _) => true,
-        Resolved::Unary(_, Unary::Sign(Sign::Symbol(Prefix::Finset)), _) => true,
+        Resolved::Unary(_, Unary::Sign(Sign::Symbol(Prefix::Power | Prefix::Finset)), _) => true,
         Resolved::Binary(_, Operator::Generic(_), _, _) => true,
         Resolved::Binary(_, Operator::Function(Infix::UpTo), _, _) => true,
         _ => false,
@@ -113,16 +111,18 @@ const MOST_ROWS: usize = 4096;
 pub(crate) fn is_long<'a>(term: &Resolved<'a>, env: &Env<'_, 'a>) -> bool {
     match term {
         Resolved::Bracket(_, inner) => is_long(inner.get(), env),
-        Resolved::Builder(_, variables, _, _) => rows_of(variables.as_slice(), env) > MOST_ROWS,
+        Resolved::Builder(_, variables, _, _) => {
+            rows_of(variables.as_slice(), env, MOST_ROWS) > MOST_ROWS
+        }
         _ => false,
     }
 }
 
-/// How many rows the ranges have, as far as it is known; more than are worked out where it is not.
-fn rows_of<'a>(variables: &[Range<'a>], env: &Env<'_, 'a>) -> usize {
+/// How many rows the ranges have, as far as it is known; more than so many where it is not.
+pub fn rows_of<'a>(variables: &[Range<'a>], env: &Env<'_, 'a>, most: usize) -> usize {
     let mut rows = 1usize;
     for range in variables {
-        let members = members_of(&range.set, env);
+        let members = members_of(&range.set, env).unwrap_or(most.saturating_add(1));
         for _ in 0..range.variables.min(64) {
             rows = rows.saturating_mul(members);
         }
@@ -130,15 +130,15 @@ fn rows_of<'a>(variables: &[Range<'a>], env: &Env<'_, 'a>) -> usize {
     rows
 }
 
-/// How many members the set has, if it was worked out; else more than are worked out.
-fn members_of<'a>(set: &Resolved<'a>, env: &Env<'_, 'a>) -> usize {
+/// How many members the set has, if it was worked out.
+fn members_of<'a>(set: &Resolved<'a>, env: &Env<'_, 'a>) -> Option<usize> {
     let Resolved::Name(_, Reference::Global(_)) = set else {
-        return MOST_ROWS + 1;
+        return None;
     };
     let none: &[Value] = &[];
     match value_of(set, &none, env) {
-        Ok(Outcome::Is(value)) => value.members().len(),
-        Ok(_) => 0,
-        Err(_) => MOST_ROWS + 1,
+        Ok(Outcome::Is(value)) => Some(value.members().len()),
+        Ok(_) => Some(0),
+        Err(_) => None,
     }
 }

@@ -3,9 +3,10 @@ ghost use Rattle.std.specs.Prelude.{◌≡◌, IfOk, IfSome, OnOk, true, map};
 ghost use Rattle.zf_term.specs.ResolvedViews.{resolved_of};
 ghost use Rattle.zf_meaning.specs.Envs.{environment_of};
 ghost use Rattle.zf_lift.specs.Lifted.{IsLonger, AreLifted};
+ghost use Rattle.zf_lift.specs.Gathering.{Follows};
 ghost use Rattle.zf_lift.specs.Lists.{AreAllLifts};
 
-use crate::lifting::lifted;
+use crate::lifting::{Gathered, lifted};
 use crate::unlifted::Unlifted;
 use bumpalo::Bump;
 use std::alloc::{AllocError, Global};
@@ -29,20 +30,31 @@ pub fn lift<'e, 'g, 'a>(
 ) -> Result<Option<Lifted<'e, 'g, 'a>>, AllocError>
     ensures { IfOk result (λ found. IfSome found (λ l. AreLifted (environment_of l.env.now) (environment_of env.now) (map resolved_of l.terms.items) (map resolved_of terms.now))) }
 {
-    let mut own = env.copy(alloc)?;
-    let first = own.count();
-    match all_lifted(alloc, arena, terms, env, &mut own) {
-        Ok(terms) => {
-            if own.count() == first {
-                return Ok(None);
-            }
-            let env: &'e Env<'g, 'a> = kept(arena, own)?;
-            let lifted: Lifted<'e, 'g, 'a> = Lifted { terms, env };
-            Ok(Some(lifted))
-        }
+    match all_named(alloc, arena, terms, env) {
+        Ok(found) => Ok(found),
         Err(Unlifted::Foreign) => Ok(None),
         Err(Unlifted::OutOfMemory) => Err(AllocError),
     }
+}
+
+fn all_named<'e, 'g, 'a>(
+    alloc: Global,
+    arena: &'a Bump,
+    terms: &[Resolved<'a>],
+    env: &'e Env<'g, 'a>,
+) -> Result<Option<Lifted<'e, 'g, 'a>>, Unlifted>
+    ensures { IfOk result (λ found. IfSome found (λ l. AreLifted (environment_of l.env.now) (environment_of env.now) (map resolved_of l.terms.items) (map resolved_of terms.now))) }
+{
+    let mut own = Gathered {
+        env: env.copy(alloc)?,
+        is_closed: true,
+    };
+    let terms = all_lifted(alloc, arena, terms, env, &mut own)?;
+    if own.env.count() == env.count() {
+        return Ok(None);
+    }
+    let env: &'e Env<'g, 'a> = kept(arena, own.env)?;
+    Ok(Some(Lifted { terms, env }))
 }
 
 /// The environment, which lasts as long as the arena.
@@ -59,15 +71,15 @@ fn all_lifted<'g, 'a>(
     arena: &'a Bump,
     terms: &[Resolved<'a>],
     base: &Env<'g, 'a>,
-    own: &mut Env<'g, 'a>,
+    own: &mut Gathered<'g, 'a>,
 ) -> Result<Vec<Resolved<'a>>, Unlifted>
-    ensures grows { OnOk result (IsLonger (environment_of own.old) (environment_of own.new)) }
-    ensures same { IsLonger (environment_of base.now) (environment_of own.old) → IfOk result (λ ts. AreAllLifts 0 (environment_of own.new) (environment_of base.now) (map resolved_of ts.items) (map resolved_of terms.now)) }
+    ensures grows { OnOk result (Follows own.old own.new) }
+    ensures same { IsLonger (environment_of base.now) (environment_of own.old.env) → IfOk result (λ ts. AreAllLifts 0 (environment_of own.new.env) (environment_of base.now) own.new.is_closed (map resolved_of ts.items) (map resolved_of terms.now)) }
 {
     let mut all = Vec::with_capacity(alloc, terms.len())?;
     for term in terms {
-        let found = lifted(term, arena, 0, base, own)?;
-        all.push(found.part)?;
+        let part = lifted(term, arena, 0, base, own)?;
+        all.push(part)?;
     }
     Ok(all)
 }

@@ -1,13 +1,13 @@
 //! Terms in which closed parts are names of what they come to.
-ghost use Rattle.std.specs.Prelude.{◌≡◌, ◌+◌, ◌<◌, ℕ, true, IfOk, OnOk, length, map};
+ghost use Rattle.std.specs.Prelude.{◌≡◌, ◌+◌, ◌<◌, ℕ, Bool, true, IfOk, IfSome, OnOk, length, map};
 ghost use Rattle.zf_reference.specs.declared.reference.Reference.TheVariants as names;
-ghost use Rattle.zf_term.specs.ResolvedTrees.{ResolvedTree, reference as reference_tree};
+ghost use Rattle.zf_term.specs.ResolvedTrees.{reference as reference_tree};
 ghost use Rattle.zf_term.specs.ResolvedViews.{resolved_of, resolved_link_of, range_of, terms, links, ranges, part_of};
-ghost use Rattle.zf_meaning.specs.Environments.{Environment};
 ghost use Rattle.zf_meaning.specs.Envs.{environment_of};
 ghost use Rattle.zf_lift.specs.Lifted.{IsLonger};
 ghost use Rattle.zf_lift.specs.Lifts as spec;
-ghost use Rattle.zf_lift.specs.Lists.{IsRangeLift, IsLinkLift, IsRangeClosed, IsLinkClosed};
+ghost use Rattle.zf_lift.specs.Gathering.{Follows, IsNamed};
+ghost use Rattle.zf_lift.specs.Lists.{IsRangeLift, IsLinkLift};
 
 use crate::liftable::{is_asked, is_liftable, is_long};
 use crate::unlifted::Unlifted;
@@ -19,12 +19,12 @@ use zf_meaning::value::value_behind;
 use zf_reference::reference::Reference;
 use zf_resolved::moving::copy;
 use zf_term::resolved::{Links, Part, Range, Resolved, ResolvedLink, Terms};
-use zf_value::value::Value;
+use zf_value::value::{Outcome, Value};
 
-/// A part of a predicate, and whether it names no component.
+/// The environment with the names that closed parts got, and whether what was gone through names no component.
 #[derive(Drop)]
-pub(crate) struct Lifting<T> {
-    pub part: T,
+pub(crate) struct Gathered<'g, 'a> {
+    pub env: Env<'g, 'a>,
     pub is_closed: bool,
 }
 
@@ -35,51 +35,64 @@ pub(crate) fn lifted<'g, 'a>(
     arena: &'a Bump,
     depth: usize,
     base: &Env<'g, 'a>,
-    own: &mut Env<'g, 'a>,
-) -> Result<Lifting<Resolved<'a>>, Unlifted>
-    ensures grows { OnOk result (IsLonger (environment_of own.old) (environment_of own.new)) }
-    ensures same { IsLonger (environment_of base.now) (environment_of own.old) → IfOk result (λ p. spec.IsLift depth (environment_of own.new) (environment_of base.now) (resolved_of p.part) (resolved_of term.now)) }
-    ensures closed { IfOk result (λ p. p.is_closed ≡ true → spec.IsClosed (environment_of base.now) (resolved_of term.now)) }
+    own: &mut Gathered<'g, 'a>,
+) -> Result<Resolved<'a>, Unlifted>
+    ensures grows { OnOk result (Follows own.old own.new) }
+    ensures same { IsLonger (environment_of base.now) (environment_of own.old.env) → IfOk result (λ p. spec.IsLift depth (environment_of own.new.env) (environment_of base.now) own.new.is_closed (resolved_of p) (resolved_of term.now)) }
 {
-    let found = rebuilt(term, arena, depth, base, own)?;
-    if !found.is_closed {
-        return Ok(found);
+    let before = own.is_closed;
+    own.is_closed = true;
+    let part = rebuilt(term, arena, depth, base, own)?;
+    let is_closed = own.is_closed;
+    own.is_closed = are_both(before, is_closed);
+    if !is_closed {
+        return Ok(part);
     }
-    if !is_liftable(term, base) {
-        return Ok(found);
-    }
-    if depth > 0 && is_long(&found.part, own) {
-        return Ok(found);
-    }
-    named(found, depth, own)
+    named(part, term, depth, base, &mut own.env)
 }
 
-/// The name of what a part that names no component comes to, unless it names a variable bound around it, or memory ends: it may be that nothing asks for it.
+/// The name of what a part that names no component comes to, where it gets one.
 fn named<'g, 'a>(
-    found: Lifting<Resolved<'a>>,
+    part: Resolved<'a>,
+    term: &Resolved<'a>,
     depth: usize,
+    base: &Env<'g, 'a>,
     own: &mut Env<'g, 'a>,
-) -> Result<Lifting<Resolved<'a>>, Unlifted>
+) -> Result<Resolved<'a>, Unlifted>
     ensures grows { OnOk result (IsLonger (environment_of own.old) (environment_of own.new)) }
-    ensures same { (e : Environment) (t : ResolvedTree) → IsLonger e (environment_of own.old) → spec.is_liftable e.numbers t ≡ true → spec.IsClosed e t → spec.IsLift depth (environment_of own.old) e (resolved_of found.entry.part) t
-        → IfOk result (λ p. spec.IsLift depth (environment_of own.new) e (resolved_of p.part) t) }
+    ensures same { (c : Bool) → IsLonger (environment_of base.now) (environment_of own.old) → spec.IsClosed (environment_of base.now) (resolved_of term.now)
+        → spec.IsLift depth (environment_of own.old) (environment_of base.now) c (resolved_of part.entry) (resolved_of term.now)
+        → IfOk result (λ p. spec.IsLift depth (environment_of own.new) (environment_of base.now) c (resolved_of p) (resolved_of term.now)) }
 {
+    let Some(outcome) = worked_out(&part, term, depth, base, own) else {
+        return Ok(part);
+    };
     let place = own.count();
-    if place < own.globals().len() {
-        return Ok(found);
+    own.add(outcome)?;
+    Ok(Resolved::Name(part.line(), Reference::Global(place)))
+}
+
+/// What the part of a term comes to that gets a name: not where it names a variable bound around it, or memory ends, as it may be that nothing asks for it.
+fn worked_out<'g, 'a>(
+    part: &Resolved<'a>,
+    term: &Resolved<'a>,
+    depth: usize,
+    base: &Env<'g, 'a>,
+    own: &Env<'g, 'a>,
+) -> Option<Outcome>
+    ensures { IfSome result (IsNamed depth (environment_of base.now) (environment_of own.now) (resolved_of part.now) (resolved_of term.now)) }
+{
+    if !is_liftable(term, base) {
+        return None;
+    }
+    if depth > 0 && is_long(part, own) {
+        return None;
+    }
+    if own.count() < own.globals().len() {
+        return None;
     }
     let none: &[Value] = &[];
-    let Ok(told) = value_behind(&found.part, &none, depth, &*own) else {
-        return Ok(found);
-    };
-    let Some(outcome) = told else {
-        return Ok(found);
-    };
-    own.add(outcome)?;
-    Ok(Lifting {
-        part: Resolved::Name(found.part.line(), Reference::Global(place)),
-        is_closed: true,
-    })
+    value_behind(part, &none, depth, own).unwrap_or(None)
 }
 
 /// A term of which the parts are lifted, without brackets around it.
@@ -89,94 +102,71 @@ fn rebuilt<'g, 'a>(
     arena: &'a Bump,
     depth: usize,
     base: &Env<'g, 'a>,
-    own: &mut Env<'g, 'a>,
-) -> Result<Lifting<Resolved<'a>>, Unlifted>
-    ensures grows { OnOk result (IsLonger (environment_of own.old) (environment_of own.new)) }
-    ensures same { IsLonger (environment_of base.now) (environment_of own.old) → IfOk result (λ p. spec.IsLift depth (environment_of own.new) (environment_of base.now) (resolved_of p.part) (resolved_of term.now)) }
-    ensures closed { IfOk result (λ p. p.is_closed ≡ true → spec.IsClosed (environment_of base.now) (resolved_of term.now)) }
+    own: &mut Gathered<'g, 'a>,
+) -> Result<Resolved<'a>, Unlifted>
+    ensures grows { OnOk result (Follows own.old own.new) }
+    ensures same { IsLonger (environment_of base.now) (environment_of own.old.env) → IfOk result (λ p. spec.IsLift depth (environment_of own.new.env) (environment_of base.now) own.new.is_closed (resolved_of p) (resolved_of term.now)) }
 {
     match term {
         Resolved::Name(line, reference) => {
-            let is_closed = is_fixed(*reference, base)?;
-            Ok(Lifting {
-                part: Resolved::Name(*line, *reference),
-                is_closed,
-            })
+            let is_fixed = is_fixed(*reference, base)?;
+            own.is_closed = are_both(own.is_closed, is_fixed);
+            Ok(Resolved::Name(*line, *reference))
         }
-        Resolved::Number(line, value) => Ok(Lifting {
-            part: Resolved::Number(*line, *value),
-            is_closed: true,
-        }),
-        Resolved::Constant(line, constant) => Ok(Lifting {
-            part: Resolved::Constant(*line, *constant),
-            is_closed: true,
-        }),
-        Resolved::EmptySet(line, of) => Ok(Lifting {
-            part: Resolved::EmptySet(*line, Boxed::new(arena, copy(of.get(), arena)?)?),
-            is_closed: true,
-        }),
+        Resolved::Number(line, value) => Ok(Resolved::Number(*line, *value)),
+        Resolved::Constant(line, constant) => Ok(Resolved::Constant(*line, *constant)),
+        Resolved::EmptySet(line, of) => {
+            Ok(Resolved::EmptySet(*line, Boxed::new(arena, copy(of.get(), arena)?)?))
+        }
         Resolved::Bracket(_, inner) => rebuilt(inner.get(), arena, depth, base, own),
         Resolved::Listed(line, form, items) => {
             let items = lifted_terms(items, arena, depth, base, own)?;
-            Ok(Lifting {
-                part: Resolved::Listed(*line, *form, items.part),
-                is_closed: items.is_closed,
-            })
+            Ok(Resolved::Listed(*line, *form, items))
         }
         Resolved::Builder(line, variables, filter, term) => {
             let inside = bound_behind(depth, variables.as_slice())?;
             let variables = lifted_ranges(variables, arena, depth, base, own)?;
             let filter = lifted_part(filter, arena, inside, base, own)?;
             let term = lifted_part(term, arena, inside, base, own)?;
-            Ok(Lifting {
-                part: Resolved::Builder(*line, variables.part, filter.part, term.part),
-                is_closed: are_all(variables.is_closed, filter.is_closed, term.is_closed),
-            })
+            Ok(Resolved::Builder(*line, variables, filter, term))
         }
         Resolved::Unary(line, operator, of) => {
-            let of = lifted(of.get(), arena, depth, base, own)?;
-            Ok(Lifting {
-                part: Resolved::Unary(*line, *operator, Boxed::new(arena, of.part)?),
-                is_closed: of.is_closed,
-            })
+            let of = lifted_box(of, arena, depth, base, own)?;
+            Ok(Resolved::Unary(*line, *operator, of))
         }
         Resolved::Binary(line, operator, left, right) => {
-            let left = lifted(left.get(), arena, depth, base, own)?;
-            let right = lifted(right.get(), arena, depth, base, own)?;
-            let left_part = Boxed::new(arena, left.part)?;
-            let right_part = Boxed::new(arena, right.part)?;
-            Ok(Lifting {
-                part: Resolved::Binary(*line, *operator, left_part, right_part),
-                is_closed: are_both(left.is_closed, right.is_closed),
-            })
+            let left = lifted_box(left, arena, depth, base, own)?;
+            let right = lifted_box(right, arena, depth, base, own)?;
+            Ok(Resolved::Binary(*line, *operator, left, right))
         }
         Resolved::Chain(line, first, further) => {
-            let first = lifted(first.get(), arena, depth, base, own)?;
+            let first = lifted_box(first, arena, depth, base, own)?;
             let further = lifted_links(further, arena, depth, base, own)?;
-            Ok(Lifting {
-                part: Resolved::Chain(*line, Boxed::new(arena, first.part)?, further.part),
-                is_closed: are_both(first.is_closed, further.is_closed),
-            })
+            Ok(Resolved::Chain(*line, first, further))
         }
         Resolved::Quantified(quantifier, line, variables, constraint, body) => {
             let inside = bound_behind(depth, variables.as_slice())?;
             let variables = lifted_ranges(variables, arena, depth, base, own)?;
             let constraint = lifted_part(constraint, arena, inside, base, own)?;
-            let body = lifted(body.get(), arena, inside, base, own)?;
-            let is_closed = are_all(variables.is_closed, constraint.is_closed, body.is_closed);
-            let body = Boxed::new(arena, body.part)?;
-            Ok(Lifting {
-                part: Resolved::Quantified(
-                    *quantifier,
-                    *line,
-                    variables.part,
-                    constraint.part,
-                    body,
-                ),
-                is_closed,
-            })
+            let body = lifted_box(body, arena, inside, base, own)?;
+            Ok(Resolved::Quantified(*quantifier, *line, variables, constraint, body))
         }
     }
+}
+
+#[cycle(lifting)]
+fn lifted_box<'g, 'a>(
+    term: &Boxed<'a, Resolved<'a>>,
+    arena: &'a Bump,
+    depth: usize,
+    base: &Env<'g, 'a>,
+    own: &mut Gathered<'g, 'a>,
+) -> Result<Boxed<'a, Resolved<'a>>, Unlifted>
+    ensures grows { OnOk result (Follows own.old own.new) }
+    ensures same { IsLonger (environment_of base.now) (environment_of own.old.env) → IfOk result (λ p. spec.IsLift depth (environment_of own.new.env) (environment_of base.now) own.new.is_closed (resolved_of p) (resolved_of term.now)) }
+{
+    let part = lifted(term.get(), arena, depth, base, own)?;
+    Ok(Boxed::new(arena, part)?)
 }
 
 /// How many variables are bound behind so many and those of these ranges.
@@ -212,21 +202,17 @@ fn lifted_terms<'g, 'a>(
     arena: &'a Bump,
     depth: usize,
     base: &Env<'g, 'a>,
-    own: &mut Env<'g, 'a>,
-) -> Result<Lifting<Terms<'a>>, Unlifted>
-    ensures grows { OnOk result (IsLonger (environment_of own.old) (environment_of own.new)) }
-    ensures same { IsLonger (environment_of base.now) (environment_of own.old) → IfOk result (λ p. spec.AreLifts depth (environment_of own.new) (environment_of base.now) (terms (map resolved_of p.part)) (terms (map resolved_of items.now))) }
-    ensures closed { IfOk result (λ p. p.is_closed ≡ true → spec.AreClosed (environment_of base.now) (terms (map resolved_of items.now))) }
+    own: &mut Gathered<'g, 'a>,
+) -> Result<Terms<'a>, Unlifted>
+    ensures grows { OnOk result (Follows own.old own.new) }
+    ensures same { IsLonger (environment_of base.now) (environment_of own.old.env) → IfOk result (λ p. spec.AreLifts depth (environment_of own.new.env) (environment_of base.now) own.new.is_closed (terms (map resolved_of p)) (terms (map resolved_of items.now))) }
 {
     let mut parts = Items::with_room(arena, items.as_slice().len())?;
-    let mut is_closed = true;
     for term in items.as_slice() {
-        let found = lifted(term, arena, depth, base, own)?;
-        is_closed = are_both(is_closed, found.is_closed);
-        parts.push(found.part)?;
+        let part = lifted(term, arena, depth, base, own)?;
+        parts.push(part)?;
     }
-    let part = Boxed::new(arena, parts)?;
-    Ok(Lifting { part, is_closed })
+    Ok(Boxed::new(arena, parts)?)
 }
 
 #[cycle(lifting)]
@@ -235,21 +221,17 @@ fn lifted_links<'g, 'a>(
     arena: &'a Bump,
     depth: usize,
     base: &Env<'g, 'a>,
-    own: &mut Env<'g, 'a>,
-) -> Result<Lifting<Links<'a>>, Unlifted>
-    ensures grows { OnOk result (IsLonger (environment_of own.old) (environment_of own.new)) }
-    ensures same { IsLonger (environment_of base.now) (environment_of own.old) → IfOk result (λ p. spec.AreLinkLifts depth (environment_of own.new) (environment_of base.now) (links (map resolved_link_of p.part)) (links (map resolved_link_of further.now))) }
-    ensures closed { IfOk result (λ p. p.is_closed ≡ true → spec.AreLinksClosed (environment_of base.now) (links (map resolved_link_of further.now))) }
+    own: &mut Gathered<'g, 'a>,
+) -> Result<Links<'a>, Unlifted>
+    ensures grows { OnOk result (Follows own.old own.new) }
+    ensures same { IsLonger (environment_of base.now) (environment_of own.old.env) → IfOk result (λ p. spec.AreLinkLifts depth (environment_of own.new.env) (environment_of base.now) own.new.is_closed (links (map resolved_link_of p)) (links (map resolved_link_of further.now))) }
 {
     let mut parts = Items::with_room(arena, further.as_slice().len())?;
-    let mut is_closed = true;
     for link in further.as_slice() {
-        let found = lifted_link(link, arena, depth, base, own)?;
-        is_closed = are_both(is_closed, found.is_closed);
-        parts.push(found.part)?;
+        let part = lifted_link(link, arena, depth, base, own)?;
+        parts.push(part)?;
     }
-    let part = Boxed::new(arena, parts)?;
-    Ok(Lifting { part, is_closed })
+    Ok(Boxed::new(arena, parts)?)
 }
 
 #[cycle(lifting)]
@@ -258,19 +240,14 @@ fn lifted_link<'g, 'a>(
     arena: &'a Bump,
     depth: usize,
     base: &Env<'g, 'a>,
-    own: &mut Env<'g, 'a>,
-) -> Result<Lifting<ResolvedLink<'a>>, Unlifted>
-    ensures grows { OnOk result (IsLonger (environment_of own.old) (environment_of own.new)) }
-    ensures same { IsLonger (environment_of base.now) (environment_of own.old) → IfOk result (λ p. IsLinkLift depth (environment_of own.new) (environment_of base.now) (resolved_link_of p.part) (resolved_link_of link.now)) }
-    ensures closed { IfOk result (λ p. p.is_closed ≡ true → IsLinkClosed (environment_of base.now) (resolved_link_of link.now)) }
+    own: &mut Gathered<'g, 'a>,
+) -> Result<ResolvedLink<'a>, Unlifted>
+    ensures grows { OnOk result (Follows own.old own.new) }
+    ensures same { IsLonger (environment_of base.now) (environment_of own.old.env) → IfOk result (λ p. IsLinkLift depth (environment_of own.new.env) (environment_of base.now) own.new.is_closed (resolved_link_of p) (resolved_link_of link.now)) }
 {
-    let right = lifted_right(link, arena, depth, base, own)?;
-    Ok(Lifting {
-        part: ResolvedLink {
-            relation: link.relation,
-            right: right.part,
-        },
-        is_closed: right.is_closed,
+    Ok(ResolvedLink {
+        relation: link.relation,
+        right: lifted_right(link, arena, depth, base, own)?,
     })
 }
 
@@ -281,11 +258,10 @@ fn lifted_right<'g, 'a>(
     arena: &'a Bump,
     depth: usize,
     base: &Env<'g, 'a>,
-    own: &mut Env<'g, 'a>,
-) -> Result<Lifting<Resolved<'a>>, Unlifted>
-    ensures grows { OnOk result (IsLonger (environment_of own.old) (environment_of own.new)) }
-    ensures same { IsLonger (environment_of base.now) (environment_of own.old) → IfOk result (λ p. spec.IsLift depth (environment_of own.new) (environment_of base.now) (resolved_of p.part) (resolved_of link.now.right)) }
-    ensures closed { IfOk result (λ p. p.is_closed ≡ true → spec.IsClosed (environment_of base.now) (resolved_of link.now.right)) }
+    own: &mut Gathered<'g, 'a>,
+) -> Result<Resolved<'a>, Unlifted>
+    ensures grows { OnOk result (Follows own.old own.new) }
+    ensures same { IsLonger (environment_of base.now) (environment_of own.old.env) → IfOk result (λ p. spec.IsLift depth (environment_of own.new.env) (environment_of base.now) own.new.is_closed (resolved_of p) (resolved_of link.now.right)) }
 {
     if is_asked(link.relation, &link.right) {
         return rebuilt(&link.right, arena, depth, base, own);
@@ -299,21 +275,17 @@ fn lifted_ranges<'g, 'a>(
     arena: &'a Bump,
     depth: usize,
     base: &Env<'g, 'a>,
-    own: &mut Env<'g, 'a>,
-) -> Result<Lifting<Boxed<'a, Items<'a, Range<'a>>>>, Unlifted>
-    ensures grows { OnOk result (IsLonger (environment_of own.old) (environment_of own.new)) }
-    ensures same { IsLonger (environment_of base.now) (environment_of own.old) → IfOk result (λ p. spec.AreRangeLifts depth (environment_of own.new) (environment_of base.now) (ranges (map range_of p.part)) (ranges (map range_of variables.now))) }
-    ensures closed { IfOk result (λ p. p.is_closed ≡ true → spec.AreRangesClosed (environment_of base.now) (ranges (map range_of variables.now))) }
+    own: &mut Gathered<'g, 'a>,
+) -> Result<Boxed<'a, Items<'a, Range<'a>>>, Unlifted>
+    ensures grows { OnOk result (Follows own.old own.new) }
+    ensures same { IsLonger (environment_of base.now) (environment_of own.old.env) → IfOk result (λ p. spec.AreRangeLifts depth (environment_of own.new.env) (environment_of base.now) own.new.is_closed (ranges (map range_of p)) (ranges (map range_of variables.now))) }
 {
     let mut parts = Items::with_room(arena, variables.as_slice().len())?;
-    let mut is_closed = true;
     for range in variables.as_slice() {
-        let found = lifted_range(range, arena, depth, base, own)?;
-        is_closed = are_both(is_closed, found.is_closed);
-        parts.push(found.part)?;
+        let part = lifted_range(range, arena, depth, base, own)?;
+        parts.push(part)?;
     }
-    let part = Boxed::new(arena, parts)?;
-    Ok(Lifting { part, is_closed })
+    Ok(Boxed::new(arena, parts)?)
 }
 
 #[cycle(lifting)]
@@ -322,19 +294,14 @@ fn lifted_range<'g, 'a>(
     arena: &'a Bump,
     depth: usize,
     base: &Env<'g, 'a>,
-    own: &mut Env<'g, 'a>,
-) -> Result<Lifting<Range<'a>>, Unlifted>
-    ensures grows { OnOk result (IsLonger (environment_of own.old) (environment_of own.new)) }
-    ensures same { IsLonger (environment_of base.now) (environment_of own.old) → IfOk result (λ p. IsRangeLift depth (environment_of own.new) (environment_of base.now) (range_of p.part) (range_of range.now)) }
-    ensures closed { IfOk result (λ p. p.is_closed ≡ true → IsRangeClosed (environment_of base.now) (range_of range.now)) }
+    own: &mut Gathered<'g, 'a>,
+) -> Result<Range<'a>, Unlifted>
+    ensures grows { OnOk result (Follows own.old own.new) }
+    ensures same { IsLonger (environment_of base.now) (environment_of own.old.env) → IfOk result (λ p. IsRangeLift depth (environment_of own.new.env) (environment_of base.now) own.new.is_closed (range_of p) (range_of range.now)) }
 {
-    let set = lifted(&range.set, arena, depth, base, own)?;
-    Ok(Lifting {
-        part: Range {
-            variables: range.variables,
-            set: set.part,
-        },
-        is_closed: set.is_closed,
+    Ok(Range {
+        variables: range.variables,
+        set: lifted(&range.set, arena, depth, base, own)?,
     })
 }
 
@@ -345,24 +312,17 @@ fn lifted_part<'g, 'a>(
     arena: &'a Bump,
     depth: usize,
     base: &Env<'g, 'a>,
-    own: &mut Env<'g, 'a>,
-) -> Result<Lifting<Part<'a>>, Unlifted>
-    ensures grows { OnOk result (IsLonger (environment_of own.old) (environment_of own.new)) }
-    ensures same { IsLonger (environment_of base.now) (environment_of own.old) → IfOk result (λ p. spec.IsPartLift depth (environment_of own.new) (environment_of base.now) (part_of p.part) (part_of part.now)) }
-    ensures closed { IfOk result (λ p. p.is_closed ≡ true → spec.IsPartClosed (environment_of base.now) (part_of part.now)) }
+    own: &mut Gathered<'g, 'a>,
+) -> Result<Part<'a>, Unlifted>
+    ensures grows { OnOk result (Follows own.old own.new) }
+    ensures same { IsLonger (environment_of base.now) (environment_of own.old.env) → IfOk result (λ p. spec.IsPartLift depth (environment_of own.new.env) (environment_of base.now) own.new.is_closed (part_of p) (part_of part.now)) }
 {
     match part.get() {
-        None => Ok(Lifting {
-            part: Boxed::new(arena, None)?,
-            is_closed: true,
-        }),
+        None => Ok(Boxed::new(arena, None)?),
         Some(term) => {
-            let found = lifted(term.get(), arena, depth, base, own)?;
-            let inner = Boxed::new(arena, found.part)?;
-            Ok(Lifting {
-                part: Boxed::new(arena, Some(inner))?,
-                is_closed: found.is_closed,
-            })
+            let part = lifted(term.get(), arena, depth, base, own)?;
+            let inner = Boxed::new(arena, part)?;
+            Ok(Boxed::new(arena, Some(inner))?)
         }
     }
 }
@@ -371,10 +331,4 @@ fn are_both(left: bool, right: bool) -> bool
     ensures { result ≡ true → (left ≡ true) × (right ≡ true) }
 {
     left && right
-}
-
-fn are_all(first: bool, second: bool, third: bool) -> bool
-    ensures { result ≡ true → (first ≡ true) × (second ≡ true) × (third ≡ true) }
-{
-    first && second && third
 }
