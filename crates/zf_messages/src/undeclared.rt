@@ -114,8 +114,6 @@ fn schema_named<'g, 'a>(globals: &'g Globals<'a>, name: &[u8]) -> Option<(usize,
     }
 }
 
-// ---- through the definitions
-
 /// The place of a schema that does not declare the component, from this one on.
 fn undeclared_in(boxes: &[ZBox<'_>], globals: &Globals<'_>, first: Unbounded) -> Option<usize> {
     let mut next = first;
