@@ -365,7 +365,7 @@ fn constant_text(constant: Constant) -> &'static [u8]
 }
 
 /// The name of the global at this place.
-fn name_at<'g>(globals: &'g Globals<'_>, place: usize) -> &'g [u8]
+pub fn name_at<'g>(globals: &'g Globals<'_>, place: usize) -> &'g [u8]
     ensures { result.now ≡ name_of (slice_get (globals_of globals.now) place) }
 {
     match globals.in_order(place) {

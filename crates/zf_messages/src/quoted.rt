@@ -73,13 +73,8 @@ impl<'s> Quoting<'s> {
     }
 
     fn term<'a>(&mut self, alloc: Global, term: &QuotedTerm<'_>) -> Result<Aside<'a>, AllocError> {
-        match spelling_of(
-            alloc,
-            self.source,
-            self.tokens.as_slice(),
-            self.passed,
-            term,
-        )? {
+        let tokens = self.tokens.as_slice();
+        match spelling_of(alloc, self.source, tokens, self.passed, term)? {
             None => Ok(Aside::Nothing),
             Some((passed, tokens)) => {
                 self.passed = passed;

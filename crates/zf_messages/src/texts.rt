@@ -1,5 +1,5 @@
 //! The lines of refusals, each with its newline.
-ghost use Rattle.std.specs.Prelude.{◌≡◌, ◌++◌, IfOk};
+ghost use Rattle.std.specs.Prelude.{◌≡◌, ◌++◌, codes, decimal, IfOk};
 ghost use Rattle.zf_messages.specs.Texts as spec;
 ghost use Rattle.zf_sorts.specs.Refusals.{fault_of};
 
@@ -120,9 +120,7 @@ pub fn no_component_line(
 ) -> Result<Vec<u8>, AllocError>
     ensures { IfOk result (λ v. v.items ≡ spec.no_component_line schema.now component.now) }
 {
-    let mut bytes = Vec::from_slice(alloc, b"zf: ")?;
-    bytes.extend_from_slice(schema)?;
-    bytes.extend_from_slice(b" has no component ")?;
+    let mut bytes = around(alloc, b"zf: ", schema, b" has no component ")?;
     bytes.extend_from_slice(component)?;
     bytes.extend_from_slice(b"\n")?;
     Ok(bytes)
@@ -163,43 +161,33 @@ pub fn size_too_large_line(alloc: Global, name: &[u8]) -> Result<Vec<u8>, AllocE
     around(alloc, b"zf: size of ", name, b" is too large\n")
 }
 
+/// A place in a text, behind what is said of it.
+fn at_byte_line(alloc: Global, before: &[u8], place: usize) -> Result<Vec<u8>, AllocError>
+    ensures { IfOk result (λ v. v.items ≡ before.now ++ decimal place ++ codes "\n") }
+{
+    let mut number = Buffer::new();
+    around(alloc, before, number.format(place).as_bytes(), b"\n")
+}
+
 /// `zf: after: not a binding at byte K`
 pub fn not_a_binding_line(alloc: Global, place: usize) -> Result<Vec<u8>, AllocError>
     ensures { IfOk result (λ v. v.items ≡ spec.not_a_binding_line place) }
 {
-    let mut number = Buffer::new();
-    around(
-        alloc,
-        b"zf: after: not a binding at byte ",
-        number.format(place as u64).as_bytes(),
-        b"\n",
-    )
+    at_byte_line(alloc, b"zf: after: not a binding at byte ", place)
 }
 
 /// `zf: only: not components at byte K`
 pub fn not_components_line(alloc: Global, place: usize) -> Result<Vec<u8>, AllocError>
     ensures { IfOk result (λ v. v.items ≡ spec.not_components_line place) }
 {
-    let mut number = Buffer::new();
-    around(
-        alloc,
-        b"zf: only: not components at byte ",
-        number.format(place as u64).as_bytes(),
-        b"\n",
-    )
+    at_byte_line(alloc, b"zf: only: not components at byte ", place)
 }
 
 /// `zf: with: not a binding at byte K`
 pub fn not_held_line(alloc: Global, place: usize) -> Result<Vec<u8>, AllocError>
     ensures { IfOk result (λ v. v.items ≡ spec.not_held_line place) }
 {
-    let mut number = Buffer::new();
-    around(
-        alloc,
-        b"zf: with: not a binding at byte ",
-        number.format(place as u64).as_bytes(),
-        b"\n",
-    )
+    at_byte_line(alloc, b"zf: with: not a binding at byte ", place)
 }
 
 /// `out of bounds in the declaration of x`

@@ -3,13 +3,14 @@ ghost use Rattle.std.specs.Prelude.{IfOk, IsTrue};
 ghost use Rattle.zf_messages.specs.Details.{IsWithout, LacksComponent};
 ghost use Rattle.zf_term.specs.DefinitionViews.{globals_of};
 
+use crate::details::name_at;
 use bumpalo::Bump;
 use std::alloc::{AllocError, Global};
 use zf_finite::is_bounded;
 use zf_scan::fault::TextFaultKind;
 use zf_term::globals::{Entry, Globals};
 use zf_term::named::{component_of, global_of};
-use zf_term::schema::Flat;
+use zf_term::schema::{Component, Flat};
 use zf_text::reading::read_spec;
 use zf_tree::tree::{Decl, Name, Paragraph, RefMark, SchemaExp, SchemaRef, ZBox};
 
@@ -42,22 +43,40 @@ pub fn side_without(
 {
     let trees = Bump::new(alloc);
     match read_spec(alloc, &trees, source) {
-        Ok(spec) => {
-            let boxes = spec.boxes.as_slice();
-            let side = match named_component(globals, schema, component) {
-                Some(first) => undeclared_in(boxes, globals, first),
-                None => None,
-            };
-            match side {
-                Some(place) => name_without(alloc, globals, place, component),
-                None => Ok(Vec::new(alloc)),
-            }
-        }
+        Ok(spec) => side_in(alloc, spec.boxes.as_slice(), globals, schema, component),
         Err(unread) => match unread.fault.kind {
             TextFaultKind::OutOfMemory => Err(AllocError),
             _ => Ok(Vec::new(alloc)),
         },
     }
+}
+
+/// The same, in the boxes of the source.
+fn side_in(
+    alloc: Global,
+    boxes: &[ZBox<'_>],
+    globals: &Globals<'_>,
+    schema: &[u8],
+    component: &[u8],
+) -> Result<Vec<u8>, AllocError>
+    ensures { IfOk result (λ side. IsWithout (globals_of globals.now) component.now side.items) }
+{
+    match place_without(boxes, globals, schema, component) {
+        Some(place) => name_without(alloc, globals, place, component),
+        None => Ok(Vec::new(alloc)),
+    }
+}
+
+/// The place of a schema that does not declare the component of this schema.
+fn place_without(
+    boxes: &[ZBox<'_>],
+    globals: &Globals<'_>,
+    schema: &[u8],
+    component: &[u8],
+) -> Option<usize> {
+    let (schema, flat) = schema_named(globals, schema)?;
+    let component = place_of(flat, component)?;
+    undeclared_in(boxes, globals, Unbounded { schema, component })
 }
 
 /// The name of the schema at this place, if it has no such component.
@@ -87,16 +106,6 @@ fn lacks(globals: &Globals<'_>, name: &[u8], component: &[u8]) -> bool
     }
 }
 
-/// The places of the component and of its schema, by their names.
-fn named_component(globals: &Globals<'_>, schema: &[u8], component: &[u8]) -> Option<Unbounded> {
-    let (place, flat) = schema_named(globals, schema)?;
-    let (component, _) = component_of(flat.components.as_slice(), component)?;
-    Some(Unbounded {
-        schema: place,
-        component,
-    })
-}
-
 /// The schema of the name, with its place.
 fn schema_named<'g, 'a>(globals: &'g Globals<'a>, name: &[u8]) -> Option<(usize, &'g Flat<'a>)> {
     match global_of(globals, name) {
@@ -104,8 +113,6 @@ fn schema_named<'g, 'a>(globals: &'g Globals<'a>, name: &[u8]) -> Option<(usize,
         _ => None,
     }
 }
-
-// ---- through the definitions
 
 /// The place of a schema that does not declare the component, from this one on.
 fn undeclared_in(boxes: &[ZBox<'_>], globals: &Globals<'_>, first: Unbounded) -> Option<usize> {
@@ -121,21 +128,28 @@ fn undeclared_in(boxes: &[ZBox<'_>], globals: &Globals<'_>, first: Unbounded) ->
 
 /// Why nothing bounds the component, by the definition of its schema.
 fn cause_of(boxes: &[ZBox<'_>], globals: &Globals<'_>, at: Unbounded) -> Option<Cause> {
-    let (schema, entry) = globals.in_order(at.schema)?;
-    let Entry::Schema(defined) = entry else {
-        return None;
-    };
-    let component = defined
-        .flat()
-        .components
-        .as_slice()
-        .get(at.component)?
-        .name
-        .as_slice();
+    let component = component_at(globals, at)?.name.as_slice();
+    cause_in_boxes(globals, boxes, name_at(globals, at.schema), component)
+}
+
+/// The component at these places.
+fn component_at<'g, 'a>(globals: &'g Globals<'a>, at: Unbounded) -> Option<&'g Component<'a>> {
+    match globals.in_order(at.schema) {
+        Some((_, Entry::Schema(schema))) => schema.flat().components.as_slice().get(at.component),
+        _ => None,
+    }
+}
+
+/// Why nothing bounds the component, if one of the boxes defines the schema.
+fn cause_in_boxes(
+    globals: &Globals<'_>,
+    boxes: &[ZBox<'_>],
+    schema: &[u8],
+    component: &[u8],
+) -> Option<Cause> {
     for item in boxes {
-        match cause_in_box(globals, item, schema, component) {
-            Some(cause) => return Some(cause),
-            None => {}
+        if let Some(cause) = cause_in_box(globals, item, schema, component) {
+            return Some(cause);
         }
     }
     None
@@ -169,7 +183,7 @@ fn cause_in_paragraphs(
     for paragraph in paragraphs {
         match paragraph {
             Paragraph::Defs(name, exp) if is_spelled(name, schema) => {
-                return cause_in_expression(globals, exp, component);
+                return cause_in_schema(globals, exp, component);
             }
             _ => {}
         }
@@ -182,45 +196,41 @@ fn is_spelled(name: &Name<'_>, spelling: &[u8]) -> bool {
 }
 
 /// Why nothing bounds the component of the schema expression.
-fn cause_in_expression(
-    globals: &Globals<'_>,
-    exp: &SchemaExp<'_>,
-    component: &[u8],
-) -> Option<Cause> {
+#[cycle(causes)]
+fn cause_in_schema(globals: &Globals<'_>, exp: &SchemaExp<'_>, component: &[u8]) -> Option<Cause> {
     match exp {
         SchemaExp::Text(decls, _) => cause_in_decls(globals, decls.as_slice(), component),
         SchemaExp::Ref(reference) => cause_in_reference(globals, reference, component),
-        SchemaExp::Bracket(inner) => cause_in_expression(globals, inner.get(), component),
+        SchemaExp::Bracket(inner) => cause_in_schema(globals, inner.get(), component),
         SchemaExp::Both(left, right) => {
-            let cause = cause_in_expression(globals, left.get(), component);
-            cause.or(cause_in_expression(globals, right.get(), component))
+            let cause = cause_in_schema(globals, left.get(), component);
+            cause.or(cause_in_schema(globals, right.get(), component))
         }
-        SchemaExp::Or(_, left, right) => {
-            let lacking = lacking_side(globals, left.get(), component);
-            let lacking = lacking.or(lacking_side(globals, right.get(), component));
-            let within = cause_in_expression(globals, left.get(), component);
-            let within = within.or(cause_in_expression(globals, right.get(), component));
-            lacking.or(within)
-        }
+        SchemaExp::Or(_, _, _) => cause_in_sides(globals, exp, component),
     }
+}
+
+#[cycle(causes)]
+fn cause_in_sides(globals: &Globals<'_>, exp: &SchemaExp<'_>, component: &[u8]) -> Option<Cause> {
+    let SchemaExp::Or(_, left, right) = exp else {
+        return None;
+    };
+    let lacking = lacking_sides(globals, left.get(), right.get(), component);
+    let within = cause_in_schema(globals, left.get(), component);
+    let within = within.or(cause_in_schema(globals, right.get(), component));
+    lacking.or(within)
 }
 
 /// Why nothing bounds the component that the declarations take from a schema.
 fn cause_in_decls(globals: &Globals<'_>, decls: &[Decl<'_>], component: &[u8]) -> Option<Cause> {
     for decl in decls {
-        match cause_in_decl(globals, decl, component) {
-            Some(cause) => return Some(cause),
-            None => {}
+        if let Decl::Include(reference) = decl {
+            if let Some(cause) = cause_in_reference(globals, reference, component) {
+                return Some(cause);
+            }
         }
     }
     None
-}
-
-fn cause_in_decl(globals: &Globals<'_>, decl: &Decl<'_>, component: &[u8]) -> Option<Cause> {
-    match decl {
-        Decl::Vars(_, _) => None,
-        Decl::Include(reference) => cause_in_reference(globals, reference, component),
-    }
 }
 
 /// The component of the schema that is referred to, if nothing bounds it.
@@ -229,19 +239,35 @@ fn cause_in_reference(
     reference: &SchemaRef<'_>,
     component: &[u8],
 ) -> Option<Cause> {
-    let (schema, flat) = schema_named(globals, reference.name.base())?;
-    let place = referred(flat, reference, component)?;
-    let sets = flat.components.as_slice().get(place)?.domains.get();
-    if is_bounded(None, sets, globals) {
+    let (schema, component) = referred_to(globals, reference, component)?;
+    let component = component?;
+    let at = Unbounded { schema, component };
+    if is_bounded_at(globals, at) {
         return None;
     }
-    Some(Cause::Within(Unbounded {
-        schema,
-        component: place,
-    }))
+    Some(Cause::Within(at))
+}
+
+/// Whether something bounds the component at these places, if there is one.
+fn is_bounded_at(globals: &Globals<'_>, at: Unbounded) -> bool {
+    match component_at(globals, at) {
+        Some(component) => is_bounded(None, component.domains.get(), globals),
+        None => true,
+    }
 }
 
 // ---- which components there are
+
+/// The first of two sides that is a schema without the component.
+fn lacking_sides(
+    globals: &Globals<'_>,
+    left: &SchemaExp<'_>,
+    right: &SchemaExp<'_>,
+    component: &[u8],
+) -> Option<Cause> {
+    let lacking = lacking_side(globals, left, component);
+    lacking.or(lacking_side(globals, right, component))
+}
 
 /// The side, if it is a schema that does not have the component.
 fn lacking_side(globals: &Globals<'_>, side: &SchemaExp<'_>, component: &[u8]) -> Option<Cause> {
@@ -257,22 +283,30 @@ fn lacking_reference(
     reference: &SchemaRef<'_>,
     component: &[u8],
 ) -> Option<Cause> {
-    let (schema, flat) = schema_named(globals, reference.name.base())?;
-    match referred(flat, reference, component) {
-        Some(_) => None,
-        None => Some(Cause::Undeclared(schema)),
+    match referred_to(globals, reference, component) {
+        Some((schema, None)) => Some(Cause::Undeclared(schema)),
+        _ => None,
     }
+}
+
+/// The place of the schema that is referred to, and that of its component which has this name there, if it has one.
+fn referred_to(
+    globals: &Globals<'_>,
+    reference: &SchemaRef<'_>,
+    name: &[u8],
+) -> Option<(usize, Option<usize>)> {
+    let (schema, flat) = schema_named(globals, reference.name.base())?;
+    Some((schema, referred(flat, reference, name)))
 }
 
 /// The place of the component of a schema that has this name where the schema is referred to so.
 fn referred(flat: &Flat<'_>, reference: &SchemaRef<'_>, name: &[u8]) -> Option<usize> {
     let bare = name.strip_suffix(reference.name.strokes())?;
-    match reference.mark {
-        RefMark::Plain => place_of(flat, bare),
-        _ => match place_of(flat, bare) {
-            Some(place) => Some(place),
-            None => place_of(flat, bare.strip_suffix(b"'")?),
-        },
+    match place_of(flat, bare) {
+        None if !matches!(reference.mark, RefMark::Plain) => {
+            place_of(flat, bare.strip_suffix(b"'")?)
+        }
+        place => place,
     }
 }
 

@@ -1,5 +1,5 @@
 //! What stands at places of a row or of a schema.
-ghost use Rattle.std.specs.Prelude.{◌≡◌, ◌++◌, IfOk, OnOk, map, slice_get};
+ghost use Rattle.std.specs.Prelude.{◌≡◌, ◌++◌, ◌∷◌, [], IfOk, OnOk, map, slice_get};
 ghost use Rattle.std.specs.Option.{option_to_list};
 ghost use Rattle.zf_places.specs.Places as spec;
 ghost use Rattle.zf_term.specs.SchemaViews.{comp_of, schema_of};
@@ -48,8 +48,18 @@ pub fn schema_at<'a>(
 ) -> Result<&'a Flat<'a>, AllocError>
     ensures { IfOk result (λ f. (schema_of f.now).comps ≡ spec.comps_at (map comp_of components.now) places.now) }
 {
+    lasting_schema(arena, components_at(arena, components, places)?)
+}
+
+/// A schema of these components alone.
+fn lasting_schema<'a>(
+    arena: &'a Bump,
+    components: ArenaItems<'a, Component<'a>>,
+) -> Result<&'a Flat<'a>, AllocError>
+    ensures { IfOk result (λ f. (schema_of f.now).comps ≡ map comp_of components.entry) }
+{
     let schema = Flat {
-        components: components_at(arena, components, places)?,
+        components,
         conjuncts: Chunked::new(arena),
     };
     let lasting = Lasting::new(arena, schema)?;
@@ -82,8 +92,18 @@ fn add_component<'a>(
     match components.get(place) {
         None => Ok(()),
         Some(component) => {
-            found.push(component.share()?)?;
+            add_same(found, component)?;
             Ok(())
         }
     }
+}
+
+/// Adds the same component.
+fn add_same<'a>(
+    found: &mut ArenaItems<'a, Component<'a>>,
+    component: &Component<'a>,
+) -> Result<(), AllocError>
+    ensures { OnOk result (found.new ≡ found.old ++ component.now ∷ []) }
+{
+    found.push(component.share()?)
 }

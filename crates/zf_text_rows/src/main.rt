@@ -32,8 +32,17 @@ fn main(rt: HostRuntime) -> ExitCode {
 fn tell<R: Files + Print + AllocGlobal>(rt: &R, name: &str) -> io::Result<()> {
     let file = format!(in rt.alloc(); "rows/{name}.rows")?;
     let text = fs::read_to_string(rt, file.as_str())?;
+    let as_written = tell_rows(rt, name, text.as_str())?;
+    println!(rt; "{name}: {as_written} as written")
+}
+
+/// Prints each of the rows that is not as written. How many are.
+fn tell_rows<R: Print + AllocGlobal>(rt: &R, name: &str, text: &str) -> io::Result<u64> {
     let mut rows = Rows::new(rt.alloc());
-    let mut tally = Tally::new(rt.alloc());
+    let mut tally = Tally {
+        as_written: 0,
+        others: String::new(rt.alloc()),
+    };
     for (place, line) in text.lines().enumerate() {
         rows.read(line, &mut tally)?;
         if !tally.others.is_empty() {
@@ -41,5 +50,5 @@ fn tell<R: Files + Print + AllocGlobal>(rt: &R, name: &str) -> io::Result<()> {
             tally.others.clear();
         }
     }
-    println!(rt; "{name}: {} as written", tally.as_written)
+    Ok(tally.as_written)
 }

@@ -100,28 +100,16 @@ impl Printer {
             Term::Name(line, name) => self.name(&name.at(*line)),
             Term::Number(line, value) => self.word(*value, *line),
             Term::Constant(line, constant) => self.word(format_args!("{constant:?}"), *line),
-            Term::EmptySet(line, set) => {
-                self.word("(EmptySet", *line)?;
-                self.last(set.get())
-            }
-            Term::Bracket(line, term) => {
-                self.word("(Bracket", *line)?;
-                self.last(term.get())
-            }
+            Term::EmptySet(line, set) => self.marked("(EmptySet", *line, set.get()),
+            Term::Bracket(line, inner) => self.marked("(Bracket", *line, inner.get()),
             Term::Listed(line, form, terms) => {
                 self.listed(*line, *form)?;
                 self.all(terms.as_slice())
             }
-            Term::Builder(line, decls, filter, term) => {
-                self.word("(Builder", *line)?;
-                self.bound(decls.as_slice())?;
-                self.optional("|", filter)?;
-                self.optional("@", term)?;
-                self.close()
-            }
-            Term::Unary(line, op, term) => {
+            Term::Builder(_, _, _, _) => self.builder(term),
+            Term::Unary(line, op, operand) => {
                 self.unary(*line, *op)?;
-                self.last(term.get())
+                self.last(operand.get())
             }
             Term::Binary(line, op, left, right) => {
                 self.operator(*line, *op)?;
@@ -131,18 +119,41 @@ impl Printer {
             Term::Chain(line, first, links) => {
                 self.word("(Chain", *line)?;
                 self.term(first.get())?;
-                self.links(links.as_slice())?;
-                self.close()
+                self.links(links.as_slice())
             }
-            Term::Quantified(quantifier, line, decls, filter, body) => {
-                self.word(format_args!("({quantifier:?}"), *line)?;
-                self.bound(decls.as_slice())?;
-                self.optional("|", filter)?;
-                self.open("@")?;
-                self.last(body.get())?;
-                self.close()
-            }
+            Term::Quantified(_, _, _, _, _) => self.quantified(term),
         }
+    }
+
+    #[cycle(terms)]
+    fn marked(&mut self, form: &str, line: u32, term: &Term<'_>) -> fmt::Result {
+        self.word(form, line)?;
+        self.last(term)
+    }
+
+    #[cycle(terms)]
+    fn builder(&mut self, term: &Term<'_>) -> fmt::Result {
+        let Term::Builder(line, decls, filter, term) = term else {
+            return Ok(());
+        };
+        self.word("(Builder", *line)?;
+        self.bound(decls.as_slice())?;
+        self.optional("|", filter)?;
+        self.optional("@", term)?;
+        self.close()
+    }
+
+    #[cycle(terms)]
+    fn quantified(&mut self, term: &Term<'_>) -> fmt::Result {
+        let Term::Quantified(quantifier, line, decls, filter, body) = term else {
+            return Ok(());
+        };
+        self.word(format_args!("({quantifier:?}"), *line)?;
+        self.bound(decls.as_slice())?;
+        self.optional("|", filter)?;
+        self.open("@")?;
+        self.last(body.get())?;
+        self.close()
     }
 
     /// The last part of a form.
@@ -179,7 +190,7 @@ impl Printer {
             write!(self.text, " ({:?}", link.relation)?;
             self.last(link.right.get())?;
         }
-        Ok(())
+        self.close()
     }
 
     #[cycle(terms)]
@@ -190,6 +201,13 @@ impl Printer {
             self.last(decl.set.get())?;
         }
         Ok(())
+    }
+
+    /// Declarations and predicates, and the end.
+    fn body<'a>(&mut self, decls: &[Decl<'a>], predicates: &[Boxed<'a, Term<'a>>]) -> fmt::Result {
+        self.decls(decls)?;
+        self.predicates(predicates)?;
+        self.close()
     }
 
     fn predicates<'a>(&mut self, predicates: &[Boxed<'a, Term<'a>>]) -> fmt::Result {
@@ -220,33 +238,36 @@ impl Printer {
         Ok(())
     }
 
+    #[cycle(schemas)]
     fn schema(&mut self, schema: &SchemaExp<'_>) -> fmt::Result {
         match schema {
             SchemaExp::Text(decls, predicates) => {
                 self.open("Text")?;
-                self.decls(decls.as_slice())?;
-                self.predicates(predicates.as_slice())?;
-                self.close()
+                self.body(decls.as_slice(), predicates.as_slice())
             }
             SchemaExp::Ref(reference) => self.reference(reference),
             SchemaExp::Both(left, right) => {
                 self.open("Both")?;
                 self.schema(left.get())?;
-                self.schema(right.get())?;
-                self.close()
+                self.last_schema(right.get())
             }
             SchemaExp::Or(line, left, right) => {
                 self.word("(Or", *line)?;
                 self.schema(left.get())?;
-                self.schema(right.get())?;
-                self.close()
+                self.last_schema(right.get())
             }
             SchemaExp::Bracket(inner) => {
                 self.open("Bracket")?;
-                self.schema(inner.get())?;
-                self.close()
+                self.last_schema(inner.get())
             }
         }
+    }
+
+    /// The last part of a schema.
+    #[cycle(schemas)]
+    fn last_schema(&mut self, schema: &SchemaExp<'_>) -> fmt::Result {
+        self.schema(schema)?;
+        self.close()
     }
 
     fn paragraph(&mut self, paragraph: &Paragraph<'_>) -> fmt::Result {
@@ -270,27 +291,28 @@ impl Printer {
             Paragraph::Defs(name, schema) => {
                 self.open("Defs")?;
                 self.name(name)?;
-                self.schema(schema)?;
-                self.close()
+                self.last_schema(schema)
             }
         }
+    }
+
+    fn paragraphs(&mut self, paragraphs: &[Paragraph<'_>]) -> fmt::Result {
+        for paragraph in paragraphs {
+            self.paragraph(paragraph)?;
+        }
+        self.close()
     }
 
     fn zbox(&mut self, zbox: &ZBox<'_>) -> fmt::Result {
         match zbox {
             ZBox::Zed(paragraphs) => {
                 self.open("Zed")?;
-                for paragraph in paragraphs.as_slice() {
-                    self.paragraph(paragraph)?;
-                }
-                self.close()
+                self.paragraphs(paragraphs.as_slice())
             }
             ZBox::SchemaBox(name, decls, predicates) => {
                 self.open("Schema")?;
                 self.name(name)?;
-                self.decls(decls.as_slice())?;
-                self.predicates(predicates.as_slice())?;
-                self.close()
+                self.body(decls.as_slice(), predicates.as_slice())
             }
         }
     }

@@ -27,6 +27,7 @@ use std::io;
 use std::io::ErrorKind;
 use zf_scan::fault::TextFault;
 use zf_text::reading::read_spec;
+use zf_tree::tree::Spec;
 
 /// What came of rows.
 #[derive(Drop)]
@@ -37,17 +38,8 @@ pub struct Tally {
     pub others: String,
 }
 
-impl Tally {
-    pub fn new(alloc: Global) -> Tally {
-        Tally {
-            as_written: 0,
-            others: String::new(alloc),
-        }
-    }
-}
-
 /// What is asked of a source.
-#[derive(Clone, Copy, PartialEq, Eq)]
+#[derive(Clone, Copy)]
 enum Asked {
     Tree,
     TreeWithLines,
@@ -60,12 +52,6 @@ struct Form {
     level: String,
     text: String,
     tree: String,
-}
-
-impl Form {
-    fn has_minus(&self) -> bool {
-        self.text.starts_with("-")
-    }
 }
 
 /// What the lines so far say of the next row.
@@ -144,12 +130,13 @@ impl Rows {
             return self.run_in_round(source, answer, tally);
         };
         let alloc = *self.source.allocator();
+        let is_after_separator = before.ends_with(r"\\ ") || before.ends_with("; ");
         let mut is_looser = true;
         for form in &self.forms {
             if form.level.as_str() == self.level.as_str() {
                 is_looser = false;
             }
-            let is_bracketed = is_looser || form.has_minus() && ends_with_separator(before);
+            let is_bracketed = is_looser || is_after_separator && form.text.starts_with("-");
             let (brackets, tree_brackets) = if is_bracketed {
                 ("(..)", "(Bracket ..)")
             } else {
@@ -202,8 +189,7 @@ impl Rows {
             return Ok(());
         }
         let front = source.get(..200).unwrap_or(source);
-        write!(tally.others, "\n{front}\nis {found}")?;
-        Ok(())
+        Ok(write!(tally.others, "\n{front}\nis {found}")?)
     }
 
     /// The tree of the source, or its fault.
@@ -211,17 +197,22 @@ impl Rows {
         let alloc = *self.source.allocator();
         let arena = Bump::new(alloc);
         match read_spec(alloc, &arena, source.as_bytes()) {
-            Ok(spec) => match self.asked {
-                Asked::Tree => printed(alloc, &spec, false),
-                Asked::TreeWithLines => printed(alloc, &spec, true),
-                Asked::Fault => Ok(String::from_str(alloc, "read")?),
-            },
-            Err(unread) => {
-                let TextFault { line, kind } = unread.fault;
-                Ok(format!(in alloc; "{line}: {kind}")?)
-            }
+            Ok(spec) => self.tree_of(alloc, &spec),
+            Err(unread) => fault_text(alloc, unread.fault),
         }
     }
+
+    fn tree_of(&self, alloc: Global, spec: &Spec<'_>) -> io::Result<String> {
+        match self.asked {
+            Asked::Tree => printed(alloc, spec, false),
+            Asked::TreeWithLines => printed(alloc, spec, true),
+            Asked::Fault => Ok(String::from_str(alloc, "read")?),
+        }
+    }
+}
+
+fn fault_text(alloc: Global, fault: TextFault) -> io::Result<String> {
+    Ok(format!(in alloc; "{}: {}", fault.line, fault.kind)?)
 }
 
 /// Whether the fault is one of those, which are parted by commas.
@@ -233,10 +224,6 @@ fn is_among(found: &str, faults: &str) -> bool {
         }
     }
     false
-}
-
-fn ends_with_separator(text: &str) -> bool {
-    text.ends_with(r"\\ ") || text.ends_with("; ")
 }
 
 /// The text at the `..` of what stands round it, or behind what has none.

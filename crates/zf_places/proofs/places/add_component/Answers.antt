@@ -9,10 +9,10 @@ returns-in-None c =
     let old = map comp_of c.args.found.now in
     sym (ap (λ o. old ++ option_to_list o) (past_mapped comp_of c.args.components.now c.args.place c.in-None.ensures.lookup.3) ∙ append-nil old)
 
-pub returns-in_ok-push-in-Some : goal.returns-in_ok-push-in-Some
-returns-in_ok-push-in-Some c =
+pub returns-in_ok-add_same-in-Some : goal.returns-in_ok-add_same-in-Some
+returns-in_ok-add_same-in-Some c =
     let old = c.args.found.now in
-    let x = c.in_ok-share-in-Some.field-0 in
+    let x = c.in-Some.component.now in
     let there = c.in-Some.ensures.lookup in
-    ap (map comp_of) c.in_ok-push-in-Some.ensures.ok ∙ map-append comp_of old (x ∷ []) ∙ ap (λ y. map comp_of old ++ comp_of y ∷ []) c.in_ok-share-in-Some.ensures
-    ∙ ap (λ o. map comp_of old ++ option_to_list o) (sym (mapped_at comp_of c.args.components.now c.args.place c.in-Some.component.now there.1 there.3.0))
+    ap (map comp_of) c.in_ok-add_same-in-Some.ensures ∙ map-append comp_of old (x ∷ [])
+    ∙ ap (λ o. map comp_of old ++ option_to_list o) (sym (mapped_at comp_of c.args.components.now c.args.place x there.1 there.3.0))
