@@ -1,5 +1,5 @@
 -- Equations and names, as terms are seen.
-use Rattle.zf_enum.proofs.Prelude.{◌∙◌, ◌∷◌, ◌≡◌, ◌≤◌, [], ap, arith, get_or, IfSome, length, List, map, None, Option, Some, sym, ℕ, Reference, Component, Equal, link-seen, of-Chain, of-Name, chain, link, links, no_links, reference, resolved_link_of, resolved_of, Resolved, ResolvedLink, IsName}
+use Rattle.zf_enum.proofs.Prelude.{◌∙◌, ◌∷◌, ◌≡◌, ◌≤◌, [], ap, arith, get_or, IfSome, length, List, map, None, Option, Some, sym, ℕ, Reference, Component, Equal, link-seen, of-Chain, of-Name, chain, link, links, no_links, reference, resolved_link_of, resolved_of, Resolved, ResolvedLink, ResolvedTree, IsName, Relation}
 use Rattle.zf_term.specs.declared.resolved.Resolved.TheVariants as form
 
 pub some_weaker : {X : Type 0} (r : Option X) (P Q : X → Type 0) → ((x : X) → P x → Q x) → IfSome r P → IfSome r Q
@@ -23,9 +23,7 @@ relation_seen t l first x ks xs k is same here least most at =
     ∙ ap (λ zs. chain l (resolved_of x) (links (map resolved_link_of zs))) (sym same ∙ one_link xs k least most at)
     ∙ ap (λ p. chain l (resolved_of x) (link p.0 p.1 no_links)) (link-seen k)
 
--- a chain of one link, an equality
-pub equation_seen : (t : Resolved) (l : ℕ) (first x : Resolved) (ks xs : List ResolvedLink) (k : ResolvedLink) → t ≡ form.Chain l first ks → xs ≡ ks
-    → x ≡ first → 1 ≤ length xs → length xs ≤ 1 → k ≡ get_or xs 0 k → k.relation ≡ Equal
-    → resolved_of t ≡ chain l (resolved_of x) (link Equal (resolved_of k.right) no_links)
-equation_seen t l first x ks xs k is same here least most at equal =
-    relation_seen t l first x ks xs k is same here least most at ∙ ap (λ r. chain l (resolved_of x) (link r (resolved_of k.right) no_links)) equal
+-- one that is an equality
+pub equation_is : (p left right : ResolvedTree) (r : Relation) → (line : ℕ) × (p ≡ chain line left (link r right no_links)) → r ≡ Equal
+    → (line : ℕ) × (p ≡ chain line left (link Equal right no_links))
+equation_is p left right r h equal = (h.0, h.1 ∙ ap (λ q. chain h.0 left (link q right no_links)) equal)

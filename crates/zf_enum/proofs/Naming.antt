@@ -1,5 +1,5 @@
 -- Predicates in which closed parts are names: they say what they said, and so do trees over them.
-use Rattle.zf_enum.proofs.Prelude.{◌++◌, ◌+◌, ◌↔◌, ◌∙◌, ◌∷◌, ◌≡◌, ◌≤◌, ◌⊎◌, [], ap, arith, inl, inr, length, List, refl, suc, sym, take, zero, ℕ, ⊎_elim, slice_get, Truth, SayTheSame, both, either, IsOfBoth, IsOfEither, IsTreeTruth, leaf, negated, opposite, planted, Tree, tree_at, Reference, Component, Global, Local, Outcome, Value, ResolvedTree, references, Environment, longer, AreEach, AreLifted, IsLifted, IsLonger, due, due_of, greatest_place, HasTruth, NeedWithin, place_named, property, told, uses_first, with_first}
+use Rattle.zf_enum.proofs.Prelude.{◌++◌, ◌+◌, ◌<◌, ◌↔◌, ◌∙◌, ◌∷◌, ◌≡◌, ◌≤◌, ◌⊎◌, [], ap, arith, inl, inr, length, List, map, refl, subst, suc, sym, take, zero, ℕ, ⊎_elim, slice_get, Truth, SayTheSame, both, either, HasLeavesWithin, HaveLeavesWithin, IsOfBoth, IsOfEither, IsTreeTruth, leaf, negated, opposite, planted, Tree, tree_at, Reference, Component, Global, Local, Outcome, Value, Resolved, resolved_of, ResolvedTree, references, Environment, longer, AreEach, AreLifted, IsLifted, IsLonger, due, due_of, greatest_place, HasTruth, NeedWithin, place_named, property, told, uses_first, with_first}
 use Rattle.zf_value.specs.declared.value.Truth as meaning
 use Rattle.zf_walk.specs.declared.judge.Truth.TheVariants.{True, False, Out}
 use Rattle.zf_walk.specs.Conjuncts.{Conjuncts}
@@ -24,6 +24,13 @@ with_outcomes e os = record { globals = e.globals; sizes = e.sizes; outcomes = o
 pub unchanged : (e : Environment) (ts : List ResolvedTree) → AreLifted e e ts ts
 unfolding with_outcomes
 unchanged e ts = record { longer = ([], sym (ap (with_outcomes e) (no_more e.outcomes))); each = each_itself e ts }
+
+-- so do the same terms in the same environment
+pub as_made : (f d e : Environment) (xs ys us : List Resolved) → f ≡ d → xs ≡ ys → AreLifted d e (map resolved_of ys) (map resolved_of us)
+    → AreLifted f e (map resolved_of xs) (map resolved_of us)
+as_made f d e xs ys us here same h =
+    subst (λ (g : Environment). AreLifted g e (map resolved_of xs) (map resolved_of us)) (sym here)
+    (subst (λ (ts : List Resolved). AreLifted d e (map resolved_of ts) (map resolved_of us)) (sym same) h)
 
 -- ---- the first names
 
@@ -85,20 +92,26 @@ of_either P Q R S f g True h = ⊎_elim (λ a. inl (f True a)) (λ b. inr (g Tru
 of_either P Q R S f g False h = (f False h.0, g False h.1)
 of_either P Q R S f g Out h = (⊎_elim (λ a. inl (f False a)) (λ a. inr (f Out a)) h.0, ⊎_elim (λ b. inl (g False b)) (λ b. inr (g Out b)) h.1, ⊎_elim (λ a. inl (f Out a)) (λ b. inr (g Out b)) h.2)
 
-module _ (l m : Conjuncts Value) (says : (c : ℕ) (row : List Value) (t : Truth) → l.says c row t → m.says c row t) where
-  tree_truth : (tree : Tree) (row : List Value) (t : Truth) → IsTreeTruth l tree row t → IsTreeTruth m tree row t
-  tree_truth (leaf c) row t h = says c row t h
-  tree_truth (negated a) row t h = tree_truth a row (opposite t) h
-  tree_truth (both a b) row t h = of_both (IsTreeTruth l a row) (IsTreeTruth l b row) (IsTreeTruth m a row) (IsTreeTruth m b row) (tree_truth a row) (tree_truth b row) t h
-  tree_truth (either a b) row t h = of_either (IsTreeTruth l a row) (IsTreeTruth l b row) (IsTreeTruth m a row) (IsTreeTruth m b row) (tree_truth a row) (tree_truth b row) t h
+-- the leaves of the tree are among the first n
+module _ (n : ℕ) (l m : Conjuncts Value) (row : List Value) (says : (c : ℕ) (t : Truth) → c < n → l.says c row t → m.says c row t) where
+  pub tree_truth : (tree : Tree) → HasLeavesWithin n tree → (t : Truth) → IsTreeTruth l tree row t → IsTreeTruth m tree row t
+  tree_truth (leaf c) w t h = says c t w h
+  tree_truth (negated a) w t h = tree_truth a w (opposite t) h
+  tree_truth (both a b) w t h =
+      of_both (IsTreeTruth l a row) (IsTreeTruth l b row) (IsTreeTruth m a row) (IsTreeTruth m b row) (tree_truth a w.0) (tree_truth b w.1) t h
+  tree_truth (either a b) w t h =
+      of_either (IsTreeTruth l a row) (IsTreeTruth l b row) (IsTreeTruth m a row) (IsTreeTruth m b row) (tree_truth a w.0) (tree_truth b w.1) t h
 
-pub named_alike : (f e : Environment) (ts leaves ps : List ResolvedTree) (trees : List Tree) → AreLifted f e ts leaves
+pub named_alike : (f e : Environment) (ts leaves ps : List ResolvedTree) (trees : List Tree) → HaveLeavesWithin (length leaves) trees → AreLifted f e ts leaves
     → SayTheSame (planted (property e leaves) trees) (property e ps) → SayTheSame (planted (property f ts) trees) (property e ps)
-named_alike f e ts leaves ps trees h same = record {
+named_alike f e ts leaves ps trees within h same = record {
   number = same.number;
   says = λ c l row t.
-      let there = tree_truth (property f ts) (property e leaves) (λ k r u. (truths_at f e ts leaves h.each k r (told u)).0) (tree_at trees c) row t in
-      let back = tree_truth (property e leaves) (property f ts) (λ k r u. (truths_at f e ts leaves h.each k r (told u)).1) (tree_at trees c) row t in
+      let n = length leaves in
+      let tree = tree_at trees c in
+      let w = within c (leaf 0) l in
+      let there = tree_truth n (property f ts) (property e leaves) row (λ k u i. (truths_at f e ts leaves h.each k row (told u)).0) tree w t in
+      let back = tree_truth n (property e leaves) (property f ts) row (λ k u i. (truths_at f e ts leaves h.each k row (told u)).1) tree w t in
       (λ x. (same.says c l row t).0 (there x), λ x. back ((same.says c l row t).1 x));
 }
 

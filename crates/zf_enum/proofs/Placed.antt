@@ -1,6 +1,5 @@
 -- The places at which several values stand, one after another.
-use Rattle.zf_enum.proofs.Prelude.{◌≡◌, ⊎_elim, ℕ, suc, ◌+◌, ◌<◌, ◌≤◌, List, length, take, get_or, sym, subst, add-one, Value, IsMember, members-take_more, take_all, StaysIn}
-use Rattle.zf_enum.specs.Fixing.{HasPlace}
+use Rattle.zf_enum.proofs.Prelude.{◌≡◌, ⊎_elim, ℕ, suc, ◌+◌, ◌<◌, ◌≤◌, List, length, take, get_or, sym, subst, add-one, Value, IsMember, members-take_more, take_all, StaysIn, HasPlace}
 
 placed_next : (xs : List Value) (i : ℕ) (x : Value) (range : List Value) (old new : List ℕ) → x ≡ get_or xs i x → i < length xs → StaysIn old new
     → HasPlace x range new → ((v : Value) → IsMember v (take i xs) → HasPlace v range old) → (v : Value) → IsMember v (take (suc i) xs) → HasPlace v range new

@@ -1,6 +1,5 @@
 -- The row that the last step gave, by the places of its values.
-use Rattle.std.proofs.Common.{◌<◌, ◌≡◌, [], arith, length, List, None, Option, Some, ℕ}
-use Rattle.std.specs.Prelude.{IfSome, IsSomeAnd, slice_get, unwrap_or}
+use Rattle.zf_enum.proofs.Prelude.{◌<◌, ◌≡◌, [], arith, length, List, None, Option, Some, ℕ, IfSome, IsSomeAnd, slice_get, unwrap_or}
 
 -- there is one, if it has a value
 pub is_given : {V : Type 0} (last : Option (List V)) (i : ℕ) → i < length (unwrap_or last []) → IsSomeAnd last (λ row. i < length row)

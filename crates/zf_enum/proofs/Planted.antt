@@ -1,15 +1,14 @@
 -- What is planted of a predicate has its truths.
-use Rattle.zf_enum.proofs.Prelude.{◌++◌, ◌+◌, ◌<◌, ◌↔◌, ◌∙◌, ◌∷◌, ◌≡◌, ◌≤◌, ◌⊎◌, [], ap, arith, inl, inr, length, List, map, max, refl, Some, subst, suc, sym, zero, ℕ, ⊎_elim, All, slice_get, unwrap_or, Truth, SayTheSame, Grove, Grows, Takes, trees_made, trees_of, both, either, HasLeavesWithin, HaveLeavesWithin, IsOfBoth, IsOfEither, IsTreeTruth, leaf, negated, opposite, planted, Tree, tree_at, Value, Not, of-Binary, of-Unary, binary, resolved_of, ResolvedTree, unary, Resolved, Environment, in_row, IsTruth, IsConjunction, IsDisjunction, ArePlanted, IsPlanted, NeedWithin, Plants, PlantsNext, due, HasTruth, property, told}
+use Rattle.zf_enum.proofs.Prelude.{◌++◌, ◌+◌, ◌<◌, ◌↔◌, ◌∙◌, ◌∷◌, ◌≡◌, ◌≤◌, ◌⊎◌, [], ap, arith, inl, inr, length, List, map, max, refl, Some, subst, suc, sym, zero, ℕ, ⊎_elim, All, slice_get, unwrap_or, Truth, SayTheSame, Grove, Grows, Takes, trees_made, trees_of, both, either, HasLeavesWithin, HaveLeavesWithin, IsOfBoth, IsOfEither, IsTreeTruth, leaf, negated, opposite, planted, Tree, tree_at, Value, Not, of-Binary, of-Unary, binary, resolved_of, ResolvedTree, unary, Resolved, Environment, in_row, IsTruth, IsConjunction, IsDisjunction, ArePlanted, IsPlanted, NeedWithin, Plants, PlantsNext, due, HasTruth, property, told, Operator, Unary}
 use Rattle.zf_tree.specs.declared.symbol.Connective as connective
 use Rattle.zf_tree.specs.declared.symbol.Connective.TheVariants as connectives
-use Rattle.zf_tree.specs.declared.operator.Operator.{Operator}
 use Rattle.zf_tree.specs.declared.operator.Operator.TheVariants.{Connective}
-use Rattle.zf_tree.specs.declared.operator.Unary.{Unary}
 use Rattle.zf_term.specs.declared.resolved.Resolved.TheVariants as form
 use Rattle.zf_value.specs.declared.value.Truth as value
 use Rattle.zf_walk.specs.declared.judge.Truth.TheVariants.{True, False, Out}
 use Rattle.zf_outcome.specs.Truths as meaning
 use Rattle.zf_enum.proofs.Dues.{due_need}
+use Rattle.zf_enum.proofs.Naming.{tree_truth}
 
 -- ---- connectives of a tree and of a predicate
 
@@ -48,18 +47,6 @@ either_same P Q R S f g Out = (
 
 -- ---- further leaves change no truth
 
-both_kept : (P Q R S : Truth → Type 0) → ((t : Truth) → P t → R t) → ((t : Truth) → Q t → S t) → (t : Truth) → IsOfBoth P Q t → IsOfBoth R S t
-both_kept P Q R S f g True h = (f True h.0, g True h.1)
-both_kept P Q R S f g False h = ⊎_elim (λ a. inl (f False a)) (λ b. inr (g False b)) h
-both_kept P Q R S f g Out h =
-    (⊎_elim (λ a. inl (f True a)) (λ a. inr (f Out a)) h.0, ⊎_elim (λ b. inl (g True b)) (λ b. inr (g Out b)) h.1, ⊎_elim (λ a. inl (f Out a)) (λ b. inr (g Out b)) h.2)
-
-either_kept : (P Q R S : Truth → Type 0) → ((t : Truth) → P t → R t) → ((t : Truth) → Q t → S t) → (t : Truth) → IsOfEither P Q t → IsOfEither R S t
-either_kept P Q R S f g True h = ⊎_elim (λ a. inl (f True a)) (λ b. inr (g True b)) h
-either_kept P Q R S f g False h = (f False h.0, g False h.1)
-either_kept P Q R S f g Out h =
-    (⊎_elim (λ a. inl (f False a)) (λ a. inr (f Out a)) h.0, ⊎_elim (λ b. inl (g False b)) (λ b. inr (g Out b)) h.1, ⊎_elim (λ a. inl (f Out a)) (λ b. inr (g Out b)) h.2)
-
 leaf_stays : (xs ys : List Resolved) (i : ℕ) → i < length (map resolved_of xs) → slice_get (map resolved_of (xs ++ ys)) i ≡ slice_get (map resolved_of xs) i
 leaf_stays [] ys i l = absurd (omega arith)
 leaf_stays (x ∷ xs) ys zero l = refl
@@ -67,25 +54,12 @@ leaf_stays (x ∷ xs) ys (suc i) l = leaf_stays xs ys i (omega arith)
 
 truths_stay : (e : Environment) (xs ys : List Resolved) (row : List Value) (tree : Tree) (t : Truth) → HasLeavesWithin (length (map resolved_of xs)) tree
     → IsTreeTruth (property e (map resolved_of (xs ++ ys))) tree row t ↔ IsTreeTruth (property e (map resolved_of xs)) tree row t
-truths_stay e xs ys row (leaf c) t l =
-    let same = leaf_stays xs ys c l in
-    (λ h. subst (λ p. HasTruth e row p (told t)) same h, λ h. subst (λ p. HasTruth e row p (told t)) (sym same) h)
-truths_stay e xs ys row (negated a) t l = truths_stay e xs ys row a (opposite t) l
-truths_stay e xs ys row (both a b) t l =
+truths_stay e xs ys row tree t l =
+    let n = length (map resolved_of xs) in
     let more = property e (map resolved_of (xs ++ ys)) in
     let few = property e (map resolved_of xs) in (
-      both_kept (IsTreeTruth more a row) (IsTreeTruth more b row) (IsTreeTruth few a row) (IsTreeTruth few b row) (λ u. (truths_stay e xs ys row a u l.0).0)
-          (λ u. (truths_stay e xs ys row b u l.1).0) t,
-      both_kept (IsTreeTruth few a row) (IsTreeTruth few b row) (IsTreeTruth more a row) (IsTreeTruth more b row) (λ u. (truths_stay e xs ys row a u l.0).1)
-          (λ u. (truths_stay e xs ys row b u l.1).1) t,
-    )
-truths_stay e xs ys row (either a b) t l =
-    let more = property e (map resolved_of (xs ++ ys)) in
-    let few = property e (map resolved_of xs) in (
-      either_kept (IsTreeTruth more a row) (IsTreeTruth more b row) (IsTreeTruth few a row) (IsTreeTruth few b row) (λ u. (truths_stay e xs ys row a u l.0).0)
-          (λ u. (truths_stay e xs ys row b u l.1).0) t,
-      either_kept (IsTreeTruth few a row) (IsTreeTruth few b row) (IsTreeTruth more a row) (IsTreeTruth more b row) (λ u. (truths_stay e xs ys row a u l.0).1)
-          (λ u. (truths_stay e xs ys row b u l.1).1) t,
+      tree_truth n more few row (λ c u k h. subst (λ p. HasTruth e row p (told u)) (leaf_stays xs ys c k) h) tree l t,
+      tree_truth n few more row (λ c u k h. subst (λ p. HasTruth e row p (told u)) (sym (leaf_stays xs ys c k)) h) tree l t,
     )
 
 longer : (xs ys : List Resolved) → length (map resolved_of xs) ≤ length (map resolved_of (xs ++ ys))
@@ -256,35 +230,15 @@ plants_not xs ys g h i t p l a place e u w =
     let tree = tree_at (trees_made h) a in
     subst (λ q. Plants xs g q place ys i) (sym e) (plants_over xs ys g h i p (unary l Not p) a place (negated tree) u w (not_planted (map resolved_of ys) l p tree u.planted) (unary_due l p))
 
-module _ (xs ys zs : List Resolved) (g h i j : Grove) (t p q : ResolvedTree) (l a b place : ℕ) where
-  abbrev left : Tree
-  left = tree_at (trees_made i) a
-
-  abbrev right : Tree
-  right = tree_at (trees_made i) b
-
-  pub plants_and : t ≡ binary l (Connective connectives.And) p q → Plants xs g p a ys h → Plants ys h q b zs i → Grows i (both left right) place j → Plants xs g t place zs j
-  plants_and e u v w =
-      let due_of_both = due_binary l (Connective connectives.And) p q in
-      subst (λ r. Plants xs g r place zs j) (sym e)
-      (plants_both xs ys zs g h i j p q (binary l (Connective connectives.And) p q) a b place (both left right) u v w
-      (and_planted (map resolved_of zs) l p q left right) (omega (arith, due_of_both)) (omega (arith, due_of_both)))
-
-  pub plants_or : t ≡ binary l (Connective connectives.Or) p q → Plants xs g p a ys h → Plants ys h q b zs i → Grows i (either left right) place j → Plants xs g t place zs j
-  plants_or e u v w =
-      let due_of_both = due_binary l (Connective connectives.Or) p q in
-      subst (λ r. Plants xs g r place zs j) (sym e)
-      (plants_both xs ys zs g h i j p q (binary l (Connective connectives.Or) p q) a b place (either left right) u v w
-      (or_planted (map resolved_of zs) l p q left right) (omega (arith, due_of_both)) (omega (arith, due_of_both)))
-
-  -- over the negation of the left side
-  pub plants_implies : t ≡ binary l (Connective connectives.Implies) p q → Plants xs g (unary l Not p) a ys h → Plants ys h q b zs i → Grows i (either left right) place j → Plants xs g t place zs j
-  plants_implies e u v w =
-      let due_of_both = due_binary l (Connective connectives.Implies) p q in
-      let first : due p ≤ due (binary l (Connective connectives.Implies) p q) = omega (arith, due_of_both) in
-      subst (λ r. Plants xs g r place zs j) (sym e)
-      (plants_both xs ys zs g h i j (unary l Not p) q (binary l (Connective connectives.Implies) p q) a b place (either left right) u v w
-      (implies_planted (map resolved_of zs) l p q left right) first (omega (arith, due_of_both)))
+-- both sides of a connective; what is planted in place of the left one needs as many components
+pub plants_joined : (xs ys zs : List Resolved) (g h i j : Grove) (t p q r : ResolvedTree) (k : connective.Connective) (l a b place : ℕ) (tree : Tree)
+    → t ≡ binary l (Connective k) p q → due r ≡ due p → Plants xs g r a ys h → Plants ys h q b zs i → Grows i tree place j
+    → (IsPlanted (map resolved_of zs) r (tree_at (trees_made i) a) → IsPlanted (map resolved_of zs) q (tree_at (trees_made i) b)
+    → IsPlanted (map resolved_of zs) (binary l (Connective k) p q) tree) → Plants xs g t place zs j
+plants_joined xs ys zs g h i j t p q r k l a b place tree e low u v w joined =
+    let both = due_binary l (Connective k) p q in
+    subst (λ s. Plants xs g s place zs j) (sym e)
+    (plants_both xs ys zs g h i j r q (binary l (Connective k) p q) a b place tree u v w joined (omega (arith, both, low)) (omega (arith, both)))
 
 -- ---- all conjuncts
 

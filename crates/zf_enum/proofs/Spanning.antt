@@ -1,41 +1,34 @@
 -- Sums, differences and products of numbers that lie between two others.
-use Rattle.std.proofs.Common.{◌≡◌, ◌∙◌, ℕ, ◌+◌, ◌^◌, ◌≤◌, zero, suc, sym, ap, ap₂, subst, arith, to_z, of_z, Option, Some, None}
+use Rattle.zf_enum.proofs.Prelude.{◌≡◌, ◌∙◌, ℕ, ◌+◌, ◌^◌, ◌≤◌, zero, suc, sym, ap, ap₂, subst, arith, to_z, of_z, Option, Some, None, ℤ, pos, negsuc, neg_ℤ, ◌+ℤ◌, ◌-ℤ◌, ◌*ℤ◌, ◌≤ℤ◌, ◌<ℤ◌, FitsSigned, unsigned_abs, unwrap_or, Span, IsSmall, Spans, w32, w64, ints, to_z-of_z, unsigned_abs-mul, zero-*ℤ, suc_ℤ-*ℤ, *ℤ-negsuc, *ℤ_comm}
 use Rattle.std.proofs.Math.Nat.{mul-le-mul}
-use Rattle.std.specs.Prelude.{ℤ, pos, negsuc, neg_ℤ, ◌+ℤ◌, ◌-ℤ◌, ◌*ℤ◌, ◌≤ℤ◌, ◌<ℤ◌, FitsSigned, unsigned_abs}
 use Rattle.std.specs.Option.{SomeIff}
-use Rattle.std.specs.Prelude.{unwrap_or}
 use Rattle.std.proofs.lemmas.Option.{none-some}
-use Rattle.zf_enum.specs.declared.span.Span.{Span}
-use Rattle.zf_enum.specs.Spans.{IsSmall, Spans}
-use Rattle.std.specs.Int.{w32, w64}
-use Rattle.std.proofs.lemmas.Int.{ints, to_z-of_z, unsigned_abs-mul}
-use lib.IntN.{zero-*ℤ, +ℤ-suc_ℤ, suc_ℤ-*ℤ, *ℤ-negsuc, *ℤ_comm}
 
 -- ---- products
-
-plus_times : (n : ℕ) (q b : ℤ) → (q +ℤ pos n) *ℤ b ≡ (q *ℤ b) +ℤ (pos n *ℤ b)
-plus_times zero q b =
-    let a : q +ℤ pos zero ≡ q = omega (arith, ints) in
-    let m = zero-*ℤ b in
-    ap (λ x. x *ℤ b) a ∙ omega (arith, ints, m)
-plus_times (suc n) q b =
-    let a = +ℤ-suc_ℤ q (pos n) in
-    let x = suc_ℤ-*ℤ (q +ℤ pos n) b in
-    let y = suc_ℤ-*ℤ (pos n) b in
-    let z = plus_times n q b in
-    ap (λ u. u *ℤ b) a ∙ omega (arith, ints, x, y, z)
 
 negative_times : (n : ℕ) (b : ℤ) → negsuc n *ℤ b ≡ neg_ℤ (pos (suc n) *ℤ b)
 negative_times n b = *ℤ_comm (negsuc n) b ∙ *ℤ-negsuc b n ∙ ap neg_ℤ (*ℤ_comm b (pos (suc n)))
 
+count_sum : (n : ℕ) (a b : ℤ) → pos n *ℤ (a +ℤ b) ≡ (pos n *ℤ a) +ℤ (pos n *ℤ b)
+count_sum zero a b = let x = zero-*ℤ (a +ℤ b) in let y = zero-*ℤ a in let z = zero-*ℤ b in omega (arith, ints, x, y, z)
+count_sum (suc n) a b =
+    let x = suc_ℤ-*ℤ (pos n) (a +ℤ b) in
+    let y = suc_ℤ-*ℤ (pos n) a in
+    let z = suc_ℤ-*ℤ (pos n) b in
+    let r = count_sum n a b in
+    omega (arith, ints, x, y, z, r)
+
+times_sum : (c a b : ℤ) → c *ℤ (a +ℤ b) ≡ (c *ℤ a) +ℤ (c *ℤ b)
+times_sum (pos n) a b = count_sum n a b
+times_sum (negsuc n) a b =
+    let x = negative_times n (a +ℤ b) in
+    let y = negative_times n a in
+    let z = negative_times n b in
+    let r = count_sum (suc n) a b in
+    omega (arith, ints, x, y, z, r)
+
 sum_times : (q z b : ℤ) → (q +ℤ z) *ℤ b ≡ (q *ℤ b) +ℤ (z *ℤ b)
-sum_times q (pos n) b = plus_times n q b
-sum_times q (negsuc n) b =
-    let r = q +ℤ negsuc n in
-    let back : q ≡ r +ℤ pos (suc n) = omega (arith, ints) in
-    let whole : q *ℤ b ≡ (r *ℤ b) +ℤ (pos (suc n) *ℤ b) = ap (λ u. u *ℤ b) back ∙ plus_times (suc n) r b in
-    let minus = negative_times n b in
-    omega (arith, ints, whole, minus)
+sum_times q z b = *ℤ_comm (q +ℤ z) b ∙ times_sum b q z ∙ ap₂ (λ (x y : ℤ). x +ℤ y) (*ℤ_comm b q) (*ℤ_comm b z)
 
 opposite_times : (x v : ℤ) → neg_ℤ x *ℤ v ≡ neg_ℤ (x *ℤ v)
 opposite_times x v =
@@ -56,14 +49,6 @@ product_times : (c t v : ℤ) → (c *ℤ t) *ℤ v ≡ c *ℤ (t *ℤ v)
 product_times (pos n) t v = count_times n t v
 product_times (negsuc n) t v =
     ap (λ u. u *ℤ v) (negative_times n t) ∙ opposite_times (pos (suc n) *ℤ t) v ∙ ap neg_ℤ (count_times (suc n) t v) ∙ sym (negative_times n (t *ℤ v))
-
-times_sum : (c a b : ℤ) → c *ℤ (a +ℤ b) ≡ (c *ℤ a) +ℤ (c *ℤ b)
-times_sum c a b =
-    let s = sum_times a b c in
-    let x = *ℤ_comm c (a +ℤ b) in
-    let y = *ℤ_comm c a in
-    let z = *ℤ_comm c b in
-    omega (arith, ints, s, x, y, z)
 
 -- ---- products and order
 

@@ -1,6 +1,5 @@
 -- Where a value stands in an ascending range.
-use Rattle.zf_enum.proofs.Prelude.{cases_lt, AllPairs, slice_get, exact, value_order, Value}
-use Rattle.std.proofs.Common.{◌≡◌, ⊎_elim, ℕ, zero, suc, ◌<◌, List, [], ◌∷◌, length, get_or, Some, refl, sym, ap, ◌∙◌, Ok, Err, Less, arith}
+use Rattle.zf_enum.proofs.Prelude.{cases_lt, AllPairs, slice_get, exact, value_order, Value, ◌≡◌, ⊎_elim, ℕ, zero, suc, ◌<◌, List, [], ◌∷◌, length, get_or, Some, refl, sym, ap, ◌∙◌, Ok, Err, Less, arith}
 use Rattle.std.specs.Ordering.{ordering_index}
 use Rattle.std.specs.List.Sorted.{IsBinarySearchResult, IsNonDecreasingBy}
 use Rattle.std.proofs.lemmas.Cmp.{tied_itself}

@@ -31,7 +31,7 @@ pub(crate) enum Tie {
     Members,
 }
 
-/// Gathers the places of the next range that an expression leaves, over all values of the components that it uses behind. Answers false where it is out, or where these are too many to pay.
+/// Gathers the places of the next range that an expression leaves, over all values of the components that it uses behind. Answers false where it is out.
 pub(crate) fn gather_candidates<'a>(
     side: &Resolved<'a>,
     tie: Tie,
@@ -51,9 +51,6 @@ pub(crate) fn gather_candidates<'a>(
     let due = due(side);
     if due <= next {
         return gather_value(side, tie, ranges, places, next, env, gathered);
-    }
-    if !is_worth_it(side, ranges, next, due) {
-        return Ok(false);
     }
     let mut longer = Vec::with_capacity(*gathered.allocator(), due)?;
     longer.extend_from_slice(places)?;
@@ -75,7 +72,7 @@ pub(crate) fn gather_spread<'a>(
     ensures stay { StaysIn gathered.old.items gathered.new.items }
     ensures candidates { IfOk result (λ found. IsTrue found → AreCandidates Tie.Members (environment_of env.now) (resolved_of set.now) ranges.now (picked ranges.now places.now) (slice_index_or ranges.now (length places.now) []) gathered.new.items) }
 {
-    if !has_few_rows(set, ranges, places, env)? {
+    if !has_few_rows(set, ranges, places, env)? || !is_tried(set, ranges, places.len()) {
         return Ok(false);
     }
     gather_candidates(set, Tie::Members, ranges, places, env, gathered)
@@ -215,17 +212,11 @@ fn gather_outcome(
             Tie::Value => gather_place(&value, range, gathered),
             Tie::Members => gather_members(value.members(), range, gathered),
         },
-        Outcome::Undefined => Ok(is_value(tie)),
+        Outcome::Undefined => match tie {
+            Tie::Value => Ok(true),
+            Tie::Members => Ok(false),
+        },
         Outcome::Out => Ok(false),
-    }
-}
-
-fn is_value(tie: Tie) -> bool
-    ensures { IsTrue result → tie ≡ Tie.Value }
-{
-    match tie {
-        Tie::Value => true,
-        Tie::Members => false,
     }
 }
 

@@ -1,9 +1,9 @@
 //! Equations of a component with an expression.
-ghost use Rattle.std.specs.Prelude.{◌≡◌, IfSome, IsTrue};
+ghost use Rattle.std.specs.Prelude.{◌≡◌, ℕ, IfSome, IsTrue};
 ghost use Rattle.zf_reference.specs.declared.reference.Reference.TheVariants.{Component};
 ghost use Rattle.zf_tree.specs.declared.symbol.Relation.TheVariants.{Equal};
 ghost use Rattle.zf_term.specs.ResolvedViews.{resolved_of};
-ghost use Rattle.zf_term.specs.ResolvedTrees.{reference};
+ghost use Rattle.zf_term.specs.ResolvedTrees.{chain, link, no_links};
 ghost use Rattle.zf_enum.specs.Fixing.{IsName, IsBeside, Fixes};
 
 use crate::due::uses;
@@ -11,10 +11,19 @@ use zf_reference::reference::Reference;
 use zf_term::resolved::Resolved;
 use zf_tree::symbol::Relation;
 
-/// The expression that a predicate equates a component with, where it does. The expression doesn't name the component.
+/// A relation between two terms.
+#[derive(Clone, Copy)]
+pub(crate) struct Relating<'t, 'a> {
+    pub(crate) left: &'t Resolved<'a>,
+    pub(crate) relation: Relation,
+    pub(crate) right: &'t Resolved<'a>,
+}
+
+/// The relation that a predicate is, if it is one between two terms.
+#[inline]
 #[tactic(auto, using(zf_term::proofs::ResolvedSeen::seen))]
-pub(crate) fn fixing<'t, 'a>(term: &'t Resolved<'a>, component: usize) -> Option<&'t Resolved<'a>>
-    ensures { IfSome result (λ side. Fixes (resolved_of term.now) component (resolved_of side.now)) }
+pub(crate) fn relation_of<'t, 'a>(term: &'t Resolved<'a>) -> Option<Relating<'t, 'a>>
+    ensures { IfSome result (λ it. (line : ℕ) × (resolved_of term.now ≡ chain line (resolved_of it.left.now) (link it.relation (resolved_of it.right.now) no_links))) }
 {
     let Resolved::Chain(_, first, links) = term else {
         return None;
@@ -22,10 +31,24 @@ pub(crate) fn fixing<'t, 'a>(term: &'t Resolved<'a>, component: usize) -> Option
     let [link] = links.as_slice() else {
         return None;
     };
-    if !is_equality(link.relation) {
+    Some(Relating {
+        left: first.get(),
+        relation: link.relation,
+        right: &link.right,
+    })
+}
+
+/// The expression that a predicate equates a component with, where it does. The expression doesn't name the component.
+pub(crate) fn fixing<'t, 'a>(term: &'t Resolved<'a>, component: usize) -> Option<&'t Resolved<'a>>
+    ensures { IfSome result (λ side. Fixes (resolved_of term.now) component (resolved_of side.now)) }
+{
+    let Some(it) = relation_of(term) else {
+        return None;
+    };
+    if !is_equality(it.relation) {
         return None;
     }
-    beside(first.get(), &link.right, component)
+    beside(it.left, it.right, component)
 }
 
 pub(crate) fn is_equality(relation: Relation) -> bool
@@ -65,7 +88,8 @@ pub(crate) fn is_component(term: &Resolved<'_>, component: usize) -> bool
     is_named(*reference, component)
 }
 
-fn is_named(reference: Reference, component: usize) -> bool
+/// Whether a name is that of a component.
+pub(crate) fn is_named(reference: Reference, component: usize) -> bool
     ensures { IsTrue result → reference ≡ Component component }
 {
     match reference {

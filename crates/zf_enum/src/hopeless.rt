@@ -1,13 +1,15 @@
 //! Searches that end before they ask for what is costly, since no value of a component passes a conjunct.
 use crate::due::last_up_to;
+use crate::fixing::relation_of;
 use crate::keys::Repeated;
+use crate::spread::is_there;
 use crate::sums::compares;
 use std::alloc::AllocError;
 use zf_meaning::env::Env;
 use zf_meaning::value::truth_of;
 use zf_term::resolved::{Links, Resolved, Terms};
 use zf_tree::operator::{Listed, Operator, Sign, Unary};
-use zf_tree::symbol::{Infix, Prefix, Quantifier};
+use zf_tree::symbol::{Infix, Prefix};
 use zf_value::value::{Truth, Value};
 use zf_walk::Range;
 
@@ -28,27 +30,21 @@ pub(crate) fn is_hopeless<'a>(
     }
     let most = MOST_VALUES / required.len().max(1);
     for leaf in required {
-        if let Some(term) = leaves.get(*leaf) {
-            if let Some(component) = only_named(term) {
-                let asked = turn(component.saturating_add(1), *leaf, leaves.len());
-                if asked < first
-                    && !is_held(held, component)
-                    && excludes_all(term, component, ranges, most, env)?
-                {
-                    return Ok(true);
-                }
-            }
+        let Some(term) = leaves.get(*leaf) else {
+            continue;
+        };
+        let Some(component) = only_named(term) else {
+            continue;
+        };
+        let asked = turn(component.saturating_add(1), *leaf, leaves.len());
+        if asked < first
+            && !matches!(held.get(component), Some(Some(_)))
+            && excludes_all(term, component, ranges, most, env)?
+        {
+            return Ok(true);
         }
     }
     Ok(false)
-}
-
-/// Whether the component has a value that is held.
-fn is_held(held: &[Option<Value>], component: usize) -> bool {
-    match held.get(component) {
-        Some(Some(_)) => true,
-        _ => false,
-    }
 }
 
 /// Whether no value of the component passes the leaf, if it has at most so many.
@@ -68,9 +64,8 @@ fn excludes_all<'a>(
     let count = component.saturating_add(1);
     for value in &range.values {
         let row = Repeated { value, count };
-        match truth_of(term, &row, env)? {
-            Truth::False => {}
-            _ => return Ok(false),
+        if !matches!(truth_of(term, &row, env)?, Truth::False) {
+            return Ok(false);
         }
     }
     Ok(true)
@@ -104,25 +99,20 @@ fn turn(bound: usize, leaf: usize, leaves: usize) -> usize {
 
 /// How many first components have values when the search asks for a leaf. It may ask for one that narrows a range before any has.
 fn bound_of(term: &Resolved<'_>) -> usize {
-    if may_narrow(term) {
-        return 0;
-    }
     match last_up_to(term, usize::MAX, None) {
-        None => 0,
-        Some(place) => place.saturating_add(1),
+        Some(place) if !may_narrow(term) => place.saturating_add(1),
+        _ => 0,
     }
 }
 
 /// Whether a leaf may narrow the range of a component.
 fn may_narrow(term: &Resolved<'_>) -> bool {
     match term {
-        Resolved::Quantified(Quantifier::ForAll, _, _, _, _) => false,
-        Resolved::Quantified(_, _, _, _, _) => true,
-        Resolved::Chain(_, _, links) => match links.as_slice() {
-            [link] => compares(link.relation),
-            _ => false,
+        Resolved::Quantified(quantifier, _, _, _, _) => is_there(*quantifier),
+        _ => match relation_of(term) {
+            Some(it) => compares(it.relation),
+            None => false,
         },
-        _ => false,
     }
 }
 
@@ -130,22 +120,19 @@ fn may_narrow(term: &Resolved<'_>) -> bool {
 #[cycle(costly)]
 fn is_costly(term: &Resolved<'_>) -> bool {
     match term {
-        Resolved::Name(_, _) => false,
-        Resolved::Number(_, _) => false,
-        Resolved::Constant(_, _) => false,
-        Resolved::EmptySet(_, _) => false,
-        Resolved::Bracket(_, inner) => is_costly(inner.get()),
+        Resolved::Builder(_, _, _, _) => true,
+        Resolved::Quantified(_, _, _, _, _) => true,
         Resolved::Listed(_, Listed::Product, _) => true,
         Resolved::Listed(_, _, items) => has_costly(items),
-        Resolved::Builder(_, _, _, _) => true,
         Resolved::Unary(_, Unary::Sign(Sign::Symbol(Prefix::Power)), _) => true,
         Resolved::Unary(_, Unary::Sign(Sign::Symbol(Prefix::Finset)), _) => true,
         Resolved::Unary(_, _, of) => is_costly(of.get()),
         Resolved::Binary(_, Operator::Generic(_), _, _) => true,
         Resolved::Binary(_, Operator::Function(Infix::UpTo), _, _) => true,
         Resolved::Binary(_, _, left, right) => is_costly(left.get()) || is_costly(right.get()),
+        Resolved::Bracket(_, inner) => is_costly(inner.get()),
         Resolved::Chain(_, first, links) => is_costly(first.get()) || links_costly(links),
-        Resolved::Quantified(_, _, _, _, _) => true,
+        _ => false,
     }
 }
 

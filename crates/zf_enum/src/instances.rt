@@ -14,11 +14,10 @@ ghost use Rattle.zf_enum.specs.Starts.{Begins};
 ghost use Rattle.zf_ranges.specs.StartFaults.{RefusesStart};
 
 use crate::hopeless::is_hopeless;
-use crate::lifting::lifted;
+use crate::lifting::{lifted, unfolded};
 use crate::planting::{Planting, plant_all};
 use crate::property::Property;
 use crate::search::{Located, Passing, Ranged, Search};
-use crate::unfolding::unfolded;
 use bumpalo::Bump;
 use std::alloc::{AllocError, Global};
 use zf_meaning::env::Env;

@@ -1,5 +1,5 @@
 //! Keys of the values of a component: what a side of an equation that names nothing else comes to with them, a number each.
-ghost use Rattle.std.specs.Prelude.{◌≡◌, ◌<◌, ◌^◌, List, Some, IsTrue, IfOk, IfSome, slice_get, slice_index_or, []};
+ghost use Rattle.std.specs.Prelude.{◌≡◌, ◌<◌, ◌^◌, Some, IsTrue, IfOk, IfSome, slice_get, slice_index_or, []};
 ghost use Rattle.zf_term.specs.ResolvedViews.{resolved_of};
 ghost use Rattle.zf_walk.specs.Picked.{AreWithin, picked};
 ghost use Rattle.zf_meaning.specs.Envs.{environment_of};
@@ -8,7 +8,7 @@ ghost use Rattle.zf_enum.specs.Keys.{AreSides, HasKey, HasKeyWith, IsKey, IsKeye
 ghost use Rattle.zf_enum.specs.Property as spec;
 
 use crate::due::{due, uses};
-use crate::fixing::{is_component, is_equality};
+use crate::fixing::{is_component, is_equality, relation_of};
 use crate::shown::Shown;
 use std::alloc::AllocError;
 use std::hash::{FoldHasher, Hash, Hasher};
@@ -27,21 +27,17 @@ pub(crate) struct Sides<'t, 'a> {
 }
 
 /// The sides of an equation, where one is an expression of this component alone, and the other one of those before.
-#[tactic(auto, using(zf_term::proofs::ResolvedSeen::seen))]
 pub(crate) fn keyed<'t, 'a>(term: &'t Resolved<'a>, component: usize) -> Option<Sides<'t, 'a>>
     requires { spec.due (resolved_of term.now) < 2 ^ 64 }
     ensures { IfSome result (λ s. IsKeyed (resolved_of term.now) component (resolved_of s.key.now) (resolved_of s.other.now)) }
 {
-    let Resolved::Chain(_, first, links) = term else {
+    let Some(it) = relation_of(term) else {
         return None;
     };
-    let [link] = links.as_slice() else {
-        return None;
-    };
-    if !is_equality(link.relation) {
+    if !is_equality(it.relation) {
         return None;
     }
-    key_first(first.get(), &link.right, component)
+    key_first(it.left, it.right, component)
 }
 
 /// The sides, the one that is an expression of this component alone first.

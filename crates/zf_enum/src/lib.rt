@@ -19,7 +19,6 @@ mod span;
 mod spread;
 mod start;
 mod sums;
-mod unfolding;
 
 pub use bindings::Bindings;
 pub use conjuncts::Conjuncts;

@@ -128,17 +128,11 @@ fn gather_required(
     match term {
         Resolved::Bracket(_, inner) => gather_required(inner.get(), is_required, next, required),
         Resolved::Unary(_, Unary::Not, of) => gather_required(of.get(), false, next, required),
-        Resolved::Binary(_, Operator::Connective(Connective::And), left, right) => {
+        Resolved::Binary(_, Operator::Connective(op), left, right)
+            if !matches!(op, Connective::Iff) => {
+            let is_required = is_required && matches!(op, Connective::And);
             let next = gather_required(left.get(), is_required, next, required)?;
             gather_required(right.get(), is_required, next, required)
-        }
-        Resolved::Binary(_, Operator::Connective(Connective::Or), left, right) => {
-            let next = gather_required(left.get(), false, next, required)?;
-            gather_required(right.get(), false, next, required)
-        }
-        Resolved::Binary(_, Operator::Connective(Connective::Implies), left, right) => {
-            let next = gather_required(left.get(), false, next, required)?;
-            gather_required(right.get(), false, next, required)
         }
         _ => {
             if is_required {

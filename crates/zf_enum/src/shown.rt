@@ -1,6 +1,4 @@
 //! Rows of a walk, as rows of values.
-ghost use Rattle.std.specs.Prelude.{◌≡◌};
-
 use zf_meaning::row::Row;
 use zf_value::value::Value;
 

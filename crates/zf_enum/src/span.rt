@@ -42,18 +42,11 @@ impl Span {
         }
     }
 
-    /// The lowest number with a value.
-    pub(crate) fn lowest(self, value: i32) -> i64
-        ensures { result ≡ (self.times *ℤ value) +ℤ self.low }
+    /// What this number comes to with a value, as the lowest or the highest one.
+    pub(crate) fn at(self, value: i32, end: i32) -> i64
+        ensures { result ≡ (self.times *ℤ value) +ℤ end }
     {
-        i64::from(self.times) * i64::from(value) + i64::from(self.low)
-    }
-
-    /// The highest number with a value.
-    pub(crate) fn highest(self, value: i32) -> i64
-        ensures { result ≡ (self.times *ℤ value) +ℤ self.high }
-    {
-        i64::from(self.times) * i64::from(value) + i64::from(self.high)
+        i64::from(self.times) * i64::from(value) + i64::from(end)
     }
 
     pub(crate) fn plus(self, other: Span) -> Result<Span, Untold>

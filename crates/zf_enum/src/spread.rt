@@ -178,7 +178,8 @@ fn copied_range<'a>(arena: &'a Bump, range: &Range<'a>) -> Result<Range<'a>, All
     })
 }
 
-fn is_there(quantifier: Quantifier) -> bool
+/// Whether a quantifier asks for a row.
+pub(crate) fn is_there(quantifier: Quantifier) -> bool
     ensures { IsTrue result → IsThere quantifier }
 {
     match quantifier {
@@ -196,21 +197,13 @@ fn equated<'t, 'a>(term: &'t Resolved<'a>, component: usize) -> Option<&'t Resol
 {
     match term {
         Resolved::Bracket(_, inner) => equated(inner.get(), component),
-        Resolved::Binary(_, op, left, right) => match op {
-            Operator::Connective(connective) => match connective {
-                Connective::And => {
-                    let first = equated(left.get(), component);
-                    if first.is_some() {
-                        return first;
-                    }
-                    equated(right.get(), component)
-                }
-                Connective::Or => None,
-                Connective::Implies => None,
-                Connective::Iff => None,
-            },
-            _ => None,
-        },
+        Resolved::Binary(_, Operator::Connective(Connective::And), left, right) => {
+            let first = equated(left.get(), component);
+            if first.is_some() {
+                return first;
+            }
+            equated(right.get(), component)
+        }
         _ => fixing(term, component),
     }
 }

@@ -19,6 +19,7 @@ ghost use Rattle.zf_enum.specs.Spans.{IsSmall, Spans};
 ghost use Rattle.zf_enum.specs.Sums.{IsSpanOf, IsDifferenceOf, IsSpanOver, IsSpanAhead, IsRuledOut, AreRuledOut};
 
 use crate::due::needs_first;
+use crate::fixing::{is_equality, is_named, relation_of};
 use crate::shown::Shown;
 use crate::span::{Span, Untold};
 use std::alloc::AllocError;
@@ -35,32 +36,19 @@ use zf_walk::{Picked, Range};
 
 /// Whether a relation compares sums of which a component is a summand.
 pub(crate) fn balances(term: &Resolved<'_>, component: usize) -> bool {
-    let Resolved::Chain(_, first, links) = term else {
+    let Some(it) = relation_of(term) else {
         return false;
     };
-    let [link] = links.as_slice() else {
-        return false;
-    };
-    if !compares(link.relation) {
-        return false;
-    }
-    if is_bare(first.get()) && is_bare(&link.right) {
-        return false;
-    }
-    is_summand(first.get(), component) || is_summand(&link.right, component)
+    compares(it.relation)
+        && !(is_bare(it.left) && is_bare(it.right))
+        && (is_summand(it.left, component) || is_summand(it.right, component))
 }
 
 /// Whether the predicate is an equation.
 pub(crate) fn equates(term: &Resolved<'_>) -> bool {
-    let Resolved::Chain(_, _, links) = term else {
-        return false;
-    };
-    let [link] = links.as_slice() else {
-        return false;
-    };
-    match link.relation {
-        Relation::Equal => true,
-        _ => false,
+    match relation_of(term) {
+        Some(it) => is_equality(it.relation),
+        None => false,
     }
 }
 
@@ -89,26 +77,12 @@ fn is_bare(term: &Resolved<'_>) -> bool {
 #[cycle(is_summand)]
 fn is_summand(term: &Resolved<'_>, component: usize) -> bool {
     match term {
-        Resolved::Name(_, reference) => is_of(*reference, component),
+        Resolved::Name(_, reference) => is_named(*reference, component),
         Resolved::Bracket(_, inner) => is_summand(inner.get(), component),
-        Resolved::Unary(_, op, of) => match op {
-            Unary::Sign(sign) => is_minus(*sign) && is_summand(of.get(), component),
-            _ => false,
-        },
-        Resolved::Binary(_, op, left, right) => match op {
-            Operator::Function(op) => {
-                adds(*op)
-                    && (is_summand(left.get(), component) || is_summand(right.get(), component))
-            }
-            _ => false,
-        },
-        _ => false,
-    }
-}
-
-fn is_of(reference: Reference, component: usize) -> bool {
-    match reference {
-        Reference::Component(place) => place == component,
+        Resolved::Unary(_, Unary::Sign(Sign::Minus), of) => is_summand(of.get(), component),
+        Resolved::Binary(_, Operator::Function(op), left, right) => {
+            adds(*op) && (is_summand(left.get(), component) || is_summand(right.get(), component))
+        }
         _ => false,
     }
 }
@@ -147,15 +121,12 @@ pub(crate) fn gather_balanced<'a>(
     ensures stay { StaysIn gathered.old.items gathered.new.items }
     ensures leaves { IfOk result (λ found. IsTrue found → (ts : List ResolvedTree) (leaf : ℕ) → slice_get ts leaf ≡ Some (resolved_of term.now) → Leaves (spec.property (environment_of env.now) ts) leaf ranges.now places.now gathered.new.items) }
 {
-    let Resolved::Chain(_, first, links) = term else {
-        return Ok(false);
-    };
-    let [link] = links.as_slice() else {
+    let Some(it) = relation_of(term) else {
         return Ok(false);
     };
     let next = places.len();
-    match difference(first.get(), &link.right, ranges, places, env) {
-        Ok(span) => gather_possible(link.relation, span, &ranges[next], gathered),
+    match difference(it.left, it.right, ranges, places, env) {
+        Ok(span) => gather_possible(it.relation, span, &ranges[next], gathered),
         Err(Untold::Unknown) => Ok(false),
         Err(Untold::OutOfMemory) => Err(AllocError),
     }
@@ -234,7 +205,7 @@ fn is_possible_with(relation: Relation, span: Span, value: &Value) -> bool
     let Some(n) = small(value) else {
         return true;
     };
-    is_possible(relation, span.lowest(n), span.highest(n))
+    is_possible(relation, span.at(n, span.low), span.at(n, span.high))
 }
 
 /// Whether the relation may hold between numbers whose difference lies from one to another.

@@ -1,5 +1,5 @@
 //! Which of several declared sets bounds, and which of those is likely to be the smallest.
-ghost use Rattle.std.specs.Prelude.{◌≡◌, ◌<◌, true, length, map, get_or, IfOk};
+ghost use Rattle.std.specs.Prelude.{◌≡◌, true, map, IfOk, IfSome};
 ghost use Rattle.zf_term.specs.DefinitionViews.{globals_of};
 ghost use Rattle.zf_term.specs.SchemaViews.{set_of};
 ghost use Rattle.zf_term.specs.Definitions.{sets_of};
@@ -21,16 +21,25 @@ pub(crate) fn lightest_bounding<'a>(
 ) -> Result<usize, AllocError>
     ensures { spec.one_bounds (environment_of env.now).numbers (environment_of env.now).globals (sets_of (map set_of domains.now)) ≡ true → IfOk result (BoundsAt (environment_of env.now).numbers (environment_of env.now).globals domains.now) }
 {
-    let numbers = env.numbers();
-    let globals = env.globals();
-    let mut best = first_bounding(numbers, domains, globals);
+    let first = first_bounding(env.numbers(), domains, env.globals());
     if domains.len() < 2 {
-        return Ok(best);
+        return Ok(first);
     }
+    lightest(domains, first, env)
+}
+
+/// The place of the lightest declared set that bounds, or this one where the weight of none is known.
+fn lightest<'a>(
+    domains: &[Domain<'a>],
+    first: usize,
+    env: &Env<'_, 'a>,
+) -> Result<usize, AllocError>
+    ensures { BoundsAt (environment_of env.now).numbers (environment_of env.now).globals domains.now first → IfOk result (BoundsAt (environment_of env.now).numbers (environment_of env.now).globals domains.now) }
+{
+    let mut best = first;
     let mut least = usize::MAX;
     for place in 0..domains.len() {
-        if bounds(numbers, &domains[place], globals) {
-            let next = weight(&domains[place], env)?;
+        if let Some(next) = bounding_weight(&domains[place], env)? {
             if next < least {
                 best = place;
                 least = next;
@@ -38,6 +47,16 @@ pub(crate) fn lightest_bounding<'a>(
         }
     }
     Ok(best)
+}
+
+/// The weight of a declared set, if it bounds.
+fn bounding_weight<'a>(domain: &Domain<'a>, env: &Env<'_, 'a>) -> Result<Option<usize>, AllocError>
+    ensures { IfOk result (λ found. IfSome found (λ n. spec.bounds (environment_of env.now).numbers (environment_of env.now).globals (set_of domain.now) ≡ true)) }
+{
+    if bounds(env.numbers(), domain, env.globals()) {
+        return Ok(Some(weight(domain, env)?));
+    }
+    Ok(None)
 }
 
 /// The place of the first declared set that bounds, or their number where none does.

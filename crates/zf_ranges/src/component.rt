@@ -1,5 +1,5 @@
 //! The ranges of components.
-ghost use Rattle.std.specs.Prelude.{◌≡◌, IsTrue, IfOk, IfErr, map, option_map};
+ghost use Rattle.std.specs.Prelude.{◌≡◌, true, IsTrue, IfOk, IfErr, map, option_map};
 ghost use Rattle.std.specs.List.{AllByRecursion};
 ghost use Rattle.zf_term.specs.SchemaViews.{comp_of};
 ghost use Rattle.zf_term.specs.Definitions.{sets_of};
@@ -7,6 +7,7 @@ ghost use Rattle.zf_finite.specs.Finite.{one_bounds};
 ghost use Rattle.zf_meaning.specs.Envs.{environment_of};
 ghost use Rattle.zf_ranges.specs.Components.{AreAllRanges, AreHeldRanges, IsHeldRange, IsOneRange, IsOutBy, held_at};
 ghost use Rattle.zf_ranges.specs.DeclaredSets.{IsOneOut};
+ghost use Rattle.zf_ranges.specs.Parts.{IsAllWith, Tells};
 ghost use Rattle.zf_ranges.specs.Ranges.{IsNoneOut};
 ghost use Rattle.zf_ranges.specs.StartFaults.{RefusesStart};
 
@@ -103,10 +104,24 @@ fn range_at<'a>(
     ensures is { IfOk result (IsOneRange (environment_of env.now) (comp_of component.now) (option_map (λ k. k.now) held.entry)) }
     ensures refused { IfErr result (IsOutBy (environment_of env.now) (comp_of component.now) place) }
 {
-    let domains = component.domains.get().flat()?;
-    match values_with(alloc, domains.as_slice(), held, env) {
+    match values_of(alloc, component, held, env) {
         Ok(values) => Ok(Range { values }),
         Err(Lack::Out) => Err(StartFault::DeclaredOut(place)),
         Err(Lack::OutOfMemory) => Err(StartFault::OutOfMemory),
     }
+}
+
+/// The values in the range of a component.
+fn values_of<'a>(
+    alloc: Global,
+    component: &Component<'a>,
+    held: Option<&Value>,
+    env: &Env<'_, 'a>,
+) -> Result<Vec<Value>, Lack>
+    requires { one_bounds (environment_of env.now).numbers (environment_of env.now).globals (sets_of (comp_of component.now).sets) ≡ true }
+    ensures is { IfOk result (λ xs. IsAllWith (environment_of env.now) (sets_of (comp_of component.now).sets) (option_map (λ k. k.now) held.entry) xs.items) }
+    ensures out { IfErr result (λ lack. Tells lack (IsOneOut (environment_of env.now) (sets_of (comp_of component.now).sets))) }
+{
+    let domains = component.domains.get().flat()?;
+    values_with(alloc, domains.as_slice(), held, env)
 }

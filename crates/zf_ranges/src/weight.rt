@@ -44,8 +44,10 @@ fn set_weight<'a, R: Row>(
     row: &R,
     env: &Env<'_, 'a>,
 ) -> Result<usize, AllocError> {
-    let described = described_in(set, row, env)?;
-    Ok(weight_of(&described))
+    match described_in(set, row, env) {
+        Ok(described) => Ok(weight_of(&described)),
+        Err(refused) => Err(refused),
+    }
 }
 
 fn weight_of(set: &Described<'_>) -> usize {

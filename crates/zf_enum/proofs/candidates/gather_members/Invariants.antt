@@ -1,5 +1,4 @@
-use Rattle.zf_enum.proofs.Prelude.{take, Value, IsMember, StaysIn}
-use Rattle.zf_enum.specs.Fixing.{HasPlace}
+use Rattle.zf_enum.proofs.Prelude.{take, Value, IsMember, StaysIn, HasPlace}
 use Rattle.zf_enum.proofs.candidates.gather_members.Given as goal
 
 abbrev pub invariant-loop-value : goal.invariant-loop-value

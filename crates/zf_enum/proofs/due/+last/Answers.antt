@@ -1,4 +1,4 @@
-use Rattle.std.proofs.Common.{arith}
+use Rattle.zf_enum.proofs.Prelude.{arith}
 use Rattle.zf_enum.proofs.Dues.{links_step, ranges_step}
 use Rattle.zf_enum.proofs.due.+last.Goals as goal
 

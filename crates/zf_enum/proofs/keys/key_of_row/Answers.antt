@@ -1,4 +1,4 @@
-use Rattle.zf_enum.proofs.Prelude.{List, picked, subst, environment_of, HasOutcome, in_row, resolved_of, Value}
+use Rattle.zf_enum.proofs.Prelude.{List, subst, environment_of, HasOutcome, in_row, resolved_of, Value}
 use Rattle.zf_enum.proofs.Equations.{some_weaker}
 use Rattle.zf_enum.proofs.keys.key_of_row.Goals as goal
 

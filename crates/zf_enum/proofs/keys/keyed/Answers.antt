@@ -1,30 +1,16 @@
 use Rattle.zf_enum.proofs.Prelude.{ap, arith, resolved_of, due}
-use Rattle.zf_enum.proofs.Equations.{some_weaker, equation_seen}
+use Rattle.zf_enum.proofs.Equations.{some_weaker, equation_is}
 use Rattle.zf_enum.proofs.Keying.{sides-due}
 use Rattle.zf_enum.proofs.keys.keyed.Goals as goal
 
-pub key_first-requires-clause-left : goal.key_first-requires-clause-left
-key_first-requires-clause-left c =
-    let i = c.in-Chain in
-    let k = c.link-item in
-    let is = equation_seen c.args.term.now i.field-0 i.first c.get.result.now i.links c.as_slice.result.now k.result i.is c.as_slice.ensures c.get.ensures
-    (omega (arith, c.in-len1.len_at_least)) (omega (arith, c.in-len1.len_below)) k.is (c.is_equality.ensures c.if-not-is_equality.false) in
-    let d = sides-due i.field-0 (resolved_of c.get.result.now) (resolved_of k.result.right) in
-    omega (arith, c.requires, ap due is, d.0)
-
-pub key_first-requires-clause-right : goal.key_first-requires-clause-right
-key_first-requires-clause-right c =
-    let i = c.in-Chain in
-    let k = c.link-item in
-    let is = equation_seen c.args.term.now i.field-0 i.first c.get.result.now i.links c.as_slice.result.now k.result i.is c.as_slice.ensures c.get.ensures
-    (omega (arith, c.in-len1.len_at_least)) (omega (arith, c.in-len1.len_below)) k.is (c.is_equality.ensures c.if-not-is_equality.false) in
-    let d = sides-due i.field-0 (resolved_of c.get.result.now) (resolved_of k.result.right) in
-    omega (arith, c.requires, ap due is, d.1)
+pub key_first-requires : goal.key_first-requires
+key_first-requires c =
+    let is = equation_is _ _ _ _ c.in-Some.ensures (c.is_equality.ensures c.if-not-is_equality.false) in
+    let d = sides-due is.0 (resolved_of c.in-Some.it.left.now) (resolved_of c.in-Some.it.right.now) in
+    record { left = omega (arith, c.requires, ap due is.1, d.0); right = omega (arith, c.requires, ap due is.1, d.1) }
 
 pub returns : goal.returns
 returns c =
-    let i = c.in-Chain in
-    let k = c.link-item in
-    let is = equation_seen c.args.term.now i.field-0 i.first c.get.result.now i.links c.as_slice.result.now k.result i.is c.as_slice.ensures c.get.ensures
-    (omega (arith, c.in-len1.len_at_least)) (omega (arith, c.in-len1.len_below)) k.is (c.is_equality.ensures c.if-not-is_equality.false) in
-    some_weaker c.key_first.result _ _ (λ s h. (i.field-0, resolved_of c.get.result.now, resolved_of k.result.right, is, h)) c.key_first.ensures
+    let it = c.in-Some.it in
+    let is = equation_is _ _ _ _ c.in-Some.ensures (c.is_equality.ensures c.if-not-is_equality.false) in
+    some_weaker c.key_first.result _ _ (λ s h. (is.0, resolved_of it.left.now, resolved_of it.right.now, is.1, h)) c.key_first.ensures

@@ -1,5 +1,4 @@
-use Rattle.zf_enum.proofs.Prelude.{◌∙◌, ap}
-use Rattle.std.specs.Prelude.{fold}
+use Rattle.zf_enum.proofs.Prelude.{◌∙◌, ap, fold}
 use Rattle.std.specs.Hash.FoldHasher as folding
 use Rattle.zf_value.specs.contracts.plain.ValueHash.TheImpl as hashed
 use Rattle.zf_enum.specs.Keys.{number_of}

@@ -1,5 +1,4 @@
-use Rattle.zf_enum.proofs.Prelude.{resolved_of}
-use Rattle.zf_enum.specs.Spreads.{AddsSpreads}
+use Rattle.zf_enum.proofs.Prelude.{resolved_of, AddsSpreads}
 use Rattle.zf_enum.proofs.spread.add_spreads.Given as goal
 
 abbrev pub invariant-loop-component : goal.invariant-loop-component

@@ -1,5 +1,4 @@
-use Rattle.zf_enum.proofs.Prelude.{map, resolved_of}
-use Rattle.zf_enum.specs.Spreads.{AreSpreads}
+use Rattle.zf_enum.proofs.Prelude.{map, resolved_of, AreSpreads}
 use Rattle.zf_enum.proofs.spread.spreads.Given as goal
 
 abbrev pub invariant-loop-conjunct : goal.invariant-loop-conjunct

@@ -1,6 +1,4 @@
-use Rattle.zf_enum.proofs.Prelude.{◌∙◌, ap, subst, sym, ResolvedTree, resolved_of, environment_of}
-use Rattle.std.proofs.lemmas.Result.{IfOk-weaker}
-use Rattle.zf_enum.specs.Sums.{IsSpanOf}
+use Rattle.zf_enum.proofs.Prelude.{subst, sym, ResolvedTree, resolved_of, environment_of, IfOk-weaker, IsSpanOf}
 use Rattle.zf_enum.proofs.Balanced.{name_is, number_is, minus_is, function_is, number_span, ahead_span, negated_span, combined_span}
 use Rattle.zf_enum.proofs.sums.+spanning.Goals as goal
 

@@ -1,9 +1,5 @@
-use Rattle.zf_enum.proofs.Prelude.{subst, sym, Is}
-use Rattle.std.specs.Prelude.{ℤ, ◌+ℤ◌, ◌-ℤ◌, ◌*ℤ◌}
-use Rattle.std.proofs.lemmas.Result.{IfOk-weaker}
+use Rattle.zf_enum.proofs.Prelude.{subst, sym, Is, ℤ, ◌+ℤ◌, ◌-ℤ◌, ◌*ℤ◌, IfOk-weaker, Int, InfixOutcome}
 use Rattle.zf_tree.specs.declared.symbol.Infix.{Infix}
-use Rattle.zf_value.specs.declared.plain.Value.{Int}
-use Rattle.zf_outcome.specs.Symbols.{InfixOutcome}
 use Rattle.zf_enum.proofs.Spanning.{spans_fit}
 use Rattle.zf_enum.proofs.Balanced.{sum_outcome, difference_outcome, product_outcome}
 use Rattle.zf_enum.proofs.sums.combined.Goals as goal

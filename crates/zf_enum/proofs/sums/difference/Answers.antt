@@ -1,5 +1,4 @@
-use Rattle.zf_enum.proofs.Prelude.{resolved_of, environment_of}
-use Rattle.std.proofs.lemmas.Result.{IfOk-weaker}
+use Rattle.zf_enum.proofs.Prelude.{resolved_of, environment_of, IfOk-weaker}
 use Rattle.zf_enum.proofs.Balanced.{difference_span}
 use Rattle.zf_enum.proofs.sums.difference.Goals as goal
 

@@ -1,9 +1,4 @@
-use Rattle.zf_enum.proofs.Prelude.{◌≡◌, ◌∙◌, ap, arith, rules, sym}
-use Rattle.std.specs.Prelude.{FitsSigned}
-use Rattle.std.specs.Int.{w32, w64}
-use Rattle.std.proofs.lemmas.Int.{ints, to_z-of_z}
-use Rattle.zf_value.specs.declared.plain.Value.{Int}
-use Rattle.zf_value.proofs.Seen.{is_Int}
+use Rattle.zf_enum.proofs.Prelude.{◌≡◌, ◌∙◌, ap, arith, rules, sym, FitsSigned, w32, w64, ints, to_z-of_z, Int, is_Int}
 use Rattle.zf_enum.proofs.sums.small.Goals as goal
 
 pub returns-in-Ok : goal.returns-in-Ok

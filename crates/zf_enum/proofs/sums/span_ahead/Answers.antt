@@ -1,8 +1,4 @@
-use Rattle.zf_enum.proofs.Prelude.{◌≡◌, ◌∙◌, ap, arith, ℕ, List, Some, subst, sym, slice_get, range-is, Value}
-use Rattle.std.specs.Prelude.{Contains}
-use Rattle.std.proofs.lemmas.Int.{ints}
-use Rattle.std.proofs.lemmas.Result.{IfOk-weaker}
-use Rattle.zf_value.specs.declared.plain.Value.{Int}
+use Rattle.zf_enum.proofs.Prelude.{◌≡◌, ◌∙◌, ap, arith, ℕ, List, Some, subst, slice_get, range-is, Value, Contains, ints, IfOk-weaker, Int}
 use Rattle.zf_enum.proofs.Trying.{row_value}
 use Rattle.zf_enum.proofs.sums.span_ahead.Goals as goal
 

@@ -1,5 +1,4 @@
-use Rattle.zf_enum.proofs.Prelude.{List, subst, Is, Outcome, Value, resolved_of, environment_of, in_row, HasOutcome, picked}
-use Rattle.std.proofs.lemmas.Result.{IfOk-weaker}
+use Rattle.zf_enum.proofs.Prelude.{List, subst, Outcome, Value, resolved_of, environment_of, in_row, HasOutcome, picked, IfOk-weaker}
 use Rattle.zf_enum.proofs.Balanced.{value_span}
 use Rattle.zf_enum.proofs.sums.span_of_value.Goals as goal
 

@@ -1,8 +1,4 @@
-use Rattle.zf_enum.proofs.Prelude.{◌≡◌, ◌-◌, ◌<◌, AllPairs, arith, get_or, length, Less, List, rules, subst, ℕ, Value, value_order}
-use Rattle.std.specs.Prelude.{Contains, FitsSigned}
-use Rattle.std.specs.Int.{w32}
-use Rattle.std.proofs.lemmas.Int.{ints}
-use lib.IntN.{zero-*ℤ}
+use Rattle.zf_enum.proofs.Prelude.{◌≡◌, ◌-◌, ◌<◌, AllPairs, arith, get_or, length, Less, List, rules, subst, ℕ, Value, value_order, Contains, FitsSigned, w32, ints, zero-*ℤ}
 use Rattle.zf_enum.proofs.Balanced.{over}
 use Rattle.zf_enum.proofs.sums.span_over.Goals as goal
 

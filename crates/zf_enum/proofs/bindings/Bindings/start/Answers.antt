@@ -4,21 +4,18 @@ use Rattle.zf_term.specs.declared.schema.Component.{Component}
 use Rattle.zf_enum.proofs.Started.{ranges_ascend, named_within, due_within, ahead_of, say_alike}
 use Rattle.zf_enum.proofs.bindings.Bindings.start.Goals as goal
 
-pub over-requires-clause-ascending : goal.over-requires-clause-ascending
-over-requires-clause-ascending c = ranges_ascend (environment_of c.args.env.now) _ c.args.held.now c.in_ok-ranges.ranges.items c.in_ok-ranges.ensures.is.0
-
-pub over-requires-clause-named : goal.over-requires-clause-named
-over-requires-clause-named c =
+pub over-requires : goal.over-requires
+over-requires c =
     let e = environment_of c.args.env.now in
-    let all = subst (λ (ds : List Component). AreAllRanges e (map comp_of ds) c.args.held.now c.in_ok-ranges.ranges.items) c.as_slice.ensures c.in_ok-ranges.ensures.is in
-    named_within e (schema_of c.args.flat.now).comps c.args.held.now c.in_ok-ranges.ranges.items (option_copied c.args.after) all.0 c.requires.named
-
-pub over-requires-clause-due : goal.over-requires-clause-due
-over-requires-clause-due c =
-    let e = environment_of c.args.env.now in
-    let all = subst (λ (ds : List Component). AreAllRanges e (map comp_of ds) c.args.held.now c.in_ok-ranges.ranges.items) c.as_slice.ensures c.in_ok-ranges.ensures.is in
-    due_within e (schema_of c.args.flat.now).comps c.args.held.now c.in_ok-ranges.ranges.items (schema_of c.args.flat.now).conjuncts (map resolved_of c.plain.result) all.0
-    (ap (λ (ts : List Resolved). map resolved_of ts) c.plain.ensures ∙ c.in_ok-conjuncts.ensures ∙ ap (map conjunct_of) (c.as_slice-2.ensures ∙ c.in_ok-all.ensures)) c.requires.due
+    let s = schema_of c.args.flat.now in
+    let rs = c.in_ok-ranges.ranges.items in
+    let all = subst (λ (ds : List Component). AreAllRanges e (map comp_of ds) c.args.held.now rs) c.as_slice.ensures c.in_ok-ranges.ensures.is in
+    record {
+      ascending = ranges_ascend e s.comps c.args.held.now rs all.0;
+      named = named_within e s.comps c.args.held.now rs (option_copied c.args.after) all.0 c.requires.named;
+      due = due_within e s.comps c.args.held.now rs s.conjuncts (map resolved_of c.plain.result) all.0
+          (ap (λ (ts : List Resolved). map resolved_of ts) c.plain.ensures ∙ c.in_ok-conjuncts.ensures ∙ ap (map conjunct_of) (c.as_slice-2.ensures ∙ c.in_ok-all.ensures)) c.requires.due;
+    }
 
 pub returns-clause-begins : goal.returns-clause-begins
 returns-clause-begins c =

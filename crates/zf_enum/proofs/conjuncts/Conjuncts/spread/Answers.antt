@@ -1,6 +1,5 @@
-use Rattle.zf_enum.proofs.Prelude.{◌≡◌, List, map, sym, subst, Resolved, resolved_of}
+use Rattle.zf_enum.proofs.Prelude.{◌≡◌, List, map, sym, subst, Resolved, resolved_of, AreSpreads}
 use Rattle.zf_enum.specs.declared.spread.Spread.{Spread}
-use Rattle.zf_enum.specs.Spreads.{AreSpreads}
 use Rattle.zf_enum.proofs.conjuncts.Conjuncts.spread.Goals as goal
 
 pub returns : goal.returns

@@ -1,8 +1,6 @@
 -- The search begins before all events that have these values.
-use Rattle.zf_enum.proofs.Prelude.{◌∙◌, ap, List, map, None, subst, sym, AreAllAhead, all_ahead, SayTheSame, Grove, trees_of, planted, value_order, Value, comp_of, schema_of, environment_of, property, AreRanges, judged, with_first, Property}
+use Rattle.zf_enum.proofs.Prelude.{◌∙◌, ap, List, map, None, subst, sym, AreAllAhead, all_ahead, SayTheSame, Grove, trees_of, planted, value_order, Value, comp_of, schema_of, environment_of, property, AreRanges, judged, with_first, Property, exchanged, AreHeldRanges}
 use Rattle.zf_term.specs.declared.schema.Component.{Component}
-use Rattle.zf_plan.specs.Exchanges.{exchanged}
-use Rattle.zf_ranges.specs.Components.{AreHeldRanges}
 use Rattle.zf_ranges.specs.Ranges.{IsNoneOut}
 use Rattle.zf_enum.proofs.Held.{as_many_held, exchange_held}
 use Rattle.zf_enum.proofs.Started.{ranges_ascend}
@@ -12,24 +10,19 @@ pub held_ranges-requires-clause-none_out : goal.held_ranges-requires-clause-none
 held_ranges-requires-clause-none_out c =
     subst (λ (ds : List Component). IsNoneOut (environment_of c.args.env.now) (map comp_of ds)) (sym c.as_slice.ensures) c.requires.again.none_out
 
-pub exchange-requires-clause-each : goal.exchange-requires-clause-each
-exchange-requires-clause-each c =
-    let e = environment_of c.args.env.now in
-    let cs = (schema_of c.args.flat.now).comps in
-    let held = c.args.held.now in
-    let others = c.in_ok-others.others.items in
-    let are_held = subst (λ (ds : List Component). AreHeldRanges e (map comp_of ds) held others) c.as_slice.ensures c.in_ok-others.ensures in
-    as_many_held e cs c.requires.again.before held c.args.self.search.stage.ranges others c.requires.again.of_components are_held
-
-pub exchange-requires-clause-ascending : goal.exchange-requires-clause-ascending
-exchange-requires-clause-ascending c =
+pub exchange-requires : goal.exchange-requires
+exchange-requires c =
     let e = environment_of c.args.env.now in
     let cs = (schema_of c.args.flat.now).comps in
     let held = c.args.held.now in
     let ranges = c.args.self.search.stage.ranges in
     let others = c.in_ok-others.others.items in
+    let can = c.requires.again in
     let are_held = subst (λ (ds : List Component). AreHeldRanges e (map comp_of ds) held others) c.as_slice.ensures c.in_ok-others.ensures in
-    ranges_ascend e cs held (exchanged ranges others) (exchange_held e cs c.requires.again.before held ranges others c.requires.again.of_components c.requires.again.again are_held)
+    record {
+      each = as_many_held e cs can.before held ranges others can.of_components are_held;
+      ascending = ranges_ascend e cs held (exchanged ranges others) (exchange_held e cs can.before held ranges others can.of_components can.again are_held);
+    }
 
 pub returns : goal.returns
 returns c =

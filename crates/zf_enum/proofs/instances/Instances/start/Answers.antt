@@ -21,20 +21,8 @@ lifted-requires c =
     let are_planted = subst (λ (ts : List Resolved). ArePlanted (map resolved_of ts) p.leaves.items (trees_of p.forest)) c.deref.ensures.value c.in_ok-planting.ensures in
     record { small = λ k. omega (arith, are_planted.needs (length rs) (needs_no_more d e us s.conjuncts unfolded.each (length rs) (needs_within e s.comps c.args.held.now rs s.conjuncts all.0 c.requires.due)) k, c.in_ok-ranges.ranges.small) }
 
-pub start-requires-clause-ascending : goal.start-requires-clause-ascending
-start-requires-clause-ascending c = ranges_ascend (environment_of c.args.env.now) _ c.args.held.now c.in_ok-ranges.ranges.items c.in_ok-ranges.ensures.is.0
-
-pub start-requires-clause-ties : goal.start-requires-clause-ties
-start-requires-clause-ties c = exact
-
-pub start-requires-clause-named : goal.start-requires-clause-named
-start-requires-clause-named c =
-    let e = environment_of c.args.env.now in
-    let all = subst (λ (ds : List Component). AreAllRanges e (map comp_of ds) c.args.held.now c.in_ok-ranges.ranges.items) c.as_slice.ensures c.in_ok-ranges.ensures.is in
-    named_within e (schema_of c.args.flat.now).comps c.args.held.now c.in_ok-ranges.ranges.items (option_copied c.args.after) all.0 c.requires.named
-
-pub start-requires-clause-due : goal.start-requires-clause-due
-start-requires-clause-due c =
+pub start-requires : goal.start-requires
+start-requires c =
     let e = environment_of c.args.env.now in
     let s = schema_of c.args.flat.now in
     let rs = c.in_ok-ranges.ranges.items in
@@ -46,26 +34,21 @@ start-requires-clause-due c =
     let unfolded = c.in_ok-unfolded.ensures in
     let are_planted = subst (λ (ts : List Resolved). ArePlanted (map resolved_of ts) p.leaves.items (trees_of p.forest)) c.deref.ensures.value c.in_ok-planting.ensures in
     let named = c.in_ok-property.property in
-    λ k l. omega (
-      arith,
-      dues_at (environment_of named.env.now) d (map resolved_of named.conjuncts)
-          (map resolved_of p.leaves.items) c.in_ok-property.ensures.each k,
-      are_planted.needs (length rs) (needs_no_more d e us s.conjuncts unfolded.each (length rs) (needs_within e s.comps c.args.held.now rs s.conjuncts all.0 c.requires.due)) k,
-    )
-
-pub start-requires-clause-leaves : goal.start-requires-clause-leaves
-start-requires-clause-leaves c =
-    let e = environment_of c.args.env.now in
-    let s = schema_of c.args.flat.now in
-    let p = c.in_ok-planting.planting in
-    let u = c.in_ok-unfolded.unfolded in
-    let d = environment_of u.env.now in
-    let us = map resolved_of u.terms.items in
-    let unfolded = c.in_ok-unfolded.ensures in
-    let are_planted = subst (λ (ts : List Resolved). ArePlanted (map resolved_of ts) p.leaves.items (trees_of p.forest)) c.deref.ensures.value c.in_ok-planting.ensures in
-    let named = c.in_ok-property.property in
-    let many = as_many (environment_of named.env.now) d (map resolved_of named.conjuncts) (map resolved_of p.leaves.items) c.in_ok-property.ensures.each in
-    subst (λ n. HaveLeavesWithin n (trees_of p.forest)) (sym many) (leaves_within us p.leaves.items (trees_of p.forest) are_planted)
+    let f = environment_of named.env.now in
+    let terms = map resolved_of named.conjuncts in
+    let each = c.in_ok-property.ensures.each in
+    record {
+      ascending = ranges_ascend e s.comps c.args.held.now rs all.0;
+      ties = exact;
+      named = named_within e s.comps c.args.held.now rs (option_copied c.args.after) all.0 c.requires.named;
+      due = λ k l. omega (
+        arith,
+        dues_at f d terms (map resolved_of p.leaves.items) each k,
+        are_planted.needs (length rs) (needs_no_more d e us s.conjuncts unfolded.each (length rs) (needs_within e s.comps c.args.held.now rs s.conjuncts all.0 c.requires.due)) k,
+      );
+      leaves = subst (λ n. HaveLeavesWithin n (trees_of p.forest)) (sym (as_many f d terms (map resolved_of p.leaves.items) each))
+          (leaves_within us p.leaves.items (trees_of p.forest) are_planted);
+    }
 
 pub returns-clause-begins : goal.returns-clause-begins
 returns-clause-begins c =
@@ -84,7 +67,8 @@ returns-clause-begins c =
     let terms = map resolved_of named.conjuncts in
     let lifted = c.in_ok-property.ensures in
     let trees = trees_of p.forest in
-    let written = named_alike f d terms (map resolved_of p.leaves.items) us trees lifted (say_the_same us p.leaves.items trees are_planted d) in
+    let written = named_alike f d terms (map resolved_of p.leaves.items) us trees (leaves_within us p.leaves.items trees are_planted) lifted
+    (say_the_same us p.leaves.items trees are_planted d) in
     let same = lifted_alike d e us s.conjuncts (planted (property f terms) trees) unfolded written in
     let search = c.in_ok-search.search in
     let problem = c.in_ok-search.ensures.problem in

@@ -1,6 +1,4 @@
-use Rattle.zf_enum.proofs.Prelude.{◌≡◌, ◌-◌, ◌^◌, ◌<◌, ap, arith, due, due_of, environment_of, IfOk, IfSome, IfOk-weaker, length, map, Option, property, resolved_of, rules, subst, sym, ℕ}
-use Rattle.zf_plan.specs.Choices.{IsKeyOf}
-use Rattle.zf_enum.specs.Keys.{IsKeyOfValue}
+use Rattle.zf_enum.proofs.Prelude.{◌≡◌, ◌-◌, ◌^◌, ◌<◌, ap, arith, due, due_of, environment_of, IfOk, IfSome, IfOk-weaker, length, map, Option, property, resolved_of, rules, subst, sym, ℕ, IsKeyOf, IsKeyOfValue}
 use Rattle.zf_enum.proofs.Equations.{some_weaker}
 use Rattle.zf_enum.proofs.Judging.{as_many, at_place, need_at}
 use Rattle.zf_enum.proofs.Keying.{is-key-of, is-wanted}

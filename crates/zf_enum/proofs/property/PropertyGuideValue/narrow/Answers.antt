@@ -1,5 +1,4 @@
-use Rattle.zf_enum.proofs.Prelude.{Option, ap, arith, length, map, refl, subst, IfOk-weaker, IfSome, ResolvedTree, resolved_of, environment_of, due_of}
-use Rattle.zf_enum.specs.Spreads.{IsSpread}
+use Rattle.zf_enum.proofs.Prelude.{Option, ap, arith, length, map, refl, subst, IfOk-weaker, IfSome, ResolvedTree, resolved_of, environment_of, due_of, IsSpread}
 use Rattle.zf_enum.proofs.Fixed.{side_due, candidates_left}
 use Rattle.zf_enum.proofs.Judging.{at_place}
 use Rattle.zf_enum.proofs.Spreading.{spread_due, members_left}

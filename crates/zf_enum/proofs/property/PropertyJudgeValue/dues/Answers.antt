@@ -1,5 +1,4 @@
-use Rattle.zf_enum.proofs.Prelude.{◌<◌, ◌≡◌, ◌∙◌, ap, get_or, length, List, map, resolved_of, subst, ℕ}
-use Rattle.std.proofs.lemmas.List.{get_or_default}
+use Rattle.zf_enum.proofs.Prelude.{◌<◌, ◌∙◌, ap, get_or, length, List, map, resolved_of, subst, ℕ, get_or_default}
 use Rattle.zf_enum.proofs.Judging.{as_many, need_at}
 use Rattle.zf_enum.proofs.property.PropertyJudgeValue.dues.Goals as goal
 

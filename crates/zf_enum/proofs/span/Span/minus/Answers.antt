@@ -1,8 +1,4 @@
-use Rattle.std.proofs.Common.{rules, ap₂}
-use Rattle.std.specs.Prelude.{ℤ, ◌-ℤ◌}
-use Rattle.std.specs.Int.{w32}
-use Rattle.std.proofs.lemmas.Int.{to_z-of_z}
-use Rattle.std.proofs.lemmas.Result.{IfOk-weaker}
+use Rattle.zf_enum.proofs.Prelude.{rules, ap₂, ℤ, ◌-ℤ◌, w32, to_z-of_z, IfOk-weaker}
 use Rattle.zf_enum.proofs.Spanning.{told, minus_spans}
 use Rattle.zf_enum.proofs.span.Span.minus.Goals as goal
 

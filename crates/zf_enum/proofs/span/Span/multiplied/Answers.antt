@@ -1,8 +1,4 @@
-use Rattle.std.proofs.Common.{rules, ap₂, arith}
-use Rattle.std.specs.Prelude.{ℤ, pos, ◌*ℤ◌, ◌≤ℤ◌, ◌<ℤ◌, FitsSigned}
-use Rattle.std.specs.Int.{w32}
-use Rattle.std.proofs.lemmas.Int.{ints, to_z-of_z}
-use Rattle.std.proofs.lemmas.Result.{IfOk-weaker}
+use Rattle.zf_enum.proofs.Prelude.{rules, ap₂, arith, ℤ, pos, ◌*ℤ◌, ◌≤ℤ◌, ◌<ℤ◌, FitsSigned, w32, ints, to_z-of_z, IfOk-weaker}
 use Rattle.zf_enum.proofs.Spanning.{told, up_spans, down_spans}
 use Rattle.zf_enum.proofs.span.Span.multiplied.Goals as goal
 

@@ -1,11 +1,5 @@
-use Rattle.std.proofs.Common.{rules, subst, sym, ap, ◌≡◌, ◌∙◌, arith}
-use Rattle.std.specs.Prelude.{ℤ, pos, ◌*ℤ◌, FitsSigned}
-use Rattle.std.specs.Int.{w32}
-use Rattle.std.proofs.lemmas.Int.{ints, to_z-of_z}
-use Rattle.std.proofs.lemmas.Result.{IfOk-weaker}
+use Rattle.zf_enum.proofs.Prelude.{rules, subst, sym, ap, ◌≡◌, ◌∙◌, arith, ℤ, pos, ◌*ℤ◌, FitsSigned, w32, ints, to_z-of_z, IfOk-weaker, Spans, *ℤ_comm}
 use Rattle.zf_enum.proofs.Spanning.{only}
-use Rattle.zf_enum.specs.Spans.{Spans}
-use lib.IntN.{*ℤ_comm}
 use Rattle.zf_enum.proofs.span.Span.product.Goals as goal
 
 pub returns-then-self : goal.returns-then-self

@@ -1,8 +1,7 @@
 -- Without quantifiers that are written out, the terms are the conjuncts.
-use Rattle.zf_enum.proofs.Prelude.{◌∙◌, ap, List, map, Option, subst, conjunct_of, resolved_of, ResolvedTree, environment_of, AreLifted, IfSome}
-use Rattle.zf_lift.specs.declared.lifted.Lifted.{Lifted}
+use Rattle.zf_enum.proofs.Prelude.{◌∙◌, ap, List, map, Option, subst, conjunct_of, resolved_of, ResolvedTree, environment_of, AreLifted, IfSome, Lifted}
 use Rattle.zf_enum.proofs.Naming.{unchanged}
-use Rattle.zf_enum.proofs.unfolding.unfolded.Goals as goal
+use Rattle.zf_enum.proofs.lifting.unfolded.Goals as goal
 
 pub returns-in-Some : goal.returns-in-Some
 returns-in-Some c =
