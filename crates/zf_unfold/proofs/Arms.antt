@@ -12,7 +12,7 @@ use Rattle.zf_term.specs.declared.resolved.Range.{Range}
 use Rattle.zf_term.specs.declared.resolved.Resolved.{Resolved}
 use Rattle.zf_term.specs.declared.resolved.Resolved.TheVariants as v
 use Rattle.zf_unfold.specs.Renaming.{fewer, others}
-use Rattle.zf_unfold.proofs.Lists.{all-ranges}
+use Rattle.zf_resolved.proofs.Renamings.{all-ranges}
 use Rattle.zf_unfold.proofs.WrittenOut.{unfold_bracket, unfold_connected, unfold_not, unfold_outside}
 
 across : (f e : Environment) (t t' u u' : ResolvedTree) → t' ≡ t → u' ≡ u → IsUnfolded f e t u → IsUnfolded f e t' u'

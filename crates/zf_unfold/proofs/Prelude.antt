@@ -21,8 +21,8 @@ pub use Rattle.zf_lift.specs.Lifted.{AreEach, AreLifted, IsLifted, IsLonger}
 pub use Rattle.zf_lift.specs.Lifts.{at, Keeps}
 pub use Rattle.zf_lift.specs.Needs.{all_need, links_need, need, part_need, place, ranges_need}
 pub use Rattle.zf_lift.specs.Same.{AreSame, AreSameLinks, AreSameRanges, IsSame, IsSamePart}
-pub use Rattle.zf_unfold.specs.Renaming.{all_renamed, links_renamed, part_renamed, ranges_renamed, renamed}
+pub use Rattle.zf_resolved.specs.Renamed.{all_renamed, links_renamed, part_renamed, range_renamed, ranges_renamed, renamed}
 unfoldable pub use Rattle.zf_unfold.specs.Renaming.{named}
-pub use Rattle.zf_unfold.specs.RenamingViews.{link_renamed, named_by, range_renamed}
+pub use Rattle.zf_unfold.specs.RenamingViews.{named_by}
 pub use Rattle.zf_unfold.specs.Unfolded.{AreAllUnfolded, AreNamed, IsBase}
 unfoldable pub use Rattle.zf_unfold.specs.Unfolded.{IsSetNamed, IsUnfolded}
