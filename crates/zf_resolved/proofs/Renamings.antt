@@ -30,16 +30,20 @@ all-ranges f (r ∷ rs) = let rest = all-ranges f rs in (cc)
 
 -- ---- forms whose parts are renamed
 
-whole_as : (f : Reference → Reference) (whole made : Resolved) (t : ResolvedTree) → whole ≡ made → resolved_of made ≡ t → renamed f t ≡ renamed f (resolved_of whole)
+whole_as : (f : Reference → Reference) (whole made : Resolved) (t : ResolvedTree) → whole ≡ made → resolved_of made ≡ t
+    → renamed f t ≡ renamed f (resolved_of whole)
 whole_as f whole made t is seen = sym (ap (λ w. renamed f (resolved_of w)) is ∙ ap (renamed f) seen)
 
-pub renamed_name : (f : Reference → Reference) (l : ℕ) (r s : Reference) (whole : Resolved) → whole ≡ v.Name l r → s ≡ f r → resolved_of (v.Name l s) ≡ renamed f (resolved_of whole)
+pub renamed_name : (f : Reference → Reference) (l : ℕ) (r s : Reference) (whole : Resolved) → whole ≡ v.Name l r → s ≡ f r
+    → resolved_of (v.Name l s) ≡ renamed f (resolved_of whole)
 renamed_name f l r s whole is h = of-Name l s ∙ ap (reference l) h ∙ whole_as f whole (v.Name l r) _ is (of-Name l r)
 
-pub renamed_number : (f : Reference → Reference) (l n : ℕ) (whole : Resolved) → whole ≡ v.Number l n → resolved_of (v.Number l n) ≡ renamed f (resolved_of whole)
+pub renamed_number : (f : Reference → Reference) (l n : ℕ) (whole : Resolved) → whole ≡ v.Number l n
+    → resolved_of (v.Number l n) ≡ renamed f (resolved_of whole)
 renamed_number f l n whole is = of-Number l n ∙ whole_as f whole (v.Number l n) _ is (of-Number l n)
 
-pub renamed_constant : (f : Reference → Reference) (l : ℕ) (k : Constant) (whole : Resolved) → whole ≡ v.Constant l k → resolved_of (v.Constant l k) ≡ renamed f (resolved_of whole)
+pub renamed_constant : (f : Reference → Reference) (l : ℕ) (k : Constant) (whole : Resolved) → whole ≡ v.Constant l k
+    → resolved_of (v.Constant l k) ≡ renamed f (resolved_of whole)
 renamed_constant f l k whole is = of-Constant l k ∙ whole_as f whole (v.Constant l k) _ is (of-Constant l k)
 
 pub renamed_empty_set : (f : Reference → Reference) (l : ℕ) (t u whole : Resolved) → whole ≡ v.EmptySet l t → resolved_of u ≡ renamed f (resolved_of t)
@@ -74,7 +78,8 @@ renamed_chain f l t u ks ms whole is h k =
     ∙ ap (chain l (renamed f (resolved_of t))) (ap links k ∙ sym (all-links f (map resolved_link_of ks)))
     ∙ whole_as f whole (v.Chain l t ks) _ is (of-Chain l t ks)
 
-seen_ranges : (f : Reference → Reference) (rs ss : List Range) → map range_of ss ≡ map (range_renamed f) (map range_of rs) → ranges (map range_of ss) ≡ ranges_renamed f (ranges (map range_of rs))
+seen_ranges : (f : Reference → Reference) (rs ss : List Range) → map range_of ss ≡ map (range_renamed f) (map range_of rs)
+    → ranges (map range_of ss) ≡ ranges_renamed f (ranges (map range_of rs))
 seen_ranges f rs ss h = ap ranges h ∙ sym (all-ranges f (map range_of rs))
 
 pub renamed_builder : (f : Reference → Reference) (l : ℕ) (rs ss : List Range) (p q t u : Option Resolved) (whole : Resolved) → whole ≡ v.Builder l rs p t
