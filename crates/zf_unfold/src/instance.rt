@@ -122,7 +122,7 @@ fn add_renamed<'a>(
     renaming: Renaming,
     all: &mut Items<'a, Range<'a>>,
 ) -> Result<(), AllocError>
-    ensures { OnOk result (map range_of all.new ≡ map range_of all.old ++ map (views.range_renamed (views.named_by renaming)) (map range_of variables.now)) }
+    ensures { OnOk result (map range_of all.new ≡ map range_of all.old ++ map (spec.range_renamed (views.named_by renaming)) (map range_of variables.now)) }
 {
     for range in variables {
         all.push(renamed_range(range, arena, &renaming)?)?;
