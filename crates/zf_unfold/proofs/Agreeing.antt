@@ -1,10 +1,8 @@
 -- A term with other names means in one context what it means in another, if each name does.
-use Rattle.zf_unfold.proofs.Prelude.{◌++◌, ◌+◌, ◌<◌, ◌∙◌, ◌∷◌, ◌≡◌, ◌≤◌, [], ap, arith, length, List, min, None, Option, refl, Some, subst, suc, sym, zero, ℕ, slice_get, Reference, Component, Global, Local, Outcome, Value, absent, binary, bracket, builder, chain, constant, empty_set, link, listed, no_links, no_ranges, no_terms, number, present, quantified, range, Ranges, reference, ResolvedLinks, ResolvedPart, ResolvedTree, ResolvedTrees, term, unary, Defined, Environment, outcome_or, IsLonger, at, AreSame, AreSameLinks, AreSameRanges, IsSame, IsSamePart, all_need, links_need, need, part_need, place, ranges_need, named, renamed, all_renamed, links_renamed, ranges_renamed, part_renamed}
+use Rattle.zf_unfold.proofs.Prelude.{◌++◌, ◌+◌, ◌≡◌, ap, List, refl, subst, sym, ℕ, Reference, Value, absent, binary, bracket, builder, chain, constant, empty_set, link, listed, no_links, no_ranges, no_terms, number, present, quantified, range, Ranges, reference, ResolvedLinks, ResolvedPart, ResolvedTree, ResolvedTrees, term, unary, Environment, at, AreSame, AreSameLinks, AreSameRanges, IsSame, IsSamePart, renamed, all_renamed, links_renamed, ranges_renamed, part_renamed}
 use Rattle.std.proofs.lemmas.List.{append_assoc}
 use Rattle.zf_lift.specs.Lifts.{variables_of}
 use Rattle.zf_lift.proofs.Forms as forms
-use Rattle.zf_lift.proofs.Longer as longer_ones
-use Rattle.zf_value.specs.declared.value.Outcome.TheVariants.{Is, Undefined}
 
 -- whatever is bound, each name means what its other name means behind these values
 pub record Agrees (f : Reference → Reference) (g e : Environment) (row front : List Value) : Type 0 where

@@ -1,5 +1,5 @@
 -- What holds of every value of a list, in three truths; so of every row of sets, by its first value.
-use Rattle.zf_unfold.proofs.Prelude.{◌++◌, ◌↔◌, ◌∙◌, ◌∷◌, ◌≡◌, ◌⊎◌, [], ap, inl, inr, List, refl, replicate, subst, suc, sym, zero, ℕ, ⊎_elim, Truth, Value, IsConjunction, IsForAll, IsQuantified, one_out, one_undefined, Several, values}
+use Rattle.zf_unfold.proofs.Prelude.{◌++◌, ◌↔◌, ◌∷◌, ◌≡◌, ◌⊎◌, [], inl, inr, List, refl, replicate, subst, suc, sym, ℕ, ⊎_elim, Truth, Value, IsConjunction, IsForAll, IsQuantified, one_out, one_undefined, Several, values}
 use Rattle.zf_tree.specs.declared.symbol.Quantifier.TheVariants.{ForAll}
 use Rattle.zf_value.specs.declared.value.Outcome.TheVariants.{Is}
 use Rattle.zf_value.specs.declared.value.Truth.TheVariants.{True, False, Out}

@@ -1,5 +1,4 @@
 mod Prelude
-pub mod Lists
 pub mod Agreeing
 pub mod Names
 pub mod Every

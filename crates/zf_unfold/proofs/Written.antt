@@ -10,7 +10,7 @@ use Rattle.zf_term.specs.declared.resolved.Resolved.{Resolved}
 use Rattle.zf_term.specs.declared.resolved.Resolved.TheVariants as v
 use Rattle.zf_unfold.specs.Renaming.{fewer, implied, instance, instances, over}
 use Rattle.zf_unfold.proofs.Arms.{left_none, left_some}
-use Rattle.zf_unfold.proofs.Lists.{all-ranges}
+use Rattle.zf_resolved.proofs.Renamings.{all-ranges}
 
 -- ---- ranges without their first variable
 

@@ -1,5 +1,5 @@
 -- What is written out says what the predicate says, form by form.
-use Rattle.zf_unfold.proofs.Prelude.{◌+◌, ◌↔◌, ◌∙◌, ◌∷◌, ◌≡◌, ◌≤◌, [], ap, arith, inl, length, List, None, refl, Some, subst, suc, sym, zero, ℕ, slice_get, Outcome, Truth, Value, binary, bracket, quantified, range, Ranges, ResolvedPart, ResolvedTree, unary, Environment, in_row, HasOutcome, HaveRanges, IsTruth, repeated, Several, IsQuantified, IsLifted, IsLonger, at, need, IsBase, IsUnfolded, named, renamed}
+use Rattle.zf_unfold.proofs.Prelude.{◌↔◌, ◌∷◌, ◌≡◌, ◌≤◌, [], arith, inl, length, List, None, refl, subst, suc, sym, ℕ, Truth, Value, binary, bracket, quantified, range, Ranges, ResolvedPart, ResolvedTree, unary, Environment, in_row, HasOutcome, HaveRanges, IsTruth, repeated, Several, IsQuantified, IsLifted, IsLonger, at, IsBase, IsUnfolded, named, renamed}
 use Rattle.zf_tree.specs.declared.operator.Operator.TheVariants.{Connective}
 use Rattle.zf_tree.specs.declared.operator.Unary.TheVariants.{Not}
 use Rattle.zf_tree.specs.declared.symbol.Connective as connective

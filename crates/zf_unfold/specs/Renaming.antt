@@ -5,7 +5,8 @@ use Rattle.zf_reference.specs.declared.reference.Reference.TheVariants.{Componen
 use Rattle.zf_tree.specs.declared.operator.Operator.TheVariants.{Connective}
 use Rattle.zf_tree.specs.declared.symbol.Connective.TheVariants.{And, Implies}
 use Rattle.zf_tree.specs.declared.symbol.Quantifier.TheVariants.{ForAll}
-use Rattle.zf_term.specs.ResolvedTrees.{ResolvedTree, reference, number, constant, empty_set, bracket, listed, builder, unary, binary, chain, quantified, ResolvedTrees, no_terms, term, ResolvedLinks, no_links, link, Ranges, no_ranges, range, ResolvedPart, absent, present}
+use Rattle.zf_term.specs.ResolvedTrees.{ResolvedTree, binary, quantified, Ranges, no_ranges, range, ResolvedPart, absent, present}
+pub use Rattle.zf_resolved.specs.Renamed.{renamed, all_renamed, links_renamed, ranges_renamed, part_renamed, range_renamed}
 
 -- ---- names
 
@@ -23,38 +24,6 @@ unfoldable pub named : (n : ℕ) → (member : Option ℕ) → Reference → Ref
 named n m (Component i) = Component i
 named n m (Local i) = local_named m i
 named n m (Global i) = Global (min i n)
-
--- ---- terms
-
-abbrev mutual
-  pub renamed : (Reference → Reference) → ResolvedTree → ResolvedTree
-  renamed f (reference l r) = reference l (f r)
-  renamed f (number l v) = number l v
-  renamed f (constant l c) = constant l c
-  renamed f (empty_set l t) = empty_set l (renamed f t)
-  renamed f (bracket l t) = bracket l (renamed f t)
-  renamed f (listed l form ts) = listed l form (all_renamed f ts)
-  renamed f (builder l rs p t) = builder l (ranges_renamed f rs) (part_renamed f p) (part_renamed f t)
-  renamed f (unary l op t) = unary l op (renamed f t)
-  renamed f (binary l op a b) = binary l op (renamed f a) (renamed f b)
-  renamed f (chain l t ks) = chain l (renamed f t) (links_renamed f ks)
-  renamed f (quantified l q rs p t) = quantified l q (ranges_renamed f rs) (part_renamed f p) (renamed f t)
-
-  pub all_renamed : (Reference → Reference) → ResolvedTrees → ResolvedTrees
-  all_renamed f no_terms = no_terms
-  all_renamed f (term t ts) = term (renamed f t) (all_renamed f ts)
-
-  pub links_renamed : (Reference → Reference) → ResolvedLinks → ResolvedLinks
-  links_renamed f no_links = no_links
-  links_renamed f (link r t ks) = link r (renamed f t) (links_renamed f ks)
-
-  pub ranges_renamed : (Reference → Reference) → Ranges → Ranges
-  ranges_renamed f no_ranges = no_ranges
-  ranges_renamed f (range n t rs) = range n (renamed f t) (ranges_renamed f rs)
-
-  pub part_renamed : (Reference → Reference) → ResolvedPart → ResolvedPart
-  part_renamed f absent = absent
-  part_renamed f (present t) = present (renamed f t)
 
 -- ---- what a universal quantifier says of a member
 

@@ -1,22 +1,15 @@
--- What names become in parts of the program's terms. No public clause rests on this.
+-- What names become, and universal quantifiers as they are seen. No public clause rests on this.
 use Rattle.std.specs.Prelude.{ℕ, map}
-use Rattle.zf_tree.specs.declared.symbol.Relation.{Relation}
 use Rattle.zf_tree.specs.declared.symbol.Quantifier.TheVariants.{ForAll}
 use Rattle.zf_reference.specs.declared.reference.Reference.{Reference}
 use Rattle.zf_term.specs.ResolvedTrees.{quantified, range, Ranges, ResolvedTree}
 use Rattle.zf_term.specs.ResolvedViews.{part_of, range_of, ranges, resolved_of}
 use Rattle.zf_unfold.specs.declared.instance.Universal.{Universal}
 use Rattle.zf_unfold.specs.declared.renaming.Renaming.{Renaming}
-use Rattle.zf_unfold.specs.Renaming.{instance, instances, named, renamed}
+use Rattle.zf_unfold.specs.Renaming.{instance, instances, named}
 
 abbrev pub named_by : Renaming → Reference → Reference
 named_by r = named r.count r.member
-
-abbrev pub link_renamed : (Reference → Reference) → Relation × ResolvedTree → Relation × ResolvedTree
-link_renamed f l = (l.0, renamed f l.1)
-
-abbrev pub range_renamed : (Reference → Reference) → ℕ × ResolvedTree → ℕ × ResolvedTree
-range_renamed f r = (r.0, renamed f r.1)
 
 -- ---- a universal quantifier
 

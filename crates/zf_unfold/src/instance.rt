@@ -4,10 +4,11 @@ ghost use Rattle.zf_term.specs.ResolvedViews.{resolved_of, range_of, ranges, par
 ghost use Rattle.zf_unfold.specs.Renaming as spec;
 ghost use Rattle.zf_unfold.specs.RenamingViews as views;
 
-use crate::renaming::{Renaming, renamed, renamed_part, renamed_range};
+use crate::renaming::Renaming;
 use bumpalo::Bump;
 use std::alloc::AllocError;
 use zf_data::arena::{Boxed, Items};
+use zf_resolved::renaming::{renamed, renamed_part, renamed_range};
 use zf_term::resolved::{Part, Range, Resolved};
 use zf_tree::operator::Operator;
 use zf_tree::symbol::{Connective, Quantifier};
@@ -61,8 +62,8 @@ fn instance<'a>(
         return implied(of, arena, renaming);
     }
     let variables = Boxed::new(arena, variables)?;
-    let constraint = renamed_part(of.constraint, arena, renaming)?;
-    let body = Boxed::new(arena, renamed(of.body, arena, renaming)?)?;
+    let constraint = renamed_part(of.constraint, arena, &renaming)?;
+    let body = Boxed::new(arena, renamed(of.body, arena, &renaming)?)?;
     Ok(Resolved::Quantified(Quantifier::ForAll, of.line, variables, constraint, body))
 }
 
@@ -74,11 +75,11 @@ fn implied<'a>(
 ) -> Result<Resolved<'a>, AllocError>
     ensures { IfOk result (λ t. resolved_of t ≡ spec.implied of.now.line (spec.part_renamed (views.named_by renaming) (part_of of.now.constraint.now)) (spec.renamed (views.named_by renaming) (resolved_of of.now.body.now))) }
 {
-    let body = renamed(of.body, arena, renaming)?;
+    let body = renamed(of.body, arena, &renaming)?;
     match of.constraint.get() {
         None => Ok(body),
         Some(constraint) => {
-            let left = Boxed::new(arena, renamed(constraint.get(), arena, renaming)?)?;
+            let left = Boxed::new(arena, renamed(constraint.get(), arena, &renaming)?)?;
             let right = Boxed::new(arena, body)?;
             Ok(Resolved::Binary(
                 of.line,
@@ -104,7 +105,7 @@ fn others<'a>(
     };
     let mut all = Items::with_room(arena, of.others.len().saturating_add(1))?;
     if of.first.variables > 1 {
-        let set = renamed(&of.first.set, arena, renaming)?;
+        let set = renamed(&of.first.set, arena, &renaming)?;
         all.push(Range {
             variables: of.first.variables - 1,
             set,
@@ -121,10 +122,10 @@ fn add_renamed<'a>(
     renaming: Renaming,
     all: &mut Items<'a, Range<'a>>,
 ) -> Result<(), AllocError>
-    ensures { OnOk result (map range_of all.new ≡ map range_of all.old ++ map (views.range_renamed (views.named_by renaming)) (map range_of variables.now)) }
+    ensures { OnOk result (map range_of all.new ≡ map range_of all.old ++ map (spec.range_renamed (views.named_by renaming)) (map range_of variables.now)) }
 {
     for range in variables {
-        all.push(renamed_range(range, arena, renaming)?)?;
+        all.push(renamed_range(range, arena, &renaming)?)?;
     }
     Ok(())
 }

@@ -10,13 +10,14 @@ ghost use Rattle.zf_unfold.specs.Unfolded.{AreAllUnfolded, IsBase, IsUnfolded};
 use crate::instance::instances;
 use crate::members::{add_members, set_named};
 use crate::quantifiers::{have_quantifiers, universal};
-use crate::renaming::{Renaming, renamed};
+use crate::renaming::Renaming;
 use crate::worth::is_worth;
 use bumpalo::Bump;
 use std::alloc::{AllocError, Global};
 use zf_data::arena::{Boxed, Lasting};
 use zf_lift::{Lifted, lift};
 use zf_meaning::env::Env;
+use zf_resolved::renaming::renamed;
 use zf_term::resolved::Resolved;
 use zf_tree::operator::{Operator, Unary};
 use zf_value::value::Outcome;
@@ -190,7 +191,7 @@ fn outside<'a>(
         count,
         member: None,
     };
-    renamed(term, arena, renaming)
+    renamed(term, arena, &renaming)
 }
 
 /// A quantifier, written out by its first variable where that is worth it.

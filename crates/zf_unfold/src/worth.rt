@@ -1,10 +1,9 @@
 //! Which quantifiers are worth writing out.
 use zf_data::arena::{Boxed, Items};
+use zf_lift::rows_of;
 use zf_meaning::env::Env;
-use zf_meaning::value::value_of;
 use zf_reference::reference::Reference;
 use zf_term::resolved::{Links, Part, Range, Resolved, Terms};
-use zf_value::value::{Outcome, Value};
 
 /// The most rows of a quantifier that is written out.
 const MOST_ROWS: usize = 256;
@@ -28,7 +27,7 @@ pub(crate) fn is_worth<'a>(term: &Resolved<'a>, env: &Env<'_, 'a>) -> bool {
     let Resolved::Quantified(_, _, variables, _, _) = term else {
         return false;
     };
-    let rows = rows_of(variables.as_slice(), env);
+    let rows = rows_of(variables.as_slice(), env, MOST_ROWS);
     if rows == 0 || rows > MOST_ROWS {
         return false;
     }
@@ -45,35 +44,10 @@ fn gains(found: Weight, plain: usize) -> bool {
     found.first < found.last || (found.last == 1 && found.nodes > plain)
 }
 
-/// How many rows the ranges have; more than are written out where that is not known.
-fn rows_of<'a>(variables: &[Range<'a>], env: &Env<'_, 'a>) -> usize {
-    let mut rows = 1usize;
-    for range in variables {
-        let members = members_of(&range.set, env);
-        for _ in 0..range.variables.min(64) {
-            rows = rows.saturating_mul(members);
-        }
-    }
-    rows
-}
-
 /// How often the body of a quantifier may be written out.
 fn written_out<'a>(variables: &[Range<'a>], env: &Env<'_, 'a>) -> usize {
-    let rows = rows_of(variables, env);
+    let rows = rows_of(variables, env, MOST_ROWS);
     if rows <= MOST_ROWS { rows.max(1) } else { 1 }
-}
-
-/// How many members the set has, if it has a name; else more than are written out.
-fn members_of<'a>(set: &Resolved<'a>, env: &Env<'_, 'a>) -> usize {
-    let Resolved::Name(_, Reference::Global(_)) = set else {
-        return MOST_ROWS + 1;
-    };
-    let none: &[Value] = &[];
-    match value_of(set, &none, env) {
-        Ok(Outcome::Is(value)) => value.members().len(),
-        Ok(_) => MOST_ROWS + 1,
-        Err(_) => MOST_ROWS + 1,
-    }
 }
 
 /// What is found in so many copies of a term beside what was found before.

@@ -1,4 +1,4 @@
-use Rattle.zf_unfold.proofs.Prelude.{◌++◌, ◌+◌, ◌∙◌, ◌∷◌, ◌≡◌, [], ap, arith, List, None, named, renamed, resolved_of}
+use Rattle.zf_unfold.proofs.Prelude.{◌++◌, ◌+◌, ◌∙◌, ◌∷◌, [], ap, arith, List, None, named, renamed, resolved_of}
 use Rattle.std.proofs.Common.{◌-◌}
 use Rattle.zf_term.specs.declared.resolved.Range.{Range}
 use Rattle.zf_unfold.proofs.Written.{others_none, others_some}
