@@ -1,5 +1,6 @@
 -- Equations that fix a component: where its value is another than the expression's, they are False.
-use Rattle.zf_enum.proofs.Prelude.{◌++◌, ◌+◌, ◌<◌, ◌∙◌, ◌∷◌, ◌≡◌, ◌≤◌, ◌⊎◌, [], ap, ap₂, arith, false, get_or, inl, inr, length, List, max, refl, Some, subst, suc, sym, true, zero, ℕ, ⊎_elim, eqb-true, false≢true, Contains, slice_get, length-picked, AreWithin, picked, Leaves, Reference, Component, Global, Local, Outcome, Is, Out, Undefined, Value, Equal, chain, link, no_links, ResolvedTree, references, Environment, value_or, in_row, HasOutcome, IsTruth, IsAtom, need, AreCandidates, Fixes, IsKept, due, greatest_place, HasTruth, is_among, is_component, place_named, property, uses, Context, outcome_in, Holds}
+use Rattle.zf_enum.proofs.Prelude.{◌++◌, ◌+◌, ◌<◌, ◌∙◌, ◌∷◌, ◌≡◌, ◌≤◌, ◌⊎◌, [], ap, ap₂, arith, Bool, cases_lt, cond, false, get_or, inl, inr, length, List, max, refl, Some, subst, suc, sym, true, zero, ℕ, ⊎_elim, eqb-true, false≢true, Contains, slice_get, length-picked, AreWithin, picked, Leaves, Reference, Component, Global, Local, Outcome, Is, Out, Undefined, Value, Equal, chain, link, no_links, ResolvedTree, references, Environment, value_or, in_row, HasOutcome, IsTruth, IsAtom, need, AreCandidates, Fixes, IsKept, due, greatest_place, HasTruth, is_among, is_component, place_named, property, uses, Context, outcome_in, Holds}
+use Rattle.std.proofs.lemmas.Bool.{eq-eqb}
 use Rattle.zf_value.specs.declared.value.Truth.TheVariants as truth
 use Rattle.zf_enum.specs.declared.candidates.Tie.TheVariants as tie
 use Rattle.zf_enum.proofs.Dues.{due_need, either_true}
@@ -37,6 +38,31 @@ side_due k p t f =
     let one = due_need m t (omega arith) in
     let other = due_need m p (omega arith) in
     omega (arith, one, other, side_need m k p t f)
+
+own_place : (k : ℕ) (r : Reference) → place_named r ≡ k + 1 → is_component k r ≡ true
+own_place k (Component i) e = eq-eqb i k (omega (arith, e))
+own_place k (Local i) e = absurd (omega (arith, e))
+own_place k (Global i) e = absurd (omega (arith, e))
+
+or_right : (a b : Bool) → b ≡ true → cond a true b ≡ true
+or_right true b e = refl
+or_right false b e = e
+
+-- the last component that is due is used
+last_used : (k : ℕ) (rs : List Reference) → greatest_place rs ≡ k + 1 → is_among k rs ≡ true
+last_used k [] e = absurd (omega (arith, e))
+last_used k (r ∷ rs) e =
+    ⊎_elim (λ less. or_right (is_component k r) (is_among k rs) (last_used k rs (omega (arith, less, e))))
+    (λ more. ap (λ b. cond b true (is_among k rs)) (own_place k r (omega (arith, more, e)))) (cases_lt (place_named r) (greatest_place rs))
+
+beside_unused : (k : ℕ) (p t : ResolvedTree) → Fixes p k t → uses t k ≡ false
+beside_unused k p t (line, left, right, is, (apart, which)) = apart
+
+-- where an equation needs no component after the one that it fixes, the expression needs only those before
+pub side_before : (k : ℕ) (p t : ResolvedTree) → Fixes p k t → due p ≤ k + 1 → due t ≤ k
+side_before k p t fixed few =
+    ⊎_elim (λ less. absurd (false≢true (sym (beside_unused k p t fixed) ∙ last_used k (references t) (let d = side_due k p t fixed in omega (arith, less, few, d)))))
+    (λ more. omega (arith, more)) (cases_lt k (due t))
 
 -- ---- another value than the expression's
 

@@ -174,7 +174,7 @@ fn tried(side: &Resolved<'_>, component: usize, count: usize) -> usize
 }
 
 /// The place of the expression's value, where it needs no more than these.
-fn gather_value<'a>(
+pub(crate) fn gather_value<'a>(
     side: &Resolved<'a>,
     tie: Tie,
     ranges: &[Range<Value>],

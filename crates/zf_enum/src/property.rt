@@ -3,7 +3,7 @@ ghost use Rattle.std.specs.Prelude.{◌≡◌, ◌<◌, ◌^◌, ℕ, IfOk, map,
 ghost use Rattle.zf_term.specs.ResolvedViews.{resolved_of};
 ghost use Rattle.zf_enum.specs.Property.{due, due_of, told};
 
-use crate::candidates::{Tie, gather_candidates, gather_spread, is_tried};
+use crate::candidates::{Tie, gather_candidates, gather_spread, gather_value, is_tried};
 use crate::conjuncts::Conjuncts;
 use crate::due::{due, uses};
 use crate::fixing::fixing;
@@ -96,15 +96,19 @@ impl<'e, 'g, 'a> Guide<Value> for Property<'e, 'g, 'a> {
         gathered: &mut Vec<usize>,
     ) -> Result<bool, AllocError> {
         let term = self.conjuncts.get(leaf);
-        if let Some(side) = fixing(term, places.len()) {
-            if is_tried(side, ranges, places.len()) {
+        let next = places.len();
+        if let Some(side) = fixing(term, next) {
+            if self.dues[leaf] <= next + 1 {
+                return gather_value(side, Tie::Value, ranges, places, next, self.env, gathered);
+            }
+            if is_tried(side, ranges, next) {
                 return gather_candidates(side, Tie::Value, ranges, places, self.env, gathered);
             }
         }
-        if balances(term, places.len()) {
+        if balances(term, next) {
             return gather_balanced(term, ranges, places, self.env, gathered);
         }
-        match self.conjuncts.spread(leaf, places.len()) {
+        match self.conjuncts.spread(leaf, next) {
             None => Ok(false),
             Some(set) => gather_spread(set, ranges, places, self.env, gathered),
         }
