@@ -197,13 +197,21 @@ fn equated<'t, 'a>(term: &'t Resolved<'a>, component: usize) -> Option<&'t Resol
 {
     match term {
         Resolved::Bracket(_, inner) => equated(inner.get(), component),
-        Resolved::Binary(_, Operator::Connective(Connective::And), left, right) => {
-            let first = equated(left.get(), component);
-            if first.is_some() {
-                return first;
-            }
-            equated(right.get(), component)
-        }
+        Resolved::Binary(_, op, left, right) => match op {
+            Operator::Connective(connective) => match connective {
+                Connective::And => {
+                    let first = equated(left.get(), component);
+                    if first.is_some() {
+                        return first;
+                    }
+                    equated(right.get(), component)
+                }
+                Connective::Or => None,
+                Connective::Implies => None,
+                Connective::Iff => None,
+            },
+            _ => None,
+        },
         _ => fixing(term, component),
     }
 }

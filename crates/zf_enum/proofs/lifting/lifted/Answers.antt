@@ -23,10 +23,10 @@ property_of-requires-in-Some c =
     let found = subst (λ (o : Option Lifted). IfSome o (λ l. AreLifted (environment_of l.env.now) e (map resolved_of l.terms.items)
     (map resolved_of c.as_slice.result.now))) c.in-Some.is c.in_ok-lift.ensures in
     let each = subst (λ (ts : List Resolved). AreLifted (environment_of l.env.now) e (map resolved_of l.terms.items) (map resolved_of ts)) c.as_slice.ensures.value found in
-    λ k. omega (arith, dues_at (environment_of l.env.now) e (map resolved_of l.terms.items) (map resolved_of c.args.conjuncts.items) each.each k, c.requires.small k)
+    record { small = λ k. omega (arith, dues_at (environment_of l.env.now) e (map resolved_of l.terms.items) (map resolved_of c.args.conjuncts.items) each.each k, c.requires.small k) }
 
-pub returns-in-Some : goal.returns-in-Some
-returns-in-Some c =
+pub returns : goal.returns
+returns c =
     let e = environment_of c.args.env.now in
     let l = c.in-Some.lifted in
     let found = subst (λ (o : Option Lifted). IfSome o (λ l. AreLifted (environment_of l.env.now) e (map resolved_of l.terms.items)
