@@ -20,10 +20,10 @@ pub use Rattle.zf_term.specs.Numbers.{next_number}
 pub use Rattle.zf_term.specs.ResolvedTrees.{ResolvedTree}
 pub use Rattle.zf_term.specs.Types.{Ty, Tys}
 pub use Rattle.zf_term.specs.Faults.{Fault, Offence}
-pub use Rattle.zf_type.proofs.NoOffence.{no_offence}
-pub use Rattle.zf_type.proofs.OneSort.{one_sort, same_typed}
+pub use Rattle.zf_typing.proofs.NoOffence.{no_offence}
+pub use Rattle.zf_typing.proofs.OneSort.{one_sort, same_typed}
 pub use Rattle.zf_sorts.specs.Refusals.{fault_of, IfFault, offence_of}
-pub use Rattle.zf_type.specs.Resolving.{bound, referent, resolved, resolved_all, resolved_links, resolved_part, resolved_ranges}
+pub use Rattle.zf_typing.specs.Resolving.{bound, referent, resolved, resolved_all, resolved_links, resolved_part, resolved_ranges}
 pub use Rattle.zf_sorts.specs.Rules.{predicate, set_sort, Sort, typed}
 pub use Rattle.zf_sorts.specs.declared.fault.Refusal.{Refusal}
 pub use Rattle.zf_calculus.specs.Calculus.{Agree, Agrees, all_unchanged, comp, comp_named, decorated, either_comps, HasTypeOf, new_place, prime, sets_on, unchanged, with_comp, with_comps}

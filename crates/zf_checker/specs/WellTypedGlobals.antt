@@ -7,9 +7,9 @@ use Rattle.zf_extent.specs.Extents.{extent_of}
 use Rattle.zf_term.specs.ResolvedTrees.{ResolvedTree}
 use Rattle.zf_term.specs.Types.{Ty}
 use Rattle.zf_term.specs.Faults.{Fault}
-use Rattle.zf_type.specs.Resolving.{resolved}
+use Rattle.zf_typing.specs.Resolving.{resolved}
 use Rattle.zf_sorts.specs.Rules.{typed}
-use Rattle.zf_type.specs.Typing.{IsOf}
+use Rattle.zf_typing.specs.Typing.{IsOf}
 use Rattle.zf_schema.specs.Expressions.{outside, IsSchema}
 use Rattle.zf_schema.specs.Checking.{next_number, IsChecked}
 

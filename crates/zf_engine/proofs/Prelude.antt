@@ -21,12 +21,12 @@ pub use Rattle.zf_term.specs.ResolvedTrees.{binary, bracket, builder, chain, con
 pub use Rattle.zf_term.specs.Shapes.{conjuncts, is_and, is_conjunction, term_line, moved}
 pub use Rattle.zf_term.specs.References.{references}
 pub use Rattle.zf_sorts.specs.Refusals.{fault_of}
-pub use Rattle.zf_type.specs.Resolving.{bound, referent, resolved, resolved_all, resolved_links, resolved_part, resolved_ranges}
+pub use Rattle.zf_typing.specs.Resolving.{bound, referent, resolved, resolved_all, resolved_links, resolved_part, resolved_ranges}
 pub use Rattle.zf_checker.specs.WellTypedGlobals.{AreWellTyped}
 pub use Rattle.zf_meaning.specs.Environments.{Environment}
 pub use Rattle.zf_meaning.specs.Envs.{environment_of}
-pub use Rattle.zf_texts.specs.Spellings.{spellings}
-pub use Rattle.zf_texts.specs.declared.spelling.Spelling.{Spelling}
+pub use Rattle.zf_print.specs.Spellings.{spellings}
+pub use Rattle.zf_print.specs.declared.spelling.Spelling.{Spelling}
 pub use Rattle.zf_enum.specs.Portions.{Portion}
 pub use Rattle.zf_enum.specs.PortionViews.{portion}
 pub use Rattle.zf_enum.specs.Property.{due, due_of, greatest_place, place_named, property}

@@ -3,18 +3,18 @@ use Rattle.zf_engine.proofs.Prelude.{◌==◌, ◌∙◌, ◌∷◌, ◌≡◌, 
 use Rattle.zf_finite.specs.Finite.{IsFinite}
 use Rattle.zf_scan.specs.declared.fault.TextFault.{TextFault}
 use Rattle.zf_scan.specs.CutViews.{IsWantOfMemory}
-use Rattle.zf_text.specs.Parsing.{RefusesSource}
+use Rattle.zf_parse.specs.Parsing.{RefusesSource}
 use Rattle.zf_term.specs.Faults.{Fault}
 use Rattle.zf_checker.proofs.WellTyped.{globals_well_typed}
 use Rattle.zf_meaning.specs.GlobalOutcomes.{IsEnvironment}
 use Rattle.zf_meaning.specs.Sizes.{given_sets, AreComplete}
-use Rattle.zf_texts.specs.BindingTexts.{binding_text}
-use Rattle.zf_texts.specs.Clear.{AreClear}
-use Rattle.zf_texts.specs.Held.{IsHeldLine}
-use Rattle.zf_texts.specs.HeldLaws.{HaveClearNames, IsNoHeldLine}
-use Rattle.zf_texts.specs.Readings.{IsNoLine}
-use Rattle.zf_names.proofs.Clear.{components_clear, globals_clear}
-use Rattle.zf_texts.proofs.Chosen.{held_is_line, line_is_held}
+use Rattle.zf_print.specs.BindingTexts.{binding_text}
+use Rattle.zf_print.specs.Clear.{AreClear}
+use Rattle.zf_print.specs.Held.{IsHeldLine}
+use Rattle.zf_print.specs.HeldLaws.{HaveClearNames, IsNoHeldLine}
+use Rattle.zf_print.specs.Readings.{IsNoLine}
+use Rattle.law_names.proofs.Clear.{components_clear, globals_clear}
+use Rattle.zf_print.proofs.Chosen.{held_is_line, line_is_held}
 use Rattle.std.proofs.Common.{Global, Vec}
 use Rattle.zf_messages.specs.Details.{IsWithout, LacksComponent}
 use Rattle.zf_engine.specs.Stops.{IsWhole}

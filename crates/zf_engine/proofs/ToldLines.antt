@@ -6,7 +6,7 @@ use Rattle.std.specs.List.{flat_map}
 use Rattle.std.proofs.lemmas.List.{drop_all}
 use Rattle.zf_term.proofs.Walk.{dropped}
 use Rattle.zf_format.specs.declared.format.Format.TheVariants.{Lines}
-use Rattle.zf_texts.specs.declared.spelling.Spelling.{Spelling}
+use Rattle.zf_print.specs.declared.spelling.Spelling.{Spelling}
 use Rattle.zf_why.specs.declared.told.Operands.{Operands}
 use Rattle.zf_why.specs.declared.told.Sides.{Sides}
 use Rattle.zf_why.specs.declared.told.Told.{Told}

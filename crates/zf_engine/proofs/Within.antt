@@ -5,7 +5,7 @@ use Rattle.zf_reference.specs.declared.reference.Reference.{Reference}
 use Rattle.zf_term.specs.References.{onto, all_onto, links_onto, ranges_onto, part_onto}
 use Rattle.zf_reference.specs.Numbering.{renumbered}
 use Rattle.zf_term.proofs.MovedReferences.{moved_keeps_variables}
-use Rattle.zf_type.specs.Scopes.{Scope, Var, last_named, variable_meaning, component_meaning, global_meaning, meaning}
+use Rattle.zf_typing.specs.Scopes.{Scope, Var, last_named, variable_meaning, component_meaning, global_meaning, meaning}
 
 -- ---- places
 

@@ -10,7 +10,7 @@ use Rattle.zf_checker.specs.Listing.{listing}
 use Rattle.zf_finite.specs.declared.not_finite.NotFinite.{NotFinite}
 use Rattle.zf_finite.specs.Finite.{IsFinite, causes}
 use Rattle.zf_scan.specs.declared.fault.TextFault.{TextFault}
-use Rattle.zf_text.specs.Parsing.{RefusesSource}
+use Rattle.zf_parse.specs.Parsing.{RefusesSource}
 use Rattle.zf_term.specs.Definitions.{Comp, Defined, Schema}
 use Rattle.zf_extent.specs.Extents.{first}
 use Rattle.zf_term.specs.Faults.{Fault}
@@ -24,9 +24,9 @@ use Rattle.zf_meaning.specs.Rows.{IsRow}
 use Rattle.zf_meaning.specs.Sizes.{given_sets, AreComplete, IsRefusal}
 use Rattle.zf_enum.specs.Portions.{Portion}
 use Rattle.zf_ranges.specs.Ranges.{IsFirstOut, IsNoneOut}
-use Rattle.zf_texts.specs.BindingTexts.{binding_text}
-use Rattle.zf_texts.specs.HeldLines.{IsLineOfSome}
-use Rattle.zf_texts.specs.Spellings.{spellings}
+use Rattle.zf_print.specs.BindingTexts.{binding_text}
+use Rattle.zf_print.specs.HeldLines.{IsLineOfSome}
+use Rattle.zf_print.specs.Spellings.{spellings}
 use Rattle.zf_lines.specs.declared.fault.Status.{Status}
 use Rattle.zf_lines.specs.declared.fault.Status.TheVariants.{Done, BadSpec, BadRequest, PastBounds}
 use Rattle.zf_lines.specs.Faults.{IsFront}

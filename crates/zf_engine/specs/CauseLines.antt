@@ -1,7 +1,7 @@
 -- The lines of a cause, as the program has it. No public clause rests on this file.
 use Rattle.std.specs.Prelude.{ℕ, List}
 use Rattle.zf_format.specs.declared.format.Format.{Format}
-use Rattle.zf_texts.specs.declared.spelling.Spelling.{Spelling}
+use Rattle.zf_print.specs.declared.spelling.Spelling.{Spelling}
 use Rattle.zf_term.specs.Definitions.{Schema}
 use Rattle.zf_cores.specs.Choices.{chosen_of}
 use Rattle.zf_why.specs.declared.cause.Cause.{Cause}

@@ -11,7 +11,7 @@ use Rattle.zf_meaning.specs.Environments.{Environment}
 use Rattle.zf_meaning.specs.GlobalOutcomes.{IsEnvironment}
 use Rattle.zf_meaning.specs.Sizes.{given_sets, AreComplete}
 use Rattle.zf_ranges.specs.Ranges.{IsNoneOut}
-use Rattle.zf_texts.specs.Spellings.{spellings}
+use Rattle.zf_print.specs.Spellings.{spellings}
 use Rattle.zf_graph.specs.Seeking as seeking
 use Rattle.zf_graph.specs.Texts as graph
 use Rattle.zf_graph.specs.Texts.{broken, ended, Ending, paused}

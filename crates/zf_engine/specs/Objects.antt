@@ -6,8 +6,8 @@ use Rattle.zf_term.specs.Definitions.{Comp, sets_of}
 use Rattle.zf_finite.specs.Finite.{first_plain}
 use Rattle.zf_value.specs.declared.value.Outcome.{Outcome}
 use Rattle.zf_value.specs.declared.value.Outcome.TheVariants as outcome
-use Rattle.zf_texts.specs.declared.spelling.Spelling.{Spelling}
-use Rattle.zf_texts.specs.ValueTexts.{parted, value_object}
+use Rattle.zf_print.specs.declared.spelling.Spelling.{Spelling}
+use Rattle.zf_print.specs.ValueTexts.{parted, value_object}
 use Rattle.zf_why.specs.declared.told.Operands.{Operands}
 use Rattle.zf_why.specs.declared.told.Sides.{Sides}
 use Rattle.zf_why.specs.declared.told.Told.{Told}

@@ -13,9 +13,9 @@ use Rattle.zf_walk.specs.declared.judge.Truth.TheVariants.{True, Out}
 use Rattle.zf_walk.specs.Events.{Event}
 use Rattle.zf_meaning.specs.Environments.{Environment}
 use Rattle.zf_enum.specs.Portions.{Portion}
-use Rattle.zf_texts.specs.declared.spelling.Spelling.{Spelling}
-use Rattle.zf_texts.specs.Spellings.{spellings}
-use Rattle.zf_texts.specs.ValueTexts.{value_text}
+use Rattle.zf_print.specs.declared.spelling.Spelling.{Spelling}
+use Rattle.zf_print.specs.Spellings.{spellings}
+use Rattle.zf_print.specs.ValueTexts.{value_text}
 use Rattle.zf_cores.specs.Choices.{chosen_of}
 use Rattle.zf_why.specs.declared.told.Operands.{Operands}
 use Rattle.zf_why.specs.declared.told.Sides.{Sides}

@@ -9,7 +9,7 @@ use Rattle.zf_format.specs.Messages.{messages_in}
 use Rattle.zf_schema.specs.Checking.{IsChecked}
 use Rattle.zf_finite.specs.declared.not_finite.NotFinite.{NotFinite}
 use Rattle.zf_finite.specs.Finite.{causes}
-use Rattle.zf_text.specs.Parsing.{ReadsSource}
+use Rattle.zf_parse.specs.Parsing.{ReadsSource}
 use Rattle.zf_tree.specs.Trees.{BoxTree}
 use Rattle.zf_term.specs.Definitions.{Comp, Defined, Schema, schema}
 use Rattle.zf_term.specs.Faults.{Fault}

@@ -13,7 +13,7 @@ use Rattle.zf_enum.specs.PortionViews.{portion}
 use Rattle.zf_enum.specs.Property.{property}
 use Rattle.zf_enum.specs.Searches.{Goal}
 use Rattle.zf_enum.specs.Starts.{Begins}
-use Rattle.zf_texts.specs.Spellings.{spellings}
+use Rattle.zf_print.specs.Spellings.{spellings}
 use Rattle.zf_why.specs.Explaining.{Explains}
 use Rattle.zf_why.specs.Disjunctions.{disjunction_at}
 use Rattle.zf_why.specs.Rows.{RuleOut}

@@ -38,7 +38,7 @@ use zf_messages::Report;
 use zf_parts::{Parts, are_first, show_fronts, show_parts};
 use zf_term::globals::Globals;
 use zf_term::schema::Flat;
-use zf_texts::spellings_of;
+use zf_print::spellings_of;
 use zf_value::value::Value;
 
 /// Writes the answer of a job for a source, as it is found.

@@ -5,9 +5,9 @@ ghost use Rattle.zf_engine.specs.Stops.{IfAnswered, TellsMisnamed, TellsNoParts}
 ghost use Rattle.zf_engine.specs.Subjects.{AreNamedIn, IsChosenBy, shown_in};
 ghost use Rattle.zf_meaning.specs.Envs.{environment_of};
 ghost use Rattle.zf_term.specs.SchemaViews.{schema_of};
-ghost use Rattle.zf_texts.specs.Clear.{AreClear};
-ghost use Rattle.zf_texts.specs.HeldLaws.{HaveClearNames};
-ghost use Rattle.zf_texts.specs.Spellings.{spellings};
+ghost use Rattle.zf_print.specs.Clear.{AreClear};
+ghost use Rattle.zf_print.specs.HeldLaws.{HaveClearNames};
+ghost use Rattle.zf_print.specs.Spellings.{spellings};
 
 use crate::held::values_held;
 use crate::inquiry::Inquiry;
@@ -20,7 +20,7 @@ use zf_data::Word;
 use zf_meaning::env::Env;
 use zf_places::schema_at;
 use zf_term::schema::Flat;
-use zf_texts::Spelling;
+use zf_print::Spelling;
 use zf_value::value::Value;
 
 /// Components that alone are shown: their places, and a schema of them.

@@ -5,7 +5,7 @@ ghost use Rattle.zf_engine.specs.Settings.{Checks};
 ghost use Rattle.zf_engine.specs.Stops.{IfAnswered, IsFaultLine};
 ghost use Rattle.zf_messages.specs.Details.{AreLines};
 ghost use Rattle.zf_messages.specs.AsideViews.{cited_of};
-ghost use Rattle.zf_text.specs.Parsing.{ReadsSource};
+ghost use Rattle.zf_parse.specs.Parsing.{ReadsSource};
 ghost use Rattle.zf_tree.specs.TreeViews.{boxes_of};
 ghost use Rattle.zf_term.specs.DefinitionViews.{globals_of};
 ghost use Rattle.zf_sorts.specs.Refusals.{fault_of};
@@ -19,8 +19,8 @@ use zf_lines::fault::Status;
 use zf_messages::{Quoting, Report, text_fault_lines, type_fault_lines};
 use zf_scan::fault::{TextFault, TextFaultKind};
 use zf_sorts::fault::TypeFault;
-use zf_text::reading::read_spec;
-use zf_text::unread::About;
+use zf_parse::reading::read_spec;
+use zf_parse::unread::About;
 use zf_tree::tree::Spec;
 
 /// What a source defines, and its faults of types. Its trees stand in an arena of their own, which asks for its room while the

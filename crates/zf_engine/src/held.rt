@@ -4,9 +4,9 @@ ghost use Rattle.zf_engine.specs.Answers.{AreHeld};
 ghost use Rattle.zf_engine.specs.Stops.{IfAnswered, TellsNoValues, TellsPlaceHeld};
 ghost use Rattle.zf_meaning.specs.Envs.{environment_of};
 ghost use Rattle.zf_term.specs.SchemaViews.{schema_of};
-ghost use Rattle.zf_texts.specs.Clear.{AreClear};
-ghost use Rattle.zf_texts.specs.HeldLaws.{HaveClearNames};
-ghost use Rattle.zf_texts.specs.Spellings.{spellings};
+ghost use Rattle.zf_print.specs.Clear.{AreClear};
+ghost use Rattle.zf_print.specs.HeldLaws.{HaveClearNames};
+ghost use Rattle.zf_print.specs.Spellings.{spellings};
 
 use crate::stop::Stop;
 use std::alloc::Global;
@@ -15,7 +15,7 @@ use zf_lines::fault::Status;
 use zf_meaning::env::Env;
 use zf_messages::texts;
 use zf_term::schema::Flat;
-use zf_texts::{AfterFault, Spelling, read_held};
+use zf_print::{AfterFault, Spelling, read_held};
 use zf_value::value::Value;
 
 /// The values that are held, by the components' places, if a line of some components is given. The answer where the

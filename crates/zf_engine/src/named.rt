@@ -4,8 +4,8 @@ ghost use Rattle.zf_engine.specs.Answers.{IsLineOf, IsNamedRow, NamesNoRow};
 ghost use Rattle.zf_engine.specs.Stops.{IfAnswered, TellsNoRow, TellsPlace};
 ghost use Rattle.zf_meaning.specs.Envs.{environment_of};
 ghost use Rattle.zf_term.specs.SchemaViews.{schema_of};
-ghost use Rattle.zf_texts.specs.Clear.{AreClear};
-ghost use Rattle.zf_texts.specs.Spellings.{spellings};
+ghost use Rattle.zf_print.specs.Clear.{AreClear};
+ghost use Rattle.zf_print.specs.Spellings.{spellings};
 
 use crate::stop::Stop;
 use std::alloc::Global;
@@ -14,7 +14,7 @@ use zf_lines::fault::Status;
 use zf_meaning::env::Env;
 use zf_messages::texts;
 use zf_term::schema::Flat;
-use zf_texts::{AfterFault, Spelling, read_binding};
+use zf_print::{AfterFault, Spelling, read_binding};
 use zf_value::value::Value;
 
 /// The row that is named, if one is. The answer where the text is no line of a row.

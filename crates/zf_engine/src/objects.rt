@@ -2,7 +2,7 @@
 ghost use Rattle.std.specs.Prelude.{◌≡◌, ◌++◌, OnOk, codes, map};
 ghost use Rattle.zf_engine.specs.Objects as spec;
 ghost use Rattle.zf_term.specs.SchemaViews.{comp_of};
-ghost use Rattle.zf_texts.specs.LineTexts.{comma_before};
+ghost use Rattle.zf_print.specs.LineTexts.{comma_before};
 
 use crate::lines::trimmed_line;
 use itoa::Buffer;
@@ -11,7 +11,7 @@ use zf_finite::first_plain;
 use zf_format::{Format, append_string};
 use zf_messages::Report;
 use zf_term::schema::Component;
-use zf_texts::{Spelling, append_value};
+use zf_print::{Spelling, append_value};
 use zf_value::value::Outcome;
 use zf_why::{Operands, Sides, Told};
 

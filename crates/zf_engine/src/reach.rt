@@ -41,7 +41,7 @@ use zf_reach::{Ending, Finding};
 use zf_steps::Form;
 use zf_term::globals::Globals;
 use zf_term::schema::Flat;
-use zf_texts::spellings_of;
+use zf_print::spellings_of;
 
 /// What is explored, and how faults of the source are reported.
 #[derive(Clone, Copy)]

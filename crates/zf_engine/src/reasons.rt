@@ -16,7 +16,7 @@ use zf_lines::Style;
 use zf_messages::Report;
 use zf_messages::texts::fault_line;
 use zf_term::schema::{Component, Flat};
-use zf_texts::{Spelling, append_value};
+use zf_print::{Spelling, append_value};
 use zf_value::value::Outcome;
 use zf_why::{Cause, Operands, Sides, Told};
 

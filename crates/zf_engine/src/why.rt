@@ -32,7 +32,7 @@ use zf_meaning::row::Row;
 use zf_messages::Report;
 use zf_term::globals::Globals;
 use zf_term::schema::Flat;
-use zf_texts::spellings_of;
+use zf_print::spellings_of;
 use zf_walk::Step;
 use zf_why::{Question, why};
 

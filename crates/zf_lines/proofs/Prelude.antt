@@ -24,8 +24,8 @@ pub use Rattle.zf_value.specs.declared.plain.Value.{Value}
 pub use Rattle.zf_term.specs.Definitions.{Comp, Schema}
 pub use Rattle.zf_term.specs.SchemaViews.{comp_of, schema_of}
 pub use Rattle.zf_meaning.specs.Environments.{Environment}
-pub use Rattle.zf_texts.specs.BindingTexts.{component_in, components_in, name_in, row_text}
-pub use Rattle.zf_texts.specs.declared.spelling.Spelling.{Spelling}
+pub use Rattle.zf_print.specs.BindingTexts.{component_in, components_in, name_in, row_text}
+pub use Rattle.zf_print.specs.declared.spelling.Spelling.{Spelling}
 pub use Rattle.zf_enum.specs.Property.{property}
 pub use Rattle.zf_enum.specs.Searches.{conjuncts_of, counted_goal, Goal, judged}
 pub use Rattle.zf_enum.specs.declared.bindings.Bindings.{Bindings}
@@ -38,6 +38,6 @@ pub use Rattle.zf_lines.specs.LastLine.{AreParts, front, IsFront, IsPrinted, ope
 pub use Rattle.zf_lines.specs.Searches.{AreEventsUpTo, Hold, IsBegun, IsBelow, IsNotAbove, IsWritten, lines, row_wording, HasLimit, Wording}
 pub use Rattle.zf_lines.specs.Shown.{FindsEvents, IsAtStart, IsCountingAtStart, StopsLines, TellsTests, WritesAll}
 pub use Rattle.zf_lines.specs.Texts.{row_line, tests_line}
-pub use Rattle.zf_texts.specs.LineTexts.{comma_before}
-pub use Rattle.zf_texts.specs.ValueTexts.{later_parts, parted}
+pub use Rattle.zf_print.specs.LineTexts.{comma_before}
+pub use Rattle.zf_print.specs.ValueTexts.{later_parts, parted}
 pub use Rattle.zf_format.specs.declared.format.Format.{Format}

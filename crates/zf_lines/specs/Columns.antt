@@ -3,10 +3,10 @@ use Rattle.std.specs.Prelude.{◌≡◌, ℕ, List, [], ◌++◌, length, Option
 use Rattle.zf_format.specs.declared.format.Format.{Format}
 use Rattle.zf_term.specs.Definitions.{Comp}
 use Rattle.zf_value.specs.declared.plain.Value.{Value}
-use Rattle.zf_texts.specs.declared.spelling.Spelling.{Spelling}
-use Rattle.zf_texts.specs.BindingTexts.{name_in}
-use Rattle.zf_texts.specs.ValueTexts.{value_in}
-use Rattle.zf_texts.specs.LineTexts.{comma_before}
+use Rattle.zf_print.specs.declared.spelling.Spelling.{Spelling}
+use Rattle.zf_print.specs.BindingTexts.{name_in}
+use Rattle.zf_print.specs.ValueTexts.{value_in}
+use Rattle.zf_print.specs.LineTexts.{comma_before}
 use Rattle.zf_lines.specs.declared.column.Column.{Column}
 use Rattle.zf_lines.specs.declared.column.Kept.{Kept}
 

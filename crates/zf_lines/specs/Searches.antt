@@ -16,7 +16,7 @@ use Rattle.zf_enum.specs.Property.{property}
 use Rattle.zf_ranges.specs.Ranges.{AreRanges}
 use Rattle.zf_format.specs.declared.format.Format.{Format}
 use Rattle.zf_term.specs.Definitions.{Comp, Schema}
-use Rattle.zf_texts.specs.declared.spelling.Spelling.{Spelling}
+use Rattle.zf_print.specs.declared.spelling.Spelling.{Spelling}
 use Rattle.zf_lines.specs.Texts.{end_line, more_line, out_line, row_line, tests_line}
 use Rattle.zf_lines.specs.declared.fault.Status.{Status}
 use Rattle.zf_lines.specs.declared.fault.Status.TheVariants.{Done, PastBounds}

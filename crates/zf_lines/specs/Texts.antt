@@ -4,8 +4,8 @@ use Rattle.zf_format.specs.declared.format.Format.{Format}
 use Rattle.zf_format.specs.declared.format.Format.TheVariants.{Lines, Objects}
 use Rattle.zf_term.specs.Definitions.{Comp}
 use Rattle.zf_value.specs.declared.plain.Value.{Value}
-use Rattle.zf_texts.specs.declared.spelling.Spelling.{Spelling}
-use Rattle.zf_texts.specs.BindingTexts.{row_text}
+use Rattle.zf_print.specs.declared.spelling.Spelling.{Spelling}
+use Rattle.zf_print.specs.BindingTexts.{row_text}
 
 abbrev pub row_line : Format → List Spelling → List Comp → List Value → List ℕ
 row_line f ss comps row = row_text f ss comps row ++ codes "\n"

@@ -2,15 +2,15 @@
 ghost use Rattle.std.specs.Prelude.{◌≡◌, ◌<◌, ◌++◌, ℕ, List, length, IfOk, OnOk, IfSome};
 ghost use Rattle.zf_lines.specs.Columns.{AreColumns, Keeps};
 ghost use Rattle.zf_term.specs.SchemaViews.{schema_of};
-ghost use Rattle.zf_texts.specs.BindingTexts.{name_in};
-ghost use Rattle.zf_texts.specs.LineTexts.{comma_before};
+ghost use Rattle.zf_print.specs.BindingTexts.{name_in};
+ghost use Rattle.zf_print.specs.LineTexts.{comma_before};
 ghost use Rattle.zf_value.specs.declared.plain.Value as value;
 
 use crate::style::Style;
 use std::alloc::{AllocError, Global};
 use zf_data::Text;
 use zf_term::schema::Flat;
-use zf_texts::append_name;
+use zf_print::append_name;
 
 /// How many bytes all that is kept of a search may take.
 const ROOM: usize = 2_097_152;

@@ -5,9 +5,9 @@ ghost use Rattle.zf_lines.specs.LastLine.{AreParts, IsFront, IsPrinted, front, o
 ghost use Rattle.zf_lines.specs.Texts.{row_line};
 ghost use Rattle.zf_term.specs.Definitions.{Comp};
 ghost use Rattle.zf_term.specs.SchemaViews.{schema_of};
-ghost use Rattle.zf_texts.specs.BindingTexts.{components_in};
-ghost use Rattle.zf_texts.specs.ValueTexts.{parted};
-ghost use Rattle.zf_texts.specs.declared.spelling.Spelling.{Spelling};
+ghost use Rattle.zf_print.specs.BindingTexts.{components_in};
+ghost use Rattle.zf_print.specs.ValueTexts.{parted};
+ghost use Rattle.zf_print.specs.declared.spelling.Spelling.{Spelling};
 ghost use Rattle.zf_value.specs.declared.plain.Value as value;
 
 use crate::column::{Column, columns_of};
@@ -16,7 +16,7 @@ use std::alloc::AllocError;
 use zf_enum::Located;
 use zf_format::Format;
 use zf_term::schema::Flat;
-use zf_texts::append_value;
+use zf_print::append_value;
 
 /// A part of a line: where its value stands in the range, and where the part ends.
 #[derive(Drop)]

@@ -3,7 +3,7 @@ ghost use Rattle.std.specs.Prelude.{◌≡◌};
 
 use std::alloc::Global;
 use zf_format::Format;
-use zf_texts::Spelling;
+use zf_print::Spelling;
 
 /// In which style the rows of a search are written.
 #[derive(Clone, Copy)]

@@ -8,7 +8,7 @@ use std::alloc::AllocError;
 use zf_format::Format;
 use zf_meaning::row::Row;
 use zf_term::schema::Flat;
-use zf_texts::{Spelling, append_row};
+use zf_print::{Spelling, append_row};
 
 /// Appends the line of a row. A refusal leaves a part of it.
 pub fn append_row_line<R: Row>(

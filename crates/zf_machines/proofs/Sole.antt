@@ -8,7 +8,7 @@ use Rattle.zf_steps.specs.Renewing.{CanSearch, CanSearchAll}
 use Rattle.zf_steps.specs.Shapes.{IsInit, operation_in}
 use Rattle.zf_steps.specs.Systems.{Operation, System}
 use Rattle.zf_term.specs.Definitions.{Comp, Schema}
-use Rattle.zf_texts.specs.declared.spelling.Spelling.{Spelling}
+use Rattle.zf_print.specs.declared.spelling.Spelling.{Spelling}
 use Rattle.zf_machines.specs.Machines.{all_of, IsMachineOf, Named, Schemas, state_of, test_of}
 
 one_init : (state : List Comp) (name : List ℕ) (a : Schema) (o u : Operation) → IsInit state name a o → IsInit state name a u → o ≡ u

@@ -6,7 +6,7 @@ use Rattle.zf_steps.specs.declared.form.Form.{Form}
 use Rattle.zf_steps.specs.Shapes.{both_states, CanBeSought, HasAll, IsInit, LacksInit, LacksSought, LacksStep, operation_in, test_in, with_strokes}
 use Rattle.zf_steps.specs.Systems.{System}
 use Rattle.zf_term.specs.Definitions.{Comp, Schema}
-use Rattle.zf_texts.specs.declared.spelling.Spelling.{Spelling}
+use Rattle.zf_print.specs.declared.spelling.Spelling.{Spelling}
 use Rattle.zf_machines.specs.Firsts.{FirstFails}
 
 -- a schema with its name

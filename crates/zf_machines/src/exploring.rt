@@ -25,7 +25,7 @@ use zf_lines::fault::RunFault;
 use zf_meaning::env::Env;
 use zf_reach::Ending;
 use zf_steps::{Form, explore_flat};
-use zf_texts::Spelling;
+use zf_print::Spelling;
 
 /// The schemas of a machine in an environment, with how elements are spelled, and the form in which it is written.
 #[derive(Drop)]

@@ -13,7 +13,7 @@ use bumpalo::Bump;
 use std::alloc::{AllocError, Global};
 use zf_steps::{Form, Operation, States, System, init_in, operation_in, test_in, with_strokes};
 use zf_term::schema::Flat;
-use zf_texts::Spelling;
+use zf_print::Spelling;
 
 /// The machine that these schemas make, in whatever environment.
 pub fn machine_of<'s, 'p, 'a>(

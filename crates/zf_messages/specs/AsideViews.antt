@@ -1,7 +1,7 @@
 -- What is reported beside an offence, and the symbols that a fault is about, as the program has them. No public clause rests on this file.
 use Rattle.zf_messages.specs.declared.quoted.Aside as program
 use Rattle.zf_messages.specs.declared.quoted.Aside.TheVariants as variant
-use Rattle.zf_text.specs.declared.unread.About.{About}
+use Rattle.zf_parse.specs.declared.unread.About.{About}
 use Rattle.zf_messages.specs.Details.{Aside, nothing, quoted, like, Cited}
 
 abbrev pub aside_of : program.Aside → Aside

@@ -18,7 +18,7 @@ use Rattle.zf_term.specs.FirstNamed.{first_named}
 use Rattle.zf_term.specs.Limits.{components_max, sets_max, conjuncts_max, nodes_max, height_max}
 use Rattle.zf_term.specs.Types.{type_nodes_max}
 use Rattle.zf_term.specs.TypeTexts.{type_text}
-use Rattle.zf_text.specs.Height.{height_limit}
+use Rattle.zf_parse.specs.Height.{height_limit}
 use Rattle.zf_extent.specs.declared.offender.Offender.{Offender}
 use Rattle.zf_extent.specs.declared.offender.Offender.TheVariants.{Name, Symbol}
 use Rattle.zf_finite.specs.declared.not_finite.NotFinite.{NotFinite}

@@ -24,7 +24,7 @@ use zf_term::fault::{Clash, Limit};
 use zf_term::globals::Globals;
 use zf_term::type_text::append_type;
 use zf_term::ztype::ZType;
-use zf_text::unread::About;
+use zf_parse::unread::About;
 use zf_tree::symbol::Constant;
 
 /// `    WORD: TEXT`. As for all that follow, a refusal leaves a part of it.

@@ -11,7 +11,7 @@ use zf_scan::fault::TextFaultKind;
 use zf_term::globals::{Entry, Globals};
 use zf_term::named::{component_of, global_of};
 use zf_term::schema::{Component, Flat};
-use zf_text::reading::read_spec;
+use zf_parse::reading::read_spec;
 use zf_tree::tree::{Decl, Name, Paragraph, RefMark, SchemaExp, SchemaRef, ZBox};
 
 /// A component of a schema, by the places of both.

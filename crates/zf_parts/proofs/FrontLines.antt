@@ -6,9 +6,9 @@ use Rattle.zf_format.specs.declared.format.Format.{Format}
 use Rattle.zf_format.specs.declared.format.Format.TheVariants.{Lines, Objects}
 use Rattle.zf_lines.specs.Texts.{row_line}
 use Rattle.zf_term.specs.Definitions.{Comp}
-use Rattle.zf_texts.specs.BindingTexts.{component_in, components_in}
-use Rattle.zf_texts.specs.declared.spelling.Spelling.{Spelling}
-use Rattle.zf_texts.specs.ValueTexts.{parted}
+use Rattle.zf_print.specs.BindingTexts.{component_in, components_in}
+use Rattle.zf_print.specs.declared.spelling.Spelling.{Spelling}
+use Rattle.zf_print.specs.ValueTexts.{parted}
 use Rattle.zf_places.specs.Places.{AreFirst}
 use Rattle.zf_parts.proofs.Fronting.{first_values}
 

@@ -16,9 +16,9 @@ use Rattle.zf_meaning.specs.InRow.{in_row}
 use Rattle.zf_meaning.specs.Meaning.{IsTruth}
 use Rattle.zf_enum.specs.Property.{HasTruth, property, told}
 use Rattle.zf_enum.specs.PropertyLaws.{one_truth_in}
-use Rattle.zf_total.proofs.Listed.{Decided, HasSome}
-use Rattle.zf_total.proofs.Rows.{AreTold, same_truth, some_events}
-use Rattle.zf_total.proofs.Terms.{some_truth}
+use Rattle.law_total.proofs.Listed.{Decided, HasSome}
+use Rattle.law_total.proofs.Rows.{AreTold, same_truth, some_events}
+use Rattle.law_total.proofs.Terms.{some_truth}
 use Rattle.zf_parts.specs.Shown.{FindsParts}
 use Rattle.zf_parts.proofs.Growing.{some_list_of_parts}
 use Rattle.zf_parts.proofs.Telling.{AllAreTold, true_or_out}

@@ -12,7 +12,7 @@ use Rattle.zf_lines.specs.declared.fault.RunFault.{RunFault}
 use Rattle.zf_lines.specs.Searches.{AreEventsUpTo, HasLimit, Wording}
 use Rattle.zf_meaning.specs.Environments.{Environment}
 use Rattle.zf_term.specs.Definitions.{Comp, Schema}
-use Rattle.zf_texts.specs.declared.spelling.Spelling.{Spelling}
+use Rattle.zf_print.specs.declared.spelling.Spelling.{Spelling}
 use Rattle.zf_walk.specs.Events.{IsEvent}
 use Rattle.zf_walk.specs.Progress.{ended, IsAhead, SameRanges, Stage}
 use Rattle.zf_parts.specs.declared.meeting.Met.{Met}

@@ -5,7 +5,7 @@ use Rattle.zf_format.specs.declared.format.Format.{Format}
 use Rattle.zf_term.specs.Definitions.{Comp}
 use Rattle.zf_value.specs.declared.plain.Value.{Value}
 use Rattle.zf_walk.specs.declared.judge.Truth.TheVariants.{True, Out}
-use Rattle.zf_texts.specs.declared.spelling.Spelling.{Spelling}
+use Rattle.zf_print.specs.declared.spelling.Spelling.{Spelling}
 use Rattle.zf_lines.specs.declared.fault.Status.{Status}
 use Rattle.zf_lines.specs.declared.fault.Status.TheVariants.{Done, PastBounds}
 use Rattle.zf_lines.specs.Searches.{IsBelow, row_wording, Wording}

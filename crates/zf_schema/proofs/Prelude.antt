@@ -24,12 +24,12 @@ pub use Rattle.zf_term.specs.Types.{Ty}
 pub use Rattle.zf_term.specs.TypeViews.{type_of}
 pub use Rattle.zf_term.specs.Faults.{Offence}
 pub use Rattle.zf_term.specs.declared.fault.Limit.{Limit}
-pub use Rattle.zf_type.proofs.NoOffence.{no_offence}
-pub use Rattle.zf_type.proofs.Judging.{told}
-pub use Rattle.zf_type.proofs.OneSort.{one_sort, same_set}
-pub use Rattle.zf_type.specs.Offences.{Offends}
+pub use Rattle.zf_typing.proofs.NoOffence.{no_offence}
+pub use Rattle.zf_typing.proofs.Judging.{told}
+pub use Rattle.zf_typing.proofs.OneSort.{one_sort, same_set}
+pub use Rattle.zf_typing.specs.Offences.{Offends}
 pub use Rattle.zf_sorts.specs.Refusals.{IfFault, offence_of}
-pub use Rattle.zf_type.specs.Resolving.{resolved}
+pub use Rattle.zf_typing.specs.Resolving.{resolved}
 pub use Rattle.zf_sorts.specs.Rules.{predicate, set_sort}
 pub use Rattle.zf_sorts.specs.declared.fault.Refusal.{Refusal}
 pub use Rattle.zf_calculus.specs.Calculus.{Agree, Agrees, comp, comp_named, conjoined, decorated, disjoined, either_comps, MarkAgrees, marked, empty_schema, prime, with_comp, with_comps}

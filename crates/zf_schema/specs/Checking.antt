@@ -11,11 +11,11 @@ use Rattle.zf_extent.specs.Extents.{extent_of}
 use Rattle.zf_term.specs.ResolvedTrees.{ResolvedTree}
 use Rattle.zf_term.specs.Types.{Ty}
 use Rattle.zf_term.specs.Faults.{Offence, Fault, already_defined}
-use Rattle.zf_type.specs.Offences.{Offends}
-use Rattle.zf_type.specs.Resolving.{resolved}
+use Rattle.zf_typing.specs.Offences.{Offends}
+use Rattle.zf_typing.specs.Resolving.{resolved}
 use Rattle.zf_sorts.specs.Rules.{typed}
 use Rattle.zf_tree.specs.Names.{spelling}
-use Rattle.zf_type.specs.Typing.{IsOf}
+use Rattle.zf_typing.specs.Typing.{IsOf}
 use Rattle.zf_schema.specs.Expressions.{outside, IsText, IsSchema}
 use Rattle.zf_schema.specs.SchemaOffences.{OffendsText, OffendsSchema}
 

@@ -8,11 +8,11 @@ use Rattle.zf_term.specs.Definitions.{Schema, DeclaredSet, plain, Defined, schem
 use Rattle.zf_term.specs.ResolvedTrees.{ResolvedTree}
 use Rattle.zf_term.specs.Shapes.{conjuncts}
 use Rattle.zf_term.specs.Types.{Ty}
-use Rattle.zf_type.specs.Resolving.{resolved}
+use Rattle.zf_typing.specs.Resolving.{resolved}
 use Rattle.zf_sorts.specs.Rules.{set_sort, predicate}
-use Rattle.zf_type.specs.Scopes.{Scope}
+use Rattle.zf_typing.specs.Scopes.{Scope}
 use Rattle.zf_tree.specs.Names.{spelling}
-use Rattle.zf_type.specs.Typing.{IsOf}
+use Rattle.zf_typing.specs.Typing.{IsOf}
 use Rattle.zf_calculus.specs.Calculus.{comp, schema_with, empty_schema, Agree, conjoined, decorated, marked, MarkAgrees, disjoined}
 use Rattle.zf_calculus.specs.Steps.{IsNext, Adds, Includes}
 

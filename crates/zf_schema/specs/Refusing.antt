@@ -16,9 +16,9 @@ use Rattle.zf_tree.specs.Trees.{Tree, DeclTree}
 use Rattle.zf_term.specs.Types.{Ty}
 use Rattle.zf_term.specs.TypeViews.{type_of}
 use Rattle.zf_tree.specs.declared.operator.Need.TheVariants as need
-use Rattle.zf_type.specs.Offences.{Offends}
+use Rattle.zf_typing.specs.Offences.{Offends}
 use Rattle.zf_sorts.specs.Refusals.{IsRefusal}
-use Rattle.zf_type.specs.Scopes.{Scope}
+use Rattle.zf_typing.specs.Scopes.{Scope}
 use Rattle.zf_tree.specs.Names.{spelling}
 use Rattle.zf_schema.specs.Expressions.{inside}
 use Rattle.zf_schema.specs.SchemaOffences.{IsNoSchema, OffendsAlone, OffendsAfter, ConstrainsTooMuch}

@@ -10,11 +10,11 @@ use Rattle.zf_term.specs.ResolvedTrees.{ResolvedTree}
 use Rattle.zf_term.specs.Shapes.{term_line, conjuncts}
 use Rattle.zf_term.specs.Types.{Ty}
 use Rattle.zf_term.specs.Faults.{Offence, not_declared, not_a_schema}
-use Rattle.zf_type.specs.Offences.{Offends}
-use Rattle.zf_type.specs.Resolving.{resolved}
+use Rattle.zf_typing.specs.Offences.{Offends}
+use Rattle.zf_typing.specs.Resolving.{resolved}
 use Rattle.zf_sorts.specs.Rules.{set_sort, predicate}
 use Rattle.zf_tree.specs.Names.{spelling}
-use Rattle.zf_type.specs.Typing.{IsOf}
+use Rattle.zf_typing.specs.Typing.{IsOf}
 use Rattle.zf_calculus.specs.Calculus.{comp, schema_with, empty_schema, Agrees, Agree, with_comp, conjoined, decorated, marked, MarkAgrees, disjoined}
 use Rattle.zf_schema.specs.Expressions.{outside, inside, Refers, DeclaresOne, Declares, ConstrainsOne, IsSchema}
 use Rattle.zf_calculus.specs.Steps.{IsNext, Adds, Clashes, OneClashes, MarkClashes, Stops}

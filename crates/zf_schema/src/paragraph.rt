@@ -7,10 +7,10 @@ ghost use Rattle.zf_tree.specs.declared.operator.Need.TheVariants as need;
 ghost use Rattle.zf_term.specs.DefinitionViews.{definition_of, globals_of};
 ghost use Rattle.zf_term.specs.Numbers.{next_number};
 ghost use Rattle.zf_term.specs.Types.{Ty};
-ghost use Rattle.zf_type.specs.Offences.{Offends};
-ghost use Rattle.zf_type.specs.Resolving.{resolved};
+ghost use Rattle.zf_typing.specs.Offences.{Offends};
+ghost use Rattle.zf_typing.specs.Resolving.{resolved};
 ghost use Rattle.zf_sorts.specs.Rules.{typed};
-ghost use Rattle.zf_type.specs.Typing.{IsOf};
+ghost use Rattle.zf_typing.specs.Typing.{IsOf};
 ghost use Rattle.zf_schema.specs.Expressions.{outside};
 ghost use Rattle.zf_sorts.specs.Refusals.{IfFault};
 ghost use Rattle.zf_tree.specs.Names.{spelling};
@@ -28,7 +28,7 @@ use zf_sorts::fault::{Offence, Refusal, refused};
 use zf_term::globals::{Entry, Globals};
 use zf_tree::operator::Need;
 use zf_tree::tree::{Decl, Name, Paragraph, SchemaExp, Term};
-use zf_type::judge::{Judged, judge};
+use zf_typing::judge::{Judged, judge};
 
 /// Defines what the paragraph does, or leaves the globals as they were. Keeps the number of the next given set or free type.
 pub fn define<'a>(

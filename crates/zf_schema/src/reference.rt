@@ -21,7 +21,7 @@ use zf_term::globals::{Entry, Globals};
 use zf_term::measured::Measured;
 use zf_term::named::global_of;
 use zf_tree::tree::{Name, SchemaRef};
-use zf_type::like::global_like;
+use zf_typing::like::global_like;
 
 /// The schema that is referred to, with room for what is expected of it.
 pub fn referred<'a>(

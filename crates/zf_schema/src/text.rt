@@ -8,13 +8,13 @@ ghost use Rattle.zf_term.specs.Definitions.{plain};
 ghost use Rattle.zf_term.specs.ResolvedViews.{resolved_of};
 ghost use Rattle.zf_term.specs.TypeViews.{type_of};
 ghost use Rattle.zf_tree.specs.declared.operator.Need.TheVariants as needs;
-ghost use Rattle.zf_type.specs.Offences.{Offends};
+ghost use Rattle.zf_typing.specs.Offences.{Offends};
 ghost use Rattle.zf_sorts.specs.Refusals.{IfFault};
-ghost use Rattle.zf_type.specs.Resolving.{resolved};
+ghost use Rattle.zf_typing.specs.Resolving.{resolved};
 ghost use Rattle.zf_sorts.specs.Rules as rules;
-ghost use Rattle.zf_type.specs.ScopeViews.{scope_of};
+ghost use Rattle.zf_typing.specs.ScopeViews.{scope_of};
 ghost use Rattle.zf_tree.specs.Names.{spelling};
-ghost use Rattle.zf_type.specs.Typing.{IsOf};
+ghost use Rattle.zf_typing.specs.Typing.{IsOf};
 ghost use Rattle.zf_calculus.specs.Calculus.{comp};
 ghost use Rattle.zf_schema.specs.Expressions.{AddsAll, ConstrainsOne, Constrains, Declares, DeclaresOne, IsText, TakesAll};
 ghost use Rattle.zf_calculus.specs.Steps.{Adds, IsNext};
@@ -41,10 +41,10 @@ use zf_term::schema::{Component, Domain};
 use zf_term::ztype::ZType;
 use zf_tree::operator::Need;
 use zf_tree::tree::{Decl, Name, SchemaRef, Term};
-use zf_type::conjuncts::push_conjuncts;
-use zf_type::judge::{Judged, judge};
-use zf_type::locals::Locals;
-use zf_type::scope::Scope;
+use zf_typing::conjuncts::push_conjuncts;
+use zf_typing::judge::{Judged, judge};
+use zf_typing::locals::Locals;
+use zf_typing::scope::Scope;
 
 /// The schema of these declarations, and then of these predicates over them.
 pub fn text_of<'a>(
@@ -250,7 +250,7 @@ fn declared<'a>(
 }
 
 /// The scope of the globals and these components, where no variable is bound.
-#[tactic(auto, unfolding(zf_type::specs::ScopeViews::scope_of))]
+#[tactic(auto, unfolding(zf_typing::specs::ScopeViews::scope_of))]
 pub fn scope_over<'a, 'b>(
     globals: &'b Globals<'a>,
     components: &'b [Component<'a>],

@@ -2,8 +2,8 @@
 use Rattle.std.specs.Prelude.{ℕ, List}
 use Rattle.zf_steps.specs.Labels.{column_text}
 use Rattle.zf_term.specs.Definitions.{Comp}
-use Rattle.zf_texts.specs.BindingTexts.{binding_object, binding_text}
-use Rattle.zf_texts.specs.declared.spelling.Spelling.{Spelling}
+use Rattle.zf_print.specs.BindingTexts.{binding_object, binding_text}
+use Rattle.zf_print.specs.declared.spelling.Spelling.{Spelling}
 use Rattle.zf_value.specs.declared.plain.Value.{Value}
 use Rattle.zf_steps.specs.declared.layout.Layout.{Layout}
 use Rattle.zf_steps.specs.declared.layout.Layout.TheVariants.{Column, Line, Object}

@@ -3,7 +3,7 @@ use Rattle.std.specs.Prelude.{ℕ, ◌-◌, ◌^◌, ◌++◌, List, [], ◌∷�
 use Rattle.zf_graph.specs.Seeking.{found, missing, open_ended, Result, untold}
 use Rattle.zf_graph.specs.Texts.{broken, ended, Ending, paused, Words}
 use Rattle.zf_term.specs.Definitions.{Comp}
-use Rattle.zf_texts.specs.BindingTexts.{binding_text}
+use Rattle.zf_print.specs.BindingTexts.{binding_text}
 use Rattle.zf_value.specs.declared.plain.Value.{Value}
 use Rattle.zf_steps.specs.declared.node.Label.{Label}
 use Rattle.zf_steps.specs.declared.node.Node.{Node}

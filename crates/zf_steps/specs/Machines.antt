@@ -13,7 +13,7 @@ use Rattle.zf_reach.specs.Machines.{AdvancesTo, BeginsAs, UnlessOut}
 use Rattle.zf_term.specs.Definitions.{Schema}
 use Rattle.zf_value.specs.declared.plain.Value.{Value}
 use Rattle.zf_value.specs.Sets.{value_order}
-use Rattle.zf_texts.specs.declared.spelling.Spelling.{Spelling}
+use Rattle.zf_print.specs.declared.spelling.Spelling.{Spelling}
 use Rattle.zf_walk.specs.declared.step.Step.TheVariants as steps
 use Rattle.zf_walk.specs.Progress.{Stage}
 use Rattle.zf_steps.specs.declared.cursor.Part.{Part}

@@ -4,8 +4,8 @@ use Rattle.zf_format.specs.Strings.{string_text}
 use Rattle.zf_graph.specs.Edges.{Edge}
 use Rattle.zf_graph.specs.Explorations.{Explored}
 use Rattle.zf_term.specs.Definitions.{Schema}
-use Rattle.zf_texts.specs.BindingTexts.{binding_object, binding_text}
-use Rattle.zf_texts.specs.declared.spelling.Spelling.{Spelling}
+use Rattle.zf_print.specs.BindingTexts.{binding_object, binding_text}
+use Rattle.zf_print.specs.declared.spelling.Spelling.{Spelling}
 use Rattle.zf_value.specs.declared.plain.Value.{Value}
 use Rattle.zf_value.specs.Sets.{value_order}
 use Rattle.zf_walk.specs.declared.judge.Truth.TheVariants as truth

@@ -1,7 +1,7 @@
 -- What is explored of a specification: the schema of the state, one by which states are tested, that of the initial states, and the operations.
 use Rattle.std.specs.Prelude.{ℕ, List, Option}
 use Rattle.zf_term.specs.Definitions.{Comp, Schema}
-use Rattle.zf_texts.specs.declared.spelling.Spelling.{Spelling}
+use Rattle.zf_print.specs.declared.spelling.Spelling.{Spelling}
 use Rattle.zf_meaning.specs.Environments.{Environment}
 use Rattle.zf_steps.specs.declared.form.Form.{Form}
 

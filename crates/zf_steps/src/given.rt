@@ -9,7 +9,7 @@ use std::marker::Brand;
 use zf_format::Format;
 use zf_meaning::row::Row;
 use zf_term::schema::Flat;
-use zf_texts::{Spelling, append_row};
+use zf_print::{Spelling, append_row};
 
 /// What an environment means, in proofs alone: at `Brand` a caller picks it.
 pub trait Surrounding {

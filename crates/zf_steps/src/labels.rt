@@ -2,13 +2,13 @@
 ghost use Rattle.std.specs.Prelude.{◌≡◌, ◌++◌, OnOk, codes};
 ghost use Rattle.zf_steps.specs.Labels.{column_text, label_byte, label_of};
 ghost use Rattle.zf_term.specs.SchemaViews.{comp_of, schema_of};
-ghost use Rattle.zf_texts.specs.LineTexts.{component_text};
+ghost use Rattle.zf_print.specs.LineTexts.{component_text};
 
 use std::alloc::AllocError;
 use zf_format::Format;
 use zf_meaning::row::Row;
 use zf_term::schema::{Component, Flat};
-use zf_texts::{Spelling, append_name, append_value};
+use zf_print::{Spelling, append_name, append_value};
 use zf_value::value::Value;
 
 /// Appends each component of a row on a line of its own. A refusal leaves a part of it.

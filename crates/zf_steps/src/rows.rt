@@ -10,7 +10,7 @@ use crate::system::Operation;
 use std::alloc::{AllocError, Global};
 use zf_format::append_string;
 use zf_meaning::row::Row;
-use zf_texts::Spelling;
+use zf_print::Spelling;
 use zf_value::value::Value;
 
 /// The values that are held of a schema's components where the state before has these values.

@@ -1,7 +1,7 @@
 //! What is explored of a specification.
 use crate::form::Form;
 use std::alloc::Global;
-use zf_texts::Spelling;
+use zf_print::Spelling;
 
 /// A schema whose bindings are steps, with which of its components are those of the state before, and which are those of the state after.
 #[derive(Drop)]

@@ -12,7 +12,7 @@ use Rattle.zf_outcome.specs.Truths.{opposite}
 use Rattle.zf_lift.proofs.Longer as longer_ones
 use Rattle.zf_lift.proofs.Mapped as mapped
 use Rattle.zf_lift.proofs.Needs.{uses_no_more}
-use Rattle.zf_total.proofs.Terms.{some_truth}
+use Rattle.law_total.proofs.Terms.{some_truth}
 use Rattle.zf_unfold.specs.Renaming.{instance, instances}
 use Rattle.zf_unfold.specs.Unfolded.{AreNamed}
 use Rattle.zf_unfold.proofs.Agreeing.{same_renamed}

@@ -20,7 +20,7 @@ use Rattle.zf_value.specs.declared.value.Truth.{Truth}
 use Rattle.zf_value.specs.declared.value.Truth.TheVariants as truth
 use Rattle.zf_meaning.specs.InRow.{in_row}
 use Rattle.zf_meaning.specs.Meaning.{IsTruth}
-use Rattle.zf_total.proofs.Terms.{some_truth}
+use Rattle.law_total.proofs.Terms.{some_truth}
 use Rattle.zf_enum.specs.Property.{due}
 use Rattle.zf_enum.proofs.Planted.{due_binary}
 use Rattle.zf_cores.proofs.Choosing.{beside}

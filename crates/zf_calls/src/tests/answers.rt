@@ -6,7 +6,7 @@ use zf_checker::listing::listing;
 use zf_scan::scan::scan;
 use zf_term::globals::Entry;
 use zf_term::type_text::type_text;
-use zf_text::reading::parse;
+use zf_parse::reading::parse;
 
 const SOURCE: &str = r"\begin{zed}
 [NAME]; X == \num \cross NAME

@@ -8,7 +8,7 @@ use zf_resolved::conjunct::resolved;
 use zf_term::conjunct::Conjunct;
 use zf_term::globals::Globals;
 use zf_term::resolved::Resolved;
-use zf_text::reading::read_spec;
+use zf_parse::reading::read_spec;
 
 /// A bound variable that has the decorated name of a component.
 const CAPTURES: &str = r"\begin{schema}{S}

@@ -8,7 +8,7 @@ use zf_extent::infinite::direct;
 use zf_finite::finite;
 use zf_term::extent::Infinite;
 use zf_term::globals::{Entry, Globals};
-use zf_text::reading::read_spec;
+use zf_parse::reading::read_spec;
 
 /// What stands before the schema: direct infinite sets, an open name and two closed ones.
 const BEFORE: &str = r"\begin{zed}

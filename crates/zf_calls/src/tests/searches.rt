@@ -17,7 +17,7 @@ use zf_meaning::env::Env;
 use zf_meaning::sizes::Size;
 use zf_ranges::StartFault;
 use zf_term::globals::Globals;
-use zf_text::reading::read_spec;
+use zf_parse::reading::read_spec;
 use zf_walk::Step;
 
 const SOURCE: &str = r"\begin{zed}

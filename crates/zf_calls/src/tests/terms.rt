@@ -13,7 +13,7 @@ use zf_resolved::conjunct::resolved;
 use zf_term::conjunct::Conjunct;
 use zf_term::globals::{Entry, Globals};
 use zf_term::resolved::Resolved;
-use zf_text::reading::read_spec;
+use zf_parse::reading::read_spec;
 use zf_value::value::{Form, Outcome, Truth, Value};
 
 const SOURCE: &str = r"\begin{zed}

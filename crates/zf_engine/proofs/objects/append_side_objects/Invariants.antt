@@ -1,6 +1,6 @@
 use Rattle.zf_engine.proofs.Prelude.{◌++◌, ◌≡◌, map}
 use Rattle.std.specs.Prelude.{drop}
-use Rattle.zf_texts.specs.Steps.{goes_on}
+use Rattle.zf_print.specs.Steps.{goes_on}
 use Rattle.zf_engine.specs.Objects.{side_objects, source_object}
 use Rattle.zf_engine.proofs.objects.append_side_objects.Given as goal
 

@@ -5,7 +5,7 @@ use Rattle.zf_format.specs.Strings.{string_text}
 use Rattle.zf_lines.proofs.Fronts.{weaker_on_ok}
 use Rattle.zf_steps.proofs.Pieces.{five_pieces, if_appended}
 use Rattle.zf_steps.proofs.rows.append_stop_object.Goals as goal
-use Rattle.zf_texts.specs.BindingTexts.{binding_object}
+use Rattle.zf_print.specs.BindingTexts.{binding_object}
 
 pub returns : goal.returns
 returns g c =

@@ -1,0 +1,186 @@
+-- Each exploration has an answer: it is refused at a stage, or what its machine can reach is told.
+use Rattle.law_answered.proofs.Prelude.{◌∷◌, ◌≡◌, ◌≤◌, ◌⊎◌, [], ap, arith, inl, inr, List, map, None, Option, refl, Some, subst, sym, ℕ, AllByRecursion, AreSmall, BadRequest, BadSpec, causes, Checks, declared_out_line, Defined, Environment, first, finite_without_cause, given_sets, HasLimit, IsFinite, IsFirstOut, IsNoneOut, no_schema_lines, NotFinite, not_finite_lines, numbers_of, numbers_too_large_line, PastBounds, size_fault_lines, spellings, stated, Status, messages_in}
+use Rattle.std.specs.List.{AllZip}
+use Rattle.std.specs.Prelude.{◌++◌, option_to_list}
+use Rattle.zf_command.specs.declared.job.Exploration.{Exploration}
+use Rattle.law_exists.proofs.Ranges.{first_out_or_none}
+use Rattle.law_exists.proofs.Turns.{some_result, some_turns}
+use Rattle.zf_graph.proofs.Existing.{somehow_written}
+use Rattle.zf_machines.proofs.Sole.{of_operations, of_test}
+use Rattle.zf_machines.specs.Machines.{all_of, HasShape, IsMachineOf, Named, Schemas, state_of}
+use Rattle.zf_steps.specs.declared.form.Form.{Form}
+use Rattle.zf_steps.specs.Explored.{explored_in}
+use Rattle.zf_steps.specs.StepGraphs.{CanExplore}
+use Rattle.zf_steps.specs.Shapes.{IsInit, operation_in}
+use Rattle.zf_steps.specs.Systems.{Operation, System}
+use Rattle.zf_steps.specs.Words.{words}
+use Rattle.zf_print.specs.declared.spelling.Spelling.{Spelling}
+use Rattle.law_total.proofs.Environments.{some_environment}
+use Rattle.law_total.proofs.StatedSizes.{complete_or_refused}
+use Rattle.zf_engine.specs.Explorations.{TellsMachine, AreSchemasOf, ending_status, ExplorationAnswer, ExploresMachine, form_of, HasSchemas, IsBounded, IsOfSchema, IsSchemaOf, IsSearchable, IsSettled, names_of, RefusesExploration, result_status, Seeks, states_limit}
+use Rattle.zf_engine.specs.Settings.{TellsInfinite, TellsNoSchema, TellsOut}
+use Rattle.zf_messages.specs.Texts.{no_component_line}
+use Rattle.law_answered.proofs.EveryName.{named_or_none, none_beside}
+use Rattle.law_answered.proofs.FaultLines.{some_lines}
+use Rattle.law_answered.proofs.Machines.{all_or_first, shape_or_lack, some_machine}
+use Rattle.law_answered.proofs.SmallNumbers.{small_or_too_large}
+use Rattle.zf_term.specs.Faults.{Fault}
+
+-- ---- the machine
+
+-- each of its schemas is finite
+initial_finite : (e : Environment) (p : Schemas) (o : Operation) → IsInit (state_of p) p.init.name p.init.schema o → IsFinite e.numbers e.globals p.init.schema → IsFinite e.numbers e.globals o.schema
+initial_finite e p o (inl is) finite = subst (λ (q : Operation). IsFinite e.numbers e.globals q.schema) (sym is.1) finite
+initial_finite e p o (inr is) finite = subst (λ (q : Operation). IsFinite e.numbers e.globals q.schema) (sym is.2) finite
+
+operations_finite : (e : Environment) (p : Schemas) (ns : List Named) → AllByRecursion (λ n. IsFinite e.numbers e.globals n.schema) ns
+    → AllByRecursion (λ (o : Operation). IsFinite e.numbers e.globals o.schema) (map (λ (n : Named). operation_in (state_of p) n.name n.schema) ns)
+operations_finite e p [] finite = tt
+operations_finite e p (n ∷ ns) finite = (finite.0, operations_finite e p ns finite.1)
+
+can_explore : (e : Environment) (elements : List Spelling) (form : Form) (p : Schemas) (m : System) → IsMachineOf e elements form p m
+    → AllByRecursion (λ n. IsFinite e.numbers e.globals n.schema) (all_of p) → CanExplore m
+can_explore e elements form p m is finite = record {
+  test = subst (λ (f : Environment). IsFinite f.numbers f.globals m.test.schema) (sym is.environment)
+      (subst (λ (o : Operation). IsFinite e.numbers e.globals o.schema) (sym is.test) (of_test (λ (n : Named). IsFinite e.numbers e.globals n.schema) p finite));
+  init = subst (λ (f : Environment). IsFinite f.numbers f.globals m.init.schema) (sym is.environment) (initial_finite e p m.init is.init finite.1.0);
+  operations = subst (λ (f : Environment). AllByRecursion (λ (o : Operation). IsFinite f.numbers f.globals o.schema) m.operations) (sym is.environment)
+      (subst (λ os. AllByRecursion (λ (o : Operation). IsFinite e.numbers e.globals o.schema) os) (sym is.operations)
+      (operations_finite e p p.operations (of_operations (λ (n : Named). IsFinite e.numbers e.globals n.schema) p finite)));
+}
+
+pub can_be_explored : (x : Exploration) (source : List ℕ) (g : List Defined) (p : Schemas) (e : Environment) → IsSearchable x source g p e → (m : System)
+    → IsMachineOf e (spellings g) (form_of x) p m → CanExplore m
+can_be_explored x source g p e is m of =
+    can_explore e (spellings g) (form_of x) p m of (subst (λ (h : List Defined). AllByRecursion (λ (n : Named). IsFinite e.numbers h n.schema) (all_of p))
+    (sym is.bounded.environment.0) is.bounded.finite)
+
+some_limit : (limit : Option ℕ) (x : Exploration) → x.limit ≡ limit → HasLimit limit → 1 ≤ states_limit x
+some_limit None x is h = rw is (omega arith)
+some_limit (Some limit) x is h = rw is (omega (arith, h))
+
+module _ (x : Exploration) (file source : List ℕ) (limited : HasLimit x.limit) where
+  abbrev IsAnswered : Type 0
+  IsAnswered = (text : List ℕ) × (status : Status) × ExplorationAnswer x file source text status
+
+  refused : (text : List ℕ) (status : Status) → RefusesExploration x file source text status → IsAnswered
+  refused text status h = (messages_in x.format file text, status, ExplorationAnswer.refused (text, h, refl))
+
+  module _ (g : List Defined) where
+    module _ (p : Schemas) where
+      module _ (e : Environment) (is : IsSearchable x source g p e) where
+        made : (m : System) × IsMachineOf e (spellings g) (form_of x) p m
+        made = some_machine e (spellings g) (form_of x) p is.bounded.settled.shape
+
+        can : CanExplore made.0
+        can = can_be_explored x source g p e is made.0 made.1
+
+        reached : (text : List ℕ) × (status : Status) × ExploresMachine x g p e text status
+        reached =
+            let some = somehow_written (explored_in made.0) (words made.0) (states_limit x) (some_turns made.0 can) (some_limit x.limit x refl limited) in
+            (some.1, ending_status some.0, record { machine = made.0; is_of = made.1; ending = some.0; written = some.2; ends = refl })
+
+        sought : (text : List ℕ) × (status : Status) × Seeks x g p e text status
+        sought =
+            let some = some_result made.0 (states_limit x) can (some_limit x.limit x refl limited) in
+            (some.1, result_status some.0, record { machine = made.0; is_of = made.1; result = some.0; written = some.2; ends = refl })
+
+        told : (name : Option (List ℕ)) → (text : List ℕ) × (status : Status) × TellsMachine name x g p e text status
+        told None = reached
+        told (Some name) = sought
+
+      some_explored : (e : Environment) → IsSearchable x source g p e → IsAnswered
+      some_explored e is = let some = told e is x.sought in (some.0, some.1, ExplorationAnswer.explored g p e is some.2)
+
+      -- one of the schemas has a declared set that is out, and this is told of it
+      out_or_none : (e : Environment) (n : Named) → IsNoneOut e n.schema.comps ⊎ ((b : List ℕ × Status) × TellsOut e n.schema.comps b.0 b.1)
+      out_or_none e n = by (first_out_or_none e n.schema.comps)
+        where
+          by : ((place : ℕ) × IsFirstOut e n.schema.comps place) ⊎ IsNoneOut e n.schema.comps → IsNoneOut e n.schema.comps ⊎ ((b : List ℕ × Status) × TellsOut e n.schema.comps b.0 b.1)
+          by (inr none) = inl none
+          by (inl out) = let here = out.1.here in inr ((declared_out_line here.0.name, PastBounds), (out.0, out.1, (here.0, here.1, refl, refl)))
+
+      some_at_sets : (e : Environment) → IsBounded x source g p e → IsAnswered
+      some_at_sets e bounded = elim (all_or_first (λ (n : Named). IsNoneOut e n.schema.comps) (λ (b : List ℕ × Status) n. TellsOut e n.schema.comps b.0 b.1) (out_or_none e) (all_of p)) [
+        | inl none ↦ some_explored e (record { bounded = bounded; none_out = none })
+        | inr out ↦ refused out.0.0 out.0.1 (RefusesExploration.declared_out g p e bounded out.1)
+      ]
+
+      finite_or_not : (n : Named) → IsFinite (numbers_of x.setting) g n.schema ⊎ ((b : List ℕ × Status) × TellsInfinite (numbers_of x.setting) g n.schema x.details file b.0 b.1)
+      finite_or_not n = by (causes (numbers_of x.setting) g n.schema) refl
+        where
+          by : (them : List NotFinite) → causes (numbers_of x.setting) g n.schema ≡ them
+              → IsFinite (numbers_of x.setting) g n.schema ⊎ ((b : List ℕ × Status) × TellsInfinite (numbers_of x.setting) g n.schema x.details file b.0 b.1)
+          by [] none = inl ((finite_without_cause (numbers_of x.setting) g n.schema).1 none)
+          by (cause ∷ them) some = inr ((not_finite_lines x.details file g cause [], BadSpec), (cause, [], ap first some, none_beside g cause, refl, refl))
+
+      some_at_finiteness : IsSettled x source g p → IsAnswered
+      some_at_finiteness settled = elim (all_or_first (λ (n : Named). IsFinite (numbers_of x.setting) g n.schema)
+          (λ (b : List ℕ × Status) n. TellsInfinite (numbers_of x.setting) g n.schema x.details file b.0 b.1) finite_or_not (all_of p)) [
+            | inl finite ↦
+                let e = some_environment g (stated g x.setting) (numbers_of x.setting) settled.complete in
+                some_at_sets e.0 (record { settled = settled; environment = e.1; finite = subst (λ n. AllByRecursion (λ (m : Named). IsFinite n g m.schema) (all_of p)) (sym e.1.3) finite })
+            | inr infinite ↦ refused infinite.0.0 infinite.0.1 (RefusesExploration.not_finite g p settled infinite.1)
+          ]
+
+      some_at_sizes : HasSchemas x source g p → HasShape p → AreSmall (numbers_of x.setting) → IsAnswered
+      some_at_sizes has shape small = elim (complete_or_refused (given_sets g) (stated g x.setting)) [
+        | inl complete ↦ some_at_finiteness (record { has_schemas = has; shape = shape; small = small; complete = complete })
+        | inr bad ↦
+            refused (size_fault_lines x.details g (stated g x.setting) bad.0) BadRequest (RefusesExploration.bad_sizes g p has shape small (bad.0, bad.1, (bad.2, refl, refl)))
+      ]
+
+      some_at_numbers : HasSchemas x source g p → HasShape p → IsAnswered
+      some_at_numbers has shape = elim (small_or_too_large (numbers_of x.setting)) [
+        | inl small ↦ some_at_sizes has shape small
+        | inr large ↦ refused numbers_too_large_line BadRequest (RefusesExploration.large_numbers g p has shape (large, refl, refl))
+      ]
+
+      some_at_shape : HasSchemas x source g p → IsAnswered
+      some_at_shape has = elim (shape_or_lack p) [
+        | inl shape ↦ some_at_numbers has shape
+        | inr lacks ↦ refused (no_component_line lacks.0 lacks.1) BadRequest (RefusesExploration.no_component g p has (lacks.0, lacks.1, lacks.2, refl, refl))
+      ]
+
+    -- ---- the schemas of the names
+    judged : (name : List ℕ) → IsOfSchema g name ⊎ ((b : List ℕ × Status) × TellsNoSchema x.details g b.0 b.1 name)
+    judged name = elim (named_or_none g name) [
+      | inl named ↦ inl named
+      | inr none ↦ inr ((no_schema_lines x.details g name, BadRequest), record { none = none; told = refl; bad = refl })
+    ]
+
+    each_named : (names : List (List ℕ)) → AllByRecursion (IsOfSchema g) names → (ns : List Named) × AllZip (IsSchemaOf g) names ns
+    each_named [] all = ([], tt)
+    each_named (name ∷ names) all = let others = each_named names all.1 in (record { name = name; schema = all.0.0 } ∷ others.0, ((refl, all.0.1), others.1))
+
+    each_before : (names others : List (List ℕ)) → AllByRecursion (IsOfSchema g) (names ++ others) → AllByRecursion (IsOfSchema g) names
+    each_before [] others all = tt
+    each_before (name ∷ names) others all = (all.0, each_before names others all.1)
+
+    each_behind : (names others : List (List ℕ)) → AllByRecursion (IsOfSchema g) (names ++ others) → AllByRecursion (IsOfSchema g) others
+    each_behind [] others all = all
+    each_behind (name ∷ names) others all = each_behind names others all.1
+
+    one_named : (name : Option (List ℕ)) → AllByRecursion (IsOfSchema g) (option_to_list name) → (n : Option Named) × AllZip (IsSchemaOf g) (option_to_list name) (option_to_list n)
+    one_named None all = (None, tt)
+    one_named (Some name) all = (Some (record { name = name; schema = all.0.0 }), ((refl, all.0.1), tt))
+
+    schemas : AllByRecursion (IsOfSchema g) (names_of x) → (p : Schemas) × AreSchemasOf g x p
+    schemas all =
+        let operations = each_named x.operations (each_before x.operations (option_to_list x.sought) all.1.1) in
+        let sought = one_named x.sought (each_behind x.operations (option_to_list x.sought) all.1.1) in (
+          record { state = record { name = x.state; schema = all.0.0 }; init = record { name = x.initial; schema = all.1.0.0 }; operations = operations.0; sought = sought.0 },
+          record { state = (refl, all.0.1); init = (refl, all.1.0.1); operations = operations.1; sought = sought.1 },
+        )
+
+    some_at_schemas : Checks source g [] → IsAnswered
+    some_at_schemas checks = elim (all_or_first (IsOfSchema g) (λ (b : List ℕ × Status) name. TellsNoSchema x.details g b.0 b.1 name) judged (names_of x)) [
+      | inl all ↦ let p = schemas all in some_at_shape p.0 (record { checks = checks; named = p.1 })
+      | inr none ↦ refused none.0.0 none.0.1 (RefusesExploration.no_schema g checks none.1)
+    ]
+
+  pub some_at_types : (g : List Defined) (faults : List Fault) → Checks source g faults → IsAnswered
+  some_at_types g [] checks = some_at_schemas g checks
+  some_at_types g (fault ∷ faults) checks =
+      let some = some_lines x.details file (fault ∷ faults) in
+      refused some.0 BadSpec (RefusesExploration.ill_typed (record { globals = g; faults = fault ∷ faults; checks = checks; some = λ none. cc; told = some.1; bad = refl }))

@@ -1,0 +1,26 @@
+-- The operands of a predicate come to something, so there is something to tell of it.
+use Rattle.law_answered.proofs.Prelude.{◌≡◌, Bool, false, List, None, Option, refl, Some, subst, sym, true, pos, Value, Environment, HasSome}
+use Rattle.zf_term.specs.References.{references}
+use Rattle.zf_term.specs.ResolvedTrees.{ResolvedTree}
+use Rattle.zf_value.specs.declared.plain.Value.{Int}
+use Rattle.zf_meaning.specs.Environments.{Context}
+use Rattle.zf_meaning.specs.InRow.{in_row}
+use Rattle.law_total.proofs.Terms.{some_outcome}
+use Rattle.zf_why.specs.HeldRows.{AreOutcomesIn, filled}
+use Rattle.zf_why.specs.Operands.{are_held, AreOperands, AreOperandsOf, AreOutcomes, operands_of}
+use Rattle.zf_why.proofs.HeldOutcomes.{of_held, other_told}
+
+some_in : (c : Context) (pair : Option (ResolvedTree × ResolvedTree)) → HasSome (AreOutcomesIn c pair)
+some_in c None = (None, refl)
+some_in c (Some (t, u)) = let left = some_outcome c t in let right = some_outcome c u in (Some (record { left = left.0; right = right.0 }), (left.1, right.1))
+
+some_of : (e : Environment) (held : List (Option Value)) (p : ResolvedTree) (b : Bool) → are_held held (references p) ≡ b → HasSome (AreOperandsOf e held p)
+some_of e held p true is =
+    let other = Int (pos 0) in
+    let s = some_in (in_row e (filled other held)) (operands_of p) in
+    (s.0, subst (λ (b : Bool). AreOutcomes e held b (operands_of p) s.0) (sym is) (of_held e held other p s.0 is s.1))
+some_of e held p false is = (None, other_told e held p is)
+
+pub some_operands : (e : Environment) (held : List (Option Value)) (details : Bool) (p : ResolvedTree) → HasSome (AreOperands e held details p)
+some_operands e held false p = (None, refl)
+some_operands e held true p = some_of e held p (are_held held (references p)) refl

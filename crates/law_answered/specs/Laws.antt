@@ -1,0 +1,173 @@
+-- What is claimed of the answers.
+use Rattle.std.specs.Prelude.{◌≡◌, ◌≢◌, ◌⊎◌, ℕ, Bool, false, List, [], ◌∷◌, ◌++◌, Option, None, Some}
+use Rattle.std.specs.List.{flat_map}
+use Rattle.zf_command.specs.declared.job.Job.{Job}
+use Rattle.zf_command.specs.declared.job.Job.TheVariants.{Show, Why}
+use Rattle.zf_format.specs.declared.format.Format.{Format}
+use Rattle.zf_format.specs.Messages.{messages_in}
+use Rattle.zf_finite.specs.declared.not_finite.NotFinite.{NotFinite}
+use Rattle.zf_finite.specs.Finite.{IsFinite}
+use Rattle.zf_scan.specs.declared.fault.TextFault.{TextFault}
+use Rattle.zf_scan.specs.declared.token.Token.{Token}
+use Rattle.zf_scan.specs.Cuts.{IsCutInto}
+use Rattle.zf_parse.specs.Parsing.{IsGrammarFault, ReadsSource, RefusesTokens, RefusesSource}
+use Rattle.zf_tree.specs.Trees.{BoxTree}
+use Rattle.zf_term.specs.Definitions.{Comp, Defined, Schema}
+use Rattle.zf_term.specs.Faults.{Fault}
+use Rattle.zf_schema.specs.Checking.{Item, OffendsItem}
+use Rattle.zf_value.specs.declared.plain.Value.{Value}
+use Rattle.zf_meaning.specs.Environments.{Environment}
+use Rattle.zf_meaning.specs.GlobalOutcomes.{IsEnvironment}
+use Rattle.zf_meaning.specs.declared.sizes.Size.{Size}
+use Rattle.zf_meaning.specs.Sizes.{given_sets, AreComplete}
+use Rattle.zf_why.specs.Causes.{RefutedBy, RefutedTogetherBy}
+use Rattle.zf_why.specs.Told.{nothing_beside, others_beside}
+use Rattle.zf_enum.specs.Portions.{Portion}
+use Rattle.zf_ranges.specs.Ranges.{IsNoneOut}
+use Rattle.zf_lines.specs.Searches.{HasLimit}
+use Rattle.zf_lines.specs.declared.fault.Status.{Status}
+use Rattle.zf_command.specs.declared.job.Request.{Request}
+use Rattle.zf_engine.specs.Answers.{Answer, AreHeld, format_of, HoldsNoValues, IsLimited, IsNamedRow, NamesNoRow, row_after, ShowsEvents, wants_details}
+use Rattle.zf_engine.specs.Settings.{Checks, HasSchema, stated, numbers_of}
+use Rattle.zf_messages.specs.Details.{Cited, text_fault_lines, not_finite_lines, AreLines}
+use Rattle.zf_engine.specs.Numbers.{AreSmall}
+use Rattle.zf_engine.specs.Reasons.{TellsConjuncts, TellsWhy}
+use Rattle.zf_messages.specs.Texts.{not_a_binding_line, not_components_line, not_held_line, type_fault_line}
+use Rattle.zf_engine.specs.Only.{AreShown}
+use Rattle.law_answered.specs.Bindings.{ShowsBindings}
+use Rattle.law_answered.specs.Parts.{ShowsEachPart}
+
+-- ---- what `show` answers
+
+-- the text and the status answer the request
+abbrev pub AnswersRequest : Request → (file source text : List ℕ) → Status → Type 0
+AnswersRequest r file source text status = Answer (Show r) file source text status
+
+-- Nothing stands in the way of the request: a tree reads the source, it is well typed and this is its schema of the name, the numbers and the sizes fit and
+-- this is the environment at them, the schema is finite, these components are shown, the named row is this row of their types, if one is named, and the search comes after it where all
+-- components are shown; these values are held, if a line of some components is given, and no declared set is out.
+pub record IsGranted (r : Request) (source : List ℕ) (globals : List Defined) (a : Schema) (e : Environment) (p : Portion) : Type 0 where
+  pub has_schema : HasSchema source r.name globals a
+  pub small : AreSmall (numbers_of r.setting)
+  pub complete : AreComplete (given_sets globals) (stated globals r.setting)
+  pub environment : IsEnvironment globals (stated globals r.setting) (numbers_of r.setting) e
+  pub finite : IsFinite e.numbers globals a
+  pub shown : List Comp
+  pub after : Option (List Value)
+  pub are_shown : AreShown a.comps r.only shown
+  pub named : IsNamedRow e shown r.after after
+  pub begins : p.after ≡ row_after r.only after
+  pub held : AreHeld e a.comps r.held p.held
+  pub none_out : IsNoneOut e a.comps
+
+-- Then, where all components are shown, every answer has the lines of exactly the schema's bindings after the named row with the held values, each once, in ascending order, up to the limit or the first row that
+-- is out of bounds; then the last line, which says which of these ended it, and the number of tests, if it is asked for.
+abbrev pub EachBindingIsShown : Type 0
+EachBindingIsShown =
+    (r : Request) (file source : List ℕ) (globals : List Defined) (a : Schema) (e : Environment) (p : Portion) (text : List ℕ) (status : Status)
+    → r.only ≡ None → IsGranted r source globals a e p → AnswersRequest r file source text status → ShowsBindings r globals a e p text status
+
+-- Where some are, it has the lines of exactly what these have in such bindings.
+abbrev pub EachPartIsShown : Type 0
+EachPartIsShown =
+    (r : Request) (names file source : List ℕ) (globals : List Defined) (a : Schema) (e : Environment) (p : Portion) (text : List ℕ) (status : Status)
+    → r.only ≡ Some names → HasLimit r.limit → IsGranted r source globals a e p → AnswersRequest r file source text status → ShowsEachPart names r globals a e p text status
+
+-- So there is one answer.
+abbrev pub IsShownInOneWay : Type 0
+IsShownInOneWay =
+    (r : Request) (file source : List ℕ) (globals : List Defined) (a : Schema) (e : Environment) (p : Portion) (one two : List ℕ) (s t : Status)
+    → IsGranted r source globals a e p → AnswersRequest r file source one s → AnswersRequest r file source two t → (one ≡ two) × (s ≡ t)
+
+-- the text and the status of the schema's events after the named row with the held values, as the contract of the lines has them
+abbrev pub EventsAreShown : Type 0
+EventsAreShown =
+    (r : Request) (file source : List ℕ) (globals : List Defined) (a : Schema) (e : Environment) (p : Portion) (text : List ℕ) (status : Status)
+    → r.only ≡ None → IsGranted r source globals a e p → AnswersRequest r file source text status → ShowsEvents r globals a e p text status
+
+-- ---- what `why` answers
+
+-- Where nothing stands in the way of the request, every answer of `why` is the first event of the search, or why there is none.
+abbrev pub ReasonIsTold : Type 0
+ReasonIsTold =
+    (r : Request) (file source : List ℕ) (globals : List Defined) (a : Schema) (e : Environment) (p : Portion) (text : List ℕ) (status : Status)
+    → IsGranted r source globals a e p → Answer (Why r) file source text status → TellsWhy r.format r.details file source globals a e p text status
+
+-- ---- one answer
+
+-- A source has one status for a job.
+abbrev pub OneStatus : Type 0
+OneStatus = (job : Job) (file source one two : List ℕ) (s t : Status) → Answer job file source one s → Answer job file source two t → s ≡ t
+
+-- the text tells that no tree reads the source, or none that is low enough
+pub record TellsGrammar (details : Bool) (file source text : List ℕ) : Type 0 where
+  pub fault : TextFault
+  pub about : Cited
+  pub tokens : List Token
+  pub cut : IsCutInto source tokens
+  pub kind : IsGrammarFault fault.kind
+  pub refused : RefusesTokens fault.kind fault.line tokens
+  pub told : text ≡ text_fault_lines details file fault about
+
+-- as many faults in both, and those at one place are offences of one paragraph or box
+abbrev pub AreOfSame : List Fault → List Fault → Type 0
+AreOfSame [] [] = Unit {0}
+AreOfSame [] (f ∷ fs) = ⊥
+AreOfSame (e ∷ es) [] = ⊥
+AreOfSame (e ∷ es) (f ∷ fs) = ((g : List Defined) × (item : Item) × OffendsItem g item e.offence e.line × OffendsItem g item f.offence f.line) × AreOfSame es fs
+
+-- Two texts of messages are one, or differ in what is left open: which fault of the grammar an unread source has, which symbols a fault of it is about, which offence of
+-- an ill typed paragraph is told and what is reported beside it, which schema without a component is reported, and the byte at which a text is no names of components, no binding, or no line of some components.
+pub data AreMessagesAlike (details : Bool) (file source one two : List ℕ) : Type 0 where
+  same : one ≡ two → AreMessagesAlike details file source one two
+  symbols : (fault : TextFault) (first second : Cited) → RefusesSource source fault → one ≡ text_fault_lines details file fault first
+      → two ≡ text_fault_lines details file fault second → AreMessagesAlike details file source one two
+  grammar : TellsGrammar details file source one → TellsGrammar details file source two → AreMessagesAlike details file source one two
+  types : (globals : List Defined) (first second : List Fault) (ones twos listed : List ℕ) → Checks source globals first → Checks source globals second → first ≢ []
+      → AreOfSame first second → AreLines details file first ones → AreLines details file second twos → one ≡ ones ++ listed → two ≡ twos ++ listed
+      → AreMessagesAlike details file source one two
+  infinite : (globals : List Defined) (cause : NotFinite) (first second : List ℕ) → one ≡ not_finite_lines details file globals cause first
+      → two ≡ not_finite_lines details file globals cause second → AreMessagesAlike details file source one two
+  no_components : (first second : ℕ) → one ≡ not_components_line first → two ≡ not_components_line second → AreMessagesAlike details file source one two
+  no_binding : (first second : ℕ) → one ≡ not_a_binding_line first → two ≡ not_a_binding_line second → AreMessagesAlike details file source one two
+  no_values : (first second : ℕ) → one ≡ not_held_line first → two ≡ not_held_line second → AreMessagesAlike details file source one two
+
+-- Two texts in a format are one, or those of messages that are alike, or differ in what is told of the sides of disjunctions, or in which minimal set of conjuncts that can't hold together is told.
+pub data AreAlike (f : Format) (details : Bool) (file source one two : List ℕ) : Type 0 where
+  same : one ≡ two → AreAlike f details file source one two
+  messages : (first second : List ℕ) → AreMessagesAlike details file source first second → one ≡ messages_in f file first → two ≡ messages_in f file second → AreAlike f details file source one two
+  sides : (name : List ℕ) (globals : List Defined) (a : Schema) (sizes : List Size) (numbers : Option ℕ) (e : Environment) (held : List (Option Value)) (alone : List Bool) → HasSchema source name globals a
+      → IsEnvironment globals sizes numbers e → RefutedBy e a held alone → TellsConjuncts f details file source a e held nothing_beside alone one
+      → TellsConjuncts f details file source a e held nothing_beside alone two → AreAlike f details file source one two
+  reasons : (name : List ℕ) (globals : List Defined) (a : Schema) (sizes : List Size) (numbers : Option ℕ) (e : Environment) (held : List (Option Value)) (first second : List Bool) → HasSchema source name globals a
+      → IsEnvironment globals sizes numbers e → RefutedTogetherBy e a held first → RefutedTogetherBy e a held second
+      → TellsConjuncts f details file source a e held (others_beside a.conjuncts first) first one
+      → TellsConjuncts f details file source a e held (others_beside a.conjuncts second) second two → AreAlike f details file source one two
+
+-- A source has one text for a job, but for what is left open.
+abbrev pub OneText : Type 0
+OneText = (job : Job) (file source one two : List ℕ) (s t : Status) → Answer job file source one s → Answer job file source two t → AreAlike (format_of job) (wants_details job) file source one two
+
+-- Without details nothing is reported beside an offence: each fault has its line, and no more.
+abbrev pub PlainLines : Type 0
+PlainLines = (file : List ℕ) (faults : List Fault) (lines : List ℕ) → AreLines false file faults lines → lines ≡ flat_map (type_fault_line file) faults
+
+-- ---- what is always one of two
+
+-- Each source is read by a tree, or is refused with a fault.
+abbrev pub EverySourceIsRead : Type 0
+EverySourceIsRead = (source : List ℕ) → ((boxes : List BoxTree) × ReadsSource boxes source) ⊎ ((fault : TextFault) × RefusesSource source fault)
+
+-- A text is the line of a row of the components' types, or of none; where no text is given no row is named.
+abbrev pub EveryLineIsJudged : Type 0
+EveryLineIsJudged = (e : Environment) (comps : List Comp) (text : Option (List ℕ)) → ((after : Option (List Value)) × IsNamedRow e comps text after) ⊎ NamesNoRow e comps text
+
+-- So is one a line of some of them, which holds these values, or of none; where no text is given nothing is held.
+abbrev pub EveryHeldLineIsJudged : Type 0
+EveryHeldLineIsJudged = (e : Environment) (comps : List Comp) (text : Option (List ℕ)) → ((held : List (Option Value)) × AreHeld e comps text held) ⊎ HoldsNoValues e comps text
+
+-- ---- every request
+
+-- Each request, with a limit of at least 1 if it has one, has an answer.
+abbrev pub EveryRequestIsAnswered : Type 0
+EveryRequestIsAnswered = (job : Job) (file source : List ℕ) → IsLimited job → (text : List ℕ) × (status : Status) × Answer job file source text status

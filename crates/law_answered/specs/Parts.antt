@@ -1,0 +1,71 @@
+-- What `show --only` writes of a schema, in the words of its bindings: which values of some components have a line, in which order, and what ends the lines.
+use Rattle.std.specs.Prelude.{◌≡◌, ◌↔◌, ◌⊎◌, ℕ, List, [], ◌∷◌, ◌++◌, length, Option, Some, None, Contains, AllPairs}
+use Rattle.std.specs.List.{flat_map}
+use Rattle.zf_term.specs.Definitions.{Defined, Schema}
+use Rattle.zf_value.specs.declared.plain.Value.{Value}
+use Rattle.zf_value.specs.Sets.{value_order}
+use Rattle.zf_walk.specs.Rows.{ComesAfter, IsLater}
+use Rattle.zf_meaning.specs.Environments.{Environment}
+use Rattle.zf_enum.specs.Portions.{Portion}
+use Rattle.zf_ranges.specs.Ranges.{AreRanges}
+use Rattle.zf_print.specs.Spellings.{spellings}
+use Rattle.zf_lines.specs.declared.fault.Status.{Status}
+use Rattle.zf_lines.specs.declared.fault.Status.TheVariants.{Done, PastBounds}
+use Rattle.zf_lines.specs.Searches.{IsBelow, Wording}
+use Rattle.zf_places.specs.Places.{comps_at, values_at}
+use Rattle.zf_parts.specs.Written.{part_wording}
+use Rattle.zf_command.specs.declared.job.Request.{Request}
+use Rattle.zf_engine.specs.Answers.{IsNamedRow}
+use Rattle.zf_engine.specs.Only.{NamesParts}
+use Rattle.law_answered.specs.Bindings.{IsBefore, IsBinding, IsInDoubt, IsNotPast}
+
+-- Some binding has these values at the places, and no row with them of which it is not known comes before it; and they come after the named ones, if some are named.
+pub record IsPartOfBinding (e : Environment) (a : Schema) (ranges : List (List Value)) (start : Option (List Value)) (places : List ℕ) (after : Option (List Value)) (values : List Value) : Type 0 where
+  pub row : List Value
+  pub binding : IsBinding e a ranges start row
+  pub has : values_at places row ≡ values
+  pub later : IsLater value_order after values
+  pub certain : (other : List Value) → IsInDoubt e a ranges start other → values_at places other ≡ values → ComesAfter value_order other row → ⊥
+
+-- Of the row it is not known, and no binding with the same values at the places comes before it.
+pub record IsFirstInDoubt (e : Environment) (a : Schema) (ranges : List (List Value)) (start : Option (List Value)) (places : List ℕ) (row : List Value) : Type 0 where
+  pub doubt : IsInDoubt e a ranges start row
+  pub first : (other : List Value) → IsBinding e a ranges start other → values_at places other ≡ values_at places row → ComesAfter value_order other row → ⊥
+
+-- The last line and the status, by why no further values are written.
+pub data EndsParts (FirstInDoubt : List Value → Type 0) (places : List ℕ) (w : Wording Value) (limit : Option ℕ) (rows : List (List Value)) (last : Option (List Value)) (final : List ℕ) (status : Status) : Type 0 where
+  -- as many as the limit are written, and the last of them are the last that are looked at
+  enough : (front : List (List Value)) (values : List Value) → rows ≡ front ++ values ∷ [] → last ≡ Some values → limit ≡ Some (length rows)
+      → final ≡ w.more → status ≡ Done → EndsParts FirstInDoubt places w limit rows last final status
+  -- fewer are, and of the first row with the next ones it is not known
+  out : (row : List Value) → last ≡ Some (values_at places row) → FirstInDoubt row → IsBelow limit (length rows)
+      → final ≡ w.out row → status ≡ PastBounds → EndsParts FirstInDoubt places w limit rows last final status
+  -- fewer are, and all were looked at
+  complete : last ≡ None → IsBelow limit (length rows)
+      → final ≡ w.end → status ≡ Done → EndsParts FirstInDoubt places w limit rows last final status
+
+-- The text and the status of `show` for the components of these names of a schema among these globals, in this environment, after the named values and with the values that are held.
+pub record ShowsEachPart (names : List ℕ) (r : Request) (globals : List Defined) (a : Schema) (e : Environment) (p : Portion) (text : List ℕ) (status : Status) : Type 0 where
+  -- the places of the components
+  pub places : List ℕ
+  pub of_names : NamesParts a.comps names places
+  -- the named values, if some are
+  pub after : Option (List Value)
+  pub comes_after : IsNamedRow e (comps_at a.comps places) r.after after
+  -- the range of each component, as for bindings
+  pub ranges : List (List Value)
+  pub of_components : AreRanges e a.comps p.held ranges
+  -- the values that have a line, and the last ones that are looked at
+  pub rows : List (List Value)
+  pub last : Option (List Value)
+  -- they are exactly those that bindings have up to there
+  pub members : (values : List Value) → Contains rows values ↔ (IsPartOfBinding e a ranges p.after places after values × IsNotPast value_order last values)
+  -- each come after those before them, so each have one line
+  pub ascending : AllPairs (ComesAfter value_order) rows
+  -- of a row with values before the last ones, be it a binding or not known, the values have a line
+  pub each : (row : List Value) → IsBinding e a ranges p.after row ⊎ IsInDoubt e a ranges p.after row → IsLater value_order after (values_at places row)
+      → IsBefore value_order last (values_at places row) → Contains rows (values_at places row)
+  -- their lines, and the last line
+  pub final : List ℕ
+  pub ending : EndsParts (IsFirstInDoubt e a ranges p.after places) places (part_wording r.format (spellings globals) (comps_at a.comps places) a.comps) r.limit rows last final status
+  pub written : text ≡ flat_map (part_wording r.format (spellings globals) (comps_at a.comps places) a.comps).line rows ++ final

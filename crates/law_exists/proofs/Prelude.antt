@@ -1,0 +1,37 @@
+-- What the proofs of this crate take from elsewhere, passed on from one place.
+pub use Rattle.std.proofs.Common.{◌++◌, ◌+◌, ◌<◌, ◌↔◌, ◌∙◌, ◌∷◌, ◌≡◌, ◌≤◌, ◌⊎◌, [], ap, append-nil, append_assoc, arith, Bool, false, inl, inr, length, length-append, List, map, None, not, Option, refl, Some, subst, suc, sym, take, true, zero, ℕ, ℤ, ⊎_elim}
+pub use Rattle.std.proofs.lemmas.Bool.{and_parts, cases_eq, cases_lt, or_cases}
+pub use Rattle.std.specs.Cmp.{IsTotalOrder}
+pub use Rattle.std.specs.Cmp.Lexicographic.{lists_total, slice_cmp}
+pub use Rattle.std.specs.Prelude.{◌≢◌, AllPairs, codes, Contains, FitsSigned, IsTrue, slice_get}
+pub use Rattle.std.specs.declared.cmp.Ordering.{Ordering}
+pub use Rattle.std.specs.declared.cmp.Ordering.TheVariants.{Equal, Greater, Less}
+pub use Rattle.zf_walk.specs.Conjuncts.{Conjuncts, IsTruthOf}
+pub use Rattle.zf_walk.specs.Events.{Event, IsEvent}
+pub use Rattle.zf_walk.specs.EventLists.{IsEvents}
+pub use Rattle.zf_walk.specs.Rows.{ComesAfter, IsFrontOf, IsLater, IsRowOf}
+pub use Rattle.zf_walk.specs.RowLaws.{TiesAreEqual}
+pub use Rattle.zf_walk.specs.Tests.{cut, IsCount, IsNumberOfTests, IsDueTest, IsReached, IsUpTo, IsWalked}
+pub use Rattle.zf_walk.specs.TestBounds.{IsBound}
+pub use Rattle.zf_walk.specs.declared.judge.Truth.{Truth}
+pub use Rattle.zf_walk.specs.declared.judge.Truth.TheVariants.{False, Out, True}
+pub use Rattle.zf_value.specs.Sets.{IsAscending, IsMember, members, value_order}
+pub use Rattle.std.specs.List.{AllByRecursion}
+pub use Rattle.zf_value.specs.SetLaws.{parts}
+pub use Rattle.zf_value.specs.declared.plain.Value.{Elem, Int, SetOf, Tuple, Value}
+pub use Rattle.zf_term.specs.Definitions.{carrier, Comp, DeclaredSet, DeclaredSets, no_sets, plain, Schema, set, sets_of, sides}
+pub use Rattle.zf_term.specs.ResolvedTrees.{ResolvedTree}
+pub use Rattle.zf_term.specs.Types.{basic, has_numbers, int, no_types, power, product, Ty, type, Tys}
+pub use Rattle.zf_finite.specs.Finite.{bounds, one_bounds}
+pub use Rattle.std.specs.Option.{is_none}
+pub use Rattle.zf_meaning.specs.Environments.{Environment, globally, type_number}
+pub use Rattle.zf_meaning.specs.Meaning.{HasOutcome, IsTruth}
+pub use Rattle.law_total.proofs.Listed.{Decided, decided_all, decided_both, decided_either, decided_in, decided_lists, decided_not, decided_same, decided_some, decided_then, HasSome, Listed, listed_either, listed_image, listed_kept, listed_none, listed_one, listed_pairs, listed_same, one_or_all, swapped}
+pub use Rattle.law_total.proofs.Naturals.{decided_le, decided_lt, first_or_none, listed_below}
+pub use Rattle.law_total.proofs.Orders.{AllPairs-mapped, Contains-map, Contains-mapped, distinct_of, in_order}
+pub use Rattle.law_total.proofs.Terms.{some_outcome, some_truth}
+pub use Rattle.law_total.proofs.Values.{listed_members, same_row, same_value}
+pub use Rattle.zf_ranges.specs.DeclaredSets.{IsCarrierOut, IsInCarrier, IsInOne, IsInPlain, IsInSet, IsInSets, IsOneOut, IsPlainOut, IsSetOut}
+pub use Rattle.zf_ranges.specs.Ranges.{AreRanges, first_held, IsFirstOut, IsHeld, IsNoneOut, IsOutAt, IsComponentRange, later_held}
+pub use Rattle.zf_lines.specs.Searches.{AreEventsUpTo, breaks, ends, HasEvents, Hold, IsBelow, IsTestsLine, IsWritten, lines, pauses, Wording}
+pub use Rattle.zf_lines.specs.declared.fault.Status.{Status}

@@ -1,0 +1,44 @@
+-- What is claimed of the names of a text.
+use Rattle.std.specs.Prelude.{◌≡◌, ℕ, List, Option, Some}
+use Rattle.zf_parse.specs.Parsing.{ReadsSource}
+use Rattle.zf_tree.specs.Trees.{BoxTree}
+use Rattle.zf_term.specs.Definitions.{Defined, Schema, schema}
+use Rattle.zf_term.specs.FirstNamed.{first_named}
+use Rattle.zf_term.specs.Faults.{Fault}
+use Rattle.zf_schema.specs.Checking.{IsChecked}
+use Rattle.zf_meaning.specs.declared.sizes.Size.{Size}
+use Rattle.zf_meaning.specs.Environments.{Environment}
+use Rattle.zf_meaning.specs.GlobalOutcomes.{IsEnvironment}
+use Rattle.zf_meaning.specs.Sizes.{given_sets, AreComplete}
+use Rattle.zf_print.specs.Clear.{AreClear}
+use Rattle.zf_print.specs.HeldLaws.{HaveClearNames}
+use Rattle.zf_print.specs.Held.{IsHeldLine}
+use Rattle.zf_print.specs.HeldLines.{IsLineOfSome}
+use Rattle.zf_print.specs.Spellings.{spellings}
+use Rattle.zf_value.specs.declared.plain.Value.{Value}
+
+-- the globals of a text, at sizes of all its given sets, have clear spellings
+abbrev pub GlobalsAreClear : Type 0
+GlobalsAreClear =
+    (boxes : List BoxTree) (source : List ℕ) (globals : List Defined) (faults : List Fault) (stated : List Size) (numbers : Option ℕ) (e : Environment)
+    → ReadsSource boxes source → IsChecked boxes globals faults → AreComplete (given_sets globals) stated → IsEnvironment globals stated numbers e → AreClear (spellings globals) e.sizes
+
+-- a schema that a text defines
+pub record IsSchemaOf (source : List ℕ) (globals : List Defined) (a : Schema) : Type 0 where
+  pub boxes : List BoxTree
+  pub faults : List Fault
+  pub place : ℕ
+  pub name : List ℕ
+  pub reads : ReadsSource boxes source
+  pub checked : IsChecked boxes globals faults
+  pub there : first_named (λ d. d.name) name globals ≡ Some (place, record { name = name; definition = schema a })
+
+-- each of its components has a name, and no two have one
+abbrev pub ComponentsAreClear : Type 0
+ComponentsAreClear = (source : List ℕ) (globals : List Defined) (a : Schema) → IsSchemaOf source globals a → HaveClearNames a.comps
+
+-- so the line of some of its components, with values of their types, is read as a line of these, and holds these values
+abbrev pub EachLineIsHeld : Type 0
+EachLineIsHeld =
+    (source : List ℕ) (globals : List Defined) (a : Schema) (e : Environment) (text : List ℕ) (held : List (Option Value))
+    → IsSchemaOf source globals a → IsLineOfSome (spellings globals) e a.comps text held → IsHeldLine (spellings globals) e a.comps text held

@@ -1,0 +1,19 @@
+//! The names of a text are spelled clearly.
+#![tactic(auto)]
+
+ghost use Rattle.law_names.specs.Laws.{ComponentsAreClear, EachLineIsHeld, GlobalsAreClear};
+
+/// The globals of a text, at sizes of all its given sets, have clear spellings.
+pub fn clear_spellings()
+    ensures { GlobalsAreClear }
+{}
+
+/// The components of a schema of a text have clear names.
+pub fn clear_components()
+    ensures { ComponentsAreClear }
+{}
+
+/// Each line of some components of a schema of a text holds their values.
+pub fn each_line_is_held()
+    ensures { EachLineIsHeld }
+{}

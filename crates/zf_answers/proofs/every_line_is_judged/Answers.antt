@@ -1,6 +1,0 @@
-use Rattle.zf_answers.proofs.HeldLines.{every_held_line_is_judged}
-use Rattle.zf_answers.proofs.NamedRows.{every_line_is_judged}
-use Rattle.zf_answers.proofs.every_line_is_judged.Goals as goal
-
-pub returns : goal.returns
-returns c = record { whole = every_line_is_judged; held = every_held_line_is_judged }

@@ -1,5 +1,0 @@
-use Rattle.zf_answers.proofs.EarlyStops.{first_lines_are_a_front, parts_are_fronts}
-use Rattle.zf_answers.proofs.first_lines_are_a_front.Goals as goal
-
-pub returns : goal.returns
-returns c = record { lines = first_lines_are_a_front; parts = parts_are_fronts c.every_request_is_answered.ensures }

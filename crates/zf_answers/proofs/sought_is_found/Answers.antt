@@ -1,5 +1,0 @@
-use Rattle.zf_answers.proofs.Sought.{what_is_sought_is_told}
-use Rattle.zf_answers.proofs.sought_is_found.Goals as goal
-
-pub returns : goal.returns
-returns c = what_is_sought_is_told

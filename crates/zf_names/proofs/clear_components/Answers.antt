@@ -1,5 +1,0 @@
-use Rattle.zf_names.proofs.Clear.{components_clear}
-use Rattle.zf_names.proofs.clear_components.Goals as goal
-
-pub returns : goal.returns
-returns c = components_clear

@@ -1,5 +1,0 @@
-use Rattle.zf_names.proofs.Clear.{globals_clear}
-use Rattle.zf_names.proofs.clear_spellings.Goals as goal
-
-pub returns : goal.returns
-returns c = globals_clear

@@ -1,0 +1,38 @@
+-- What reading the tokens of a text answers, and what reading a source does.
+use Rattle.std.specs.Prelude.{◌≡◌, ℕ, ◌⊎◌, ◌≤◌, List}
+use Rattle.zf_scan.specs.declared.fault.TextFault.{TextFault}
+use Rattle.zf_scan.specs.declared.fault.TextFaultKind.{TextFaultKind}
+use Rattle.zf_scan.specs.declared.fault.TextFaultKind.TheVariants.{Unexpected, NotInProfile, TooDeep, OutOfMemory}
+use Rattle.zf_scan.specs.declared.token.Token.{Token}
+use Rattle.zf_scan.specs.Cuts.{IsCutInto, HasFault}
+use Rattle.zf_parse.specs.Height.{highest, height_limit}
+use Rattle.zf_parse.specs.Reads.{Reads}
+use Rattle.zf_tree.specs.Trees.{BoxTree}
+
+-- a tree that reads the tokens, with no part above the limit
+pub record ReadsLow (boxes : List BoxTree) (tokens : List Token) : Type 0 where
+  pub reads : Reads boxes tokens
+  pub low : highest boxes ≤ height_limit
+
+-- when each fault comes: no tree reads the tokens, none within the limit does, or memory ended
+abbrev pub RefusesTokens : TextFaultKind → (line : ℕ) → List Token → Type 0
+RefusesTokens Unexpected line tokens = (boxes : List BoxTree) → Reads boxes tokens → ⊥
+RefusesTokens NotInProfile line tokens = (boxes : List BoxTree) → Reads boxes tokens → ⊥
+RefusesTokens TooDeep line tokens = (boxes : List BoxTree) → ReadsLow boxes tokens → ⊥
+RefusesTokens OutOfMemory line tokens = line ≡ 0
+RefusesTokens _ line tokens = ⊥
+
+-- the source is cut, and the tree reads its tokens
+abbrev pub ReadsSource : List BoxTree → List ℕ → Type 0
+ReadsSource boxes source = (tokens : List Token) × IsCutInto source tokens × ReadsLow boxes tokens
+
+abbrev pub IsGrammarFault : TextFaultKind → Type 0
+IsGrammarFault Unexpected = Unit {0}
+IsGrammarFault NotInProfile = Unit {0}
+IsGrammarFault TooDeep = Unit {0}
+IsGrammarFault _ = ⊥
+
+-- the source is not cut, with this fault; or it is, and its tokens are refused with it
+abbrev pub RefusesSource : List ℕ → TextFault → Type 0
+RefusesSource source fault =
+    HasFault source fault ⊎ ((tokens : List Token) × IsCutInto source tokens × RefusesTokens fault.kind fault.line tokens × IsGrammarFault fault.kind)

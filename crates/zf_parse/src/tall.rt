@@ -1,0 +1,44 @@
+//! Parts of a term, each with its height.
+ghost use Rattle.std.specs.Prelude.{◌≡◌, List, Ok, IfOk};
+ghost use Rattle.zf_scan.specs.Separators.{Symbol};
+ghost use Rattle.zf_scan.specs.declared.fault.TextFaultKind.TheVariants.{TooDeep};
+ghost use Rattle.zf_parse.specs.TermReading as spec;
+ghost use Rattle.zf_parse.specs.TermReading.{Gives};
+
+use bumpalo::Bump;
+use zf_data::arena::Boxed;
+use zf_scan::fault::{TextFault, TextFaultKind};
+use zf_tree::tree::Term;
+
+/// What was read, with the height of the highest term in it.
+#[derive(Drop)]
+pub struct Tall<T> {
+    pub part: T,
+    pub height: u32,
+}
+
+/// The term in its box, with its height.
+#[inline(always)]
+pub fn boxed<'a>(
+    arena: &'a Bump,
+    term: Term<'a>,
+    height: u32,
+) -> Result<Tall<Boxed<'a, Term<'a>>>, TextFault>
+    ensures value { (outcome : _) (after : List Symbol) → outcome ≡ Ok (spec.tall term.entry height, after) → Gives outcome result after }
+    ensures low { IfOk result (λ x. x.height ≡ height) }
+{
+    Ok(Tall {
+        part: Boxed::new(arena, term)?,
+        height,
+    })
+}
+
+/// Of a term or schema expression that is higher than allowed, with a line on which it stands.
+pub fn too_deep(line: u32) -> TextFault
+    ensures { result.kind ≡ TooDeep }
+{
+    TextFault {
+        kind: TextFaultKind::TooDeep,
+        line: u64::from(line),
+    }
+}

@@ -1,5 +1,0 @@
-use Rattle.zf_text.proofs.Prelude.{◌<◌, length}
-use Rattle.zf_text.proofs.brackets.unclosed.Given as goal
-
-abbrev pub invariant-loop-i : goal.invariant-loop-i
-invariant-loop-i l = l.open < length l.symbols

@@ -1,6 +1,0 @@
-use Rattle.zf_text.proofs.Reducing.{Reduced}
-use Rattle.zf_text.proofs.reading.reduce.Given as goal
-
--- the symbols kept so far, and what the others leave, are the whole
-abbrev pub invariant-loop-i : goal.invariant-loop-i
-invariant-loop-i l = Reduced l.initial.symbols.items l.symbols.items l.i l.kept l.drops

@@ -1,6 +1,0 @@
-use Rattle.std.proofs.Common.{◌++◌, ◌∙◌, ap, sym}
-use Rattle.std.proofs.lemmas.Fmt.{decimal_digit}
-use Rattle.zf_texts.proofs.printed.append_digit.Goals as goal
-
-pub returns : goal.returns
-returns c = c.in_ok-push.ensures.items ∙ ap (λ d. c.args.text.now.items ++ d) (sym (decimal_digit c.args.digit c.requires))

@@ -1,5 +1,0 @@
-use Rattle.zf_total.proofs.Environments.{some_environment}
-use Rattle.zf_total.proofs.laws.every_environment.Goals as goal
-
-pub returns : goal.returns
-returns c = some_environment

@@ -1,5 +1,0 @@
-use Rattle.zf_total.proofs.Terms.{some_outcome}
-use Rattle.zf_total.proofs.laws.every_outcome.Goals as goal
-
-pub returns : goal.returns
-returns c = some_outcome

@@ -1,7 +1,0 @@
-use Rattle.zf_type.proofs.Prelude.{◌++◌, ◌≡◌, drop, List, map, Ty, type_of, var_type, variable_of}
-use Rattle.zf_type.proofs.binding.row.Given as goal
-
-abbrev pub invariant-loop-place : goal.invariant-loop-place
-invariant-loop-place l = record {
-  rows : (us : List Ty) → us ≡ map var_type (map variable_of (drop l.place l.locals)) → map type_of l.types ++ us ≡ map var_type (map variable_of (drop l.outside l.locals));
-}

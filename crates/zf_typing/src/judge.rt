@@ -1,0 +1,265 @@
+//! What a term is by the typing rules, or an offence against them.
+ghost use Rattle.std.specs.Prelude.{◌≡◌, IfOk, IfErr};
+ghost use Rattle.zf_tree.specs.Names.{spelling};
+ghost use Rattle.zf_tree.specs.Trees as tree;
+ghost use Rattle.zf_tree.specs.Trees.{Tree, named, numeral};
+ghost use Rattle.zf_tree.specs.TreeViews.{tree_of};
+ghost use Rattle.zf_term.specs.Faults.{not_declared, too_large};
+ghost use Rattle.zf_term.specs.ResolvedViews.{resolved_of};
+ghost use Rattle.zf_typing.specs.Judging.{Judges};
+ghost use Rattle.zf_typing.specs.Offences.{Offends};
+ghost use Rattle.zf_sorts.specs.Refusals.{IfFault, IsRefusal};
+ghost use Rattle.zf_typing.specs.Resolving.{resolved};
+ghost use Rattle.zf_sorts.specs.Rules.{IsSmallSort, Meets};
+ghost use Rattle.zf_sorts.specs.RuleViews.{sort_of};
+ghost use Rattle.zf_typing.specs.Scopes as spec;
+ghost use Rattle.zf_typing.specs.ScopeViews.{scope_of};
+ghost use Rattle.zf_typing.specs.Typing.{IsOf};
+
+mod binders;
+mod chains;
+mod lists;
+mod operands;
+
+use crate::like::name_like;
+use crate::scope::Scope;
+use binders::{builder, quantified};
+use bumpalo::Bump;
+use chains::chain;
+use lists::listed;
+use operands::{binary, unary};
+use zf_data::arena::Boxed;
+use zf_sorts::fault::{Offence, Refusal, misplaced, refused};
+use zf_sorts::hint::refused_name;
+use zf_sorts::rules::constant_sort;
+use zf_sorts::sort::Sort;
+use zf_term::fault::Limit;
+use zf_term::resolved::Resolved;
+use zf_term::ztype::ZType;
+use zf_tree::operator::Need;
+use zf_tree::symbol::Constant;
+use zf_tree::tree::{Name, Term};
+
+/// A term in which each name says what it stands for, and what the term is.
+#[derive(Drop)]
+pub struct Judged<'a> {
+    pub term: Resolved<'a>,
+    pub sort: Sort<'a>,
+}
+
+/// What the place of a term needs, and the line of its first token.
+#[derive(Clone, Copy)]
+struct Place {
+    need: Need,
+    line: u32,
+}
+
+/// What the term is where this is needed, and the term with what its names stand for.
+pub fn judge<'a>(
+    term: &Term<'a>,
+    arena: &'a Bump,
+    need: Need,
+    scope: &mut Scope<'a, '_>,
+) -> Result<Judged<'a>, Refusal<'a>>
+    ensures sort { IfOk result (λ j. IsOf (scope_of scope.old) (tree_of term.now) (sort_of j.sort)) }
+    ensures met { IfOk result (λ j. Meets need (sort_of j.sort)) }
+    ensures term { IfOk result (λ j. resolved_of j.term ≡ resolved (scope_of scope.old) (tree_of term.now)) }
+    ensures wrong { IfErr result (λ e. IfFault e (λ offence line. Offends (scope_of scope.old) need (tree_of term.now) offence line)) }
+    ensures scope { scope_of scope.new ≡ scope_of scope.old }
+{
+    judge_term(term, arena, need, scope)
+}
+
+/// A term that stands in a box.
+#[cycle(judging)]
+fn judge_boxed<'a>(
+    term: &Boxed<'a, Term<'a>>,
+    arena: &'a Bump,
+    need: Need,
+    scope: &mut Scope<'a, '_>,
+) -> Result<Judged<'a>, Refusal<'a>>
+    ensures judged { Judges (scope_of scope.old) need (tree_of term.now) result }
+    ensures scope { scope_of scope.new ≡ scope_of scope.old }
+{
+    judge_term(term.get(), arena, need, scope)
+}
+
+/// A term. A fault that passes out of it quotes it, if it quotes no term in it.
+#[cycle(judging)]
+#[inline(always)]
+fn judge_term<'a>(
+    term: &Term<'a>,
+    arena: &'a Bump,
+    need: Need,
+    scope: &mut Scope<'a, '_>,
+) -> Result<Judged<'a>, Refusal<'a>>
+    ensures judged { Judges (scope_of scope.old) need (tree_of term.now) result }
+    ensures scope { scope_of scope.new ≡ scope_of scope.old }
+{
+    match judge_form(term, arena, need, scope) {
+        Ok(judged) => Ok(judged),
+        Err(refusal) => Err(refusal.quoting(arena, term)),
+    }
+}
+
+#[cycle(judging)]
+#[tactic(auto, using(zf_tree::proofs::TermSeen::seen))]
+fn judge_form<'a>(
+    term: &Term<'a>,
+    arena: &'a Bump,
+    need: Need,
+    scope: &mut Scope<'a, '_>,
+) -> Result<Judged<'a>, Refusal<'a>>
+    ensures judged { Judges (scope_of scope.old) need (tree_of term.now) result }
+    ensures scope { scope_of scope.new ≡ scope_of scope.old }
+{
+    match term {
+        Term::Name(line, name) => named(arena, need, &name.at(*line), scope),
+        Term::Number(line, value) => {
+            let line = *line;
+            number(arena, Place { need, line }, *value)
+        }
+        Term::Constant(line, constant) => {
+            let line = *line;
+            constant_term(arena, Place { need, line }, *constant)
+        }
+        Term::EmptySet(line, of) => {
+            let line = *line;
+            empty_set(of.get(), arena, Place { need, line }, scope)
+        }
+        Term::Bracket(line, inner) => {
+            let line = *line;
+            bracket(inner.get(), arena, Place { need, line }, scope)
+        }
+        Term::Listed(line, form, terms) => {
+            let line = *line;
+            listed(terms.as_slice(), arena, Place { need, line }, *form, scope)
+        }
+        Term::Builder(_, _, _, _) => builder(term, arena, need, scope),
+        Term::Unary(line, op, operand) => {
+            let line = *line;
+            unary(operand.get(), arena, Place { need, line }, *op, scope)
+        }
+        Term::Binary(_, _, _, _) => binary(term, arena, need, scope),
+        Term::Chain(_, _, _) => chain(term, arena, need, scope),
+        Term::Quantified(_, _, _, _, _) => quantified(term, arena, need, scope),
+    }
+}
+
+#[inline(never)]
+fn named<'a>(
+    arena: &'a Bump,
+    need: Need,
+    name: &Name<'a>,
+    scope: &Scope<'a, '_>,
+) -> Result<Judged<'a>, Refusal<'a>>
+    ensures { Judges (scope_of scope.now) need (named name.now) result }
+{
+    let line = name.line;
+    let Some((reference, sort)) = scope.meaning(arena, name)? else {
+        return Err(not_declared(arena, name, scope));
+    };
+    placed(
+        arena,
+        Place { need, line },
+        sort,
+        Resolved::Name(line, reference),
+    )
+}
+
+#[inline(never)]
+fn not_declared<'a>(arena: &'a Bump, name: &Name<'a>, scope: &Scope<'a, '_>) -> Refusal<'a>
+    ensures { IsRefusal result (not_declared (spelling name.now)) name.now.line }
+{
+    let spelled = name.spelled();
+    let like = name_like(scope, spelled.as_slice());
+    refused_name(arena, Offence::NotDeclared(name.spelled()), name.line, like)
+}
+
+#[inline(never)]
+fn number<'a>(arena: &'a Bump, place: Place, value: u64) -> Result<Judged<'a>, Refusal<'a>>
+    ensures { (s : spec.Scope) → Judges s place.need (numeral place.line value) result }
+{
+    placed(
+        arena,
+        place,
+        Sort::Typed(ZType::Int),
+        Resolved::Number(place.line, value),
+    )
+}
+
+#[inline(never)]
+fn constant_term<'a>(
+    arena: &'a Bump,
+    place: Place,
+    constant: Constant,
+) -> Result<Judged<'a>, Refusal<'a>>
+    ensures { (s : spec.Scope) → Judges s place.need (tree.constant place.line constant) result }
+{
+    let sort = constant_sort(arena, constant)?;
+    placed(arena, place, sort, Resolved::Constant(place.line, constant))
+}
+
+#[cycle(judging)]
+#[inline(never)]
+fn empty_set<'a>(
+    of: &Term<'a>,
+    arena: &'a Bump,
+    place: Place,
+    scope: &mut Scope<'a, '_>,
+) -> Result<Judged<'a>, Refusal<'a>>
+    ensures judged { Judges (scope_of scope.old) place.need (tree.empty_set place.line (tree_of of.now)) result }
+    ensures scope { scope_of scope.new ≡ scope_of scope.old }
+{
+    let Judged { term, sort } = judge_term(of, arena, Need::Set, scope)?;
+    let term = Resolved::EmptySet(place.line, Boxed::new(arena, term)?);
+    placed(arena, place, sort, term)
+}
+
+#[cycle(judging)]
+#[inline(never)]
+fn bracket<'a>(
+    inner: &Term<'a>,
+    arena: &'a Bump,
+    place: Place,
+    scope: &mut Scope<'a, '_>,
+) -> Result<Judged<'a>, Refusal<'a>>
+    ensures judged { Judges (scope_of scope.old) place.need (tree.bracket place.line (tree_of inner.now)) result }
+    ensures scope { scope_of scope.new ≡ scope_of scope.old }
+{
+    let Judged { term, sort } = judge_term(inner, arena, place.need, scope)?;
+    let term = Resolved::Bracket(place.line, Boxed::new(arena, term)?);
+    Ok(Judged { term, sort })
+}
+
+/// The term, where its place takes one of this sort.
+#[inline(always)]
+fn placed<'a>(
+    arena: &'a Bump,
+    place: Place,
+    sort: Sort<'a>,
+    term: Resolved<'a>,
+) -> Result<Judged<'a>, Refusal<'a>>
+    ensures { (s : spec.Scope) (e : Tree) → IsOf s e (sort_of sort.entry) → resolved_of term.entry ≡ resolved s e → place.line ≡ tree.line_of e → Judges s place.need e result }
+{
+    if !sort.meets(place.need) {
+        return Err(misplaced(arena, place.need, &sort, place.line));
+    }
+    Ok(Judged { term, sort })
+}
+
+/// The same of a term that is made of others, whose type has to be within the limit.
+#[inline(always)]
+fn made<'a>(
+    arena: &'a Bump,
+    place: Place,
+    sort: Sort<'a>,
+    term: Resolved<'a>,
+) -> Result<Judged<'a>, Refusal<'a>>
+    ensures { (s : spec.Scope) (e : Tree) → (IsSmallSort (sort_of sort.entry) → IsOf s e (sort_of sort.entry)) → ((IsSmallSort (sort_of sort.entry) → ⊥) → Offends s place.need e (too_large Limit.TypeNodes) place.line) → resolved_of term.entry ≡ resolved s e → place.line ≡ tree.line_of e → Judges s place.need e result }
+{
+    if !sort.is_small() {
+        return Err(refused(arena, Offence::TooLarge(Limit::TypeNodes), place.line));
+    }
+    placed(arena, place, sort, term)
+}

@@ -1,0 +1,140 @@
+//! Chains of relations.
+ghost use Rattle.std.specs.Prelude.{◌≡◌, IfOk, IfErr, OnOk, map};
+ghost use Rattle.zf_term.specs.Faults as fault;
+ghost use Rattle.zf_tree.specs.Trees as tree;
+ghost use Rattle.zf_tree.specs.TreeViews as tree_views;
+ghost use Rattle.zf_tree.specs.Trees.{Tree};
+ghost use Rattle.zf_tree.specs.TreeViews.{link_of, tree_of};
+ghost use Rattle.zf_term.specs.ResolvedViews as kept;
+ghost use Rattle.zf_term.specs.ResolvedViews.{resolved_link_of};
+ghost use Rattle.zf_typing.specs.Judging.{IsChain, Judges};
+ghost use Rattle.zf_tree.specs.Operators.{left_need, right_need};
+ghost use Rattle.zf_typing.specs.Offences.{LinksOffend};
+ghost use Rattle.zf_sorts.specs.Rules.{Disagreement, Meets, Takes};
+ghost use Rattle.zf_sorts.specs.Refusals.{IfFault};
+ghost use Rattle.zf_typing.specs.Resolving.{resolved_links};
+ghost use Rattle.zf_sorts.specs.Rules as rules;
+ghost use Rattle.zf_sorts.specs.RuleViews.{sort_of};
+ghost use Rattle.zf_typing.specs.ScopeViews.{scope_of};
+ghost use Rattle.zf_typing.specs.Typing.{LinksAreTyped, IsOf};
+
+use super::{Judged, Place, judge_boxed, judge_term, placed};
+use crate::scope::Scope;
+use bumpalo::Bump;
+use zf_data::arena::{Boxed, Items};
+use zf_sorts::disagreement::disagreeing;
+use zf_sorts::fault::{Refusal, misplaced};
+use zf_sorts::rules::combine;
+use zf_sorts::sort::Sort;
+use zf_term::resolved::{Resolved, ResolvedLink};
+use zf_tree::operator::{Need, Rule, relation_rule};
+use zf_tree::tree::{Link, Term};
+
+/// The operand to the left of a link: what it is, and its line.
+#[derive(Drop)]
+struct Operand<'a> {
+    sort: Sort<'a>,
+    line: u32,
+}
+
+/// A chain of relations.
+#[cycle(judging)]
+#[inline(never)]
+pub(super) fn chain<'a>(
+    term: &Term<'a>,
+    arena: &'a Bump,
+    need: Need,
+    scope: &mut Scope<'a, '_>,
+) -> Result<Judged<'a>, Refusal<'a>>
+    requires { IsChain term.now }
+    ensures judged { Judges (scope_of scope.old) need (tree_of term.now) result }
+    ensures scope { scope_of scope.new ≡ scope_of scope.old }
+{
+    let Term::Chain(line, first, links) = term else {
+        unreachable!();
+    };
+    let line = *line;
+    let Judged { term, sort } = judge_term(first.get(), arena, Need::Expression, scope)?;
+    let left = Operand {
+        sort,
+        line: first.get().line(),
+    };
+    let links = judge_links(links.as_slice(), arena, left, first.get(), scope)?;
+    let first = Boxed::new(arena, term)?;
+    let further = Boxed::new(arena, links)?;
+    placed(
+        arena,
+        Place { need, line },
+        Sort::Predicate,
+        Resolved::Chain(line, first, further),
+    )
+}
+
+#[cycle(judging)]
+fn judge_links<'a>(
+    links: &[Link<'a>],
+    arena: &'a Bump,
+    first: Operand<'a>,
+    operand: &Term<'a>,
+    scope: &mut Scope<'a, '_>,
+) -> Result<Items<'a, ResolvedLink<'a>>, Refusal<'a>>
+    ensures ok { OnOk result (LinksAreTyped (scope_of scope.old) (sort_of first.entry.sort) (tree_views.links (map link_of links.now))) }
+    ensures resolved { IfOk result (λ ks. kept.links (map resolved_link_of ks) ≡ resolved_links (scope_of scope.old) (tree_views.links (map link_of links.now))) }
+    ensures wrong { (a : Tree) → IsOf (scope_of scope.old) a (sort_of first.entry.sort) → first.entry.line ≡ tree.line_of a → IfErr result (λ e. IfFault e (λ offence line. LinksOffend (scope_of scope.old) a (tree_views.links (map link_of links.now)) offence line)) }
+    ensures scope { scope_of scope.new ≡ scope_of scope.old }
+{
+    let mut left = first;
+    let mut operand = operand;
+    let mut resolved = Items::with_room(arena, links.len())?;
+    for link in links {
+        let rule = relation_rule(link.relation);
+        check_left(arena, &left, operand, rule.left_need())?;
+        let Judged { term, sort } = judge_boxed(&link.right, arena, rule.right_need(), scope)?;
+        let line = link.right.get().line();
+        relate(arena, rule, &left.sort, &sort, line)?;
+        resolved.push(ResolvedLink {
+            relation: link.relation,
+            right: term,
+        })?;
+        left = Operand { sort, line };
+        operand = link.right.get();
+    }
+    Ok(resolved)
+}
+
+/// A place of this need takes the operand; else a fault quotes its term.
+fn check_left<'a>(
+    arena: &'a Bump,
+    left: &Operand<'a>,
+    term: &Term<'a>,
+    need: Need,
+) -> Result<(), Refusal<'a>>
+    ensures ok { OnOk result (Meets need (sort_of left.now.sort)) }
+    ensures wrong { IfErr result (λ e. IfFault e (λ offence line. (Meets need (sort_of left.now.sort) → ⊥) × (offence ≡ fault.misplaced need (sort_of left.now.sort)) × (line ≡ left.now.line))) }
+{
+    if left.sort.meets(need) {
+        return Ok(());
+    }
+    let refusal = misplaced(arena, need, &left.sort, left.line);
+    Err(refusal.quoting(arena, term))
+}
+
+/// The rule takes both operands; the line is that of the right one.
+#[tactic(auto, unfolding(zf_sorts::specs::RuleViews::IsMade))]
+fn relate<'a>(
+    arena: &'a Bump,
+    rule: Rule,
+    left: &Sort<'a>,
+    right: &Sort<'a>,
+    line: u32,
+) -> Result<(), Refusal<'a>>
+    requires left { Meets (left_need rule) (sort_of left.now) }
+    requires right { Meets (right_need rule) (sort_of right.now) }
+    ensures ok { OnOk result ((z : rules.Sort) × Takes rule (sort_of left.now) (sort_of right.now) z) }
+    ensures wrong { IfErr result (λ e. IfFault e (λ offence m. ((z : rules.Sort) → Takes rule (sort_of left.now) (sort_of right.now) z → ⊥) × Disagreement rule (sort_of left.now) (sort_of right.now) offence × (m ≡ line))) }
+{
+    match combine(arena, rule, left, right)? {
+        Some(_) => Ok(()),
+        None => Err(disagreeing(arena, rule, left, right, line)),
+    }
+}

@@ -1,0 +1,175 @@
+//! What several terms make: tuples, displays and products.
+ghost use Rattle.std.specs.Prelude.{◌≡◌, IfOk, IfErr, length, map};
+ghost use Rattle.zf_tree.specs.Trees as tree;
+ghost use Rattle.zf_tree.specs.TreeViews.{tree_of, trees};
+ghost use Rattle.zf_term.specs.ResolvedViews as kept;
+ghost use Rattle.zf_term.specs.ResolvedViews.{resolved_of};
+ghost use Rattle.zf_term.specs.Types as tys;
+ghost use Rattle.zf_term.specs.Types.{Ty, power};
+ghost use Rattle.zf_term.specs.TypeViews.{type_of};
+ghost use Rattle.zf_typing.specs.Judging.{DiffersAt, Judges};
+ghost use Rattle.zf_typing.specs.Offences.{OneOffends};
+ghost use Rattle.zf_sorts.specs.Refusals.{IfFault};
+ghost use Rattle.zf_typing.specs.Resolving.{resolved_all};
+ghost use Rattle.zf_sorts.specs.Rules.{Meets};
+ghost use Rattle.zf_sorts.specs.RuleViews.{sort_of};
+ghost use Rattle.zf_typing.specs.Scopes as spec;
+ghost use Rattle.zf_typing.specs.ScopeViews.{scope_of};
+ghost use Rattle.zf_typing.specs.Typing as typing;
+ghost use Rattle.zf_typing.specs.Typing.{AreMembers, Makes, member_sort};
+
+use super::{Judged, Place, judge_term, made};
+use crate::scope::Scope;
+use bumpalo::Bump;
+use std::alloc::AllocError;
+use zf_data::arena::{Boxed, Items};
+use zf_sorts::fault::{Offence, Refusal, refused};
+use zf_sorts::sort::Sort;
+use zf_term::resolved::Resolved;
+use zf_term::ztype::{ZType, product_type, set_type};
+use zf_tree::operator::{Listed, Need};
+use zf_tree::tree::Term;
+
+/// The members of one term, and the types that they are told by: of a set that of its members.
+#[derive(Drop)]
+struct Members<'a> {
+    resolved: Items<'a, Resolved<'a>>,
+    types: Items<'a, ZType<'a>>,
+}
+
+/// What several terms make.
+#[cycle(judging)]
+#[inline(never)]
+pub(super) fn listed<'a>(
+    terms: &[Boxed<'a, Term<'a>>],
+    arena: &'a Bump,
+    place: Place,
+    form: Listed,
+    scope: &mut Scope<'a, '_>,
+) -> Result<Judged<'a>, Refusal<'a>>
+    ensures judged { Judges (scope_of scope.old) place.need (tree.listed place.line form (trees (map tree_of terms.now))) result }
+    ensures scope { scope_of scope.new ≡ scope_of scope.old }
+{
+    let members = judge_all(terms, arena, form, scope)?;
+    with_members(arena, place, form, terms, members)
+}
+
+#[cycle(judging)]
+fn judge_all<'a>(
+    terms: &[Boxed<'a, Term<'a>>],
+    arena: &'a Bump,
+    form: Listed,
+    scope: &mut Scope<'a, '_>,
+) -> Result<Members<'a>, Refusal<'a>>
+    ensures ok { IfOk result (λ ms. AreMembers form (scope_of scope.old) (trees (map tree_of terms.now)) (tys.types (map type_of ms.types))) }
+    ensures resolved { IfOk result (λ ms. kept.terms (map resolved_of ms.resolved) ≡ resolved_all (scope_of scope.old) (trees (map tree_of terms.now))) }
+    ensures wrong { IfErr result (λ e. IfFault e (λ offence line. OneOffends (scope_of scope.old) (typing.member_need form) (trees (map tree_of terms.now)) offence line)) }
+    ensures scope { scope_of scope.new ≡ scope_of scope.old }
+{
+    let mut resolved = Items::with_room(arena, terms.len())?;
+    let mut types = Items::with_room(arena, terms.len())?;
+    for member in terms {
+        let Judged { term, sort } = judge_term(member.get(), arena, member_need(form), scope)?;
+        types.push(member_type(form, sort)?)?;
+        resolved.push(term)?;
+    }
+    Ok(Members { resolved, types })
+}
+
+fn member_need(form: Listed) -> Need
+    ensures { result ≡ typing.member_need form }
+{
+    match form {
+        Listed::Tuple | Listed::Display => Need::Expression,
+        Listed::Product => Need::Set,
+    }
+}
+
+/// The type that is kept of a member.
+fn member_type<'a>(form: Listed, sort: Sort<'a>) -> Result<ZType<'a>, AllocError>
+    requires { Meets (typing.member_need form) (sort_of sort) }
+    ensures { IfOk result (λ t. sort_of sort.entry ≡ member_sort form (type_of t)) }
+{
+    let Sort::Typed(ztype) = sort else {
+        unreachable!();
+    };
+    match form {
+        Listed::Tuple | Listed::Display => Ok(ztype),
+        Listed::Product => element(&ztype),
+    }
+}
+
+/// The type of a set's members.
+#[tactic(auto, using(zf_term::proofs::TypesSeen::seen))]
+fn element<'a>(ztype: &ZType<'a>) -> Result<ZType<'a>, AllocError>
+    requires { (u : Ty) × (type_of ztype.now ≡ power u) }
+    ensures { IfOk result (λ t. type_of ztype.now ≡ power (type_of t)) }
+{
+    match ztype.member() {
+        Some(members) => members.share(),
+        None => unreachable!(),
+    }
+}
+
+/// The rule of what makes one term out of several.
+fn with_members<'a>(
+    arena: &'a Bump,
+    place: Place,
+    form: Listed,
+    terms: &[Boxed<'a, Term<'a>>],
+    members: Members<'a>,
+) -> Result<Judged<'a>, Refusal<'a>>
+    requires { length terms.now ≡ length members.types }
+    ensures { (s : spec.Scope) → AreMembers form s (trees (map tree_of terms.now)) (tys.types (map type_of members.entry.types)) → kept.terms (map resolved_of members.entry.resolved) ≡ resolved_all s (trees (map tree_of terms.now)) → Judges s place.need (tree.listed place.line form (trees (map tree_of terms.now))) result }
+{
+    let ztype = made_of(arena, form, place.line, terms, members.types)?;
+    let term = Resolved::Listed(place.line, form, Boxed::new(arena, members.resolved)?);
+    made(arena, place, Sort::Typed(ztype), term)
+}
+
+/// The type of what members of these types make.
+#[tactic(auto, using(zf_term::proofs::TypesSeen::seen))]
+fn made_of<'a>(
+    arena: &'a Bump,
+    form: Listed,
+    line: u32,
+    terms: &[Boxed<'a, Term<'a>>],
+    types: Items<'a, ZType<'a>>,
+) -> Result<ZType<'a>, Refusal<'a>>
+    requires { length terms.now ≡ length types }
+    ensures ok { IfOk result (λ t. Makes form (tys.types (map type_of types.entry)) (type_of t)) }
+    ensures wrong { IfErr result (λ e. IfFault e (λ offence m. (form ≡ Listed.Display) × DiffersAt line (map tree_of terms.now) (tys.types (map type_of types.entry)) offence m)) }
+{
+    match form {
+        Listed::Tuple => Ok(product_type(arena, types)?),
+        Listed::Product => Ok(set_type(arena, product_type(arena, types)?)?),
+        Listed::Display => set_of(arena, line, terms, types.as_slice()),
+    }
+}
+
+/// The type of a set of these members.
+#[tactic(auto, using(zf_term::proofs::TypesSeen::seen))]
+fn set_of<'a>(
+    arena: &'a Bump,
+    line: u32,
+    terms: &[Boxed<'a, Term<'a>>],
+    types: &[ZType<'a>],
+) -> Result<ZType<'a>, Refusal<'a>>
+    requires { length terms.now ≡ length types.now }
+    ensures ok { IfOk result (λ t. Makes Listed.Display (tys.types (map type_of types.now)) (type_of t)) }
+    ensures wrong { IfErr result (λ e. IfFault e (λ offence m. DiffersAt line (map tree_of terms.now) (tys.types (map type_of types.now)) offence m)) }
+{
+    let Some(first) = types.first() else {
+        return Err(refused(arena, Offence::NoMembers, line));
+    };
+    for place in 1..types.len() {
+        let other = &types[place];
+        if !first.same(other) {
+            let line = terms[place].get().line();
+            let first = Sort::Typed(first.share()?);
+            let other = Sort::Typed(other.share()?);
+            return Err(refused(arena, Offence::Mismatch(first, other), line));
+        }
+    }
+    Ok(set_type(arena, first.share()?)?)
+}

@@ -1,0 +1,114 @@
+//! Symbols that stand before a term or between two, and their rules.
+ghost use Rattle.std.specs.Prelude.{◌≡◌};
+ghost use Rattle.zf_tree.specs.Trees as tree;
+ghost use Rattle.zf_tree.specs.Trees.{line_of, Tree};
+ghost use Rattle.zf_tree.specs.TreeViews.{tree_of};
+ghost use Rattle.zf_tree.specs.Operators.{left_need, need_of, right_need, rule_of};
+ghost use Rattle.zf_typing.specs.Judging.{IsBinary, IsJudged, Judges};
+ghost use Rattle.zf_sorts.specs.Rules.{Meets};
+ghost use Rattle.zf_sorts.specs.RuleViews.{sort_of};
+ghost use Rattle.zf_typing.specs.Scopes as spec;
+ghost use Rattle.zf_typing.specs.ScopeViews.{scope_of};
+
+use super::{Judged, Place, judge_term, made};
+use crate::scope::Scope;
+use bumpalo::Bump;
+use zf_data::arena::Boxed;
+use zf_sorts::disagreement::disagreeing;
+use zf_sorts::fault::Refusal;
+use zf_sorts::rules::{apply, combine};
+use zf_term::resolved::Resolved;
+use zf_tree::operator::{Need, Operator, Unary};
+use zf_tree::tree::Term;
+
+#[cycle(judging)]
+#[inline(never)]
+pub(super) fn unary<'a>(
+    operand: &Term<'a>,
+    arena: &'a Bump,
+    place: Place,
+    op: Unary,
+    scope: &mut Scope<'a, '_>,
+) -> Result<Judged<'a>, Refusal<'a>>
+    ensures judged { Judges (scope_of scope.old) place.need (tree.unary place.line op (tree_of operand.now)) result }
+    ensures scope { scope_of scope.new ≡ scope_of scope.old }
+{
+    let operand = judge_term(operand, arena, op.need(), scope)?;
+    with_operand(arena, place, op, operand)
+}
+
+/// The rule of a symbol that is applied to one term.
+fn with_operand<'a>(
+    arena: &'a Bump,
+    place: Place,
+    op: Unary,
+    operand: Judged<'a>,
+) -> Result<Judged<'a>, Refusal<'a>>
+    requires { Meets (need_of op) (sort_of operand.sort) }
+    ensures { (s : spec.Scope) (e : Tree) → IsJudged s (need_of op) e operand.entry → Judges s place.need (tree.unary place.line op e) result }
+{
+    let Some(sort) = apply(arena, op, &operand.sort)? else {
+        unreachable!();
+    };
+    let term = Resolved::Unary(place.line, op, Boxed::new(arena, operand.term)?);
+    made(arena, place, sort, term)
+}
+
+/// What two terms make.
+#[cycle(judging)]
+#[inline(never)]
+pub(super) fn binary<'a>(
+    term: &Term<'a>,
+    arena: &'a Bump,
+    need: Need,
+    scope: &mut Scope<'a, '_>,
+) -> Result<Judged<'a>, Refusal<'a>>
+    requires { IsBinary term.now }
+    ensures judged { Judges (scope_of scope.old) need (tree_of term.now) result }
+    ensures scope { scope_of scope.new ≡ scope_of scope.old }
+{
+    let Term::Binary(line, op, left, right) = term else {
+        unreachable!();
+    };
+    let line = *line;
+    let rule = op.rule();
+    let left = left.get();
+    let right = right.get();
+    let of_left = judge_term(left, arena, rule.left_need(), scope)?;
+    let of_right = judge_term(right, arena, rule.right_need(), scope)?;
+    with_operands(
+        arena,
+        Place { need, line },
+        *op,
+        of_left,
+        of_right,
+        right.line(),
+    )
+}
+
+/// The rule of a symbol that stands between two terms, of which the right one stands at the line.
+fn with_operands<'a>(
+    arena: &'a Bump,
+    place: Place,
+    op: Operator,
+    left: Judged<'a>,
+    right: Judged<'a>,
+    line: u32,
+) -> Result<Judged<'a>, Refusal<'a>>
+    requires left { Meets (left_need (rule_of op)) (sort_of left.sort) }
+    requires right { Meets (right_need (rule_of op)) (sort_of right.sort) }
+    ensures { (s : spec.Scope) (a b : Tree) → IsJudged s (left_need (rule_of op)) a left.entry → IsJudged s (right_need (rule_of op)) b right.entry → line ≡ line_of b → Judges s place.need (tree.binary place.line op a b) result }
+{
+    let rule = op.rule();
+    let Some(sort) = combine(arena, rule, &left.sort, &right.sort)? else {
+        return Err(disagreeing(arena, rule, &left.sort, &right.sort, line));
+    };
+    let left = Boxed::new(arena, left.term)?;
+    let right = Boxed::new(arena, right.term)?;
+    made(
+        arena,
+        place,
+        sort,
+        Resolved::Binary(place.line, op, left, right),
+    )
+}

@@ -1,0 +1,12 @@
+//! What holds of every term.
+ghost use Rattle.zf_typing.specs.Laws.{NoOffence, OneSort};
+
+/// In a scope a term is an expression of one type at most, a predicate or a schema's name, and no two of these.
+pub fn one_sort()
+    ensures { OneSort }
+{}
+
+/// A term that is well typed for its place has no offence there.
+pub fn no_offence()
+    ensures { NoOffence }
+{}
