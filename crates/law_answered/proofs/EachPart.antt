@@ -2,7 +2,7 @@
 use Rattle.law_answered.proofs.Prelude.{Some}
 use Rattle.law_answered.proofs.PartsShown.{each_part_of}
 use Rattle.law_answered.proofs.Shown.{shown_told}
-use Rattle.law_answered.specs.Laws.{EachPartIsShown}
+use Rattle.law_answered.specs.{EachPartIsShown}
 
 pub each_part_is_shown : EachPartIsShown
 each_part_is_shown r names file source g a e p text status some limited granted answer =

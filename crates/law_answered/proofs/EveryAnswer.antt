@@ -1,14 +1,14 @@
 -- Each request has an answer: it is refused at a stage, or what is asked for is searched.
 use Rattle.law_answered.proofs.Prelude.{if◌then◌else◌, ◌++◌, ◌∙◌, ◌∷◌, ◌≡◌, ◌⊎◌, [], ap, inl, inr, IsTrue, List, None, Option, refl, Some, subst, sym, ℕ, AllByRecursion, Value, BoxTree, TextFault, ReadsSource, RefusesSource, Comp, Defined, Schema, sets_of, Fault, first, finite_without_cause, causes, NotFinite, one_bounds, Environment, AreComplete, given_sets, Portion, portion, IsNoneOut, Job, Check, Reach, Show, Why, HasLimit, IsBelow, Status, BadRequest, BadSpec, PastBounds, some_search, some_tests_line, Answer, AreHeld, check_status, Checks, HasSchema, IsAsked, IsLimited, IsNamedRow, IsSearch, JobAnswer, Request, RefusesRequest, RequestAnswer, ShowsEvents, TellsWhy, size_fault_lines, stated, wants_details, declared_out_line, no_schema_lines, not_a_binding_line, not_finite_lines, not_held_line, numbers_too_large_line, AreSmall, Cited, text_fault_lines, EveryRequestIsAnswered, EverySourceIsRead, numbers_of, IsFinite, format_of, messages_in, wording, AreShown, not_components_line, row_after, ShowsParts, TellsShown}
-use Rattle.zf_checker.specs.Listing.{listing}
+use Rattle.zf_checker.specs.{listing}
 use Rattle.law_answered.proofs.HeldLines.{every_held_line_is_judged}
 use Rattle.law_answered.proofs.NamedRows.{every_line_is_judged}
 use Rattle.law_exists.proofs.Ranges.{first_out_or_none, some_ranges}
-use Rattle.zf_ranges.specs.Ranges.{AreRanges}
+use Rattle.zf_ranges.specs.{AreRanges}
 use Rattle.law_total.proofs.Environments.{some_environment}
 use Rattle.law_total.proofs.StatedSizes.{complete_or_refused}
 use Rattle.law_decided.proofs.Items.{text_has_verdict}
-use Rattle.zf_command.specs.Requests.{IsBare}
+use Rattle.zf_command.specs.{IsBare}
 use Rattle.law_answered.proofs.EveryName.{named_or_none, none_beside}
 use Rattle.law_answered.proofs.FaultLines.{some_lines}
 use Rattle.law_answered.proofs.NamedParts.{shown_or_none}

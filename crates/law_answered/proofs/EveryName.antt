@@ -1,10 +1,10 @@
 -- A name is that of a schema, or of none; and what need be reported beside what makes a schema infinite.
 use Rattle.law_answered.proofs.Prelude.{if◌then◌else◌, ◌+◌, ◌∙◌, ◌∷◌, ◌≡◌, ◌⊎◌, [], ap, Bool, false, inl, inr, List, None, Option, refl, Some, subst, sym, true, ℕ, none-some, same_Some, abbreviation, constructor, Defined, Definition, free_type, given_set, IsNamed, NotFinite, Schema, schema}
 use Rattle.std.specs.Str.{bytes_eq}
-use Rattle.zf_messages.specs.Details.{IsReportedBeside}
+use Rattle.zf_messages.specs.{IsReportedBeside}
 use Rattle.zf_finite.specs.declared.not_finite.NotFinite.TheVariants.{Offends, Unbounded}
 use Rattle.zf_term.proofs.SameNames.{is_same}
-use Rattle.zf_term.specs.FirstNamed.{first_named, later}
+use Rattle.zf_term.specs.{first_named, later}
 
 -- the global that is found has the name
 found_named : (x : List ℕ) (g : List Defined) (p : ℕ × Defined) → first_named (λ d. d.name) x g ≡ Some p → p.1.name ≡ x

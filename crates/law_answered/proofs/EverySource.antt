@@ -1,13 +1,10 @@
 -- Each source is read by a tree, or is refused with a fault.
 use Rattle.law_answered.proofs.Prelude.{◌≡◌, ◌⊎◌, Err, inl, inr, List, map, Ok, refl, ℕ, box_of, BoxTree, TextFault, Token, parsed, refused, ReadsSource, RefusesSource, EverySourceIsRead}
 use Rattle.zf_scan.specs.declared.fault.TextFaultKind.TheVariants as fault
-use Rattle.zf_scan.specs.Cuts.{HasFault, IsCutInto}
-use Rattle.zf_scan.specs.CutLaws.{IsCutOrFaults}
-use Rattle.zf_scan.specs.Separators.{reduced}
+use Rattle.zf_scan.specs.{HasFault, IsCutInto, IsCutOrFaults, reduced}
 use Rattle.zf_tree.specs.declared.tree.ZBox.{ZBox}
-use Rattle.zf_parse.specs.BoxReading.{read_all}
-use Rattle.zf_parse.specs.Height.{height_limit}
-use Rattle.zf_parse.specs.TermReading.{Outcome, Refused, TooDeep}
+use Rattle.zf_parse.specs.{height_limit, read_all, Refused, TooDeep}
+use Rattle.zf_parse.specs.TermReading.{Outcome}
 
 -- a source that is read, or refused
 abbrev IsAnswered : List ℕ → Type 0

@@ -7,14 +7,12 @@ use Rattle.zf_graph.proofs.OneWay.{one_way}
 use Rattle.zf_graph.specs.Seeking as seeking
 use Rattle.zf_graph.specs.Texts as graph
 use Rattle.zf_machines.proofs.Sole.{one_machine}
-use Rattle.zf_machines.specs.Machines.{all_of, HasShape, Named, Schemas}
+use Rattle.zf_machines.specs.{all_of, HasShape, Named, Schemas}
 use Rattle.zf_steps.proofs.Sure.{is_searched_once, is_sure}
-use Rattle.zf_steps.specs.Explored.{explored_in, sought_in}
-use Rattle.zf_steps.specs.Systems.{System}
-use Rattle.zf_steps.specs.Words.{verdict, words}
-use Rattle.zf_engine.specs.Explorations.{TellsMachine, AreSchemasOf, ending_status, ExploresMachine, ExplorationAnswer, form_of, HasInfinite, HasOut, HasSchemas, IsBounded, IsOfSchema, IsSchemaOf, IsSettled, HasLacking, LacksSchema, names_of, RefusesExploration, result_status, Seeks, states_limit}
-use Rattle.zf_engine.specs.Settings.{TellsFaults, TellsInfinite, TellsMisfit, TellsNoSchema, TellsNumbers, TellsOut}
-use Rattle.zf_messages.specs.Texts.{no_component_line}
+use Rattle.zf_steps.specs.{explored_in, sought_in, System, verdict, words}
+use Rattle.zf_engine.specs.{AreSchemasOf, ending_status, ExplorationAnswer, ExploresMachine, form_of, HasInfinite, HasLacking, HasOut, HasSchemas, IsBounded, IsSchemaOf, IsSettled, LacksSchema, names_of, RefusesExploration, result_status, Seeks, states_limit, TellsFaults, TellsInfinite, TellsMachine, TellsMisfit, TellsNoSchema, TellsNumbers, TellsOut}
+use Rattle.zf_engine.specs.Explorations.{IsOfSchema}
+use Rattle.zf_messages.specs.{no_component_line}
 use Rattle.law_answered.proofs.Machines.{not_all_and_first, not_shape_and_lack, one_first, one_lacking}
 use Rattle.law_answered.proofs.OneRefusal.{none_refused, one_refusal}
 use Rattle.law_answered.proofs.OneSearch.{not_infinite, one_environment_at, one_first_out}

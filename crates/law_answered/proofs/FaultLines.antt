@@ -2,9 +2,8 @@
 use Rattle.law_answered.proofs.Prelude.{◌∙◌, ◌∷◌, ◌≡◌, [], ap, Bool, List, refl, sym, ℕ, flat_map, Fault, AreLines}
 use Rattle.std.proofs.Common.{map}
 use Rattle.std.proofs.lemmas.List.Folds.{flat_map-map}
-use Rattle.zf_messages.specs.Details.{nothing, Reported, reported_lines}
-use Rattle.zf_messages.specs.Texts.{type_fault_line}
-use Rattle.law_answered.specs.Laws.{PlainLines}
+use Rattle.zf_messages.specs.{nothing, Reported, reported_lines, type_fault_line}
+use Rattle.law_answered.specs.{PlainLines}
 
 abbrev bare : Fault → Reported
 bare fault = record { fault = fault; aside = nothing }

@@ -1,7 +1,7 @@
 -- A text is the line of some of the components, which holds values of their types, or of none.
 use Rattle.law_answered.proofs.Prelude.{◌∷◌, ◌≡◌, ◌⊎◌, [], ap, arith, inl, inr, length, List, None, Option, refl, Some, subst, suc, sym, cases_eq, Value, Comp, Environment, IsOfType, IsRow, Decided, decided_lists, decided_some, binding_text, spellings, AreHeld, HoldsNoValues, EveryHeldLineIsJudged}
 use Rattle.std.proofs.Common.{⊎_elim}
-use Rattle.zf_print.specs.HeldLines.{held_comps, held_values}
+use Rattle.zf_print.specs.{held_comps, held_values}
 use Rattle.law_answered.proofs.ListedValues.{values_listed}
 
 module _ (e : Environment) where

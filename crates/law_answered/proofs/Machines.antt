@@ -1,11 +1,9 @@
 -- Schemas make a machine, or one of them is the first that lacks a component, and one component the first that it lacks.
 use Rattle.law_answered.proofs.Prelude.{◌∙◌, ◌∷◌, ◌≡◌, ◌⊎◌, [], ap, inl, inr, List, map, None, Option, refl, Some, subst, sym, ℕ, AllByRecursion, Comp, Decided, Environment, same_Some, Schema}
-use Rattle.zf_machines.specs.Firsts.{FirstFails}
-use Rattle.zf_machines.specs.Machines.{AllowsSought, CanBeInitial, CanStep, HasShape, IsMachineOf, LacksBehind, LacksFirst, LacksStepFirst, Named, Schemas, SoughtLacks, state_of, test_of}
+use Rattle.zf_machines.specs.{AllowsSought, CanBeInitial, CanStep, FirstFails, HasShape, IsMachineOf, LacksBehind, LacksFirst, LacksStepFirst, Named, Schemas, SoughtLacks, state_of, test_of}
 use Rattle.zf_steps.specs.declared.form.Form.{Form}
-use Rattle.zf_steps.specs.Shapes.{Allows, AllowsAll, both_states, StateClashes, Has, HasAll, init_in, IsInit, Lacks, LacksInit, LacksStep, operation_in, test_in, with_strokes}
-use Rattle.zf_steps.specs.Systems.{Operation, System}
-use Rattle.zf_term.specs.FirstNamed.{first_named}
+use Rattle.zf_steps.specs.{Allows, AllowsAll, both_states, Has, HasAll, init_in, IsInit, Lacks, LacksInit, LacksStep, Operation, operation_in, StateClashes, System, test_in, with_strokes}
+use Rattle.zf_term.specs.{first_named}
 use Rattle.zf_print.specs.declared.spelling.Spelling.{Spelling}
 use Rattle.law_decided.proofs.Decided.{same_type}
 

@@ -1,9 +1,9 @@
 -- Two answers of one job on one source have one status, and one text but for what is left open.
 use Rattle.law_answered.proofs.Prelude.{if◌then◌else◌, ◌++◌, ◌∙◌, ◌∷◌, ◌≡◌, [], ap, Bool, inl, inr, List, None, Option, Some, subst, sym, ℕ, same_Some, slice_get, Value, Comp, Defined, Schema, Fault, Environment, IsEnvironment, AreComplete, given_sets, Portion, portion, Job, Check, Reach, Show, Why, Status, Answer, AreHeld, check_status, CheckAnswer, Checks, HasSchema, HoldsNoValues, RefusesSource, RequestAnswer, TellsShown, TellsWhy, TextFault, IsNamed, IsNamedRow, JobAnswer, NamesNoRow, Request, size_fault_lines, stated, UnreadAnswer, wants_details, declared_out_line, not_finite_lines, AreAlike, AreMessagesAlike, AreOfSame, Format, format_of, messages_in, OneStatus, OneText, AreLines, numbers_of, AreClear, row_after, spellings}
 use Rattle.std.proofs.lemmas.List.{append-nil}
-use Rattle.zf_checker.specs.Listing.{listing}
+use Rattle.zf_checker.specs.{listing}
 use Rattle.zf_command.specs.declared.job.Exploration.{Exploration}
-use Rattle.zf_engine.specs.Explorations.{ExplorationAnswer}
+use Rattle.zf_engine.specs.{ExplorationAnswer}
 use Rattle.law_answered.proofs.Explorations.{IsOne, one_exploration_answer}
 use Rattle.law_answered.proofs.Explorations as explorations
 use Rattle.law_answered.proofs.OneSource.{none_and_some, one_checked, one_named, one_refused, some_and_none, unread}

@@ -5,10 +5,9 @@ use Rattle.zf_walk.proofs.Lists.{AllPairs-unique}
 use Rattle.law_exists.proofs.Searches.{some_list}
 use Rattle.zf_parts.proofs.Growing.{one_list_of_parts, some_list_of_parts}
 use Rattle.zf_parts.proofs.Telling.{one_text_of_parts, some_text_of_parts}
-use Rattle.zf_parts.specs.Parts.{AreParts, HasParts, Part}
-use Rattle.zf_places.specs.Places.{comps_at}
-use Rattle.zf_parts.specs.Written.{ArePartsWritten, part_wording}
-use Rattle.zf_ranges.specs.Ranges.{AreRanges}
+use Rattle.zf_parts.specs.{AreParts, ArePartsWritten, HasParts, Part, part_wording}
+use Rattle.zf_places.specs.{comps_at}
+use Rattle.zf_ranges.specs.{AreRanges}
 use Rattle.zf_value.proofs.Exact.{exact}
 use Rattle.law_answered.proofs.NamedParts.{one_places}
 use Rattle.law_answered.proofs.OneEnding.{never_both}

@@ -1,7 +1,7 @@
 -- The sizes of an environment are one list, and sizes that don't fit have one first fault.
 use Rattle.law_answered.proofs.Prelude.{◌++◌, ◌<◌, ◌∙◌, ◌∷◌, ◌≡◌, ◌≤◌, ◌⊎◌, [], ap, arith, inl, inr, length, List, refl, subst, sym, ℕ, All-contains, ◌≢◌, Contains, Contains-cases, Contains-head, Contains-nil, Contains-right, SET_MAX, abbreviation, constructor, Defined, Definition, free_type, given_set, schema, Size, SizeFault, Contains-map}
 use Rattle.zf_meaning.specs.declared.sizes.SizeFault.TheVariants.{NoSize, NotGiven, SizeTwice, SizeTooLarge, OutOfMemory}
-use Rattle.zf_meaning.specs.Sizes.{names, IsAccepted, AreAccepted, AreComplete, IsSizeFault, RefusesSize, LacksSize, IsRefusal, IsStated, AddsSize, AreSizes}
+use Rattle.zf_meaning.specs.{AddsSize, AreAccepted, AreComplete, AreSizes, IsAccepted, IsRefusal, IsSizeFault, IsStated, LacksSize, names, RefusesSize}
 
 -- ---- two places of one list
 

@@ -4,8 +4,8 @@ use Rattle.zf_format.specs.declared.format.Format.TheVariants.{Lines}
 use Rattle.zf_value.specs.contracts.plain.ValueOrd.TheImpl.Laws as order_laws
 use Rattle.zf_walk.proofs.Counting.{number-le}
 use Rattle.zf_meaning.proofs.Environments.{one_environment}
-use Rattle.zf_enum.specs.Events.{AreTests}
-use Rattle.zf_print.specs.HeldLaws.{HaveClearNames}
+use Rattle.zf_enum.specs.{AreTests}
+use Rattle.zf_print.specs.{HaveClearNames}
 use Rattle.zf_print.proofs.Chosen.{line_is_held, one_held_line}
 use Rattle.law_names.proofs.Clear.{components_clear, globals_clear}
 use Rattle.law_answered.proofs.OneEnding.{AreOneEnd, one_ending}

@@ -4,7 +4,7 @@ use Rattle.zf_scan.specs.declared.fault.TextFaultKind.{TextFaultKind}
 use Rattle.zf_scan.specs.declared.fault.TextFaultKind.TheVariants as fault
 use Rattle.zf_scan.proofs.Laws.{is_cut_once, is_not_both, faults_once}
 use Rattle.zf_schema.specs.Checking as check
-use Rattle.zf_schema.specs.Checking.{Item, items, ChecksOne, IsChecked}
+use Rattle.zf_schema.specs.{ChecksOne, IsChecked, Item, items}
 use Rattle.zf_checker.proofs.OneCheck.{one_step}
 use Rattle.zf_schema.proofs.OneSchema.{one_base}
 

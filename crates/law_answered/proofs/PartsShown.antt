@@ -5,14 +5,13 @@ use Rattle.zf_value.specs.contracts.plain.ValueOrd.TheImpl.Laws as order_laws
 use Rattle.zf_value.proofs.Exact.{exact}
 use Rattle.zf_walk.proofs.Lists.{AllPairs-back}
 use Rattle.zf_parts.proofs.Growing.{has_each_part}
-use Rattle.zf_parts.specs.Parts.{AreParts, IsFirstWith, Part}
-use Rattle.zf_places.specs.Places.{comps_at, values_at}
-use Rattle.zf_parts.specs.Written.{AllHold, ArePartsWritten, part_lines, part_wording}
+use Rattle.zf_parts.specs.{AllHold, AreParts, ArePartsWritten, IsFirstWith, Part, part_lines, part_wording}
+use Rattle.zf_places.specs.{comps_at, values_at}
 use Rattle.law_answered.proofs.OneEnding.{never_both, never_itself}
 use Rattle.law_answered.proofs.Rows.{AllPairs-front}
 use Rattle.law_answered.proofs.Shown.{binding_event, doubt_event}
 use Rattle.law_answered.proofs.WrittenRows.{with_truth}
-use Rattle.law_answered.specs.Parts.{EndsParts, IsFirstInDoubt, IsPartOfBinding, ShowsEachPart}
+use Rattle.law_answered.specs.{EndsParts, IsFirstInDoubt, IsPartOfBinding, ShowsEachPart}
 
 both_ways : (a b : List Value) → ComesAfter value_order a b → ComesAfter value_order b a → ⊥
 both_ways a b = never_both value_order order_laws.total-law exact a b

@@ -6,20 +6,18 @@ use Rattle.zf_graph.proofs.Fronts.{parts_are_fronts}
 use Rattle.zf_graph.proofs.Meeting.{has_each_step, meets_once, meets_reachable, meets_shortly}
 use Rattle.zf_graph.specs.Texts as graph
 use Rattle.zf_machines.proofs.Sole.{one_machine}
-use Rattle.zf_machines.specs.Machines.{all_of, Named, Schemas}
+use Rattle.zf_machines.specs.{all_of, Named, Schemas}
 use Rattle.zf_steps.proofs.Sure.{is_of, is_sure}
-use Rattle.zf_steps.specs.Explored.{explored_in}
-use Rattle.zf_steps.specs.Systems.{System}
-use Rattle.zf_steps.specs.Words.{words}
-use Rattle.zf_engine.specs.Explorations.{TellsMachine, ExplorationBegins, form_of, IsOfSchema, IsSearchable, names_of, states_limit}
-use Rattle.zf_engine.specs.Settings.{TellsInfinite, TellsNoSchema, TellsOut}
+use Rattle.zf_steps.specs.{explored_in, System, words}
+use Rattle.zf_engine.specs.{ExplorationBegins, form_of, IsSearchable, names_of, states_limit, TellsInfinite, TellsMachine, TellsNoSchema, TellsOut}
+use Rattle.zf_engine.specs.Explorations.{IsOfSchema}
 use Rattle.law_answered.proofs.Explorations.{AtFiniteness, AtNumbers, AtSchemas, AtSets, AtShape, AtSizes, AtTypes, infinite_apart, named_all, no_schema_apart, one_schemas, out_apart, staged}
 use Rattle.law_answered.proofs.Machines.{not_all_and_first, not_shape_and_lack}
 use Rattle.law_answered.proofs.OneRefusal.{none_refused}
 use Rattle.law_answered.proofs.OneSearch.{one_environment_at}
 use Rattle.law_answered.proofs.OneSource.{one_checked, some_and_none, unread}
 use Rattle.law_answered.proofs.SmallNumbers.{small_not_too_large}
-use Rattle.law_answered.specs.Reached.{graph_in, ReachableAreMet, WhatIsReachedIsTold}
+use Rattle.law_answered.specs.{graph_in, ReachableAreMet, WhatIsReachedIsTold}
 
 -- ---- the answer
 

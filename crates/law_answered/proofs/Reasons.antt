@@ -2,17 +2,15 @@
 use Rattle.law_answered.proofs.Prelude.{◌++◌, ◌+◌, ◌∙◌, ◌∷◌, ◌≡◌, ◌≤◌, ◌⊎◌, [], All-cons, All-contains, All-nil, ap, arith, Bool, false, inl, inr, length, List, None, Option, refl, Some, subst, sym, ℕ, IsTrue, AllByRecursion, Contains, Contains-head, Contains-nil, Event, IsEvent, Out, True, value_order, Value, Comp, Defined, Schema, sets_of, one_bounds, Environment, Portion, property, spellings, HasEvents, IsWritten, lines, Status, PastBounds, empty_lines, TellsConjuncts, TellsWhy, told_lines, HasSome, Format, no_binding_line, row_wording, satisfied_line, Wording}
 use Rattle.std.proofs.lemmas.List.{length-append}
 use Rattle.zf_lines.specs.declared.fault.Status.TheVariants.{Done}
-use Rattle.zf_cores.specs.Choices.{chosen_of}
+use Rattle.zf_cores.specs.{chosen_of}
 use Rattle.law_exists.proofs.Ranges.{some_ranges}
 use Rattle.law_exists.proofs.Searches.{some_search}
-use Rattle.zf_why.specs.Causes.{EmptiedBy, RefutedBy, RefutedTogetherBy}
-use Rattle.zf_why.specs.Rows.{RuleOut}
-use Rattle.zf_why.specs.Told.{nothing_beside, others_beside}
+use Rattle.zf_why.specs.{EmptiedBy, nothing_beside, others_beside, RefutedBy, RefutedTogetherBy, RuleOut}
 use Rattle.zf_why.proofs.Decided.{event_of}
 use Rattle.law_answered.proofs.OneCause.{no_row_when_empty, not_both, same_alone, same_empty}
 use Rattle.law_answered.proofs.OneSearch.{one_search}
 use Rattle.law_answered.proofs.SomeCause.{some_cause, some_told_lines}
-use Rattle.zf_term.specs.ResolvedTrees.{ResolvedTree}
+use Rattle.zf_term.specs.{ResolvedTree}
 
 -- ---- as `show` would have it, with one binding at most
 

@@ -2,10 +2,10 @@
 use Rattle.law_answered.proofs.Prelude.{◌++◌, ◌↔◌, ◌∙◌, ◌∷◌, ◌≡◌, [], ap, append-nil, Bool, false, inr, length, List, map, None, Option, refl, Some, subst, sym, ℕ, length-map, flat_map-map, flat_map, Contains, Event, True, exact, value_order, Value, Defined, Schema, Environment, binding_text, spellings, one_ranges, behind, Portion, property, AreEventsUpTo, HasEvents, Hold, IsTestsLine, IsWritten, lines, Status, property_told, IsLineOf, IsSearch, Request, RequestAnswer, EndsLines, IsBefore, IsBinding, IsInDoubt, IsNotPast, ShowsBindings, AnswersRequest, IsGranted, ShowsEvents, limited, resumed, RunsMakeOne, together, Comp, Format, row_wording, Wording, wording, AreShown, row_after, TellsShown}
 use Rattle.zf_format.specs.declared.format.Format.TheVariants.{Lines, Objects}
 use Rattle.std.specs.Prelude.{codes}
-use Rattle.zf_print.specs.BindingTexts.{row_text}
+use Rattle.zf_print.specs.{row_text}
 use Rattle.zf_print.specs.declared.spelling.Spelling.{Spelling}
 use Rattle.zf_value.specs.contracts.plain.ValueOrd.TheImpl.Laws as order_laws
-use Rattle.law_resumed.specs.Laws.{LinesAreRows}
+use Rattle.law_resumed.specs.{LinesAreRows}
 use Rattle.law_answered.proofs.Joined.{both_listed, both_written, last_event, last_is_event, rows_are_events, rows_hold}
 use Rattle.law_answered.proofs.Shown.{binding_event, doubt_event, events_are_shown}
 use Rattle.law_answered.proofs.WrittenRows.{with_truth}

@@ -1,11 +1,10 @@
 -- What is answered where nothing stands in the way of a request.
 use Rattle.law_answered.proofs.Prelude.{◌++◌, ◌<◌, ◌↔◌, ◌∙◌, ◌∷◌, ◌≡◌, ◌⊎◌, [], ap, arith, inl, inr, length, List, None, Option, Some, subst, suc, sym, zero, ℕ, All-cons, All-head, All-nil, All-tail, All, Contains, slice_get, Contains-cases, Contains-head, Contains-later, Contains-nil, IsEvent, Out, True, exact, value_order, Value, Defined, Schema, Environment, given_sets, Portion, portion, HasTruth, property, Status, AreHeld, HoldsNoValues, IsNamedRow, NamesNoRow, ReasonIsTold, Request, RequestAnswer, stated, TellsWhy, UnreadAnswer, IsBinding, IsInDoubt, ShowsBindings, EachBindingIsShown, EventsAreShown, IsGranted, IsShownInOneWay, ShowsEvents, numbers_of, IsFinite, AreMessages, wording, AnswersRequest, AreClear, row_after, spellings, TellsShown}
-use Rattle.zf_term.specs.ResolvedTrees.{ResolvedTree}
+use Rattle.zf_term.specs.{ResolvedTree}
 use Rattle.zf_value.specs.declared.value.Truth.{Truth}
 use Rattle.zf_value.specs.declared.value.Truth.TheVariants as truth
 use Rattle.zf_value.specs.contracts.plain.ValueOrd.TheImpl.Laws as order_laws
-use Rattle.zf_meaning.specs.InRow.{in_row}
-use Rattle.zf_meaning.specs.Meaning.{IsTruth}
+use Rattle.zf_meaning.specs.{in_row, IsTruth}
 use Rattle.law_answered.proofs.OneSource.{unread, one_checked, one_named, some_and_none}
 use Rattle.law_answered.proofs.OneSearch.{clear_at, names_at, not_infinite, one_environment_at, one_held, one_named_row, one_shown}
 use Rattle.law_answered.proofs.NamedParts.{none_shown, one_list_shown}

@@ -7,24 +7,20 @@ use Rattle.law_exists.proofs.Ranges.{first_out_or_none}
 use Rattle.law_exists.proofs.Turns.{some_result, some_turns}
 use Rattle.zf_graph.proofs.Existing.{somehow_written}
 use Rattle.zf_machines.proofs.Sole.{of_operations, of_test}
-use Rattle.zf_machines.specs.Machines.{all_of, HasShape, IsMachineOf, Named, Schemas, state_of}
+use Rattle.zf_machines.specs.{all_of, HasShape, IsMachineOf, Named, Schemas, state_of}
 use Rattle.zf_steps.specs.declared.form.Form.{Form}
-use Rattle.zf_steps.specs.Explored.{explored_in}
-use Rattle.zf_steps.specs.StepGraphs.{CanExplore}
-use Rattle.zf_steps.specs.Shapes.{IsInit, operation_in}
-use Rattle.zf_steps.specs.Systems.{Operation, System}
-use Rattle.zf_steps.specs.Words.{words}
+use Rattle.zf_steps.specs.{CanExplore, explored_in, IsInit, Operation, operation_in, System, words}
 use Rattle.zf_print.specs.declared.spelling.Spelling.{Spelling}
 use Rattle.law_total.proofs.Environments.{some_environment}
 use Rattle.law_total.proofs.StatedSizes.{complete_or_refused}
-use Rattle.zf_engine.specs.Explorations.{TellsMachine, AreSchemasOf, ending_status, ExplorationAnswer, ExploresMachine, form_of, HasSchemas, IsBounded, IsOfSchema, IsSchemaOf, IsSearchable, IsSettled, names_of, RefusesExploration, result_status, Seeks, states_limit}
-use Rattle.zf_engine.specs.Settings.{TellsInfinite, TellsNoSchema, TellsOut}
-use Rattle.zf_messages.specs.Texts.{no_component_line}
+use Rattle.zf_engine.specs.{AreSchemasOf, ending_status, ExplorationAnswer, ExploresMachine, form_of, HasSchemas, IsBounded, IsSchemaOf, IsSearchable, IsSettled, names_of, RefusesExploration, result_status, Seeks, states_limit, TellsInfinite, TellsMachine, TellsNoSchema, TellsOut}
+use Rattle.zf_engine.specs.Explorations.{IsOfSchema}
+use Rattle.zf_messages.specs.{no_component_line}
 use Rattle.law_answered.proofs.EveryName.{named_or_none, none_beside}
 use Rattle.law_answered.proofs.FaultLines.{some_lines}
 use Rattle.law_answered.proofs.Machines.{all_or_first, shape_or_lack, some_machine}
 use Rattle.law_answered.proofs.SmallNumbers.{small_or_too_large}
-use Rattle.zf_term.specs.Faults.{Fault}
+use Rattle.zf_term.specs.{Fault}
 
 -- ---- the machine
 

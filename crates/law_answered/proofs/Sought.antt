@@ -5,28 +5,19 @@ use Rattle.std.specs.Prelude.{◌++◌, ◌∷◌, option_to_list, unwrap_or}
 use Rattle.zf_command.specs.declared.job.Exploration.{Exploration}
 use Rattle.law_exists.proofs.Turns.{other_has_none}
 use Rattle.zf_graph.proofs.Meeting.{finds_shortest, meets_reachable}
-use Rattle.zf_graph.specs.Explorations.{arrive_all, IsMet, Met, nodes_of}
-use Rattle.zf_graph.specs.Graphs.{IsReachable}
+use Rattle.zf_graph.specs.{AreOthers, arrive_all, found, inner_edges, IsMet, IsReachable, IsSearched, Met, missing, nodes_of, open_ended, Result, untold, with_edge}
 use Rattle.zf_graph.specs.Seeking as seeking
-use Rattle.zf_graph.specs.Seeking.{AreOthers, found, IsSearched, missing, open_ended, Result, untold}
-use Rattle.zf_graph.specs.Texts.{inner_edges, with_edge}
-use Rattle.zf_machines.specs.Machines.{IsMachineOf, Named, Schemas, state_of}
+use Rattle.zf_machines.specs.{IsMachineOf, Named, Schemas, state_of}
 use Rattle.zf_steps.proofs.Satisfying as steps
 use Rattle.zf_steps.proofs.Sure.{is_of}
 use Rattle.zf_steps.specs.declared.node.Label.{Label}
 use Rattle.zf_steps.specs.declared.node.Node.{Node}
 use Rattle.zf_steps.specs.declared.node.Node.TheVariants.{Root, State}
-use Rattle.zf_steps.specs.Explored.{explored_in, IsOther, IsSought, sought_in}
-use Rattle.zf_steps.specs.StepGraphs.{CanExplore}
-use Rattle.zf_steps.specs.Satisfying.{Satisfies}
-use Rattle.zf_steps.specs.Shapes.{test_in}
-use Rattle.zf_steps.specs.Systems.{System}
-use Rattle.zf_steps.specs.Words.{verdict, words}
-use Rattle.zf_engine.specs.Explorations.{TellsMachine, form_of, IsSchemaOf, Seeks, states_limit}
+use Rattle.zf_steps.specs.{CanExplore, explored_in, IsOther, IsSought, Satisfies, sought_in, System, test_in, verdict, words}
+use Rattle.zf_engine.specs.{form_of, IsSchemaOf, Seeks, states_limit, TellsMachine}
 use Rattle.law_answered.proofs.Reached.{what_is_reached_is_told}
 use Rattle.law_answered.proofs.SomeExploration.{can_be_explored}
-use Rattle.law_answered.specs.Reached.{graph_in}
-use Rattle.law_answered.specs.Sought.{SatisfiesAt, Says, ShowsWay, WhatIsSoughtIsTold}
+use Rattle.law_answered.specs.{graph_in, SatisfiesAt, Says, ShowsWay, WhatIsSoughtIsTold}
 
 -- ---- the machine that tests states by a schema
 

@@ -2,22 +2,19 @@
 use Rattle.std.specs.Prelude.{◌≡◌, ◌↔◌, ◌⊎◌, ℕ, List, [], ◌∷◌, ◌++◌, length, Option, Some, None, Contains, All, AllPairs}
 use Rattle.std.specs.List.{flat_map}
 use Rattle.std.specs.declared.cmp.Ordering.{Ordering}
-use Rattle.zf_term.specs.Definitions.{Defined, Schema}
-use Rattle.zf_term.specs.ResolvedTrees.{ResolvedTree}
+use Rattle.zf_term.specs.{Defined, ResolvedTree, Schema}
 use Rattle.zf_value.specs.declared.plain.Value.{Value}
 use Rattle.zf_value.specs.declared.value.Truth.TheVariants.{True, Out}
-use Rattle.zf_value.specs.Sets.{value_order}
-use Rattle.zf_walk.specs.Rows.{ComesAfter, IsLater, IsRowOf}
-use Rattle.zf_meaning.specs.Environments.{Environment}
-use Rattle.zf_meaning.specs.InRow.{in_row}
-use Rattle.zf_meaning.specs.Meaning.{IsTruth}
-use Rattle.zf_enum.specs.Portions.{Portion}
-use Rattle.zf_ranges.specs.Ranges.{AreRanges}
+use Rattle.zf_value.specs.{value_order}
+use Rattle.zf_walk.specs.{ComesAfter, IsLater, IsRowOf}
+use Rattle.zf_meaning.specs.{Environment, in_row, IsTruth}
+use Rattle.zf_enum.specs.{Portion}
+use Rattle.zf_ranges.specs.{AreRanges}
 use Rattle.zf_lines.specs.declared.fault.Status.{Status}
 use Rattle.zf_lines.specs.declared.fault.Status.TheVariants.{Done, PastBounds}
-use Rattle.zf_lines.specs.Searches.{IsBelow, IsTestsLine, Wording}
+use Rattle.zf_lines.specs.{IsBelow, IsTestsLine, Wording}
 use Rattle.zf_command.specs.declared.job.Request.{Request}
-use Rattle.zf_engine.specs.Answers.{wording}
+use Rattle.zf_engine.specs.{wording}
 
 -- ---- rows
 

@@ -4,36 +4,27 @@ use Rattle.std.specs.List.{flat_map}
 use Rattle.zf_command.specs.declared.job.Job.{Job}
 use Rattle.zf_command.specs.declared.job.Job.TheVariants.{Show, Why}
 use Rattle.zf_format.specs.declared.format.Format.{Format}
-use Rattle.zf_format.specs.Messages.{messages_in}
+use Rattle.zf_format.specs.{messages_in}
 use Rattle.zf_finite.specs.declared.not_finite.NotFinite.{NotFinite}
-use Rattle.zf_finite.specs.Finite.{IsFinite}
+use Rattle.zf_finite.specs.{IsFinite}
 use Rattle.zf_scan.specs.declared.fault.TextFault.{TextFault}
 use Rattle.zf_scan.specs.declared.token.Token.{Token}
-use Rattle.zf_scan.specs.Cuts.{IsCutInto}
-use Rattle.zf_parse.specs.Parsing.{IsGrammarFault, ReadsSource, RefusesTokens, RefusesSource}
-use Rattle.zf_tree.specs.Trees.{BoxTree}
-use Rattle.zf_term.specs.Definitions.{Comp, Defined, Schema}
-use Rattle.zf_term.specs.Faults.{Fault}
-use Rattle.zf_schema.specs.Checking.{Item, OffendsItem}
+use Rattle.zf_scan.specs.{IsCutInto}
+use Rattle.zf_parse.specs.{IsGrammarFault, ReadsSource, RefusesSource, RefusesTokens}
+use Rattle.zf_tree.specs.{BoxTree}
+use Rattle.zf_term.specs.{Comp, Defined, Fault, Schema}
+use Rattle.zf_schema.specs.{Item, OffendsItem}
 use Rattle.zf_value.specs.declared.plain.Value.{Value}
-use Rattle.zf_meaning.specs.Environments.{Environment}
-use Rattle.zf_meaning.specs.GlobalOutcomes.{IsEnvironment}
+use Rattle.zf_meaning.specs.{AreComplete, Environment, given_sets, IsEnvironment}
 use Rattle.zf_meaning.specs.declared.sizes.Size.{Size}
-use Rattle.zf_meaning.specs.Sizes.{given_sets, AreComplete}
-use Rattle.zf_why.specs.Causes.{RefutedBy, RefutedTogetherBy}
-use Rattle.zf_why.specs.Told.{nothing_beside, others_beside}
-use Rattle.zf_enum.specs.Portions.{Portion}
-use Rattle.zf_ranges.specs.Ranges.{IsNoneOut}
-use Rattle.zf_lines.specs.Searches.{HasLimit}
+use Rattle.zf_why.specs.{nothing_beside, others_beside, RefutedBy, RefutedTogetherBy}
+use Rattle.zf_enum.specs.{Portion}
+use Rattle.zf_ranges.specs.{IsNoneOut}
+use Rattle.zf_lines.specs.{HasLimit}
 use Rattle.zf_lines.specs.declared.fault.Status.{Status}
 use Rattle.zf_command.specs.declared.job.Request.{Request}
-use Rattle.zf_engine.specs.Answers.{Answer, AreHeld, format_of, HoldsNoValues, IsLimited, IsNamedRow, NamesNoRow, row_after, ShowsEvents, wants_details}
-use Rattle.zf_engine.specs.Settings.{Checks, HasSchema, stated, numbers_of}
-use Rattle.zf_messages.specs.Details.{Cited, text_fault_lines, not_finite_lines, AreLines}
-use Rattle.zf_engine.specs.Numbers.{AreSmall}
-use Rattle.zf_engine.specs.Reasons.{TellsConjuncts, TellsWhy}
-use Rattle.zf_messages.specs.Texts.{not_a_binding_line, not_components_line, not_held_line, type_fault_line}
-use Rattle.zf_engine.specs.Only.{AreShown}
+use Rattle.zf_engine.specs.{Answer, AreHeld, AreShown, AreSmall, Checks, format_of, HasSchema, HoldsNoValues, IsLimited, IsNamedRow, NamesNoRow, numbers_of, row_after, ShowsEvents, stated, TellsConjuncts, TellsWhy, wants_details}
+use Rattle.zf_messages.specs.{AreLines, Cited, not_a_binding_line, not_components_line, not_finite_lines, not_held_line, text_fault_lines, type_fault_line}
 use Rattle.law_answered.specs.Bindings.{ShowsBindings}
 use Rattle.law_answered.specs.Parts.{ShowsEachPart}
 

@@ -6,3 +6,12 @@ pub mod Sought
 pub mod Runs
 pub mod NamedLines
 pub mod Limits
+
+pub use Rattle.law_answered.specs.Bindings.{EndsLines, IsBefore, IsBinding, IsInDoubt, IsNotPast, ShowsBindings}
+pub use Rattle.law_answered.specs.Parts.{EndsParts, IsFirstInDoubt, IsPartOfBinding, ShowsEachPart}
+pub use Rattle.law_answered.specs.Laws.{AnswersRequest, AreAlike, AreMessagesAlike, AreOfSame, EachBindingIsShown, EachPartIsShown, EventsAreShown, EveryHeldLineIsJudged, EveryLineIsJudged, EveryRequestIsAnswered, EverySourceIsRead, IsGranted, IsShownInOneWay, OneStatus, OneText, PlainLines, ReasonIsTold}
+pub use Rattle.law_answered.specs.Reached.{graph_in, ReachableAreMet, SchemasMakeOneMachine, WhatIsReachedIsTold}
+pub use Rattle.law_answered.specs.Sought.{SatisfiesAt, Says, ShowsWay, WhatIsSoughtIsTold}
+pub use Rattle.law_answered.specs.Runs.{FirstLinesAreAFront, limited, PartsAreFronts, resumed, RunsMakeOne, together}
+pub use Rattle.law_answered.specs.NamedLines.{IsSchemaAt, OneRowOfALine, OneRowOfAnObject, RefusedLinesAreOfNoRow}
+pub use Rattle.law_answered.specs.Limits.{LimitsAre}

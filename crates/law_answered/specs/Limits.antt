@@ -2,16 +2,15 @@
 use Rattle.std.specs.Prelude.{◌≡◌, ◌↔◌, ℕ, Some}
 use Rattle.zf_command.specs.declared.limit.TheConstants.{LIMIT_MAX, STATES_MAX}
 use Rattle.zf_scan.specs.declared.scan.TheConstants.{SOURCE_MAX}
-use Rattle.zf_scan.specs.Pieces.{number_max}
-use Rattle.zf_term.specs.Limits.{components_max, conjuncts_max, height_max, nodes_max, sets_max}
-use Rattle.zf_term.specs.Types.{type_nodes_max}
-use Rattle.zf_parse.specs.Height.{height_limit}
+use Rattle.zf_scan.specs.{number_max}
+use Rattle.zf_term.specs.{components_max, conjuncts_max, height_max, nodes_max, sets_max, type_nodes_max}
+use Rattle.zf_parse.specs.{height_limit}
 use Rattle.zf_value.specs.declared.TheConstants.{SET_MAX}
 use Rattle.zf_value.specs.declared.value.Outcome.TheVariants.{Out}
 use Rattle.zf_term.specs.declared.extent.Infinite.TheVariants.{Num}
-use Rattle.zf_meaning.specs.NumberSets.{IsNumberSet}
+use Rattle.zf_meaning.specs.{IsNumberSet}
 use Rattle.zf_engine.specs.declared.numbers.TheConstants.{NUMBERS_MAX}
-use Rattle.zf_engine.specs.Numbers.{AreTooLarge}
+use Rattle.zf_engine.specs.{AreTooLarge}
 
 -- a set has at most so many members, a source so many bytes, and a limit is at most so many bindings or states
 abbrev pub LimitsOfRuns : Type 0

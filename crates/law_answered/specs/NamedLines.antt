@@ -1,17 +1,11 @@
 -- Lines that name a row, in a source that is read and well typed, at sizes of all its given sets.
 use Rattle.std.specs.Prelude.{◌≡◌, ◌↔◌, ℕ, List, Some}
-use Rattle.zf_term.specs.Definitions.{Defined, Schema}
+use Rattle.zf_term.specs.{Defined, Schema}
 use Rattle.zf_value.specs.declared.plain.Value.{Value}
 use Rattle.zf_meaning.specs.declared.sizes.Size.{Size}
-use Rattle.zf_meaning.specs.Environments.{Environment}
-use Rattle.zf_meaning.specs.GlobalOutcomes.{IsEnvironment}
-use Rattle.zf_meaning.specs.Rows.{IsRow}
-use Rattle.zf_meaning.specs.Sizes.{given_sets, AreComplete}
-use Rattle.zf_print.specs.BindingTexts.{binding_object}
-use Rattle.zf_print.specs.Readings.{IsNoLine}
-use Rattle.zf_print.specs.Spellings.{spellings}
-use Rattle.zf_engine.specs.Answers.{IsLineOf, NamesNoRow}
-use Rattle.zf_engine.specs.Settings.{HasSchema}
+use Rattle.zf_meaning.specs.{AreComplete, Environment, given_sets, IsEnvironment, IsRow}
+use Rattle.zf_print.specs.{binding_object, IsNoLine, spellings}
+use Rattle.zf_engine.specs.{HasSchema, IsLineOf, NamesNoRow}
 
 -- a schema of the source, and the environment at the sizes
 pub record IsSchemaAt (source name : List ℕ) (sizes : List Size) (globals : List Defined) (a : Schema) (e : Environment) : Type 0 where

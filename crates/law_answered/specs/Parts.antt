@@ -1,22 +1,21 @@
 -- What `show --only` writes of a schema, in the words of its bindings: which values of some components have a line, in which order, and what ends the lines.
 use Rattle.std.specs.Prelude.{◌≡◌, ◌↔◌, ◌⊎◌, ℕ, List, [], ◌∷◌, ◌++◌, length, Option, Some, None, Contains, AllPairs}
 use Rattle.std.specs.List.{flat_map}
-use Rattle.zf_term.specs.Definitions.{Defined, Schema}
+use Rattle.zf_term.specs.{Defined, Schema}
 use Rattle.zf_value.specs.declared.plain.Value.{Value}
-use Rattle.zf_value.specs.Sets.{value_order}
-use Rattle.zf_walk.specs.Rows.{ComesAfter, IsLater}
-use Rattle.zf_meaning.specs.Environments.{Environment}
-use Rattle.zf_enum.specs.Portions.{Portion}
-use Rattle.zf_ranges.specs.Ranges.{AreRanges}
-use Rattle.zf_print.specs.Spellings.{spellings}
+use Rattle.zf_value.specs.{value_order}
+use Rattle.zf_walk.specs.{ComesAfter, IsLater}
+use Rattle.zf_meaning.specs.{Environment}
+use Rattle.zf_enum.specs.{Portion}
+use Rattle.zf_ranges.specs.{AreRanges}
+use Rattle.zf_print.specs.{spellings}
 use Rattle.zf_lines.specs.declared.fault.Status.{Status}
 use Rattle.zf_lines.specs.declared.fault.Status.TheVariants.{Done, PastBounds}
-use Rattle.zf_lines.specs.Searches.{IsBelow, Wording}
-use Rattle.zf_places.specs.Places.{comps_at, values_at}
-use Rattle.zf_parts.specs.Written.{part_wording}
+use Rattle.zf_lines.specs.{IsBelow, Wording}
+use Rattle.zf_places.specs.{comps_at, values_at}
+use Rattle.zf_parts.specs.{part_wording}
 use Rattle.zf_command.specs.declared.job.Request.{Request}
-use Rattle.zf_engine.specs.Answers.{IsNamedRow}
-use Rattle.zf_engine.specs.Only.{NamesParts}
+use Rattle.zf_engine.specs.{IsNamedRow, NamesParts}
 use Rattle.law_answered.specs.Bindings.{IsBefore, IsBinding, IsInDoubt, IsNotPast}
 
 -- Some binding has these values at the places, and no row with them of which it is not known comes before it; and they come after the named ones, if some are named.

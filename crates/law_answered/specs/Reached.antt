@@ -2,25 +2,18 @@
 use Rattle.std.specs.Prelude.{◌≡◌, ◌↔◌, ◌-◌, ℕ, List, ◌++◌, Contains, length, Some, slice_get}
 use Rattle.zf_command.specs.declared.job.Exploration.{Exploration}
 use Rattle.zf_command.specs.declared.job.Job.TheVariants.{Reach}
-use Rattle.zf_graph.specs.Explorations.{ExploresAll, IsMet, Met, Turn}
-use Rattle.zf_graph.specs.Graphs.{Graph, IsReachable, IsShortest}
-use Rattle.zf_graph.specs.Edges.{Edge}
-use Rattle.zf_graph.specs.Texts.{ended, inner_edges, IsExplored, no_turn, text_up_to}
+use Rattle.zf_graph.specs.{Edge, ended, ExploresAll, Graph, inner_edges, IsExplored, IsMet, IsReachable, IsShortest, Met, no_turn, text_up_to, Turn}
 use Rattle.zf_lines.specs.declared.fault.Status.{Status}
-use Rattle.zf_machines.specs.Machines.{IsMachineOf, Schemas}
-use Rattle.zf_meaning.specs.Environments.{Environment}
+use Rattle.zf_machines.specs.{IsMachineOf, Schemas}
+use Rattle.zf_meaning.specs.{Environment}
 use Rattle.zf_steps.specs.contracts.node.NodePartialEq.TheImpl as nodes
 use Rattle.zf_steps.specs.declared.node.Label.{Label}
 use Rattle.zf_steps.specs.declared.node.Node.{Node}
 use Rattle.zf_steps.specs.declared.form.Form.{Form}
-use Rattle.zf_steps.specs.Explored.{explored_in}
-use Rattle.zf_steps.specs.StepGraphs.{steps}
-use Rattle.zf_steps.specs.Systems.{System}
-use Rattle.zf_steps.specs.Words.{words}
-use Rattle.zf_term.specs.Definitions.{Defined}
+use Rattle.zf_steps.specs.{explored_in, steps, System, words}
+use Rattle.zf_term.specs.{Defined}
 use Rattle.zf_print.specs.declared.spelling.Spelling.{Spelling}
-use Rattle.zf_engine.specs.Answers.{Answer}
-use Rattle.zf_engine.specs.Explorations.{TellsMachine, IsSearchable}
+use Rattle.zf_engine.specs.{Answer, IsSearchable, TellsMachine}
 
 -- Where nothing stands in the way of an exploration, every answer is the text of what the machine of its schemas can reach, or, where a state is sought, that of the search.
 abbrev pub WhatIsReachedIsTold : Type 0

@@ -2,22 +2,16 @@
 use Rattle.std.specs.Prelude.{◌≡◌, ℕ, List, ◌++◌, Some}
 use Rattle.zf_command.specs.declared.job.Exploration.{Exploration}
 use Rattle.zf_command.specs.declared.job.Job.TheVariants.{Reach}
-use Rattle.zf_graph.specs.Graphs.{IsReachable, IsShortest}
-use Rattle.zf_graph.specs.Edges.{Edge}
-use Rattle.zf_graph.specs.Seeking.{found, missing, open_ended, Result, untold, way_text}
+use Rattle.zf_graph.specs.{Edge, found, IsReachable, IsShortest, missing, open_ended, Result, untold, way_text}
 use Rattle.zf_lines.specs.declared.fault.Status.{Status}
-use Rattle.zf_machines.specs.Machines.{Named, Schemas, state_of}
-use Rattle.zf_meaning.specs.Environments.{Environment}
+use Rattle.zf_machines.specs.{Named, Schemas, state_of}
+use Rattle.zf_meaning.specs.{Environment}
 use Rattle.zf_steps.specs.declared.node.Label.{Label}
 use Rattle.zf_steps.specs.declared.node.Node.{Node}
 use Rattle.zf_steps.specs.declared.node.Node.TheVariants.{Root, State}
-use Rattle.zf_steps.specs.Explored.{explored_in}
-use Rattle.zf_steps.specs.Satisfying.{Satisfies}
-use Rattle.zf_steps.specs.Systems.{System}
-use Rattle.zf_steps.specs.Words.{verdict, words}
-use Rattle.zf_term.specs.Definitions.{Comp, Defined, Schema}
-use Rattle.zf_engine.specs.Answers.{Answer}
-use Rattle.zf_engine.specs.Explorations.{IsSearchable, Seeks}
+use Rattle.zf_steps.specs.{explored_in, Satisfies, System, verdict, words}
+use Rattle.zf_term.specs.{Comp, Defined, Schema}
+use Rattle.zf_engine.specs.{Answer, IsSearchable, Seeks}
 use Rattle.law_answered.specs.Reached.{graph_in}
 
 -- ---- states that satisfy a schema

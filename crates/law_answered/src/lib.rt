@@ -1,12 +1,7 @@
 //! Laws over what is answered, above the answers of the engine: each source has one answer, that of `show` has each binding once, that of `why` the first one, or why there is none, and that of `reach` what can be reached, or a shortest way to a state that is sought.
 #![tactic(auto)]
 
-ghost use Rattle.law_answered.specs.Laws.{EachBindingIsShown, EachPartIsShown, EventsAreShown, EveryHeldLineIsJudged, EveryLineIsJudged, EveryRequestIsAnswered, EverySourceIsRead, IsShownInOneWay, OneStatus, OneText, PlainLines, ReasonIsTold};
-ghost use Rattle.law_answered.specs.Limits.{LimitsAre};
-ghost use Rattle.law_answered.specs.NamedLines.{OneRowOfALine, OneRowOfAnObject, RefusedLinesAreOfNoRow};
-ghost use Rattle.law_answered.specs.Reached.{ReachableAreMet, SchemasMakeOneMachine, WhatIsReachedIsTold};
-ghost use Rattle.law_answered.specs.Runs.{FirstLinesAreAFront, PartsAreFronts, RunsMakeOne};
-ghost use Rattle.law_answered.specs.Sought.{WhatIsSoughtIsTold};
+ghost use Rattle.law_answered.specs.{EachBindingIsShown, EachPartIsShown, EventsAreShown, EveryHeldLineIsJudged, EveryLineIsJudged, EveryRequestIsAnswered, EverySourceIsRead, FirstLinesAreAFront, IsShownInOneWay, LimitsAre, OneRowOfALine, OneRowOfAnObject, OneStatus, OneText, PartsAreFronts, PlainLines, ReachableAreMet, ReasonIsTold, RefusedLinesAreOfNoRow, RunsMakeOne, SchemasMakeOneMachine, WhatIsReachedIsTold, WhatIsSoughtIsTold};
 
 /// What `show` answers, where nothing stands in its way: the line of each binding, once, in ascending order.
 pub fn each_binding_is_shown()

@@ -4,7 +4,7 @@ use Rattle.std.specs.List.{AllByRecursion}
 use Rattle.zf_tree.specs.declared.tree.RefMark.{RefMark}
 use Rattle.zf_tree.specs.declared.tree.RefMark.TheVariants.{Plain, Delta, Xi}
 use Rattle.zf_term.specs.declared.fault.Limit.TheVariants as limit
-use Rattle.zf_term.specs.Shapes.{height}
+use Rattle.zf_term.specs.{height}
 use Rattle.law_decided.proofs.Decided.{Decided, decided_all, at_most, same_type}
 
 -- it holds, or it is told why not

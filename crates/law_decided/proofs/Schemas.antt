@@ -2,9 +2,8 @@
 use Rattle.law_decided.proofs.Prelude.{◌++◌, ◌∷◌, ◌≡◌, ◌⊎◌, [], inl, inr, List, None, Option, refl, Some, subst, ℕ, spelling, both, DeclTree, either, include, schema_reference, schema_bracket, schema_text, SchemaTree, Tree, vars, Name, abbreviation, constructor, DeclaredSet, Defined, Definition, free_type, given_set, plain, Schema, schema, first_named, Ty, not_a_schema, not_declared, Offence, Offends, resolved, predicate, set_sort, IsOf, Agree, Agrees, comp, conjoined, decorated, disjoined, MarkAgrees, marked, empty_schema, schema_with, with_comp, IsTooLarge, IsWithin, Adds, Clashes, Includes, IsNext, MarkClashes, OneClashes, Stops, AnyByRecursion, IsNoSchema, name_line, OffendsAfter, OffendsAlone, OffendsConjuncts, OffendsDecls, OffendsNames, OffendsPredicates, OffendsRef, OffendsSchema, OffendsText, SomeOffence}
 use Rattle.zf_tree.specs.declared.tree.SchemaRef.{SchemaRef}
 use Rattle.zf_tree.specs.declared.operator.Need.TheVariants as need
-use Rattle.zf_term.specs.ResolvedTrees.{ResolvedTree}
-use Rattle.zf_term.specs.Shapes.{term_line, conjuncts}
-use Rattle.zf_schema.specs.Expressions.{outside, inside, Refers, AddsAll, DeclaresOne, Declares, TakesAll, ConstrainsOne, Constrains, IsText, IsSchema}
+use Rattle.zf_term.specs.{conjuncts, ResolvedTree, term_line}
+use Rattle.zf_schema.specs.{AddsAll, Constrains, ConstrainsOne, Declares, DeclaresOne, inside, IsSchema, IsText, outside, Refers, TakesAll}
 use Rattle.zf_schema.proofs.Once.{taken_comps}
 use Rattle.law_decided.proofs.Limits.{OrTold, is_within, agrees, agree, mark_agrees, next_or_stopped, next_at}
 use Rattle.law_decided.proofs.Terms.{IsJudged, judged}

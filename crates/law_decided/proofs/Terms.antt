@@ -8,7 +8,7 @@ use Rattle.zf_tree.specs.declared.operator.Operator.{Operator}
 use Rattle.zf_reference.specs.declared.reference.Reference.{Reference}
 use Rattle.zf_term.specs.Faults as fault
 use Rattle.zf_term.specs.Types as t
-use Rattle.zf_typing.specs.Scopes.{Scope, Var, with_variables, meaning}
+use Rattle.zf_typing.specs.{meaning, Scope, Var, with_variables}
 use Rattle.law_decided.proofs.Combined.{AreCombined, combined, disagreement, made, relates}
 use Rattle.law_decided.proofs.Decided.{Decided, same_type, is_small, is_small_sort, meets, are_apart}
 

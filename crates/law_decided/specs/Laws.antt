@@ -1,16 +1,11 @@
 -- What is not well typed has an offence: of the two, one always holds.
 use Rattle.std.specs.Prelude.{◌⊎◌, ℕ, List}
-use Rattle.zf_tree.specs.Trees.{Tree, DeclTree, SchemaTree, BoxTree}
+use Rattle.zf_tree.specs.{BoxTree, DeclTree, SchemaTree, Tree}
 use Rattle.zf_tree.specs.declared.operator.Need.{Need}
-use Rattle.zf_term.specs.Definitions.{Schema, Defined}
-use Rattle.zf_term.specs.Faults.{Offence, Fault}
-use Rattle.zf_typing.specs.Offences.{Offends}
-use Rattle.zf_sorts.specs.Rules.{Sort, Meets}
-use Rattle.zf_typing.specs.Scopes.{Scope}
-use Rattle.zf_typing.specs.Typing.{IsOf}
-use Rattle.zf_schema.specs.Expressions.{IsText, IsSchema}
-use Rattle.zf_schema.specs.SchemaOffences.{OffendsText, OffendsSchema}
-use Rattle.zf_schema.specs.Checking.{Item, Defines, OffendsItem, IsChecked}
+use Rattle.zf_term.specs.{Defined, Fault, Offence, Schema}
+use Rattle.zf_typing.specs.{IsOf, Offends, Scope}
+use Rattle.zf_sorts.specs.{Meets, Sort}
+use Rattle.zf_schema.specs.{Defines, IsChecked, IsSchema, IsText, Item, OffendsItem, OffendsSchema, OffendsText}
 
 -- there is an offence, at some line
 abbrev pub SomeOffence : (Offence → ℕ → Type 0) → Type 0

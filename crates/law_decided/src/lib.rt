@@ -1,7 +1,7 @@
 //! Laws over the definitions of typing: what is not well typed has an offence, so every text that is read has a verdict.
 #![tactic(auto)]
 
-ghost use Rattle.law_decided.specs.Laws.{EveryItemIsJudged, EverySchemaIsJudged, EverySchemaTextIsJudged, EveryTermIsJudged, EveryTextHasAVerdict};
+ghost use Rattle.law_decided.specs.{EveryItemIsJudged, EverySchemaIsJudged, EverySchemaTextIsJudged, EveryTermIsJudged, EveryTextHasAVerdict};
 
 /// A term is what its place needs, or it has an offence there.
 pub fn every_term_is_judged()

@@ -3,13 +3,12 @@ use Rattle.law_exists.proofs.Prelude.{◌≡◌, Bool, false, inl, inr, None, Op
 use Rattle.zf_term.specs.declared.extent.Infinite.{Infinite}
 use Rattle.zf_value.specs.declared.value.Outcome.{Outcome}
 use Rattle.zf_value.specs.declared.value.Outcome.TheVariants.{Is, Undefined, Out}
-use Rattle.zf_meaning.specs.Carriers.{IsCarrier}
-use Rattle.zf_meaning.specs.NumberSets.{infinite_in}
+use Rattle.zf_meaning.specs.{infinite_in, IsCarrier}
 use Rattle.zf_meaning.proofs.Environments.{one_carrier}
 use Rattle.zf_meaning.proofs.Unique.{one_outcome}
 use Rattle.law_total.proofs.Carriers.{some_carrier}
 use Rattle.law_total.proofs.Truths.{decided_is_in}
-use Rattle.zf_ranges.specs.DeclaredSets.{has_endless}
+use Rattle.zf_ranges.specs.{has_endless}
 use Rattle.zf_ranges.proofs.Single.{bounding, endless}
 use Rattle.law_exists.proofs.Typed.{decided_of_type}
 

@@ -6,32 +6,22 @@ pub use Rattle.std.specs.Cmp.Lexicographic.{lists_total, slice_cmp}
 pub use Rattle.std.specs.Prelude.{◌≢◌, AllPairs, codes, Contains, FitsSigned, IsTrue, slice_get}
 pub use Rattle.std.specs.declared.cmp.Ordering.{Ordering}
 pub use Rattle.std.specs.declared.cmp.Ordering.TheVariants.{Equal, Greater, Less}
-pub use Rattle.zf_walk.specs.Conjuncts.{Conjuncts, IsTruthOf}
-pub use Rattle.zf_walk.specs.Events.{Event, IsEvent}
-pub use Rattle.zf_walk.specs.EventLists.{IsEvents}
-pub use Rattle.zf_walk.specs.Rows.{ComesAfter, IsFrontOf, IsLater, IsRowOf}
-pub use Rattle.zf_walk.specs.RowLaws.{TiesAreEqual}
-pub use Rattle.zf_walk.specs.Tests.{cut, IsCount, IsNumberOfTests, IsDueTest, IsReached, IsUpTo, IsWalked}
-pub use Rattle.zf_walk.specs.TestBounds.{IsBound}
+pub use Rattle.zf_walk.specs.{ComesAfter, cut, Event, IsBound, IsCount, IsDueTest, IsEvent, IsEvents, IsFrontOf, IsLater, IsNumberOfTests, IsReached, IsRowOf, IsTruthOf, IsUpTo, IsWalked, TiesAreEqual}
+pub use Rattle.zf_walk.specs.Conjuncts.{Conjuncts}
 pub use Rattle.zf_walk.specs.declared.judge.Truth.{Truth}
 pub use Rattle.zf_walk.specs.declared.judge.Truth.TheVariants.{False, Out, True}
-pub use Rattle.zf_value.specs.Sets.{IsAscending, IsMember, members, value_order}
+pub use Rattle.zf_value.specs.{IsAscending, IsMember, members, parts, value_order}
 pub use Rattle.std.specs.List.{AllByRecursion}
-pub use Rattle.zf_value.specs.SetLaws.{parts}
 pub use Rattle.zf_value.specs.declared.plain.Value.{Elem, Int, SetOf, Tuple, Value}
-pub use Rattle.zf_term.specs.Definitions.{carrier, Comp, DeclaredSet, DeclaredSets, no_sets, plain, Schema, set, sets_of, sides}
-pub use Rattle.zf_term.specs.ResolvedTrees.{ResolvedTree}
-pub use Rattle.zf_term.specs.Types.{basic, has_numbers, int, no_types, power, product, Ty, type, Tys}
-pub use Rattle.zf_finite.specs.Finite.{bounds, one_bounds}
+pub use Rattle.zf_term.specs.{basic, carrier, Comp, DeclaredSet, DeclaredSets, has_numbers, int, no_sets, no_types, plain, power, product, ResolvedTree, Schema, set, sets_of, sides, Ty, type, Tys}
+pub use Rattle.zf_finite.specs.{bounds, one_bounds}
 pub use Rattle.std.specs.Option.{is_none}
-pub use Rattle.zf_meaning.specs.Environments.{Environment, globally, type_number}
-pub use Rattle.zf_meaning.specs.Meaning.{HasOutcome, IsTruth}
+pub use Rattle.zf_meaning.specs.{Environment, globally, HasOutcome, IsTruth, type_number}
 pub use Rattle.law_total.proofs.Listed.{Decided, decided_all, decided_both, decided_either, decided_in, decided_lists, decided_not, decided_same, decided_some, decided_then, HasSome, Listed, listed_either, listed_image, listed_kept, listed_none, listed_one, listed_pairs, listed_same, one_or_all, swapped}
 pub use Rattle.law_total.proofs.Naturals.{decided_le, decided_lt, first_or_none, listed_below}
 pub use Rattle.law_total.proofs.Orders.{AllPairs-mapped, Contains-map, Contains-mapped, distinct_of, in_order}
 pub use Rattle.law_total.proofs.Terms.{some_outcome, some_truth}
 pub use Rattle.law_total.proofs.Values.{listed_members, same_row, same_value}
-pub use Rattle.zf_ranges.specs.DeclaredSets.{IsCarrierOut, IsInCarrier, IsInOne, IsInPlain, IsInSet, IsInSets, IsOneOut, IsPlainOut, IsSetOut}
-pub use Rattle.zf_ranges.specs.Ranges.{AreRanges, first_held, IsFirstOut, IsHeld, IsNoneOut, IsOutAt, IsComponentRange, later_held}
-pub use Rattle.zf_lines.specs.Searches.{AreEventsUpTo, breaks, ends, HasEvents, Hold, IsBelow, IsTestsLine, IsWritten, lines, pauses, Wording}
+pub use Rattle.zf_ranges.specs.{AreRanges, first_held, IsCarrierOut, IsComponentRange, IsFirstOut, IsHeld, IsInCarrier, IsInOne, IsInPlain, IsInSet, IsInSets, IsNoneOut, IsOneOut, IsOutAt, IsPlainOut, IsSetOut, later_held}
+pub use Rattle.zf_lines.specs.{AreEventsUpTo, breaks, ends, HasEvents, Hold, IsBelow, IsTestsLine, IsWritten, lines, pauses, Wording}
 pub use Rattle.zf_lines.specs.declared.fault.Status.{Status}

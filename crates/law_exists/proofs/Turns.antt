@@ -2,35 +2,26 @@
 use Rattle.std.proofs.Common.{◌∷◌, ◌≡◌, ◌⊎◌, [], false, inl, inr, List, None, Option, refl, subst, sym, true, ℕ}
 use Rattle.std.specs.List.{AllByRecursion}
 use Rattle.std.specs.Prelude.{AllPairs, Contains}
-use Rattle.zf_term.specs.Definitions.{Schema}
-use Rattle.zf_finite.specs.Finite.{IsFinite}
+use Rattle.zf_term.specs.{Schema}
+use Rattle.zf_finite.specs.{IsFinite}
 use Rattle.zf_value.specs.declared.plain.Value.{Value}
-use Rattle.zf_value.specs.Sets.{value_order}
+use Rattle.zf_value.specs.{value_order}
 use Rattle.zf_walk.proofs.Lists.{AllPairs-head, Contains-cases, Contains-head, Contains-nil}
 use Rattle.zf_walk.specs.declared.judge.Truth.{Truth}
 use Rattle.zf_walk.specs.declared.judge.Truth.TheVariants.{False, Out, True}
-use Rattle.zf_walk.specs.Events.{Event, IsEvent}
-use Rattle.zf_walk.specs.Rows.{ComesAfter}
-use Rattle.zf_meaning.specs.Environments.{Environment}
+use Rattle.zf_walk.specs.{ComesAfter, Event, IsEvent}
+use Rattle.zf_meaning.specs.{Environment}
 use Rattle.zf_enum.proofs.EventLaws.{one_ranges}
-use Rattle.zf_enum.specs.PortionViews.{portion}
-use Rattle.zf_enum.specs.Property.{property}
+use Rattle.zf_enum.specs.{portion, property}
 use Rattle.zf_graph.proofs.SomeSearch.{somehow_searched}
 use Rattle.zf_graph.proofs.Having.{AreListed, each_turn, IsStrayTold}
-use Rattle.zf_graph.specs.Laws.{EachNodeHasTurn}
-use Rattle.zf_graph.specs.SeekingLaws.{EachIsTold}
+use Rattle.zf_graph.specs.{EachIsTold, EachNodeHasTurn}
 use Rattle.zf_steps.specs.contracts.node.NodePartialEq.TheImpl as nodes
 use Rattle.zf_steps.specs.declared.node.Node.{Node}
 use Rattle.zf_steps.specs.declared.node.Node.TheVariants.{Root, State}
 use Rattle.zf_steps.proofs.Satisfying as steps
-use Rattle.zf_steps.specs.Explored.{explored_in, sought_in}
-use Rattle.zf_steps.specs.StepGraphs.{CanExplore}
-use Rattle.zf_steps.specs.Shapes.{sources_of}
-use Rattle.zf_steps.specs.Steps.{held_by, IsEventOf, IsFirstOf, parts_of, searched, stop, values_of}
-use Rattle.zf_steps.specs.SystemLaws.{orderly}
-use Rattle.zf_steps.specs.Systems.{Operation, System}
-use Rattle.zf_steps.specs.Words.{verdict, words}
-use Rattle.law_exists.specs.Laws.{EveryResult, OtherHasNone}
+use Rattle.zf_steps.specs.{CanExplore, explored_in, held_by, IsEventOf, IsFirstOf, Operation, orderly, parts_of, searched, sought_in, sources_of, stop, System, values_of, verdict, words}
+use Rattle.law_exists.specs.{EveryResult, OtherHasNone}
 use Rattle.law_exists.proofs.Ranges.{some_ranges}
 use Rattle.law_exists.proofs.Searches.{some_list}
 

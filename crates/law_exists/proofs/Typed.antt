@@ -3,7 +3,7 @@ use Rattle.law_exists.proofs.Prelude.{◌<◌, ◌∙◌, ◌∷◌, ◌≡◌, 
 use Rattle.std.specs.Int.{w64}
 use Rattle.zf_value.specs.declared.TheConstants.{SET_MAX}
 use Rattle.zf_value.proofs.Seen.{members-SetOf, parts-Tuple, same_number}
-use Rattle.zf_meaning.specs.Rows.{IsExistingElement, IsOfType, AreOfTypes}
+use Rattle.zf_meaning.specs.{AreOfTypes, IsExistingElement, IsOfType}
 use Rattle.law_total.proofs.Numbers.{decided_fits, number_or_not}
 use Rattle.law_total.proofs.Rows.{same_ordering}
 

@@ -1,27 +1,20 @@
 -- A search that can begin has all that is asked of it: a component that is out or none, ranges, events, and a number of tests.
 use Rattle.std.specs.Prelude.{◌≡◌, ◌≢◌, ◌≤◌, ◌⊎◌, IsTrue, ℕ, Bool, List, Option}
 use Rattle.std.specs.List.{AllByRecursion}
-use Rattle.zf_term.specs.Definitions.{Comp, Schema, sets_of}
-use Rattle.zf_finite.specs.Finite.{one_bounds}
+use Rattle.zf_term.specs.{Comp, Schema, sets_of}
+use Rattle.zf_finite.specs.{one_bounds}
 use Rattle.zf_value.specs.declared.plain.Value.{Value}
 use Rattle.zf_walk.specs.declared.judge.Truth.{Truth}
 use Rattle.zf_walk.specs.declared.judge.Truth.TheVariants.{False}
-use Rattle.zf_walk.specs.Events.{Event}
-use Rattle.zf_meaning.specs.Environments.{Environment}
-use Rattle.zf_enum.specs.EventLaws.{AreEvents, IsBoundOf}
-use Rattle.zf_enum.specs.Portions.{Portion}
-use Rattle.zf_ranges.specs.Ranges.{AreRanges, IsNoneOut, IsFirstOut}
-use Rattle.zf_graph.specs.Laws.{EachNodeHasTurn}
-use Rattle.zf_graph.specs.SeekingLaws.{EachIsTold, IsSomehowSearched}
+use Rattle.zf_walk.specs.{Event}
+use Rattle.zf_meaning.specs.{Environment}
+use Rattle.zf_enum.specs.{AreEvents, IsBoundOf, Portion}
+use Rattle.zf_ranges.specs.{AreRanges, IsFirstOut, IsNoneOut}
+use Rattle.zf_graph.specs.{EachIsTold, EachNodeHasTurn, IsSomehowSearched}
 use Rattle.zf_steps.specs.declared.node.Node.TheVariants.{State}
-use Rattle.zf_steps.specs.Explored.{explored_in, IsOther, IsSought, sought_in}
-use Rattle.zf_steps.specs.StepGraphs.{CanExplore}
-use Rattle.zf_steps.specs.Satisfying.{HasRow, Satisfies}
-use Rattle.zf_steps.specs.Shapes.{test_in}
-use Rattle.zf_steps.specs.Systems.{System}
-use Rattle.zf_steps.specs.Words.{verdict, words}
+use Rattle.zf_steps.specs.{CanExplore, explored_in, HasRow, IsOther, IsSought, Satisfies, sought_in, System, test_in, verdict, words}
 use Rattle.zf_lines.specs.declared.fault.Status.{Status}
-use Rattle.zf_lines.specs.Searches.{HasEvents, IsBelow, IsWritten, IsTestsLine, Wording}
+use Rattle.zf_lines.specs.{HasEvents, IsBelow, IsTestsLine, IsWritten, Wording}
 
 -- One component is the first with a declared set that is out, or none has one.
 abbrev pub OutIsDecided : Type 0

@@ -1,5 +1,5 @@
 //! Laws of the definitions.
-ghost use Rattle.law_exists.specs.Laws.{OutIsDecided, EveryRange, EveryEvent, EverySearch, EveryNumberOfTests, EveryBound, EveryTurn, EverySight, EveryResult, SoughtSatisfies, OtherHasNone};
+ghost use Rattle.law_exists.specs.{EveryBound, EveryEvent, EveryNumberOfTests, EveryRange, EveryResult, EverySearch, EverySight, EveryTurn, OtherHasNone, OutIsDecided, SoughtSatisfies};
 
 /// One component is the first that is out, or none is.
 pub fn out_decided()

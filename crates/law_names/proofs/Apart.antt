@@ -1,6 +1,6 @@
 -- The constructors of a free type are names of which no two are the same.
 use Rattle.law_names.proofs.Prelude.{◌++◌, ◌+◌, ◌∷◌, ◌≡◌, ◌⊎◌, [], Bool, false, inl, inr, List, map, None, Option, refl, Some, subst, sym, true, ℕ, none-some, if◌then◌else◌, bytes_eq, spelling, Name, constructor, Defined, Constructs, with_global, AreApart, IsNoneOf}
-use Rattle.zf_term.specs.FirstNamed.{first_named, later}
+use Rattle.zf_term.specs.{first_named, later}
 use Rattle.zf_term.proofs.SameNames.{is_itself}
 
 -- a global has the name

@@ -3,7 +3,7 @@ use Rattle.law_names.proofs.Prelude.{◌++◌, ◌∙◌, ◌∷◌, ◌≡◌, 
 use Rattle.std.proofs.lemmas.List.Folds.{list_all-append}
 use Rattle.zf_scan.specs.declared.pieces.Run.{Run}
 use Rattle.zf_scan.specs.declared.pieces.Run.TheVariants.{Base, Strokes}
-use Rattle.zf_scan.specs.Pieces.{is_letter, is_one, is_two, is_run, is_base}
+use Rattle.zf_scan.specs.{is_base, is_letter, is_one, is_run, is_two}
 use Rattle.std.specs.Char.{is_ascii_digit}
 use Rattle.zf_scan.proofs.Longest.{either}
 

@@ -2,16 +2,14 @@
 use Rattle.law_names.proofs.Prelude.{◌++◌, ◌+◌, ◌<◌, ◌^◌, ◌∙◌, ◌∷◌, ◌≡◌, [], ap, arith, Bool, drop, false, None, Option, refl, true, if◌then◌else◌, bytes_eq, drop-cons, length, List, slice_get, Some, subst, suc, sym, take, zero, ℕ, none-some, same_Some, abbreviation, constructor, Defined, Definition, free_type, given_set, schema, IsClear}
 use Rattle.std.proofs.lemmas.List.{take-append-drop}
 use Rattle.std.proofs.lemmas.List.Sums.{sum_by-cons}
-use Rattle.zf_term.specs.Numbers.{has_elements, next_number}
+use Rattle.zf_term.specs.{first_named, has_elements, later, next_number, Schema}
 use Rattle.zf_meaning.specs.declared.sizes.Size.{Size}
-use Rattle.zf_meaning.specs.Sizes.{given_sets, AreComplete, IsStated, AddsSize, AreSizes}
+use Rattle.zf_meaning.specs.{AddsSize, AreComplete, AreSizes, given_sets, IsStated}
 use Rattle.zf_print.specs.declared.spelling.Spelling.{Spelling}
 use Rattle.zf_print.specs.declared.spelling.Spelling.TheVariants.{Numbered, Named}
-use Rattle.zf_print.specs.Spellings.{with_spelling, spellings}
-use Rattle.law_names.specs.Laws.{ComponentsAreClear, EachLineIsHeld, GlobalsAreClear}
-use Rattle.zf_term.specs.Definitions.{Schema}
-use Rattle.zf_term.specs.FirstNamed.{first_named, later}
-use Rattle.zf_schema.specs.SchemaLaws.{HasCompsOnce, HaveCompsOnce}
+use Rattle.zf_print.specs.{spellings, with_spelling}
+use Rattle.law_names.specs.{ComponentsAreClear, EachLineIsHeld, GlobalsAreClear}
+use Rattle.zf_schema.specs.{HasCompsOnce, HaveCompsOnce}
 use Rattle.zf_checker.proofs.Globals.{names_once}
 use Rattle.zf_print.proofs.Chosen.{line_is_held}
 use Rattle.law_names.proofs.Components.{once_apart}

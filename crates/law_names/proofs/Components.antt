@@ -3,11 +3,9 @@ use Rattle.law_names.proofs.Prelude.{◌++◌, ◌∙◌, ◌∷◌, ◌≡◌, 
 use Rattle.std.proofs.lemmas.List.Folds.{list_all-append}
 use Rattle.zf_tree.specs.declared.tree.RefMark.{RefMark}
 use Rattle.zf_tree.specs.declared.tree.RefMark.TheVariants.{Plain, Delta, Xi}
-use Rattle.zf_term.specs.Definitions.{Comp, Schema}
-use Rattle.zf_term.specs.FirstNamed.{later}
+use Rattle.zf_term.specs.{Comp, later, Schema}
 use Rattle.zf_term.proofs.SameNames.{is_itself}
-use Rattle.zf_calculus.specs.CalculusLaws.{AreOnce}
-use Rattle.zf_calculus.specs.Calculus.{comp, comp_named, decorated, either_comps, marked, prime, with_comp, with_comps}
+use Rattle.zf_calculus.specs.{AreOnce, comp, comp_named, decorated, either_comps, marked, prime, with_comp, with_comps}
 use Rattle.law_names.proofs.Apart.{none_later}
 use Rattle.law_names.proofs.Bytes.{both_true}
 

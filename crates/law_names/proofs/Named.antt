@@ -3,14 +3,10 @@ use Rattle.law_names.proofs.Prelude.{◌+◌, ◌∷◌, ◌≡◌, ◌≤◌, [
 use Rattle.std.specs.List.{AllByRecursion}
 use Rattle.zf_tree.specs.Trees as text
 use Rattle.zf_tree.specs.declared.tree.SchemaRef.{SchemaRef}
-use Rattle.zf_term.specs.Definitions.{DeclaredSet, plain, Schema}
-use Rattle.zf_term.specs.FirstNamed.{first_named, later}
-use Rattle.zf_term.specs.Types.{Ty}
-use Rattle.zf_typing.specs.Resolving.{resolved}
-use Rattle.zf_calculus.specs.Calculus.{comp, marked, empty_schema}
-use Rattle.zf_term.specs.Faults.{Fault}
-use Rattle.zf_schema.specs.Checking.{Item, a_paragraph, a_box, items, next_number, with_global, Gives, Constructs, DefinesParagraph, Defines, ChecksOne, ChecksAll, IsChecked}
-use Rattle.zf_schema.specs.Expressions.{AddsAll, Declares, DeclaresOne, IsSchema, IsText, outside, Refers}
+use Rattle.zf_term.specs.{DeclaredSet, Fault, first_named, later, plain, Schema, Ty}
+use Rattle.zf_typing.specs.{resolved}
+use Rattle.zf_calculus.specs.{comp, empty_schema, marked}
+use Rattle.zf_schema.specs.{a_box, a_paragraph, AddsAll, ChecksAll, ChecksOne, Constructs, Declares, DeclaresOne, Defines, DefinesParagraph, Gives, IsChecked, IsSchema, IsText, Item, items, next_number, outside, Refers, with_global}
 use Rattle.zf_schema.proofs.Numbering.{next_more, defined_numbers}
 use Rattle.zf_schema.proofs.Once.{constrained_comps}
 use Rattle.law_names.proofs.Apart.{constructors_apart}

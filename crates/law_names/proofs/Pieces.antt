@@ -4,7 +4,8 @@ use Rattle.zf_scan.specs.declared.pieces.Piece.TheVariants.{Plain, Symbol, Refus
 use Rattle.zf_scan.specs.declared.pieces.Place.{Place}
 use Rattle.zf_scan.specs.declared.pieces.Place.TheVariants as places
 use Rattle.zf_scan.specs.declared.token.Kind.TheVariants as k
-use Rattle.zf_scan.specs.Pieces.{look_up, symbols, openings, number_max, value, is_directive, InsideKind, fixed, closing, remark, name, digits, unknown, SpellsInside, OutsideKind, opening, schema_opening, escape, informal, SpellsOutside}
+use Rattle.zf_scan.specs.{digits, escape, fixed, informal, InsideKind, is_directive, look_up, name, number_max, opening, openings, OutsideKind, remark, schema_opening, SpellsInside, SpellsOutside, symbols, unknown, value}
+use Rattle.zf_scan.specs.Pieces.{closing}
 use Rattle.law_names.proofs.Bytes.{spelled_name}
 
 -- if it is a name, it has the bytes of one

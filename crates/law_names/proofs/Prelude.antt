@@ -4,18 +4,15 @@ pub use Rattle.std.proofs.lemmas.Option.{none-some, same_Some}
 pub use Rattle.std.specs.List.{list_all}
 pub use Rattle.std.specs.Prelude.{if◌then◌else◌, ◌&&◌, ◌==◌, ◌||◌, codes, nat_le}
 pub use Rattle.std.specs.Str.{bytes_eq}
-pub use Rattle.zf_tree.specs.Names.{spelling}
-pub use Rattle.zf_tree.specs.Trees.{BoxTree, DeclTree, free, given, include, ParagraphTree, schema_reference, SchemaTree, Tree, vars}
+pub use Rattle.zf_tree.specs.{BoxTree, DeclTree, free, given, include, ParagraphTree, schema_reference, SchemaTree, spelling, Tree, vars}
 pub use Rattle.zf_tree.specs.declared.tree.Name.{Name}
 pub use Rattle.zf_scan.proofs.Runs.{and_left, and_right}
 pub use Rattle.zf_scan.proofs.Texts.{both, eq_is, pick}
-pub use Rattle.zf_scan.specs.Cuts.{Cuts, IsCutInto, past, Spot, Stands, start, tokens_from, tokens_of}
-pub use Rattle.zf_scan.specs.Separators.{canonical, is_separator, opens, reduced, reduced_after, separator, starts_closed, Symbol, symbol, symbol_of}
+pub use Rattle.zf_scan.specs.{canonical, is_separator, IsCutInto, opens, past, reduced, reduced_after, separator, Spot, Stands, start, starts_closed, Symbol, symbol, symbol_of, tokens_from, tokens_of}
+pub use Rattle.zf_scan.specs.Cuts.{Cuts}
 pub use Rattle.zf_scan.specs.declared.pieces.Piece.{Piece}
 pub use Rattle.zf_scan.specs.declared.token.Kind.{Kind}
-pub use Rattle.zf_parse.specs.Parsing.{ReadsSource}
-pub use Rattle.zf_parse.specs.Spelling.{Next, PartedBy, Spells, SpellsBoxes, SpellsDecl, SpellsMarked, SpellsName, SpellsParagraph, SpellsPredicates, SpellsSchema}
-pub use Rattle.zf_term.specs.Definitions.{abbreviation, constructor, Defined, Definition, free_type, given_set, schema}
-pub use Rattle.zf_schema.specs.Checking.{a_box, a_paragraph, Constructs, Item, items, items_in, with_global}
-pub use Rattle.zf_print.specs.Clear.{AreApart, AreNames, IsClear, IsName, IsNoneOf}
-pub use Rattle.zf_print.specs.Words.{is_in_name}
+pub use Rattle.zf_parse.specs.{Next, PartedBy, ReadsSource, Spells, SpellsBoxes, SpellsDecl, SpellsMarked, SpellsName, SpellsParagraph, SpellsPredicates, SpellsSchema}
+pub use Rattle.zf_term.specs.{abbreviation, constructor, Defined, Definition, free_type, given_set, schema}
+pub use Rattle.zf_schema.specs.{a_box, a_paragraph, Constructs, Item, items, items_in, with_global}
+pub use Rattle.zf_print.specs.{AreApart, AreNames, is_in_name, IsClear, IsName, IsNoneOf}

@@ -6,9 +6,9 @@ use Rattle.std.specs.List.{AllByRecursion}
 use Rattle.zf_tree.specs.declared.symbol.Connective.TheVariants.{And, Or}
 use Rattle.zf_tree.specs.declared.tree.RefMark.{RefMark}
 use Rattle.zf_tree.specs.declared.tree.RefMark.TheVariants.{Plain, Delta, Xi}
-use Rattle.zf_tree.specs.Trees.{ParagraphTree, given, free, abbreviation, definition, BoxTree, zed, schema_box, DeclTree, vars, include, SchemaTree, schema_text, schema_reference, both, either, schema_bracket}
-use Rattle.zf_parse.specs.Spelling.{SpellsDecl, SpellsMarked, SpellsSchema}
-use Rattle.zf_schema.specs.SchemaLaws.{elements}
+use Rattle.zf_tree.specs.{abbreviation, both, BoxTree, DeclTree, definition, either, free, given, include, ParagraphTree, schema_box, schema_bracket, schema_reference, schema_text, SchemaTree, vars, zed}
+use Rattle.zf_parse.specs.{SpellsDecl, SpellsMarked, SpellsSchema}
+use Rattle.zf_schema.specs.{elements}
 use Rattle.law_names.proofs.Fronts.{Behind, next_behind, name_behind, then, term_behind, decl_behind, decls_behind, predicates_behind, schema_behind}
 use Rattle.law_names.proofs.Tokens.{AreSpelled, symbols_spelled}
 

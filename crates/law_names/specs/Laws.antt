@@ -1,20 +1,12 @@
 -- What is claimed of the names of a text.
 use Rattle.std.specs.Prelude.{◌≡◌, ℕ, List, Option, Some}
-use Rattle.zf_parse.specs.Parsing.{ReadsSource}
-use Rattle.zf_tree.specs.Trees.{BoxTree}
-use Rattle.zf_term.specs.Definitions.{Defined, Schema, schema}
-use Rattle.zf_term.specs.FirstNamed.{first_named}
-use Rattle.zf_term.specs.Faults.{Fault}
-use Rattle.zf_schema.specs.Checking.{IsChecked}
+use Rattle.zf_parse.specs.{ReadsSource}
+use Rattle.zf_tree.specs.{BoxTree}
+use Rattle.zf_term.specs.{Defined, Fault, first_named, Schema, schema}
+use Rattle.zf_schema.specs.{IsChecked}
 use Rattle.zf_meaning.specs.declared.sizes.Size.{Size}
-use Rattle.zf_meaning.specs.Environments.{Environment}
-use Rattle.zf_meaning.specs.GlobalOutcomes.{IsEnvironment}
-use Rattle.zf_meaning.specs.Sizes.{given_sets, AreComplete}
-use Rattle.zf_print.specs.Clear.{AreClear}
-use Rattle.zf_print.specs.HeldLaws.{HaveClearNames}
-use Rattle.zf_print.specs.Held.{IsHeldLine}
-use Rattle.zf_print.specs.HeldLines.{IsLineOfSome}
-use Rattle.zf_print.specs.Spellings.{spellings}
+use Rattle.zf_meaning.specs.{AreComplete, Environment, given_sets, IsEnvironment}
+use Rattle.zf_print.specs.{AreClear, HaveClearNames, IsHeldLine, IsLineOfSome, spellings}
 use Rattle.zf_value.specs.declared.plain.Value.{Value}
 
 -- the globals of a text, at sizes of all its given sets, have clear spellings

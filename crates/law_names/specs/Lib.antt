@@ -1,1 +1,3 @@
 pub mod Laws
+
+pub use Rattle.law_names.specs.Laws.{ComponentsAreClear, EachLineIsHeld, GlobalsAreClear}

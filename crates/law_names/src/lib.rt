@@ -1,7 +1,7 @@
 //! The names of a text are spelled clearly.
 #![tactic(auto)]
 
-ghost use Rattle.law_names.specs.Laws.{ComponentsAreClear, EachLineIsHeld, GlobalsAreClear};
+ghost use Rattle.law_names.specs.{ComponentsAreClear, EachLineIsHeld, GlobalsAreClear};
 
 /// The globals of a text, at sizes of all its given sets, have clear spellings.
 pub fn clear_spellings()

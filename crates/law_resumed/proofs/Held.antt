@@ -1,12 +1,11 @@
 -- The values that a line of some components holds are of their types.
 use Rattle.std.proofs.Common.{◌≡◌, ℕ, List, [], ◌∷◌, Option, Some, None, sym, subst}
-use Rattle.zf_term.specs.Definitions.{Comp}
+use Rattle.zf_term.specs.{Comp}
 use Rattle.zf_value.specs.declared.plain.Value.{Value}
-use Rattle.zf_meaning.specs.Environments.{Environment}
-use Rattle.zf_meaning.specs.Rows.{IsOfType, IsRow}
-use Rattle.zf_print.specs.HeldLines.{held_comps, held_values}
-use Rattle.law_sound.specs.RowLaws.{AreHeldTyped}
-use Rattle.zf_engine.specs.Answers.{AreHeld}
+use Rattle.zf_meaning.specs.{Environment, IsOfType, IsRow}
+use Rattle.zf_print.specs.{held_comps, held_values}
+use Rattle.law_sound.specs.{AreHeldTyped}
+use Rattle.zf_engine.specs.{AreHeld}
 
 none_typed : (e : Environment) (cs : List Comp) → AreHeldTyped e cs []
 none_typed e [] = tt

@@ -1,10 +1,10 @@
 -- The text of each event of a search is the line of a row of the schema's types.
 use Rattle.std.proofs.Common.{refl}
-use Rattle.zf_term.specs.Definitions.{schema}
+use Rattle.zf_term.specs.{schema}
 use Rattle.law_sound.proofs.Rows.{events_of_texts_typed}
-use Rattle.zf_engine.specs.Settings.{numbers_of, stated}
+use Rattle.zf_engine.specs.{numbers_of, stated}
 use Rattle.zf_engine.proofs.OwnComponents.{named_at}
-use Rattle.law_resumed.specs.Laws.{LinesAreRows}
+use Rattle.law_resumed.specs.{LinesAreRows}
 use Rattle.law_resumed.proofs.Held.{held_typed}
 
 pub lines_are_rows : LinesAreRows

@@ -1,15 +1,14 @@
 -- What is claimed of the lines that a run writes.
 use Rattle.std.specs.Prelude.{List, ℕ, Option, Contains}
-use Rattle.zf_term.specs.Definitions.{Defined, Schema}
+use Rattle.zf_term.specs.{Defined, Schema}
 use Rattle.zf_value.specs.declared.plain.Value.{Value}
-use Rattle.zf_walk.specs.Events.{Event}
-use Rattle.zf_meaning.specs.Environments.{Environment}
-use Rattle.zf_enum.specs.Portions.{Portion}
-use Rattle.zf_print.specs.BindingTexts.{binding_text}
-use Rattle.zf_print.specs.Spellings.{spellings}
-use Rattle.zf_lines.specs.Searches.{HasEvents}
+use Rattle.zf_walk.specs.{Event}
+use Rattle.zf_meaning.specs.{Environment}
+use Rattle.zf_enum.specs.{Portion}
+use Rattle.zf_print.specs.{binding_text, spellings}
+use Rattle.zf_lines.specs.{HasEvents}
 use Rattle.zf_command.specs.declared.job.Request.{Request}
-use Rattle.zf_engine.specs.Answers.{IsSearch, IsLineOf}
+use Rattle.zf_engine.specs.{IsLineOf, IsSearch}
 
 -- the text of each event of a search is the line of a row of the schema's types: what the option for the named binding takes
 abbrev pub LinesAreRows : Type 0

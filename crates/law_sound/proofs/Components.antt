@@ -3,8 +3,7 @@ use Rattle.law_sound.proofs.Prelude.{if◌then◌else◌, ◌++◌, ◌∙◌, �
 use Rattle.zf_tree.specs.declared.tree.RefMark.{RefMark}
 use Rattle.zf_tree.specs.declared.tree.RefMark.TheVariants.{Plain, Delta, Xi}
 use Rattle.zf_term.proofs.Choices.{or_none}
-use Rattle.zf_calculus.specs.Calculus.{comp, comp_named, with_comp, with_comps, HasTypeOf, Agrees, Agree, decorated, marked, prime, MarkAgrees, sets_on, either_comps}
-use Rattle.zf_calculus.specs.CalculusLaws.{AreOnce}
+use Rattle.zf_calculus.specs.{Agree, Agrees, AreOnce, comp, comp_named, decorated, either_comps, HasTypeOf, MarkAgrees, marked, prime, sets_on, with_comp, with_comps}
 use Rattle.zf_calculus.proofs.Merging.{nothing_before}
 use Rattle.law_sound.proofs.DeclaredSets.{IsSome, AreSetsFor}
 

@@ -2,8 +2,8 @@
 use Rattle.law_sound.proofs.Prelude.{◌+◌, ◌^◌, ◌↔◌, ◌∙◌, ◌∷◌, ◌≡◌, ◌⊎◌, [], ap, arith, Bool, false, inl, inr, List, None, Option, refl, Some, subst, sym, take, true, ℕ, ℤ, ⊎_elim, ints, none-some, same_Some, w64, ◌<ℤ◌, ◌≤ℤ◌, FitsSigned, negsuc, pos, slice_get, number_of-Int, same_number, number_of, IsMember, members, Outcome, Is, Int, Value, Tree, carrier, DeclaredSet, DeclaredSets, Defined, no_sets, plain, set, sides, ResolvedTree, int, power, Ty, Infinite, resolved, set_sort, IsOf, direct, outside, AreWellTyped, Environment, globally, HasOutcome, IsOfType, IsIn}
 use Rattle.std.proofs.lemmas.Bool.{cases_lt}
 use Rattle.zf_term.specs.declared.extent.Infinite.TheVariants.{Num, Nat, Nat1}
-use Rattle.zf_meaning.specs.NumberSets.{infinite_in, unended}
-use Rattle.zf_ranges.specs.DeclaredSets.{has_endless, IsInPlain, IsInCarrier, IsInSet, IsInSets}
+use Rattle.zf_meaning.specs.{infinite_in, unended}
+use Rattle.zf_ranges.specs.{has_endless, IsInCarrier, IsInPlain, IsInSet, IsInSets}
 use Rattle.law_sound.proofs.Carriers.{carrier_typed}
 use Rattle.law_sound.proofs.Directs.{are_numbers}
 use Rattle.law_sound.proofs.Globals.{in_front}

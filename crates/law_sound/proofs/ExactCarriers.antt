@@ -4,15 +4,15 @@ use Rattle.std.specs.Prelude.{◌||◌, ◌⊎◌}
 use Rattle.std.proofs.Common.{inl, inr, ⊎_elim}
 use Rattle.std.proofs.Common.{true≢false}
 use Rattle.zf_tree.specs.declared.symbol.Prefix.TheVariants.{Power}
-use Rattle.zf_term.specs.Types.{has_numbers, have_numbers}
+use Rattle.zf_term.specs.{has_numbers, have_numbers}
 use Rattle.zf_term.specs.declared.extent.Infinite.TheVariants.{Num}
-use Rattle.zf_meaning.specs.NumberSets.{IsNumberSet}
+use Rattle.zf_meaning.specs.{IsNumberSet}
 use Rattle.zf_tree.specs.declared.operator.Sign.TheVariants.{Symbol}
 use Rattle.zf_tree.specs.declared.operator.Listed.TheVariants.{Product}
 use Rattle.zf_tree.specs.declared.operator.Unary.TheVariants.{Sign}
 use Rattle.zf_value.specs.Operations as op
 use Rattle.zf_meaning.proofs.Environments.{one_carrier}
-use Rattle.law_sound.specs.CarrierLaws.{CarriersAreExact, CarriersAreOutcomes, IsTypeAt, Spells, SpellAll}
+use Rattle.law_sound.specs.{CarriersAreExact, CarriersAreOutcomes, IsTypeAt, SpellAll, Spells}
 use Rattle.law_sound.proofs.Carriers.{carrier_typed}
 use Rattle.law_sound.proofs.OfTypes.{members_of}
 use Rattle.law_sound.proofs.Terms.{all_values, one, several}

@@ -2,11 +2,11 @@
 use Rattle.law_sound.proofs.Prelude.{if◌then◌else◌, ◌+◌, ◌<◌, ◌^◌, ◌∙◌, ◌∷◌, ◌≡◌, [], add-one, ap, arith, Bool, false, length, List, map, None, Option, refl, Some, subst, suc, sym, take, true, zero, ℕ, none-some, same_Some, bytes_eq, AreElements, Outcome, Is, Undefined, Elem, Value, is_itself, is_same, abbreviation, Comp, constructor, Defined, Definition, free_type, given_set, schema, first_named, later, basic, power, types, typed, Var, types_of, EachOnce, outside, AreDefinedOnce, AreWellTyped, IsMadeAfter, AreElementsIf, before, Context, definition_number, element, Environment, found_number, globally, IsTypeSet, type_number, AreWorkedOut, IsEnvironment, IsOutcomeOf, HasOutcome, AreOfTypes, IsExistingElement, IsFrontOfRow, IsOfType}
 use Rattle.std.specs.Prelude.{slice_get, nat_lt}
 use Rattle.std.proofs.lemmas.List.Sums.{sum_by-cons}
-use Rattle.zf_term.specs.Numbers.{has_elements, next_number}
+use Rattle.zf_term.specs.{has_elements, next_number}
 use Rattle.zf_value.specs.Operations as op
 use Rattle.zf_meaning.specs.declared.sizes.Size.{Size}
-use Rattle.zf_meaning.specs.Sizes.{AddsSize, AreSizes}
-use Rattle.law_sound.specs.OutcomeLaws.{scope, context, OutcomesTyped}
+use Rattle.zf_meaning.specs.{AddsSize, AreSizes}
+use Rattle.law_sound.specs.{context, OutcomesTyped, scope}
 use Rattle.law_sound.proofs.Names.{HasValues, Fits}
 use Rattle.law_sound.proofs.OfTypes.{a_set, first_of_types}
 use Rattle.law_sound.proofs.Terms.{term_typed}

@@ -8,7 +8,7 @@ use Rattle.zf_value.specs.declared.TheConstants.{SET_MAX}
 use Rattle.zf_value.specs.declared.value.Outcome.TheVariants.{Out}
 use Rattle.zf_value.proofs.Intervals.{interval_out}
 use Rattle.zf_value.proofs.Once.{one_Interval}
-use Rattle.zf_meaning.specs.NumberSets.{IsNumberSet, least}
+use Rattle.zf_meaning.specs.{IsNumberSet, least}
 use Rattle.zf_tree.specs.declared.symbol.Infix.{Infix}
 use Rattle.zf_tree.specs.declared.symbol.Infix.TheVariants.{Maplet, UpTo, Plus, Minus, Union, Difference, Times, Div, Mod, Intersection, Composition, Overriding, DomainRestriction, RangeRestriction, DomainSubtraction, RangeSubtraction}
 use Rattle.zf_tree.specs.declared.symbol.Prefix.{Prefix}

@@ -8,49 +8,31 @@ pub use Rattle.std.specs.Str.{bytes_eq}
 pub use Rattle.zf_reference.specs.declared.reference.Reference.{Reference}
 pub use Rattle.zf_value.proofs.Among.{every_at, every_from, member, members-append, not_below_itself}
 pub use Rattle.zf_value.proofs.Seen.{members-SetOf, number_of-Int, parts-Tuple, same_number}
-pub use Rattle.zf_value.specs.Numbers.{IsNumber, number_of, OnNumber, OnNumbers}
-unfoldable pub use Rattle.zf_value.specs.Numbers.{IsBetweenNumbers, IsDifference, IsInterval, IsModulus, IsNegation, IsProduct, IsQuotient, IsSum}
-pub use Rattle.zf_value.specs.Operations.{AreFrom, IsBetween, IsFunctional, IsInDomain, IsInjective, IsInRange, IsPairOf, IsRelationThat, IsSubset, IsTotal, Relates}
-unfoldable pub use Rattle.zf_value.specs.Operations.{AreElements, ArePartialFunctions, ArePartialInjections, AreRelations, AreTotalFunctions, AreTotalInjections, IsApplied, IsComposition, IsCross, IsDisplay, IsDomain, IsDomainRestriction, IsDomainSubtraction, IsImage, IsIntersection, IsInverse, IsOverriding, IsPower, IsRange, IsRangeRestriction, IsRangeSubtraction, IsSetDifference, IsSize, IsUnion}
-pub use Rattle.zf_value.specs.Sets.{IsAscending, IsMember, IsSetOf, members, value_order}
-pub use Rattle.zf_value.specs.SetLaws.{parts}
-unfoldable pub use Rattle.zf_value.specs.Sets.{AreAmong}
+pub use Rattle.zf_value.specs.{AreFrom, IsAscending, IsBetween, IsFunctional, IsInDomain, IsInjective, IsInRange, IsMember, IsNumber, IsPairOf, IsRelationThat, IsSetOf, IsSubset, IsTotal, members, number_of, OnNumber, OnNumbers, parts, Relates, value_order}
+unfoldable pub use Rattle.zf_value.specs.{AreAmong, AreElements, ArePartialFunctions, ArePartialInjections, AreRelations, AreTotalFunctions, AreTotalInjections, IsApplied, IsBetweenNumbers, IsComposition, IsCross, IsDifference, IsDisplay, IsDomain, IsDomainRestriction, IsDomainSubtraction, IsImage, IsIntersection, IsInterval, IsInverse, IsModulus, IsNegation, IsOverriding, IsPower, IsProduct, IsQuotient, IsRange, IsRangeRestriction, IsRangeSubtraction, IsSetDifference, IsSize, IsSum, IsUnion}
 pub use Rattle.zf_value.specs.declared.TheConstants.{SET_MAX}
 pub use Rattle.zf_value.specs.declared.value.Outcome.{Outcome}
 pub use Rattle.zf_value.specs.declared.value.Outcome.TheVariants.{Is, Out, Undefined}
 pub use Rattle.zf_value.specs.declared.plain.Value.{Elem, Int, SetOf, Tuple, Value}
-pub use Rattle.zf_tree.specs.Names.{spelling}
-pub use Rattle.zf_tree.specs.Operators.{function_rule, rule_of}
-pub use Rattle.zf_tree.specs.Trees.{both, DeclTree, either, include, no_decls, no_trees, Perhaps, schema_reference, schema_bracket, schema_text, SchemaTree, Tree, tree, Trees, var_decl, VarDecls, vars}
+pub use Rattle.zf_tree.specs.{both, DeclTree, either, function_rule, include, no_decls, no_trees, Perhaps, rule_of, schema_bracket, schema_reference, schema_text, SchemaTree, spelling, Tree, tree, var_decl, VarDecls, vars}
+pub use Rattle.zf_tree.specs.Trees.{Trees}
 pub use Rattle.zf_tree.specs.declared.operator.Operator.{Operator}
 pub use Rattle.zf_tree.specs.declared.operator.Unary.{Unary}
 pub use Rattle.zf_tree.specs.declared.symbol.Constant.{Constant}
 pub use Rattle.zf_tree.specs.declared.tree.Name.{Name}
 pub use Rattle.zf_term.proofs.SameNames.{is_itself, is_same, swapped}
-pub use Rattle.zf_term.specs.Definitions.{abbreviation, carrier, Comp, constructor, DeclaredSet, DeclaredSets, Defined, Definition, free_type, given_set, no_sets, plain, Schema, schema, set, sets_of, sides}
-pub use Rattle.zf_term.specs.FirstNamed.{first_named, later}
+pub use Rattle.zf_term.specs.{abbreviation, basic, carrier, Comp, constructor, DeclaredSet, DeclaredSets, Defined, Definition, first_named, free_type, given_set, has_numbers, int, later, listed, no_sets, no_types, pair_type, plain, power, product, ResolvedPart, ResolvedTree, Schema, schema, set, sets_of, sides, term, Ty, type, types, Tys, unary}
 pub use Rattle.std.specs.Option.{option_or}
-pub use Rattle.zf_term.specs.ResolvedTrees.{listed, ResolvedPart, ResolvedTree, ResolvedTrees, term, unary}
-pub use Rattle.zf_term.specs.Types.{basic, has_numbers, int, no_types, pair_type, power, product, Ty, type, types, Tys}
+pub use Rattle.zf_term.specs.ResolvedTrees.{ResolvedTrees}
 pub use Rattle.zf_term.specs.declared.extent.Infinite.{Infinite}
-pub use Rattle.zf_typing.specs.Resolving.{bound, referent, resolved, resolved_all, resolved_part, resolved_ranges}
-pub use Rattle.zf_sorts.specs.Rules.{a_schema, constant_sort, number_sort, predicate, PrefixTakes, relation_sort, set_sort, Sort, Takes, typed, UnaryTakes}
-pub use Rattle.zf_typing.specs.Scopes.{definition_sort, global_sort, last_named, meaning, Scope, Var, component_meaning, global_meaning, variable_meaning}
-pub use Rattle.zf_typing.specs.Typing.{AreAll, AreMembers, Declare, IsOf, Makes, member_sort, row_type, types_of, variables}
-pub use Rattle.zf_calculus.specs.Calculus.{comp, marked, empty_schema}
-pub use Rattle.zf_calculus.specs.CalculusLaws.{EachOnce}
-pub use Rattle.zf_extent.specs.Extents.{constant_set, definition_extent, direct, extent_by, extent_found, extent_named, extent_set, offending}
+pub use Rattle.zf_typing.specs.{AreAll, AreMembers, bound, component_meaning, Declare, definition_sort, global_meaning, global_sort, IsOf, last_named, Makes, meaning, member_sort, referent, resolved, resolved_all, resolved_part, resolved_ranges, row_type, Scope, types_of, Var, variable_meaning, variables}
+pub use Rattle.zf_sorts.specs.{a_schema, constant_sort, number_sort, predicate, PrefixTakes, relation_sort, set_sort, Sort, Takes, typed, UnaryTakes}
+pub use Rattle.zf_calculus.specs.{comp, EachOnce, empty_schema, marked}
+pub use Rattle.zf_extent.specs.{constant_set, definition_extent, direct, extent_by, extent_found, extent_named, extent_set, offending}
 pub use Rattle.zf_schema.proofs.Named.{joined_type, named_there, type_of_once, type_one_more}
 pub use Rattle.zf_schema.proofs.Once.{constrained_comps, decorated_once, joined_once, reference_once, schema_once}
-pub use Rattle.zf_schema.specs.Expressions.{AddsAll, Declares, DeclaresOne, IsSchema, outside, Refers}
-pub use Rattle.zf_schema.specs.SchemaLaws.{AreDefinedOnce, HasCompsOnce, HaveCompsOnce, type_found, type_named}
-pub use Rattle.zf_checker.specs.WellTypedGlobals.{AreWellTyped, IsMadeAfter}
-pub use Rattle.zf_meaning.specs.Carriers.{AreCarriers, IsCarrier}
-pub use Rattle.zf_meaning.specs.Environments.{before, Context, definition_number, element, Environment, globally, IsTypeSet, outcome_in, type_number, within}
-pub use Rattle.zf_meaning.specs.Lookups.{value_or, outcome_or, found_number, AreElementsIf, IsTypeSetIf}
-pub use Rattle.zf_meaning.specs.GlobalOutcomes.{AreWorkedOut, IsEnvironment, IsOutcomeOf}
-pub use Rattle.zf_meaning.specs.Meaning.{HasOutcome, HaveOutcomes, HaveRanges, IsBuilt, IsBuiltBy, IsConstraint, row_value}
-pub use Rattle.zf_outcome.specs.Outcomes.{OnBoth, one_more, one_out, one_undefined, OnOne, OnSeveral, repeated, Several, values}
-pub use Rattle.zf_meaning.specs.Rows.{AreOfTypes, IsExistingElement, IsOfType, IsRow}
-pub use Rattle.law_sound.specs.OutcomeLaws.{IsFrontOfRow}
-pub use Rattle.zf_outcome.specs.Symbols.{ArrowOutcome, BinaryOutcome, InfixOutcome, IsIn, ListedOutcome, PrefixOutcome, UnaryOutcome}
+pub use Rattle.zf_schema.specs.{AddsAll, AreDefinedOnce, Declares, DeclaresOne, HasCompsOnce, HaveCompsOnce, IsSchema, outside, Refers, type_found, type_named}
+pub use Rattle.zf_checker.specs.{AreWellTyped, IsMadeAfter}
+pub use Rattle.zf_meaning.specs.{AreCarriers, AreElementsIf, AreOfTypes, AreWorkedOut, before, Context, definition_number, element, Environment, found_number, globally, HasOutcome, HaveOutcomes, HaveRanges, IsBuilt, IsBuiltBy, IsCarrier, IsConstraint, IsEnvironment, IsExistingElement, IsOfType, IsOutcomeOf, IsRow, IsTypeSet, IsTypeSetIf, outcome_in, outcome_or, row_value, type_number, value_or, within}
+pub use Rattle.zf_outcome.specs.{ArrowOutcome, BinaryOutcome, InfixOutcome, IsIn, ListedOutcome, OnBoth, one_more, one_out, one_undefined, OnOne, OnSeveral, PrefixOutcome, repeated, Several, UnaryOutcome, values}
+pub use Rattle.law_sound.specs.{IsFrontOfRow}

@@ -12,7 +12,7 @@ use Rattle.zf_value.specs.declared.plain.Value as value
 use Rattle.zf_value.specs.declared.value.Truth.{Truth}
 use Rattle.zf_term.specs.declared.extent.Infinite.TheVariants.{Num, Nat, Nat1}
 use Rattle.zf_meaning.specs.Meaning as meaning
-use Rattle.zf_meaning.specs.Meaning.{IsConstantOutcome}
+use Rattle.zf_meaning.specs.{IsConstantOutcome}
 use Rattle.law_sound.proofs.Names.{Fits, fits_within, named_typed}
 use Rattle.law_sound.proofs.OfTypes.{members_of, a_set, a_number, first_of_types}
 use Rattle.law_sound.proofs.Operations.{IsOfSort, sorted, binary, number_set, unary_made}

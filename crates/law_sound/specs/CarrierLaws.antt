@@ -6,20 +6,14 @@ use Rattle.zf_tree.specs.declared.operator.Sign.TheVariants.{Symbol}
 use Rattle.zf_tree.specs.declared.operator.Listed.TheVariants.{Product}
 use Rattle.zf_tree.specs.declared.operator.Unary.TheVariants.{Sign}
 use Rattle.zf_reference.specs.declared.reference.Reference.TheVariants.{Global}
-use Rattle.zf_term.specs.Definitions.{Defined}
-use Rattle.zf_term.specs.FirstNamed.{first_named}
-use Rattle.zf_term.specs.ResolvedTrees.{ResolvedTree, reference, constant, listed, unary, ResolvedTrees, no_terms, term}
-use Rattle.zf_term.specs.Types.{Ty, has_numbers, int, basic, power, product, Tys, no_types, type}
+use Rattle.zf_term.specs.{basic, constant, Defined, first_named, has_numbers, int, listed, no_terms, no_types, power, product, reference, ResolvedTree, term, Ty, type, Tys, unary}
+use Rattle.zf_term.specs.ResolvedTrees.{ResolvedTrees}
 use Rattle.zf_value.specs.declared.plain.Value.{Value}
 use Rattle.zf_value.specs.declared.value.Outcome.{Outcome}
 use Rattle.zf_value.specs.declared.value.Outcome.TheVariants.{Is}
-use Rattle.zf_value.specs.Sets.{IsMember, members}
+use Rattle.zf_value.specs.{IsMember, members}
 use Rattle.zf_meaning.specs.declared.sizes.Size.{Size}
-use Rattle.zf_meaning.specs.Carriers.{IsCarrier}
-use Rattle.zf_meaning.specs.Environments.{Environment, definition_number, globally}
-use Rattle.zf_meaning.specs.GlobalOutcomes.{IsEnvironment}
-use Rattle.zf_meaning.specs.Meaning.{HasOutcome}
-use Rattle.zf_meaning.specs.Rows.{IsOfType}
+use Rattle.zf_meaning.specs.{definition_number, Environment, globally, HasOutcome, IsCarrier, IsEnvironment, IsOfType}
 
 -- ---- its members
 

@@ -1,7 +1,5 @@
 //! Laws of the definitions.
-ghost use Rattle.law_sound.specs.CarrierLaws.{CarriersAreExact, CarriersAreOutcomes};
-ghost use Rattle.law_sound.specs.OutcomeLaws.{OutcomesTyped};
-ghost use Rattle.law_sound.specs.RowLaws.{RowsTyped, EventsTyped, EventsOfTextsTyped};
+ghost use Rattle.law_sound.specs.{CarriersAreExact, CarriersAreOutcomes, EventsOfTextsTyped, EventsTyped, OutcomesTyped, RowsTyped};
 
 /// The outcome of an expression is of the expression's type.
 pub fn outcomes_typed()

@@ -1,9 +1,8 @@
 -- Each type has a carrier.
 use Rattle.law_total.proofs.Prelude.{[], None, Option, refl, Some, ℕ, IsCross, IsPower, members, Undefined, AreElementsIf, element_count, Environment, IsTypeSet, type_number, one_more, values}
 use Rattle.zf_term.specs.declared.extent.Infinite.TheVariants.{Num}
-use Rattle.zf_term.specs.Types.{Ty, int, basic, power, product, Tys, no_types, type}
-use Rattle.zf_meaning.specs.Carriers.{IsCarrier, AreCarriers}
-use Rattle.zf_meaning.specs.Lookups.{IsTypeSetIf}
+use Rattle.zf_term.specs.{basic, int, no_types, power, product, Ty, type, Tys}
+use Rattle.zf_meaning.specs.{AreCarriers, IsCarrier, IsTypeSetIf}
 use Rattle.law_total.proofs.Listed.{HasSome}
 use Rattle.law_total.proofs.Operations.{some_elements, some_power, some_cross}
 use Rattle.law_total.proofs.Terms.{some_number_set, some_on_one, some_on_several}

@@ -4,7 +4,7 @@ use Rattle.std.specs.Int.{w64, Width}
 use Rattle.std.specs.Int.RustNames.{int_div, int_rem}
 use Rattle.std.proofs.lemmas.Int.{ints, by_lt_z}
 use mir.Val.{hbits}
-use Rattle.zf_value.specs.Numbers.{number_of, IsNumber, OnNumber, OnNumbers, IsDivision, IsNegation, IsSum, IsDifference, IsProduct, IsQuotient, IsModulus, IsBetweenNumbers, IsInterval}
+use Rattle.zf_value.specs.{IsBetweenNumbers, IsDifference, IsDivision, IsInterval, IsModulus, IsNegation, IsNumber, IsProduct, IsQuotient, IsSum, number_of, OnNumber, OnNumbers}
 use Rattle.zf_value.proofs.Divisions.{down, up}
 use Rattle.law_total.proofs.Listed.{HasSome, Decided, decided_both, decided_either, Listed, listed_same, listed_none, listed_one, listed_either, listed_image}
 use Rattle.law_total.proofs.Sets.{set_of}

@@ -7,23 +7,15 @@ pub use Rattle.zf_walk.proofs.Lists.{AllPairs-cons, AllPairs-head, AllPairs-nil,
 pub use Rattle.zf_value.proofs.Among.{ascending-take, contained, every-take, every_at, every_from, member, not_below_itself}
 pub use Rattle.zf_value.proofs.Exact.{exact}
 pub use Rattle.zf_value.proofs.Seen.{is_Int, no_Int, parts-Tuple, same_number}
-pub use Rattle.zf_value.specs.Operations.{AreFrom, IsBetween, IsFunctional, IsInDomain, IsInjective, IsInRange, IsPairOf, IsRelationThat, IsTotal, pair, Relates}
-unfoldable pub use Rattle.zf_value.specs.Operations.{AreElements, ArePartialFunctions, ArePartialInjections, AreRelations, AreTotalFunctions, AreTotalInjections, IsApplied, IsComposition, IsCross, IsDisplay, IsDomain, IsDomainRestriction, IsDomainSubtraction, IsElement, IsImage, IsIntersection, IsInverse, IsOverriding, IsPower, IsRange, IsRangeRestriction, IsRangeSubtraction, IsSetDifference, IsSize, IsUnion}
-pub use Rattle.zf_value.specs.Sets.{IsAscending, IsMember, IsSetOf, members, value_order}
+pub use Rattle.zf_value.specs.{AreFrom, IsAscending, IsBetween, IsFunctional, IsInDomain, IsInjective, IsInRange, IsMember, IsPairOf, IsRelationThat, IsSetOf, IsTotal, members, pair, parts, Relates, value_order}
+unfoldable pub use Rattle.zf_value.specs.{AreAmong, AreElements, ArePartialFunctions, ArePartialInjections, AreRelations, AreTotalFunctions, AreTotalInjections, IsApplied, IsComposition, IsCross, IsDisplay, IsDomain, IsDomainRestriction, IsDomainSubtraction, IsElement, IsImage, IsIntersection, IsInverse, IsOverriding, IsPower, IsRange, IsRangeRestriction, IsRangeSubtraction, IsSetDifference, IsSize, IsUnion}
 pub use Rattle.std.specs.List.{AllByRecursion}
-pub use Rattle.zf_value.specs.SetLaws.{parts}
-unfoldable pub use Rattle.zf_value.specs.Sets.{AreAmong}
 pub use Rattle.zf_value.specs.declared.TheConstants.{SET_MAX}
 pub use Rattle.zf_value.specs.declared.value.Outcome.{Outcome}
 pub use Rattle.zf_value.specs.declared.value.Outcome.TheVariants.{Is, Out, Undefined}
 pub use Rattle.zf_value.specs.declared.value.Truth.{Truth}
 pub use Rattle.zf_value.specs.declared.plain.Value.{Elem, Int, SetOf, Tuple, Value}
-pub use Rattle.zf_term.specs.Definitions.{abbreviation, constructor, Defined, Definition, free_type, given_set, schema}
-pub use Rattle.zf_meaning.specs.Environments.{Context, element, element_count, Environment, globally, IsTypeSet, outcome_in, type_number, within}
-pub use Rattle.zf_meaning.specs.Lookups.{AreElementsIf}
-pub use Rattle.zf_meaning.specs.Meaning.{AreLinked, Builds, constant_truth, HasOutcome, HaveOutcomes, HaveRanges, infinite_right, IsBuilt, IsBuiltBy, IsBuiltOver, IsConstraint, IsOutOfBounds, IsTruth, IsWithinBounds, row_value}
-pub use Rattle.zf_outcome.specs.Outcomes.{OnBoth, one_more, one_out, one_undefined, OnOne, OnSeveral, repeated, Several, values}
-pub use Rattle.zf_meaning.specs.Sizes.{AddsSize, AreAccepted, AreComplete, AreSizes, given_sets, IsAccepted, IsRefusal, IsStated, names, IsSizeFault, with_given}
-pub use Rattle.zf_outcome.specs.Symbols.{ArrowOutcome, BinaryOutcome, Compares, Holds, HoldsOf, InfixOutcome, IsIn, ListedOutcome, PrefixOutcome, SignOutcome, UnaryOutcome}
-pub use Rattle.zf_outcome.specs.Truths.{HasTwo, IsAtom, IsConjunction, IsConnected, IsExists, IsExistsOne, IsForAll, IsLink, IsOver, IsQuantified, IsTest, IsTold, opposite, Tells}
+pub use Rattle.zf_term.specs.{abbreviation, constructor, Defined, Definition, free_type, given_set, schema}
+pub use Rattle.zf_meaning.specs.{AddsSize, AreAccepted, AreComplete, AreElementsIf, AreLinked, AreSizes, Builds, constant_truth, Context, element, element_count, Environment, given_sets, globally, HasOutcome, HaveOutcomes, HaveRanges, infinite_right, IsAccepted, IsBuilt, IsBuiltBy, IsBuiltOver, IsConstraint, IsOutOfBounds, IsRefusal, IsSizeFault, IsStated, IsTruth, IsTypeSet, IsWithinBounds, names, outcome_in, row_value, type_number, with_given, within}
+pub use Rattle.zf_outcome.specs.{ArrowOutcome, BinaryOutcome, Compares, HasTwo, Holds, HoldsOf, InfixOutcome, IsAtom, IsConjunction, IsConnected, IsExists, IsExistsOne, IsForAll, IsIn, IsLink, IsOver, IsQuantified, IsTest, IsTold, ListedOutcome, OnBoth, one_more, one_out, one_undefined, OnOne, OnSeveral, opposite, PrefixOutcome, repeated, Several, SignOutcome, Tells, UnaryOutcome, values}
 pub use Rattle.zf_meaning.specs.declared.sizes.Size.{Size}

@@ -2,11 +2,8 @@
 use Rattle.law_total.proofs.Prelude.{◌<◌, ◌↔◌, ◌∷◌, ◌≡◌, ◌⊎◌, [], ap, inl, inr, List, map, None, Option, refl, Some, subst, sym, ℕ, ⊎_elim, ◌≢◌, Contains, Ordering, Equal, Greater, Less}
 use Rattle.std.specs.Cmp.{IsTotalOrder}
 use Rattle.std.specs.Cmp.Lexicographic.{lists_total, slice_cmp}
-use Rattle.zf_walk.specs.Conjuncts.{Conjuncts, IsTruthOf}
-use Rattle.zf_walk.specs.Events.{Event, IsEvent}
-use Rattle.zf_walk.specs.EventLists.{IsEvents}
-use Rattle.zf_walk.specs.Rows.{ComesAfter, IsFrontOf, IsLater, IsRowOf}
-use Rattle.zf_walk.specs.RowLaws.{TiesAreEqual}
+use Rattle.zf_walk.specs.{ComesAfter, Event, IsEvent, IsEvents, IsFrontOf, IsLater, IsRowOf, IsTruthOf, TiesAreEqual}
+use Rattle.zf_walk.specs.Conjuncts.{Conjuncts}
 use Rattle.zf_walk.specs.declared.judge.Truth.{Truth}
 use Rattle.zf_walk.specs.declared.judge.Truth.TheVariants.{False, Out, True}
 use Rattle.law_total.proofs.Listed.{Decided, decided_not, HasSome, Listed, listed_either, listed_image, listed_kept, listed_one, listed_pairs, listed_same, one_or_all, swapped}

@@ -2,11 +2,11 @@
 use Rattle.law_total.proofs.Prelude.{◌≡◌, subst, sym, Truth, IsTruth}
 use Rattle.zf_tree.specs.declared.operator.Operator.TheVariants as operator
 use Rattle.zf_tree.specs.declared.symbol.Connective.{Connective}
-use Rattle.zf_term.specs.ResolvedTrees.{ResolvedTree, binary}
-use Rattle.zf_outcome.specs.Connected.{connected}
+use Rattle.zf_term.specs.{binary, ResolvedTree}
+use Rattle.zf_outcome.specs.{connected}
 use Rattle.zf_meaning.proofs.Connecting.{connected-told}
 use Rattle.zf_meaning.proofs.Unique.{one_truth}
-use Rattle.law_total.specs.Laws.{ConnectivesByTable}
+use Rattle.law_total.specs.{ConnectivesByTable}
 use Rattle.law_total.proofs.Terms.{some_truth}
 
 pub by_table : ConnectivesByTable

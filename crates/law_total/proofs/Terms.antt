@@ -16,13 +16,13 @@ use Rattle.zf_tree.specs.declared.operator.Operator.{Operator}
 use Rattle.zf_tree.specs.declared.operator.Operator.TheVariants as operator
 use Rattle.zf_tree.specs.declared.operator.Unary.{Unary}
 use Rattle.zf_tree.specs.declared.operator.Unary.TheVariants as the_unary
-use Rattle.zf_term.specs.ResolvedTrees.{ResolvedTree, reference, number, constant, empty_set, bracket, listed, builder, unary, binary, chain, quantified, ResolvedTrees, no_terms, term, ResolvedLinks, no_links, link, Ranges, no_ranges, range, ResolvedPart, absent, present}
+use Rattle.zf_term.specs.{absent, binary, bracket, builder, chain, constant, empty_set, link, listed, no_links, no_ranges, no_terms, number, present, quantified, range, Ranges, reference, ResolvedLinks, ResolvedPart, ResolvedTree, term, unary}
+use Rattle.zf_term.specs.ResolvedTrees.{ResolvedTrees}
 use Rattle.zf_term.specs.declared.extent.Infinite.{Infinite}
 use Rattle.zf_term.specs.declared.extent.Infinite.TheVariants.{Num, Nat, Nat1}
-use Rattle.zf_meaning.specs.Meaning.{IsConstantOutcome}
-use Rattle.zf_meaning.specs.NumberSets.{IsNumberSet, least}
+use Rattle.zf_meaning.specs.{IsConstantOutcome, IsNumberSet, least}
 use Rattle.zf_value.specs.declared.value.Truth.TheVariants as truth
-use Rattle.zf_value.specs.Numbers.{IsNegation, IsSum, IsDifference, IsProduct, IsQuotient, IsModulus, IsInterval}
+use Rattle.zf_value.specs.{IsDifference, IsInterval, IsModulus, IsNegation, IsProduct, IsQuotient, IsSum}
 use Rattle.zf_meaning.proofs.Unique.{one_truth, one_constraint, one_build, one_told_of}
 use Rattle.law_total.proofs.Listed.{HasSome}
 use Rattle.law_total.proofs.Numbers as numbers

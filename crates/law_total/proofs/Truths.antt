@@ -9,7 +9,7 @@ use Rattle.zf_term.specs.declared.extent.Infinite.{Infinite}
 use Rattle.zf_term.specs.declared.extent.Infinite.TheVariants.{Num, Nat, Nat1}
 use Rattle.zf_value.specs.declared.value.Outcome.TheVariants as outcome
 use Rattle.zf_value.specs.declared.value.Truth.TheVariants.{True, False, Out}
-use Rattle.zf_outcome.specs.Connected.{conjunction, connected, connective_of}
+use Rattle.zf_outcome.specs.{conjunction, connected, connective_of}
 use Rattle.zf_meaning.proofs.Connecting.{conjoined, twice, connected-told, told-by}
 use Rattle.law_total.proofs.Listed.{HasSome, Decided, decided_both, decided_not, decided_same, decided_some, one_or_all, swapped, Listed, listed_none, listed_pairs}
 use Rattle.law_total.proofs.Numbers.{decided_below, decided_at_most, number_or_not}

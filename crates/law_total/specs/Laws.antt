@@ -2,20 +2,14 @@
 use Rattle.std.specs.Prelude.{◌≡◌, ◌≢◌, ◌⊎◌, ◌↔◌, ℕ, List, Option}
 use Rattle.zf_tree.specs.declared.operator.Operator.TheVariants as operator
 use Rattle.zf_tree.specs.declared.symbol.Connective.{Connective}
-use Rattle.zf_term.specs.Definitions.{Defined}
-use Rattle.zf_term.specs.ResolvedTrees.{ResolvedTree, binary}
-use Rattle.zf_term.specs.Types.{Ty}
+use Rattle.zf_term.specs.{binary, Defined, ResolvedTree, Ty}
 use Rattle.zf_value.specs.declared.value.Outcome.{Outcome}
 use Rattle.zf_value.specs.declared.value.Truth.{Truth}
 use Rattle.zf_meaning.specs.declared.sizes.Size.{Size}
 use Rattle.zf_meaning.specs.declared.sizes.SizeFault.{SizeFault}
 use Rattle.zf_meaning.specs.declared.sizes.SizeFault.TheVariants.{OutOfMemory}
-use Rattle.zf_meaning.specs.Carriers.{IsCarrier}
-use Rattle.zf_outcome.specs.Connected.{connected}
-use Rattle.zf_meaning.specs.Environments.{Environment, Context}
-use Rattle.zf_meaning.specs.GlobalOutcomes.{IsEnvironment}
-use Rattle.zf_meaning.specs.Meaning.{HasOutcome, IsTruth}
-use Rattle.zf_meaning.specs.Sizes.{given_sets, AreComplete, IsRefusal}
+use Rattle.zf_meaning.specs.{AreComplete, Context, Environment, given_sets, HasOutcome, IsCarrier, IsEnvironment, IsRefusal, IsTruth}
+use Rattle.zf_outcome.specs.{connected}
 
 -- Every expression has an outcome: a value, undefined, or out.
 abbrev pub EveryOutcome : Type 0

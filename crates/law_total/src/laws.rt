@@ -1,5 +1,5 @@
 //! Laws of the definitions.
-ghost use Rattle.law_total.specs.Laws.{EveryOutcome, EveryTruth, ConnectivesByTable, EveryCarrier, SizesAreJudged, EveryEnvironment};
+ghost use Rattle.law_total.specs.{ConnectivesByTable, EveryCarrier, EveryEnvironment, EveryOutcome, EveryTruth, SizesAreJudged};
 
 /// Every expression has an outcome.
 pub fn every_outcome()

@@ -1,7 +1,7 @@
 -- A schema that has grown is within a limit only if it was before.
 use Rattle.zf_calculus.proofs.Prelude.{◌++◌, ◌+◌, ◌<◌, ◌∷◌, ◌≡◌, ◌≤◌, [], arith, length, length-append, List, ℕ, sum_by-append, sum_by_push, AllByRecursion, sum_by, Comp, Schema, ResolvedTree, set_count, set_nodes, height, nodes, constrained, grown, HasLeft, schema_nodes, IsLow, IsTooLarge, KeepsTo, Limit, Offence}
 use Rattle.zf_term.specs.declared.fault.Limit.TheVariants as limit
-use Rattle.zf_calculus.specs.Calculus.{schema_with, with_comp}
+use Rattle.zf_calculus.specs.{schema_with, with_comp}
 use Rattle.zf_calculus.proofs.Merging.{counts_more}
 
 -- what passes a limit passes it with more

@@ -8,29 +8,17 @@ pub use Rattle.std.proofs.lemmas.Result.{IfOk-weaker, on_ok_weaker}
 pub use Rattle.std.specs.List.{AllByRecursion, sum_by}
 pub use Rattle.std.specs.Str.{bytes_eq}
 pub use Rattle.std.specs.Vec.Iter.{into_iter_items}
-pub use Rattle.zf_reference.specs.NumberingViews.{place_in}
+pub use Rattle.zf_reference.specs.{place_in}
 pub use Rattle.zf_tree.specs.declared.symbol.Relation.TheVariants.{Equal}
 pub use Rattle.zf_term.proofs.Places.{AreFirst, in_full, one_more, unmoved}
 pub use Rattle.zf_term.proofs.ResolvedSeen.{new_link, of-Chain, of-link, of-Name}
 pub use Rattle.zf_term.proofs.SameNames.{is_itself, is_same, swapped}
 pub use Rattle.zf_term.proofs.SetsSeen.{of-Carrier, of-Either, of-Plain}
 pub use Rattle.zf_term.proofs.Walk.{at_end, at_step, dropped, pushed}
-pub use Rattle.zf_data.specs.Chunks.{all_of}
+pub use Rattle.zf_data.specs.{all_of}
 pub use Rattle.zf_term.specs.declared.conjunct.Batch.{Batch}
-pub use Rattle.zf_term.specs.SchemaViews.{batch_of, comp_of, conjunct_of, schema_of, set_of}
-pub use Rattle.zf_term.specs.Definitions.{Comp, DeclaredSet, is_member, one_holds, Schema, sets_of, sides}
-pub use Rattle.zf_term.specs.FoundViews.{found_as}
-pub use Rattle.zf_term.specs.FirstNamed.{later}
-pub use Rattle.zf_term.specs.Limits.{schema_nodes, AreFew, IsLow, IsTooLarge, IsWithin, KeepsTo}
-pub use Rattle.zf_term.specs.LimitViews.{HasLeft}
-pub use Rattle.zf_term.specs.ResolvedTrees.{chain, link, no_links, reference, ResolvedTree}
-pub use Rattle.zf_term.specs.ResolvedViews.{links, resolved_link_of, resolved_of}
-pub use Rattle.zf_term.specs.SetShapes.{set_count, set_nodes}
-pub use Rattle.zf_term.specs.Shapes.{height, moved, nodes}
-pub use Rattle.zf_term.specs.ShapeViews.{numbering}
-pub use Rattle.zf_term.specs.TypeViews.{type_of}
+pub use Rattle.zf_term.specs.{AreFew, batch_of, chain, Comp, comp_of, conjunct_of, DeclaredSet, found_as, HasLeft, height, is_member, IsLow, IsTooLarge, IsWithin, KeepsTo, later, link, links, moved, no_links, nodes, numbering, Offence, one_holds, reference, resolved_link_of, resolved_of, ResolvedTree, Schema, schema_nodes, schema_of, set_count, set_nodes, set_of, sets_of, sides, too_large, type_of}
 pub use Rattle.zf_term.specs.declared.conjunct.Conjunct.{Conjunct}
-pub use Rattle.zf_term.specs.Faults.{Offence, too_large}
 pub use Rattle.zf_term.specs.declared.fault.Limit.{Limit}
 pub use Rattle.zf_term.specs.declared.schema.Component.{Component}
 pub use Rattle.zf_term.specs.declared.schema.Domain.{Domain}
@@ -39,7 +27,4 @@ pub use Rattle.zf_term.specs.declared.resolved.Resolved.{Resolved}
 pub use Rattle.zf_term.specs.declared.resolved.ResolvedLink.{ResolvedLink}
 pub use Rattle.zf_term.specs.declared.ztype.ZType.{ZType}
 pub use Rattle.zf_shape.proofs.Heights.{below_nodes}
-pub use Rattle.zf_calculus.specs.Calculus.{Agree, Agrees, all_unchanged, carried, comp, comp_named, conjoined, decorated, delta, disjoined, membership, memberships, new_place, prime, sets_on, unchanged, with_comp, with_comps, xi}
-pub use Rattle.zf_calculus.specs.CalculusLaws.{AreOnce}
-pub use Rattle.zf_calculus.specs.Growth.{AreAt, constrained, counted, disjoined_over, either_comp, enriched, equalities, equality, grown, IfStopped, IsGrowing, place_found, place_named, place_of, place_or}
-pub use Rattle.zf_calculus.specs.Steps.{Clashes, IsNext, OneClashes, Stops}
+pub use Rattle.zf_calculus.specs.{Agree, Agrees, all_unchanged, AreAt, AreOnce, carried, Clashes, comp, comp_named, conjoined, constrained, counted, decorated, delta, disjoined, disjoined_over, either_comp, enriched, equalities, equality, grown, IfStopped, IsGrowing, IsNext, membership, memberships, new_place, OneClashes, place_found, place_named, place_of, place_or, prime, sets_on, Stops, unchanged, with_comp, with_comps, xi}

@@ -7,12 +7,8 @@ use Rattle.zf_tree.specs.declared.symbol.Relation.TheVariants.{Equal}
 use Rattle.zf_tree.specs.declared.tree.RefMark.{RefMark}
 use Rattle.zf_tree.specs.declared.tree.RefMark.TheVariants.{Plain, Delta, Xi}
 use Rattle.zf_reference.specs.declared.reference.Reference.TheVariants.{Component}
-use Rattle.zf_term.specs.Definitions.{Comp, Schema, DeclaredSet, plain, carrier, sides, sets_of, is_member, one_holds}
-pub use Rattle.zf_term.specs.Definitions.{joined}
-use Rattle.zf_term.specs.ResolvedTrees.{ResolvedTree, reference, chain, no_links, link}
-use Rattle.zf_term.specs.FirstNamed.{first_named}
-use Rattle.zf_term.specs.Shapes.{moved}
-use Rattle.zf_term.specs.Types.{Ty}
+use Rattle.zf_term.specs.{carrier, chain, Comp, DeclaredSet, first_named, is_member, link, moved, no_links, one_holds, plain, reference, ResolvedTree, Schema, sets_of, sides, Ty}
+pub use Rattle.zf_term.specs.{joined}
 
 abbrev pub comp : List ℕ → Ty → List DeclaredSet → Comp
 comp name type sets = record { name = name; type = type; sets = sets }

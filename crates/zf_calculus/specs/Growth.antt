@@ -6,18 +6,12 @@ use Rattle.zf_tree.specs.declared.symbol.Relation.TheVariants.{Equal}
 use Rattle.zf_term.specs.declared.schema.Component.{Component}
 use Rattle.zf_term.specs.declared.schema.Domain.{Domain}
 use Rattle.zf_reference.specs.declared.reference.Reference.TheVariants as place
-use Rattle.zf_term.specs.Definitions.{Comp, Schema, DeclaredSet, sides, sets_of, one_holds}
-use Rattle.zf_term.specs.SchemaViews.{schema_of}
-use Rattle.zf_term.specs.ResolvedTrees.{ResolvedTree, reference, chain, no_links, link}
-use Rattle.zf_term.specs.Faults.{Offence, clash, too_large}
-use Rattle.zf_term.specs.TypeViews.{type_of}
+use Rattle.zf_term.specs.{AreFew, chain, clash, Comp, DeclaredSet, HasLeft, link, no_links, Offence, one_holds, reference, ResolvedTree, Schema, schema_of, sets_of, sides, too_large, type_of}
 use Rattle.zf_calculus.specs.declared.growing.Growing.{Growing}
 use Rattle.zf_calculus.specs.declared.stop.Stop.{Stop}
 use Rattle.zf_calculus.specs.declared.stop.Stop.TheVariants.{Clash, TooLarge, OutOfMemory}
 use Rattle.zf_calculus.specs.Calculus as calculus
 use Rattle.zf_calculus.specs.Calculus.{with_comp, with_comps}
-use Rattle.zf_term.specs.Limits.{AreFew}
-use Rattle.zf_term.specs.LimitViews.{HasLeft}
 
 -- its numbers are what is left of the limits
 abbrev pub IsGrowing : Growing → Type 0

@@ -3,10 +3,8 @@ use Rattle.std.specs.Prelude.{◌≡◌, ◌⊎◌, ℕ, List, [], ◌∷◌, Op
 use Rattle.std.specs.Option.{IsSomeAnd}
 use Rattle.zf_tree.specs.declared.tree.RefMark.{RefMark}
 use Rattle.zf_tree.specs.declared.tree.RefMark.TheVariants.{Plain}
-use Rattle.zf_term.specs.Faults.{Offence, clash}
-use Rattle.zf_term.specs.Definitions.{Comp, Schema}
+use Rattle.zf_term.specs.{clash, Comp, IsTooLarge, IsWithin, Offence, Schema}
 use Rattle.zf_calculus.specs.Calculus.{schema_with, comp_named, Agrees, Agree, with_comp, conjoined, decorated, prime}
-use Rattle.zf_term.specs.Limits.{IsWithin, IsTooLarge}
 
 -- the schema after one more, well typed and within the limits
 abbrev pub IsNext : Schema → Schema → Type 0

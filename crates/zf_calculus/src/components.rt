@@ -1,18 +1,11 @@
 //! Components of a schema: which has a name, which agree, and one more.
 ghost use Rattle.std.specs.Prelude.{◌≡◌, ◌++◌, ◌∷◌, [], ◌<◌, ◌≤◌, ◌↔◌, IsTrue, IfErr, IfOk, OnOk, MatchOption, Some, None, map, length, slice_index_or, slice_set};
 ghost use Rattle.zf_term.specs.declared.schema.Component.{Component};
-ghost use Rattle.zf_term.specs.Definitions.{Comp};
-ghost use Rattle.zf_term.specs.SchemaViews.{comp_of};
-ghost use Rattle.zf_reference.specs.NumberingViews.{place_in};
-ghost use Rattle.zf_term.specs.Faults.{clash, too_large};
-ghost use Rattle.zf_term.specs.TypeViews.{type_of};
+ghost use Rattle.zf_term.specs.{AreFew, clash, Comp, comp_of, components_max, too_large, type_of};
+ghost use Rattle.zf_reference.specs.{place_in};
 ghost use Rattle.zf_term.specs.declared.fault.Limit.TheVariants as limit;
 ghost use Rattle.zf_calculus.specs.Calculus as spec;
-ghost use Rattle.zf_calculus.specs.Calculus.{Agrees, Agree, comp_named, new_place, with_comp, with_comps};
-ghost use Rattle.zf_calculus.specs.CalculusLaws.{AreOnce};
-ghost use Rattle.zf_calculus.specs.Growth.{AreAt, enriched, IfStopped, place_named, place_or};
-ghost use Rattle.zf_term.specs.Limits.{AreFew, components_max};
-ghost use Rattle.zf_calculus.specs.Steps.{Clashes, OneClashes};
+ghost use Rattle.zf_calculus.specs.{Agree, Agrees, AreAt, AreOnce, Clashes, comp_named, enriched, IfStopped, new_place, OneClashes, place_named, place_or, with_comp, with_comps};
 
 use crate::limits::COMPONENTS_MAX;
 use crate::stop::Stop;

@@ -1,19 +1,12 @@
 //! Disjunctions of schemas.
 ghost use Rattle.std.specs.Prelude.{◌≡◌, ◌++◌, IfErr, IfOk, List, OnOk, flat_map, map};
-ghost use Rattle.zf_data.specs.Chunks.{all_of};
-ghost use Rattle.zf_term.specs.Definitions.{Comp};
-ghost use Rattle.zf_term.specs.SchemaViews.{batch_of, comp_of, conjunct_of, schema_of, set_of};
-ghost use Rattle.zf_term.specs.ResolvedTrees.{ResolvedTree};
+ghost use Rattle.zf_data.specs.{all_of};
+ghost use Rattle.zf_term.specs.{AreFew, batch_of, Comp, comp_of, conjunct_of, IsTooLarge, ResolvedTree, schema_of, set_of, too_large, type_of};
 ghost use Rattle.zf_term.specs.Shapes as shape;
 ghost use Rattle.zf_term.specs.ShapeViews as shape_views;
-ghost use Rattle.zf_term.specs.TypeViews.{type_of};
-ghost use Rattle.zf_term.specs.Faults.{too_large};
 ghost use Rattle.zf_term.specs.declared.fault.Limit.TheVariants as limit;
 ghost use Rattle.zf_calculus.specs.Calculus as spec;
-ghost use Rattle.zf_calculus.specs.Calculus.{Agree, comp_named, disjoined, either_comps, new_place, with_comp, with_comps};
-ghost use Rattle.zf_calculus.specs.Steps.{IsNext, OneClashes, Stops};
-ghost use Rattle.zf_calculus.specs.Growth.{IfStopped, IsGrowing, disjoined_over, either_comp};
-ghost use Rattle.zf_term.specs.Limits.{AreFew, IsTooLarge};
+ghost use Rattle.zf_calculus.specs.{Agree, comp_named, disjoined, disjoined_over, either_comp, either_comps, IfStopped, IsGrowing, IsNext, new_place, OneClashes, Stops, with_comp, with_comps};
 
 use crate::components::{agree, new_places, place_of};
 use crate::growing::{Growing, are_own};

@@ -1,15 +1,8 @@
 //! Schemas that grow within the limits.
 ghost use Rattle.std.specs.Prelude.{◌≡◌, ◌∷◌, [], ◌++◌, ◌↔◌, IfErr, IfOk, IsTrue, OnOk, length, map};
-ghost use Rattle.zf_term.specs.SchemaViews.{comp_of, conjunct_of, schema_of};
-ghost use Rattle.zf_term.specs.ResolvedTrees.{ResolvedTree};
-ghost use Rattle.zf_reference.specs.NumberingViews.{place_in};
-ghost use Rattle.zf_term.specs.Shapes.{moved};
-ghost use Rattle.zf_term.specs.ShapeViews.{numbering};
-ghost use Rattle.zf_calculus.specs.Calculus.{Agree, Agrees, conjoined, new_place, empty_schema};
-ghost use Rattle.zf_calculus.specs.Steps.{Adds, Clashes, Includes, IsNext, OneClashes, Stops};
-ghost use Rattle.zf_calculus.specs.Growth.{HasLeftBeside, IsGrowing, IfStopped, constrained, equalities, equality, grown};
-ghost use Rattle.zf_term.specs.Limits.{AreFew, IsTooLarge, KeepsTo};
-ghost use Rattle.zf_term.specs.LimitViews.{HasLeft};
+ghost use Rattle.zf_term.specs.{AreFew, comp_of, conjunct_of, HasLeft, IsTooLarge, KeepsTo, moved, numbering, ResolvedTree, schema_of};
+ghost use Rattle.zf_reference.specs.{place_in};
+ghost use Rattle.zf_calculus.specs.{Adds, Agree, Agrees, Clashes, conjoined, constrained, empty_schema, equalities, equality, grown, HasLeftBeside, IfStopped, Includes, IsGrowing, IsNext, new_place, OneClashes, Stops};
 
 use crate::components::{agree, agrees, are_apart, join, join_all};
 use crate::limits::{COMPONENTS_MAX, CONJUNCTS_MAX, NODES_MAX, SETS_MAX};

@@ -1,12 +1,9 @@
 //! Decorated schemas, and those of operations on a state.
 ghost use Rattle.std.specs.Prelude.{◌≡◌, ◌++◌, ℕ, IfErr, IfOk, List, OnOk, length, map};
-ghost use Rattle.zf_term.specs.SchemaViews.{comp_of, schema_of};
-ghost use Rattle.zf_reference.specs.NumberingViews.{place_in};
+ghost use Rattle.zf_term.specs.{comp_of, IsTooLarge, schema_of};
+ghost use Rattle.zf_reference.specs.{place_in};
 ghost use Rattle.zf_calculus.specs.Calculus as spec;
-ghost use Rattle.zf_calculus.specs.Calculus.{Agree, MarkAgrees, comp, conjoined, decorated, delta, new_place, prime, xi};
-ghost use Rattle.zf_calculus.specs.Steps.{IsNext, MarkClashes, OneClashes, Stops};
-ghost use Rattle.zf_calculus.specs.Growth.{IfStopped, IsGrowing};
-ghost use Rattle.zf_term.specs.Limits.{IsTooLarge};
+ghost use Rattle.zf_calculus.specs.{Agree, comp, conjoined, decorated, delta, IfStopped, IsGrowing, IsNext, MarkAgrees, MarkClashes, new_place, OneClashes, prime, Stops, xi};
 
 use crate::components::agree;
 use crate::growing::Growing;

@@ -1,11 +1,8 @@
 //! How much of the limits is left behind parts of a schema.
 ghost use Rattle.std.specs.Prelude.{◌≡◌, ◌+◌, ◌<◌, ◌↔◌, IsTrue, MatchOption, map};
 ghost use Rattle.std.specs.List.{AllByRecursion, sum_by};
-ghost use Rattle.zf_term.specs.SchemaViews.{comp_of, conjunct_of, set_of};
-ghost use Rattle.zf_term.specs.SetShapes.{set_count, set_nodes};
-ghost use Rattle.zf_term.specs.Shapes.{nodes};
-ghost use Rattle.zf_calculus.specs.Growth.{counted};
-ghost use Rattle.zf_term.specs.Limits.{IsLow};
+ghost use Rattle.zf_term.specs.{comp_of, conjunct_of, IsLow, nodes, set_count, set_nodes, set_of};
+ghost use Rattle.zf_calculus.specs.{counted};
 
 use crate::limits::HEIGHT_MAX;
 use zf_data::arena::Chunked;

@@ -4,9 +4,8 @@ use Rattle.zf_tree.specs.declared.symbol.Relation.{Relation}
 use Rattle.zf_tree.specs.declared.operator.Listed.{Listed}
 use Rattle.zf_tree.specs.Trees as text
 use Rattle.zf_reference.specs.declared.reference.Reference.{Reference}
-use Rattle.zf_extent.specs.Extents.{is_membership, is_last, tested, unless, name_offenders, extent_by, extent_found, extent_named, extent_set, extent_of, direct, offending, all_offending, links_offending, ranges_offending, part_offending}
-use Rattle.zf_typing.specs.Scopes.{Scope, Var, with_variables, last_named, variable_meaning, component_meaning, global_meaning, meaning}
-use Rattle.zf_typing.specs.Typing.{IsOf, AreMembers, member_sort, LinksAreTyped, Declare, PartIsPredicate, HasMemberType}
+use Rattle.zf_extent.specs.{all_offending, direct, extent_by, extent_found, extent_named, extent_of, extent_set, is_last, is_membership, links_offending, name_offenders, offending, part_offending, ranges_offending, tested, unless}
+use Rattle.zf_typing.specs.{AreMembers, component_meaning, Declare, global_meaning, HasMemberType, IsOf, last_named, LinksAreTyped, meaning, member_sort, PartIsPredicate, Scope, Var, variable_meaning, with_variables}
 use Rattle.zf_typing.proofs.ResolvedAlike.{resolved_within}
 use Rattle.zf_checker.proofs.Fronts.{in_front}
 use Rattle.zf_schema.proofs.Named.{named_there}

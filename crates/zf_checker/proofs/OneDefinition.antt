@@ -2,7 +2,7 @@
 use Rattle.zf_checker.proofs.Prelude.{◌+◌, ◌∙◌, ◌∷◌, ◌≡◌, [], ap, inl, inr, List, map, refl, sym, ℕ, spelling, definition, free, given, ParagraphTree, Name, constructor, Defined, free_type, given_set, schema, Offence, no_offence, one_sort, same_typed, resolved, typed, outside}
 use Rattle.zf_tree.specs.Trees as text
 use Rattle.zf_tree.specs.declared.operator.Need.TheVariants as need
-use Rattle.zf_schema.specs.Checking.{Item, a_paragraph, a_box, with_global, abbreviated, next_number, Gives, Constructs, DefinesParagraph, Defines, OffendsGiven, OffendsConstructors, OffendsParagraph, OffendsItem}
+use Rattle.zf_schema.specs.{a_box, a_paragraph, abbreviated, Constructs, Defines, DefinesParagraph, Gives, Item, next_number, OffendsConstructors, OffendsGiven, OffendsItem, OffendsParagraph, with_global}
 use Rattle.zf_schema.proofs.NoSchemaOffence.{no_schema_offence, no_text_offence}
 use Rattle.zf_schema.proofs.OneSchema.{one_schema, one_text}
 

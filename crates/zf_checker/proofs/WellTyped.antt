@@ -1,7 +1,7 @@
 -- What a text defines is well typed after what was defined before.
 use Rattle.zf_checker.proofs.Prelude.{◌++◌, ◌+◌, ◌∙◌, ◌∷◌, ◌≡◌, [], ap, arith, inl, inr, length, List, map, refl, slice_get, Some, subst, sym, ℕ, append_assoc, length-append, none-some, spelling, definition, free, given, ParagraphTree, schema_text, Name, constructor, Defined, Definition, free_type, given_set, schema, resolved, Fault, outside, AreWellTyped, GlobalsWellTyped, IsMadeAfter}
 use Rattle.zf_tree.specs.Trees as text
-use Rattle.zf_schema.specs.Checking.{Item, a_paragraph, a_box, items, with_global, abbreviated, next_number, Gives, Constructs, DefinesParagraph, Defines, ChecksOne, ChecksAll}
+use Rattle.zf_schema.specs.{a_box, a_paragraph, abbreviated, ChecksAll, ChecksOne, Constructs, Defines, DefinesParagraph, Gives, Item, items, next_number, with_global}
 use Rattle.zf_checker.proofs.Fronts.{in_front, at_seam, before_or_last}
 
 none_yet : AreWellTyped []

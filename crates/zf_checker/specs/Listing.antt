@@ -1,7 +1,6 @@
 -- What a text defines, as it is printed: in the order of definition, each line ended by a newline byte.
 use Rattle.std.specs.Prelude.{ℕ, List, [], ◌∷◌, ◌++◌, flat_map, codes}
-use Rattle.zf_term.specs.Definitions.{Comp, Definition, given_set, free_type, constructor, abbreviation, schema, Defined}
-use Rattle.zf_term.specs.TypeTexts.{type_text}
+use Rattle.zf_term.specs.{abbreviation, Comp, constructor, Defined, Definition, free_type, given_set, schema, type_text}
 
 abbrev pub choices_text : List (List ℕ) → List ℕ
 choices_text [] = []

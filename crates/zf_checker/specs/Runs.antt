@@ -1,13 +1,13 @@
 -- How far a check of a text has come, for private contracts alone.
 use Rattle.std.specs.Prelude.{◌≡◌, List, [], ◌∷◌, ◌++◌, map, Result, Ok, Err}
-use Rattle.zf_term.specs.DefinitionViews.{globals_of}
+use Rattle.zf_term.specs.{globals_of}
 use Rattle.zf_sorts.specs.declared.fault.Refusal.{Refusal}
 use Rattle.zf_sorts.specs.declared.fault.Refusal.TheVariants.{Fault, OutOfMemory}
 use Rattle.zf_sorts.specs.declared.fault.TypeFault.{TypeFault}
-use Rattle.zf_sorts.specs.Refusals.{fault_of}
+use Rattle.zf_sorts.specs.{fault_of}
 use Rattle.zf_term.specs.Faults as fault
 use Rattle.zf_checker.specs.declared.checker.Checked.{Checked}
-use Rattle.zf_schema.specs.Checking.{Item, ChecksOne, ChecksAll}
+use Rattle.zf_schema.specs.{ChecksAll, ChecksOne, Item}
 
 -- the fault, if there is one, is put behind those that were there
 abbrev pub Notes : {A : Type 0} → Result A Refusal → List TypeFault → List TypeFault → Type 0

@@ -1,17 +1,12 @@
 -- What the globals of a text hold is well typed: each of them is made by the rules from those before it, and what is kept with it stays true.
 use Rattle.std.specs.Prelude.{◌≡◌, ℕ, ◌+◌, List, length, take, slice_get, Some}
-use Rattle.zf_tree.specs.Trees.{Tree, SchemaTree, BoxTree}
+use Rattle.zf_tree.specs.{BoxTree, SchemaTree, Tree}
 use Rattle.zf_term.specs.declared.extent.Extent.{Extent}
-use Rattle.zf_term.specs.Definitions.{Defined, Definition, given_set, free_type, constructor, abbreviation, schema}
-use Rattle.zf_extent.specs.Extents.{extent_of}
-use Rattle.zf_term.specs.ResolvedTrees.{ResolvedTree}
-use Rattle.zf_term.specs.Types.{Ty}
-use Rattle.zf_term.specs.Faults.{Fault}
-use Rattle.zf_typing.specs.Resolving.{resolved}
-use Rattle.zf_sorts.specs.Rules.{typed}
-use Rattle.zf_typing.specs.Typing.{IsOf}
-use Rattle.zf_schema.specs.Expressions.{outside, IsSchema}
-use Rattle.zf_schema.specs.Checking.{next_number, IsChecked}
+use Rattle.zf_term.specs.{abbreviation, constructor, Defined, Definition, Fault, free_type, given_set, ResolvedTree, schema, Ty}
+use Rattle.zf_extent.specs.{extent_of}
+use Rattle.zf_typing.specs.{IsOf, resolved}
+use Rattle.zf_sorts.specs.{typed}
+use Rattle.zf_schema.specs.{IsChecked, IsSchema, next_number, outside}
 
 -- the free type of this number and name is among the globals; it has this name at the place, and only that many globals stand behind it
 abbrev pub IsConstructor : List Defined → (name : List ℕ) → (number : ℕ) → (of_type : List ℕ) → (place : ℕ) → Type 0

@@ -1,11 +1,11 @@
 //! The checker: what a text defines, and what is wrong with it.
 ghost use Rattle.std.specs.Prelude.{◌≡◌, [], map, IfOk, OnOk};
-ghost use Rattle.zf_tree.specs.TreeViews.{boxes_of, box_of, paragraph_of, decl_of, tree_of};
-ghost use Rattle.zf_term.specs.DefinitionViews.{globals_of};
-ghost use Rattle.zf_term.specs.Numbers.{next_number};
-ghost use Rattle.zf_sorts.specs.Refusals.{fault_of};
-ghost use Rattle.zf_schema.specs.Checking.{a_paragraph, a_box, items, items_in, IsChecked};
-ghost use Rattle.zf_checker.specs.Runs.{Notes, Runs, RunsOne};
+ghost use Rattle.zf_tree.specs.{box_of, boxes_of, decl_of, paragraph_of, tree_of};
+ghost use Rattle.zf_term.specs.{globals_of, next_number};
+ghost use Rattle.zf_sorts.specs.{fault_of};
+ghost use Rattle.zf_schema.specs.{a_box, a_paragraph, IsChecked, items, items_in};
+ghost use Rattle.zf_checker.specs.{Notes, RunsOne};
+ghost use Rattle.zf_checker.specs.Runs.{Runs};
 
 use bumpalo::Bump;
 use std::alloc::{AllocError, Global};

@@ -1,6 +1,6 @@
 //! What holds of every schema expression, of every paragraph and box, and of every text.
-ghost use Rattle.zf_schema.specs.SchemaLaws.{CompsJoined, CompsOfEither, CompsOnce, DecorationRenames, FirstKept, GlobalsKept, NamesOnce, NoItemOffence, NoSchemaOffence, OneCheck, OneDefinition, OneSchema, PlacesCarried, SetsJoined, SetsOfEither, TypesJoined, TypesOfEither, XiEquates};
-ghost use Rattle.zf_checker.specs.WellTypedGlobals.{ExtentsKept, GlobalsWellTyped};
+ghost use Rattle.zf_schema.specs.{CompsJoined, CompsOfEither, CompsOnce, DecorationRenames, FirstKept, GlobalsKept, NamesOnce, NoItemOffence, NoSchemaOffence, OneCheck, OneDefinition, OneSchema, PlacesCarried, SetsJoined, SetsOfEither, TypesJoined, TypesOfEither, XiEquates};
+ghost use Rattle.zf_checker.specs.{ExtentsKept, GlobalsWellTyped};
 
 /// After the same globals a schema expression is one schema at most.
 pub fn one_schema()

@@ -1,9 +1,6 @@
 //! What a text defines, as it is printed.
 ghost use Rattle.std.specs.Prelude.{◌≡◌, ◌++◌, codes, IfOk, OnOk, flat_map, map};
-ghost use Rattle.zf_term.specs.SchemaViews.{comp_of, schema_of};
-ghost use Rattle.zf_term.specs.DefinitionViews.{definition_of, globals_of};
-ghost use Rattle.zf_term.specs.TypeTexts.{type_text};
-ghost use Rattle.zf_term.specs.TypeViews.{type_of};
+ghost use Rattle.zf_term.specs.{comp_of, definition_of, globals_of, schema_of, type_of, type_text};
 ghost use Rattle.zf_checker.specs.Listing as spec;
 
 use std::alloc::{AllocError, Global};

@@ -7,9 +7,7 @@ pub use Rattle.std.specs.Str.Parse.{AllDigits, digits_value, IsNumeral, ParsesUn
 pub use Rattle.clap.proofs.WalkLemmas.{first_value-rows, raw_values-rows}
 pub use Rattle.clap.specs.Words.{AddsArg, AddsSubcommand, App, fault_of, first_of, found_of, HasKind, HasMatchesOf, is_simple, is_simple_and_free, IsAmong, kind_of, Row, Rule, subcommand_name_of, subcommand_of, subcommand_rows, subcommand_rows_of, Text, with_rule, with_subcommand}
 pub use Rattle.clap.specs.declared.error.kind.ErrorKind.TheVariants.{DisplayHelp, DisplayVersion, OutOfMemory}
-pub use Rattle.zf_command.specs.Apps.{IsArg, IsCommand, zf_app}
-pub use Rattle.zf_command.specs.Jobs.{AreMatches, Asks, HasBadLimit, HasBadNumber, HasBadNumbers, HasBadSetting, HasBadSize, IsAsked, IsBadSize, IsExploration, IsJob, IsLimit, IsNumberOf, IsRefused, IsRequest, IsSetting, IsShown, other_words, ReadsNumber, ReadsSize, Refuses, RefusesExploration, RefusesShown, size_words, values_of, words_after}
-pub use Rattle.zf_command.specs.Requests.{IsBare}
+pub use Rattle.zf_command.specs.{AreMatches, Asks, HasBadLimit, HasBadNumber, HasBadNumbers, HasBadSetting, HasBadSize, IsArg, IsAsked, IsBadSize, IsBare, IsCommand, IsExploration, IsJob, IsLimit, IsNumberOf, IsRefused, IsRequest, IsSetting, IsShown, other_words, ReadsNumber, ReadsSize, Refuses, RefusesExploration, RefusesShown, size_words, values_of, words_after, zf_app}
 pub use Rattle.zf_command.specs.declared.job.Asked.TheVariants.{About, Work}
 pub use Rattle.zf_command.specs.declared.job.Size.{Size}
 pub use Rattle.zf_command.specs.declared.job.UsageFault.{UsageFault}

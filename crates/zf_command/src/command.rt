@@ -2,7 +2,7 @@
 ghost use Rattle.std.specs.Prelude.{◌≡◌, IfOk, codes};
 ghost use Rattle.clap.specs.Words.{App};
 ghost use Rattle.zf_command.specs.Apps as spec;
-ghost use Rattle.zf_command.specs.Apps.{IsArg, IsCommand, IsTop, check_app, details_rule, flag_rule, operations_rule, option_rule, reach_app, required_rule, show_app, sizes_rule, types_rule, why_app, zf_app, zf_top};
+ghost use Rattle.zf_command.specs.{check_app, details_rule, flag_rule, IsArg, IsCommand, IsTop, operations_rule, option_rule, reach_app, required_rule, show_app, sizes_rule, types_rule, why_app, zf_app, zf_top};
 
 use clap::{Arg, ArgAction, Command};
 use std::alloc::{AllocError, Global};

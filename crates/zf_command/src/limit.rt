@@ -1,6 +1,6 @@
 //! Limits: how many bindings or states are written at most.
 ghost use Rattle.std.specs.Prelude.{IfOk, IsErrOf, MatchOption, option_map};
-ghost use Rattle.zf_command.specs.Jobs.{HasBadLimit, IsBadLimit, IsLimit, ReadsLimit};
+ghost use Rattle.zf_command.specs.{HasBadLimit, IsBadLimit, IsLimit, ReadsLimit};
 ghost use Rattle.zf_command.specs.declared.job.UsageFault.TheVariants.{BadWords};
 
 use crate::job::UsageFault;

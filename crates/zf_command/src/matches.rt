@@ -1,7 +1,7 @@
 //! The values of `clap`'s matches.
 ghost use Rattle.std.specs.Prelude.{◌≡◌, IfOk, map, option_map};
 ghost use Rattle.clap.specs.Words.{all_of, first_of, found_of, rows_of};
-ghost use Rattle.zf_command.specs.Jobs.{format_in, is_flagged, value_of};
+ghost use Rattle.zf_command.specs.{format_in, is_flagged, value_of};
 
 use clap::ArgMatches;
 use std::alloc::{AllocError, Global};

@@ -2,7 +2,7 @@
 ghost use Rattle.std.specs.Prelude.{◌≡◌, ◌↔◌, IfOk, IsErrOf, IsTrue, MatchOption, EachIndex, option_map, slice_index};
 ghost use Rattle.std.specs.Int.{IsInRange};
 ghost use Rattle.std.specs.Str.Parse.{IsNumeral};
-ghost use Rattle.zf_command.specs.Jobs.{HasBadNumber, IsNumberOf, ReadsNumber};
+ghost use Rattle.zf_command.specs.{HasBadNumber, IsNumberOf, ReadsNumber};
 ghost use Rattle.zf_command.specs.declared.job.UsageFault.TheVariants.{BadWords};
 
 use crate::job::UsageFault;

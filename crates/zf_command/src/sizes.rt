@@ -2,7 +2,7 @@
 ghost use Rattle.std.specs.Prelude.{◌≡◌, IfOk, IsErrOf, MatchOption, map};
 ghost use Rattle.std.specs.List.{AllZip};
 ghost use Rattle.zf_command.specs.Jobs as spec;
-ghost use Rattle.zf_command.specs.Jobs.{HasBadSize, IsBadSize, ReadsSize};
+ghost use Rattle.zf_command.specs.{HasBadSize, IsBadSize, ReadsSize};
 ghost use Rattle.zf_command.specs.declared.job.UsageFault.TheVariants.{BadWords};
 
 use crate::job::{Size, UsageFault};

@@ -2,5 +2,4 @@
 pub use Rattle.std.proofs.Common.{◌++◌, ◌+◌, ◌<◌, ◌≤◌, ◌∙◌, ◌∷◌, ◌≡◌, ◌⊎◌, ◌↔◌, [], add-one, ap, append-nil, append_assoc, arith, Bool, true, false, drop, get_or, inl, inr, length, List, map, None, Some, Option, refl, rules, subst, suc, sym, take, zero, ℕ}
 pub use Rattle.std.specs.List.{AllByRecursion}
 pub use Rattle.std.specs.Prelude.{Contains, slice_get, slice_set, slice_index_or}
-pub use Rattle.zf_cores.specs.Choices.{chosen_of, HasChosen, IsChosen, IsLeft, IsMinimal}
-pub use Rattle.zf_cores.specs.Trials.{IsFewer, OneOf}
+pub use Rattle.zf_cores.specs.{chosen_of, HasChosen, IsChosen, IsFewer, IsLeft, IsMinimal, OneOf}

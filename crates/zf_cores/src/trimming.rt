@@ -1,6 +1,6 @@
 //! Minimal sets of which nothing is possible.
 ghost use Rattle.std.specs.Prelude.{◌≡◌, IfOk, replicate, true};
-ghost use Rattle.zf_cores.specs.Choices.{IsMinimal};
+ghost use Rattle.zf_cores.specs.{IsMinimal};
 
 use crate::trial::Trial;
 use std::alloc::{AllocError, Global};

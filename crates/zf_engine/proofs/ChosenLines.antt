@@ -4,7 +4,7 @@ use Rattle.std.specs.Prelude.{drop, slice_get}
 use Rattle.std.specs.List.{flat_map}
 use Rattle.std.proofs.lemmas.Grind.{flat_map-append}
 use Rattle.std.proofs.lemmas.List.Folds.{flat_map-map}
-use Rattle.zf_cores.specs.Choices.{chosen_of}
+use Rattle.zf_cores.specs.{chosen_of}
 use Rattle.zf_cores.proofs.Choosing.{goes_in, none_further, seen_chosen}
 use Rattle.zf_why.proofs.Lists.{stays_out_at}
 

@@ -1,29 +1,22 @@
 -- What is written of a machine is the answer of `reach`, or a part of it: of its exploration, or of a search for a state.
 use Rattle.zf_engine.proofs.Prelude.{◌∷◌, ◌≡◌, ◌⊎◌, [], inl, inr, List, None, Ok, Option, refl, Some, subst, sym, ℕ, Answer, Appends, Environment, Reaches, spellings, Spelling, Status, StopsInSource}
 use Rattle.std.specs.List.{AllByRecursion, AllZip}
-use Rattle.zf_checker.specs.WellTypedGlobals.{AreWellTyped}
+use Rattle.zf_checker.specs.{AreWellTyped}
 use Rattle.zf_command.specs.declared.job.Exploration.{Exploration}
 use Rattle.zf_command.specs.declared.job.Job.TheVariants.{Reach}
-use Rattle.zf_finite.specs.Finite.{IsFinite}
-use Rattle.zf_graph.specs.Seeking.{IsSearched, Result}
-use Rattle.zf_graph.specs.SeekingLaws.{IsSearchedPart}
-use Rattle.zf_graph.specs.Texts.{Ending, IsExplored}
-use Rattle.zf_graph.specs.Laws.{IsPart}
-use Rattle.zf_lines.specs.FaultViews.{AppendsFront}
-use Rattle.zf_machines.specs.Machines.{all_of, IsMachineOf, Named, Schemas}
-use Rattle.zf_ranges.specs.Ranges.{IsNoneOut}
+use Rattle.zf_finite.specs.{IsFinite}
+use Rattle.zf_graph.specs.{Ending, IsExplored, IsPart, IsSearched, IsSearchedPart, Result}
+use Rattle.zf_lines.specs.{AppendsFront}
+use Rattle.zf_machines.specs.{all_of, IsMachineOf, Named, Schemas}
+use Rattle.zf_ranges.specs.{IsNoneOut}
 use Rattle.zf_reach.specs.declared.ending.Ending as code
 use Rattle.zf_reach.specs.declared.ending.Ending.TheVariants.{Broken, Ended, Paused}
 use Rattle.zf_reach.specs.declared.finding.Finding.{Finding}
 use Rattle.zf_reach.specs.declared.finding.Finding.TheVariants.{Found, Missing, OpenEnded, Untold}
-use Rattle.zf_reach.specs.Machines.{ending_of, result_of}
-use Rattle.zf_reach.specs.Runs.{StopsEarly, StopsSearch}
+use Rattle.zf_reach.specs.{ending_of, result_of, StopsEarly, StopsSearch}
 use Rattle.zf_steps.specs.declared.form.Form.{Form}
-use Rattle.zf_steps.specs.Explored.{explored_in, sought_in}
-use Rattle.zf_steps.specs.Renewing.{CanSearch}
-use Rattle.zf_steps.specs.Systems.{System}
-use Rattle.zf_steps.specs.Words.{verdict, words}
-use Rattle.zf_engine.specs.Explorations.{TellsMachine, ending_status, ExplorationAnswer, ExplorationBegins, form_of, IsSchemaOf, IsSearchable, names_of, result_status, states_limit}
+use Rattle.zf_steps.specs.{CanSearch, explored_in, sought_in, System, verdict, words}
+use Rattle.zf_engine.specs.{ending_status, ExplorationAnswer, ExplorationBegins, form_of, IsSchemaOf, IsSearchable, names_of, result_status, states_limit, TellsMachine}
 use Rattle.zf_engine.proofs.DueWithin.{due_within}
 use Rattle.zf_engine.proofs.Parts.{nothing_stops}
 use Rattle.zf_engine.proofs.Reaching.{in_order}

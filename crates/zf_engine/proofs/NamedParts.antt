@@ -11,10 +11,8 @@ use Rattle.std.proofs.lemmas.List.Splits.{slice_split_first, slice_split_none}
 use Rattle.std.proofs.lemmas.List.Sums.{fails_before_first, position_or_len_is, prefix_len-le-length}
 use Rattle.std.specs.Prelude.{drop, not, option_map, AllPairs, Contains}
 use Rattle.std.specs.List.{after_first, before_first, list_any, position_or_len, slice_split}
-use Rattle.zf_term.specs.FirstNamed.{first_named}
-use Rattle.zf_engine.specs.Only.{component_place, is_comma, NamesParts, names_between}
-use Rattle.zf_engine.specs.Adding.{IsAdded, HasNoPlace}
-use Rattle.zf_engine.specs.SourceLines.{trimmed}
+use Rattle.zf_term.specs.{first_named}
+use Rattle.zf_engine.specs.{component_place, HasNoPlace, is_comma, IsAdded, names_between, NamesParts, trimmed}
 
 -- ---- what stands before the first comma
 

@@ -8,11 +8,10 @@ use Rattle.zf_tree.specs.declared.tree.RefMark.TheVariants.{Plain, Delta, Xi}
 use Rattle.zf_tree.specs.declared.tree.SchemaRef.{SchemaRef}
 use Rattle.zf_tree.specs.Trees as text
 use Rattle.zf_tree.specs.declared.operator.Operator.TheVariants.{Connective}
-use Rattle.zf_term.specs.Types.{Ty}
+use Rattle.zf_term.specs.{Ty}
 use Rattle.zf_term.proofs.SameNames.{is_itself}
-use Rattle.zf_calculus.specs.Calculus.{empty_schema, comp, comp_named, with_comp, with_comps, new_place, conjoined, carried, decorated, prime, delta, all_unchanged, xi, marked, either_comps, membership, memberships, constraints, joined, disjoined}
-use Rattle.zf_calculus.specs.Growth.{place_or, place_of}
-use Rattle.zf_schema.specs.Expressions.{outside, inside, Refers, AddsAll, DeclaresOne, Declares, TakesAll, Constrains, IsSchema}
+use Rattle.zf_calculus.specs.{all_unchanged, carried, comp, comp_named, conjoined, constraints, decorated, delta, disjoined, either_comps, empty_schema, joined, marked, membership, memberships, new_place, place_of, place_or, prime, with_comp, with_comps, xi}
+use Rattle.zf_schema.specs.{AddsAll, Constrains, Declares, DeclaresOne, inside, IsSchema, outside, Refers, TakesAll}
 use Rattle.zf_engine.proofs.Within.{joins, first_below, resolved_within, AreDue, due_joined, due_longer, due_both, conjuncts_due, moved_due}
 
 -- ---- names that are found

@@ -5,22 +5,15 @@ use Rattle.zf_command.specs.declared.job.Job.{Job}
 use Rattle.zf_command.specs.declared.job.Exploration.{Exploration}
 use Rattle.zf_command.specs.declared.job.Job.TheVariants.{Check, Reach, Show, Why}
 use Rattle.zf_format.specs.declared.format.Format.{Format}
-use Rattle.zf_format.specs.Messages.{messages_in}
-use Rattle.zf_value.specs.Sets.{value_order}
-use Rattle.zf_enum.specs.Starts.{Begins}
+use Rattle.zf_format.specs.{messages_in}
+use Rattle.zf_value.specs.{value_order}
+use Rattle.zf_enum.specs.{Begins}
 use Rattle.zf_lines.specs.declared.fault.RunFault.{RunFault}
-use Rattle.zf_walk.specs.Events.{Event}
-use Rattle.zf_walk.specs.Tests.{IsNumberOfTests}
-use Rattle.zf_lines.specs.FaultViews.{AppendsFront}
-use Rattle.zf_engine.specs.Explorations.{ExplorationAnswer}
-use Rattle.zf_engine.specs.Faults.{Gave}
-use Rattle.zf_lines.specs.Searches.{AreEventsUpTo, HasEvents, IsBegun, IsTestsLine, IsWritten, Wording}
-use Rattle.zf_lines.specs.Shown.{FindsEvents, IsSome, StopsShown, TellsTests, WritesAll}
-use Rattle.zf_places.specs.Places.{comps_at}
-use Rattle.zf_parts.specs.Shown.{StopsParts, WritesParts}
-use Rattle.zf_parts.specs.Written.{ArePartsWritten, part_wording}
-use Rattle.zf_engine.specs.Answers.{TellsShown}
-use Rattle.zf_engine.specs.Only.{NamesParts}
+use Rattle.zf_walk.specs.{Event, IsNumberOfTests}
+use Rattle.zf_lines.specs.{AppendsFront, AreEventsUpTo, FindsEvents, HasEvents, IsBegun, IsSome, IsTestsLine, IsWritten, StopsShown, TellsTests, Wording, WritesAll}
+use Rattle.zf_engine.specs.{ExplorationAnswer, Gave, NamesParts, TellsShown}
+use Rattle.zf_places.specs.{comps_at}
+use Rattle.zf_parts.specs.{ArePartsWritten, part_wording, StopsParts, WritesParts}
 
 -- ---- answers that are whole
 

@@ -7,41 +7,24 @@ pub use Rattle.std.proofs.lemmas.Option.{none-some, same_Some}
 pub use Rattle.std.specs.Io.KnownBytes.{Appends, Consumes, Keeps}
 pub use Rattle.std.specs.Option.{option_copied, option_or}
 pub use Rattle.std.specs.Str.{bytes_eq}
-pub use Rattle.zf_walk.specs.Progress.{AreDueWithin, Stage}
+pub use Rattle.zf_walk.specs.{AreDueWithin, Stage}
 pub use Rattle.zf_reference.specs.declared.reference.Reference.TheVariants.{Component, Global, Local}
 pub use Rattle.zf_value.specs.declared.plain.Value.{Value}
-pub use Rattle.zf_tree.specs.Names.{spelling}
-pub use Rattle.zf_tree.specs.Trees.{both, DeclTree, either, include, Links, no_decls, no_trees, Perhaps, schema_bracket, schema_text, SchemaTree, Tree, tree, Trees, var_decl, VarDecls, vars}
+pub use Rattle.zf_tree.specs.{both, DeclTree, either, include, Links, no_decls, no_trees, Perhaps, schema_bracket, schema_text, SchemaTree, spelling, Tree, tree, var_decl, VarDecls, vars}
+pub use Rattle.zf_tree.specs.Trees.{Trees}
 pub use Rattle.zf_term.proofs.Behind.{onto_behind}
-pub use Rattle.zf_term.specs.Definitions.{carrier, Comp, DeclaredSet, Defined, plain, Schema, schema, sides}
-pub use Rattle.zf_term.specs.SchemaViews.{comp_of, schema_of}
-pub use Rattle.zf_term.specs.DefinitionViews.{globals_of}
-pub use Rattle.zf_term.specs.FirstNamed.{first_named, later}
-pub use Rattle.zf_term.specs.ResolvedTrees.{binary, bracket, builder, chain, constant, empty_set, listed, number, quantified, reference, ResolvedTree, unary}
-pub use Rattle.zf_term.specs.Shapes.{conjuncts, is_and, is_conjunction, term_line, moved}
-pub use Rattle.zf_term.specs.References.{references}
-pub use Rattle.zf_sorts.specs.Refusals.{fault_of}
-pub use Rattle.zf_typing.specs.Resolving.{bound, referent, resolved, resolved_all, resolved_links, resolved_part, resolved_ranges}
-pub use Rattle.zf_checker.specs.WellTypedGlobals.{AreWellTyped}
-pub use Rattle.zf_meaning.specs.Environments.{Environment}
-pub use Rattle.zf_meaning.specs.Envs.{environment_of}
-pub use Rattle.zf_print.specs.Spellings.{spellings}
+pub use Rattle.zf_term.specs.{binary, bracket, builder, carrier, chain, Comp, comp_of, conjuncts, constant, DeclaredSet, Defined, empty_set, first_named, globals_of, is_and, is_conjunction, later, listed, moved, number, plain, quantified, reference, references, ResolvedTree, Schema, schema, schema_of, sides, term_line, unary}
+pub use Rattle.zf_sorts.specs.{fault_of}
+pub use Rattle.zf_typing.specs.{bound, referent, resolved, resolved_all, resolved_links, resolved_part, resolved_ranges}
+pub use Rattle.zf_checker.specs.{AreWellTyped}
+pub use Rattle.zf_meaning.specs.{Environment, environment_of}
+pub use Rattle.zf_print.specs.{spellings}
 pub use Rattle.zf_print.specs.declared.spelling.Spelling.{Spelling}
-pub use Rattle.zf_enum.specs.Portions.{Portion}
-pub use Rattle.zf_enum.specs.PortionViews.{portion}
-pub use Rattle.zf_enum.specs.Property.{due, due_of, greatest_place, place_named, property}
-pub use Rattle.zf_enum.specs.Searches.{counted_goal, Goal, planted_goal}
+pub use Rattle.zf_enum.specs.{counted_goal, due, due_of, Goal, greatest_place, place_named, planted_goal, Portion, portion, property}
 pub use Rattle.zf_command.specs.declared.job.Request.{Request}
 pub use Rattle.zf_lines.proofs.Beginning.{at_start, counting_at_start}
 pub use Rattle.zf_lines.specs.declared.fault.Status.{Status}
-pub use Rattle.zf_engine.specs.Answers.{Answer, AnswersReader, AnswersSource, AreHeld, IsAsked, IsNamedRow, IsSearch, RefusesRequest, RequestAnswer, ShowAnswer, ShowBegins, ShowsEvents, StopsInReader, UnreadAnswer, wording}
-pub use Rattle.zf_engine.specs.Settings.{AreMessages, Checks, HasSchema, IsNamed, numbers_of, stated, stated_size, TellsFaults, TellsInfinite, TellsMisfit, TellsNoSchema, TellsNumbers, TellsOut, without_size}
-pub use Rattle.zf_engine.specs.Stops.{StopsInSource, AnswersExploration, AnswersOver, AnswersRequest, IfAnswered, IsFaultLine, IsRefused, IsUnexplored, IsUnfit, Reaches, Shows, Tells, TellsNoParts, TellsNoRow, TellsNoValues, TellsBounds, TellsMisnamed, TellsPlace, TellsPlaceHeld, ToldOfFaults, Writes, WritesText}
-pub use Rattle.zf_engine.specs.Statuses.{IsStatus, IsStatusOfRefused, IsWorkStatus}
-pub use Rattle.zf_messages.specs.Details.{Cited, type_fault_lines, AreLines}
-pub use Rattle.zf_messages.specs.AsideViews.{cited_of}
-pub use Rattle.zf_messages.specs.Missing.{no_schema_lines}
-pub use Rattle.zf_engine.specs.Numbers.{AreSmall}
-pub use Rattle.zf_messages.specs.Texts.{declared_out_line}
+pub use Rattle.zf_engine.specs.{Answer, AnswersExploration, AnswersOver, AnswersReader, AnswersRequest, AnswersSource, AreHeld, AreMessages, AreSmall, Checks, HasSchema, IfAnswered, IsAsked, IsFaultLine, IsNamed, IsNamedRow, IsRefused, IsSearch, IsStatus, IsStatusOfRefused, IsUnexplored, IsUnfit, IsWorkStatus, numbers_of, Reaches, RefusesRequest, RequestAnswer, ShowAnswer, ShowBegins, Shows, ShowsEvents, stated, stated_size, StopsInReader, StopsInSource, Tells, TellsBounds, TellsFaults, TellsInfinite, TellsMisfit, TellsMisnamed, TellsNoParts, TellsNoRow, TellsNoSchema, TellsNoValues, TellsNumbers, TellsOut, TellsPlace, TellsPlaceHeld, ToldOfFaults, UnreadAnswer, without_size, wording, Writes, WritesText}
+pub use Rattle.zf_messages.specs.{AreLines, Cited, cited_of, declared_out_line, no_schema_lines, type_fault_lines}
 pub use Rattle.zf_engine.specs.declared.stop.Stop.{Stop}
 pub use Rattle.zf_engine.specs.declared.stop.Stop.TheVariants.{Answered, OutOfMemory}

@@ -5,15 +5,13 @@ use Rattle.std.specs.Prelude.{MatchOption, OnOk, option_map, option_to_list}
 use Rattle.std.proofs.lemmas.List.{take_more}
 use Rattle.zf_command.specs.declared.job.Exploration.{Exploration}
 use Rattle.zf_command.specs.declared.job.Job.TheVariants.{Reach}
-use Rattle.zf_finite.specs.Finite.{IsFinite}
+use Rattle.zf_finite.specs.{IsFinite}
 use Rattle.zf_lines.specs.declared.fault.RunFault.{RunFault}
-use Rattle.zf_machines.specs.Firsts.{FirstFails}
-use Rattle.zf_machines.specs.Machines.{all_of, HasShape, Named, Schemas}
-use Rattle.zf_meaning.specs.GlobalOutcomes.{IsEnvironment}
-use Rattle.zf_meaning.specs.Sizes.{given_sets, AreComplete}
-use Rattle.zf_ranges.specs.Ranges.{IsNoneOut}
-use Rattle.zf_engine.specs.Explorations.{AreSchemasOf, HasInfinite, HasOut, HasSchemas, IsBounded, IsOfSchema, IsSchemaOf, IsSearchable, IsSettled, HasLacking, LacksSchema, names_of, RefusesExploration}
-use Rattle.zf_engine.specs.Numbers.{AreSmall}
+use Rattle.zf_machines.specs.{all_of, FirstFails, HasShape, Named, Schemas}
+use Rattle.zf_meaning.specs.{AreComplete, given_sets, IsEnvironment}
+use Rattle.zf_ranges.specs.{IsNoneOut}
+use Rattle.zf_engine.specs.{AreSchemasOf, AreSmall, HasInfinite, HasLacking, HasOut, HasSchemas, IsBounded, IsSchemaOf, IsSearchable, IsSettled, LacksSchema, names_of, RefusesExploration}
+use Rattle.zf_engine.specs.Explorations.{IsOfSchema}
 use Rattle.zf_engine.proofs.Parts.{reach_refused, told_written}
 use Rattle.zf_engine.proofs.Refusing.{weaker}
 

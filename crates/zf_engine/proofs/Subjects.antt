@@ -1,11 +1,10 @@
 -- What is asked for can be searched, in the wording of the request.
 use Rattle.zf_engine.proofs.Prelude.{◌∙◌, ◌≡◌, ap, List, None, Option, refl, Some, subst, sym, ℕ, Comp, IsNamedRow, IsSearch, portion, Request, schema_of, spellings, Value, wording}
-use Rattle.zf_lines.specs.Searches.{row_wording}
-use Rattle.zf_places.specs.Places.{comps_at}
-use Rattle.zf_parts.specs.Written.{part_wording}
-use Rattle.zf_ranges.specs.Ranges.{IsNoneOut}
-use Rattle.zf_engine.specs.Only.{AreShown, NamesParts}
-use Rattle.zf_engine.specs.Subjects.{CanBeSearched, environment_in, IsChosenBy, IsSubjectOf, schema_in, shown_in}
+use Rattle.zf_lines.specs.{row_wording}
+use Rattle.zf_places.specs.{comps_at}
+use Rattle.zf_parts.specs.{part_wording}
+use Rattle.zf_ranges.specs.{IsNoneOut}
+use Rattle.zf_engine.specs.{AreShown, CanBeSearched, environment_in, IsChosenBy, IsSubjectOf, NamesParts, schema_in, shown_in}
 use Rattle.zf_engine.specs.declared.bounds.Chosen.{Chosen}
 use Rattle.zf_engine.specs.declared.subject.Subject.{Subject}
 use Rattle.zf_engine.proofs.DueWithin.{due_within}

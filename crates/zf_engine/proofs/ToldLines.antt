@@ -10,7 +10,7 @@ use Rattle.zf_print.specs.declared.spelling.Spelling.{Spelling}
 use Rattle.zf_why.specs.declared.told.Operands.{Operands}
 use Rattle.zf_why.specs.declared.told.Sides.{Sides}
 use Rattle.zf_why.specs.declared.told.Told.{Told}
-use Rattle.zf_engine.specs.Reasons.{operands_lines, operands_lines_of, outcome_text, side_lines, sides_lines, sides_lines_of, source_line, told_line}
+use Rattle.zf_engine.specs.{operands_lines, operands_lines_of, outcome_text, side_lines, sides_lines, sides_lines_of, source_line, told_line}
 
 module _ {A : Type 0} (f : A → List ℕ) where
   pub one_more : (xs : List A) (i : ℕ) (x : A) (before after whole : List ℕ) → x ≡ get_or xs i x → i < length xs → after ≡ before ++ f x

@@ -2,10 +2,10 @@
 use Rattle.zf_engine.proofs.Prelude.{if◌then◌else◌, ◌++◌, ◌+◌, ◌<◌, ◌∷◌, ◌≡◌, ◌≤◌, [], ap, arith, Bool, false, length, List, map, None, Option, refl, Some, subst, suc, sym, true, zero, ℕ, bytes_eq, Component, Global, Local, spelling, Links, no_decls, no_trees, Perhaps, Tree, tree, Trees, var_decl, VarDecls, onto_behind, Comp, Defined, first_named, later, binary, bracket, builder, chain, constant, empty_set, listed, number, quantified, reference, ResolvedTree, unary, conjuncts, is_and, is_conjunction, moved, references, bound, referent, resolved, resolved_all, resolved_links, resolved_part, resolved_ranges, due, greatest_place, place_named, option_or}
 use Rattle.zf_tree.specs.Trees as text
 use Rattle.zf_reference.specs.declared.reference.Reference.{Reference}
-use Rattle.zf_term.specs.References.{onto, all_onto, links_onto, ranges_onto, part_onto}
-use Rattle.zf_reference.specs.Numbering.{renumbered}
+use Rattle.zf_term.specs.{all_onto, links_onto, onto, part_onto, ranges_onto}
+use Rattle.zf_reference.specs.{renumbered}
 use Rattle.zf_term.proofs.MovedReferences.{moved_keeps_variables}
-use Rattle.zf_typing.specs.Scopes.{Scope, Var, last_named, variable_meaning, component_meaning, global_meaning, meaning}
+use Rattle.zf_typing.specs.{component_meaning, global_meaning, last_named, meaning, Scope, Var, variable_meaning}
 
 -- ---- places
 

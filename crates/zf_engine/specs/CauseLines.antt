@@ -2,8 +2,8 @@
 use Rattle.std.specs.Prelude.{ℕ, List}
 use Rattle.zf_format.specs.declared.format.Format.{Format}
 use Rattle.zf_print.specs.declared.spelling.Spelling.{Spelling}
-use Rattle.zf_term.specs.Definitions.{Schema}
-use Rattle.zf_cores.specs.Choices.{chosen_of}
+use Rattle.zf_term.specs.{Schema}
+use Rattle.zf_cores.specs.{chosen_of}
 use Rattle.zf_why.specs.declared.cause.Cause.{Cause}
 use Rattle.zf_why.specs.declared.cause.Cause.TheVariants.{Empty, Alone, Together}
 use Rattle.zf_engine.specs.Reasons.{empty_lines, told_lines}

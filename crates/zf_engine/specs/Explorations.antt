@@ -5,28 +5,23 @@ use Rattle.zf_command.specs.declared.job.Exploration.{Exploration}
 use Rattle.zf_command.specs.declared.limit.TheConstants.{STATES_MAX}
 use Rattle.zf_format.specs.declared.format.Format.{Format}
 use Rattle.zf_format.specs.declared.format.Format.TheVariants.{Lines, Objects}
-use Rattle.zf_term.specs.Definitions.{Defined, Schema}
-use Rattle.zf_finite.specs.Finite.{IsFinite}
-use Rattle.zf_meaning.specs.Environments.{Environment}
-use Rattle.zf_meaning.specs.GlobalOutcomes.{IsEnvironment}
-use Rattle.zf_meaning.specs.Sizes.{given_sets, AreComplete}
-use Rattle.zf_ranges.specs.Ranges.{IsNoneOut}
-use Rattle.zf_print.specs.Spellings.{spellings}
+use Rattle.zf_term.specs.{Defined, Schema}
+use Rattle.zf_finite.specs.{IsFinite}
+use Rattle.zf_meaning.specs.{AreComplete, Environment, given_sets, IsEnvironment}
+use Rattle.zf_ranges.specs.{IsNoneOut}
+use Rattle.zf_print.specs.{spellings}
 use Rattle.zf_graph.specs.Seeking as seeking
 use Rattle.zf_graph.specs.Texts as graph
-use Rattle.zf_graph.specs.Texts.{broken, ended, Ending, paused}
+use Rattle.zf_graph.specs.{broken, ended, Ending, paused}
 use Rattle.zf_steps.specs.declared.form.Form.{Form}
 use Rattle.zf_steps.specs.declared.form.Form.TheVariants as form
-use Rattle.zf_steps.specs.Explored.{explored_in, sought_in}
-use Rattle.zf_steps.specs.Systems.{System}
-use Rattle.zf_steps.specs.Words.{verdict, words}
-use Rattle.zf_machines.specs.Firsts.{FirstFails}
-use Rattle.zf_machines.specs.Machines.{all_of, HasShape, IsMachineOf, LacksFirst, Named, Schemas}
+use Rattle.zf_steps.specs.{explored_in, sought_in, System, verdict, words}
+use Rattle.zf_machines.specs.{all_of, FirstFails, HasShape, IsMachineOf, LacksFirst, Named, Schemas}
 use Rattle.zf_lines.specs.declared.fault.Status.{Status}
 use Rattle.zf_lines.specs.declared.fault.Status.TheVariants.{BadRequest, Done, PastBounds}
 use Rattle.zf_engine.specs.Numbers.{AreSmall}
 use Rattle.zf_engine.specs.Settings.{AreMessages, Checks, IsNamed, numbers_of, stated, TellsFaults, TellsInfinite, TellsMisfit, TellsNoSchema, TellsNumbers, TellsOut}
-use Rattle.zf_messages.specs.Texts.{no_component_line}
+use Rattle.zf_messages.specs.{no_component_line}
 
 -- ---- what is asked for
 

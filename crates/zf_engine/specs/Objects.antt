@@ -1,13 +1,13 @@
 -- The objects of a cause: what `why` tells of a component or a conjunct, for programs.
 use Rattle.std.specs.Prelude.{ℕ, List, [], ◌++◌, codes, decimal, map, Option, Some, None}
 use Rattle.zf_format.specs.declared.format.Format.TheVariants.{Objects}
-use Rattle.zf_format.specs.Strings.{string_text}
-use Rattle.zf_term.specs.Definitions.{Comp, sets_of}
-use Rattle.zf_finite.specs.Finite.{first_plain}
+use Rattle.zf_format.specs.{string_text}
+use Rattle.zf_term.specs.{Comp, sets_of}
+use Rattle.zf_finite.specs.{first_plain}
 use Rattle.zf_value.specs.declared.value.Outcome.{Outcome}
 use Rattle.zf_value.specs.declared.value.Outcome.TheVariants as outcome
 use Rattle.zf_print.specs.declared.spelling.Spelling.{Spelling}
-use Rattle.zf_print.specs.ValueTexts.{parted, value_object}
+use Rattle.zf_print.specs.{parted, value_object}
 use Rattle.zf_why.specs.declared.told.Operands.{Operands}
 use Rattle.zf_why.specs.declared.told.Sides.{Sides}
 use Rattle.zf_why.specs.declared.told.Told.{Told}

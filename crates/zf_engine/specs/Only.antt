@@ -1,9 +1,8 @@
 -- Which components the lines of `show` have: those that a text names, parted by commas, or all.
 use Rattle.std.specs.Prelude.{◌≡◌, ◌≢◌, ℕ, ◌==◌, Bool, List, map, Option, Some, None, option_map, AllPairs}
 use Rattle.std.specs.List.{slice_split}
-use Rattle.zf_term.specs.Definitions.{Comp}
-use Rattle.zf_term.specs.FirstNamed.{first_named}
-use Rattle.zf_places.specs.Places.{comps_at}
+use Rattle.zf_term.specs.{Comp, first_named}
+use Rattle.zf_places.specs.{comps_at}
 use Rattle.zf_engine.specs.SourceLines.{trimmed}
 
 -- the comma, which is the byte 44

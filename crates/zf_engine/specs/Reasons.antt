@@ -3,32 +3,28 @@ use Rattle.std.specs.Prelude.{◌≡◌, ℕ, Bool, List, [], ◌∷◌, ◌++�
 use Rattle.std.specs.List.{flat_map}
 use Rattle.zf_format.specs.declared.format.Format.{Format}
 use Rattle.zf_format.specs.declared.format.Format.TheVariants.{Lines, Objects}
-use Rattle.zf_term.specs.Definitions.{Comp, Defined, Schema, sets_of}
-use Rattle.zf_term.specs.ResolvedTrees.{ResolvedTree}
-use Rattle.zf_finite.specs.Finite.{first_plain}
+use Rattle.zf_term.specs.{Comp, Defined, ResolvedTree, Schema, sets_of}
+use Rattle.zf_finite.specs.{first_plain}
 use Rattle.zf_value.specs.declared.plain.Value.{Value}
 use Rattle.zf_value.specs.declared.value.Outcome.{Outcome}
 use Rattle.zf_value.specs.declared.value.Outcome.TheVariants as outcome
 use Rattle.zf_walk.specs.declared.judge.Truth.TheVariants.{True, Out}
-use Rattle.zf_walk.specs.Events.{Event}
-use Rattle.zf_meaning.specs.Environments.{Environment}
-use Rattle.zf_enum.specs.Portions.{Portion}
+use Rattle.zf_walk.specs.{Event}
+use Rattle.zf_meaning.specs.{Environment}
+use Rattle.zf_enum.specs.{Portion}
 use Rattle.zf_print.specs.declared.spelling.Spelling.{Spelling}
-use Rattle.zf_print.specs.Spellings.{spellings}
-use Rattle.zf_print.specs.ValueTexts.{value_text}
-use Rattle.zf_cores.specs.Choices.{chosen_of}
+use Rattle.zf_print.specs.{spellings, value_text}
+use Rattle.zf_cores.specs.{chosen_of}
 use Rattle.zf_why.specs.declared.told.Operands.{Operands}
 use Rattle.zf_why.specs.declared.told.Sides.{Sides}
 use Rattle.zf_why.specs.declared.told.Told.{Told}
-use Rattle.zf_why.specs.Causes.{EmptiedBy, RefutedBy, RefutedTogetherBy}
-use Rattle.zf_why.specs.Told.{AreTold, nothing_beside, others_beside}
+use Rattle.zf_why.specs.{AreTold, EmptiedBy, nothing_beside, others_beside, RefutedBy, RefutedTogetherBy}
 use Rattle.zf_lines.specs.declared.fault.Status.{Status}
 use Rattle.zf_lines.specs.declared.fault.Status.TheVariants.{Done, PastBounds}
-use Rattle.zf_lines.specs.Searches.{HasEvents}
-use Rattle.zf_lines.specs.Texts.{out_line, row_line}
+use Rattle.zf_lines.specs.{HasEvents, out_line, row_line}
 use Rattle.zf_engine.specs.Objects.{empty_object, told_object}
 use Rattle.zf_engine.specs.SourceLines.{line_numbered, trimmed}
-use Rattle.zf_messages.specs.Texts.{fault_line}
+use Rattle.zf_messages.specs.{fault_line}
 
 -- ---- the lines of a cause
 

@@ -5,29 +5,24 @@ use Rattle.std.specs.Str.{bytes_eq}
 use Rattle.zf_command.specs.declared.job.Setting.{Setting}
 use Rattle.zf_command.specs.declared.job.Size as command
 use Rattle.zf_format.specs.declared.format.Format.{Format}
-use Rattle.zf_format.specs.Messages.{messages_in}
-use Rattle.zf_schema.specs.Checking.{IsChecked}
+use Rattle.zf_format.specs.{messages_in}
+use Rattle.zf_schema.specs.{IsChecked}
 use Rattle.zf_finite.specs.declared.not_finite.NotFinite.{NotFinite}
-use Rattle.zf_finite.specs.Finite.{causes}
-use Rattle.zf_parse.specs.Parsing.{ReadsSource}
-use Rattle.zf_tree.specs.Trees.{BoxTree}
-use Rattle.zf_term.specs.Definitions.{Comp, Defined, Schema, schema}
-use Rattle.zf_term.specs.Faults.{Fault}
-use Rattle.zf_term.specs.FirstNamed.{first_named}
-use Rattle.zf_extent.specs.Extents.{first}
+use Rattle.zf_finite.specs.{causes}
+use Rattle.zf_parse.specs.{ReadsSource}
+use Rattle.zf_tree.specs.{BoxTree}
+use Rattle.zf_term.specs.{Comp, Defined, Fault, first_named, Schema, schema}
+use Rattle.zf_extent.specs.{first}
 use Rattle.zf_meaning.specs.declared.sizes.Size.{Size}
 use Rattle.zf_meaning.specs.declared.sizes.SizeFault.{SizeFault}
 use Rattle.zf_meaning.specs.declared.sizes.SizeFault.TheVariants as size_faults
 use Rattle.zf_meaning.specs.declared.sizes.SizeFault.TheVariants.{NoSize, NotGiven, SizeTwice, SizeTooLarge}
-use Rattle.zf_meaning.specs.Environments.{Environment}
-use Rattle.zf_meaning.specs.Sizes.{given_sets, IsRefusal}
-use Rattle.zf_ranges.specs.Ranges.{IsFirstOut}
+use Rattle.zf_meaning.specs.{Environment, given_sets, IsRefusal}
+use Rattle.zf_ranges.specs.{IsFirstOut}
 use Rattle.zf_lines.specs.declared.fault.Status.{Status}
 use Rattle.zf_lines.specs.declared.fault.Status.TheVariants.{BadSpec, BadRequest, PastBounds}
-use Rattle.zf_messages.specs.Details.{IsReportedBeside, not_finite_lines, AreLines}
-use Rattle.zf_messages.specs.Missing.{no_schema_lines, no_size_lines}
+use Rattle.zf_messages.specs.{AreLines, declared_out_line, IsReportedBeside, no_schema_lines, no_size_lines, not_finite_lines, not_given_line, numbers_too_large_line, size_too_large_line, size_twice_line}
 use Rattle.zf_engine.specs.Numbers.{AreTooLarge}
-use Rattle.zf_messages.specs.Texts.{declared_out_line, not_given_line, numbers_too_large_line, size_twice_line, size_too_large_line}
 
 -- a tree reads the source; it defines these globals, and has these faults of types
 pub record Checks (source : List ℕ) (globals : List Defined) (faults : List Fault) : Type 0 where

@@ -2,9 +2,9 @@
 use Rattle.std.specs.Prelude.{◌≡◌, ◌⊎◌, ℕ, List, []}
 use Rattle.zf_command.specs.declared.job.Asked.TheVariants.{About, Work}
 use Rattle.zf_command.specs.declared.job.Job.{Job}
-use Rattle.zf_command.specs.Jobs.{IsAsked, IsRefused}
+use Rattle.zf_command.specs.{IsAsked, IsRefused}
 use Rattle.zf_lines.specs.declared.fault.Status.{Status}
-use Rattle.zf_lines.specs.FaultViews.{number}
+use Rattle.zf_lines.specs.{number}
 use Rattle.zf_engine.specs.Answers.{Answer}
 use Rattle.zf_command.specs.declared.job.UsageFault.{UsageFault}
 use Rattle.zf_command.specs.declared.job.UsageFault.TheVariants.{BadWords, OutOfMemory}

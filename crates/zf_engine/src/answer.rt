@@ -1,18 +1,12 @@
 //! What is written of a job on a source.
 ghost use Rattle.std.specs.Prelude.{◌≡◌, [], true, IfOk, IfErr, None, OnErr, Some, option_map};
 ghost use Rattle.std.specs.Option.{option_copied};
-ghost use Rattle.zf_command.specs.Requests.{IsBare};
+ghost use Rattle.zf_command.specs.{IsBare};
 ghost use Rattle.zf_command.specs.declared.job.Job.TheVariants.{Why};
-ghost use Rattle.zf_engine.specs.Answers.{AnswersSource, IsAsked, IsLimited, IsNamedRow};
-ghost use Rattle.zf_engine.specs.Settings.{Checks};
-ghost use Rattle.zf_engine.specs.Stops.{AnswersRequest, IfAnswered, Shows, StopsInSource, ToldOfFaults, Writes};
-ghost use Rattle.zf_engine.specs.Subjects.{AreNamedIn, environment_in, IsChosenBy, IsSubjectOf, schema_in};
-ghost use Rattle.zf_lines.specs.Counts.{device_of, failures_of};
-ghost use Rattle.zf_lines.specs.Faults.{read_failures, write_failures};
-ghost use Rattle.zf_lines.specs.Searches.{HasLimit};
-ghost use Rattle.zf_meaning.specs.Envs.{environment_of};
-ghost use Rattle.zf_term.specs.DefinitionViews.{globals_of};
-ghost use Rattle.zf_term.specs.SchemaViews.{schema_of};
+ghost use Rattle.zf_engine.specs.{AnswersRequest, AnswersSource, AreNamedIn, Checks, environment_in, IfAnswered, IsAsked, IsChosenBy, IsLimited, IsNamedRow, IsSubjectOf, schema_in, Shows, StopsInSource, ToldOfFaults, Writes};
+ghost use Rattle.zf_lines.specs.{device_of, failures_of, HasLimit, read_failures, write_failures};
+ghost use Rattle.zf_meaning.specs.{environment_of};
+ghost use Rattle.zf_term.specs.{globals_of, schema_of};
 
 use crate::asked::{Asked, asked_in};
 use crate::begin::{begin, begin_counting};

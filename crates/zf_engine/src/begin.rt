@@ -1,16 +1,12 @@
 //! The search for the bindings of a schema, or the answer where none is begun.
 ghost use Rattle.std.specs.Prelude.{◌<◌, length, IfOk, IfErr};
 ghost use Rattle.std.specs.Option.{option_copied};
-ghost use Rattle.zf_engine.specs.Stops.{IfAnswered};
-ghost use Rattle.zf_engine.specs.Settings.{TellsComponent, TellsOut};
-ghost use Rattle.zf_engine.specs.Subjects.{CanBeSearched, environment_in, schema_in};
-ghost use Rattle.zf_enum.specs.PortionViews.{portion};
-ghost use Rattle.zf_enum.specs.Searches.{planted_goal};
-ghost use Rattle.zf_enum.specs.Starts.{Begins, BeginsCounting};
-ghost use Rattle.zf_ranges.specs.StartFaults.{RefusesStart};
-ghost use Rattle.zf_meaning.specs.Environments.{Environment};
-ghost use Rattle.zf_term.specs.SchemaViews.{schema_of};
-ghost use Rattle.zf_walk.specs.RowLaws.{HasLength};
+ghost use Rattle.zf_engine.specs.{CanBeSearched, environment_in, IfAnswered, schema_in, TellsComponent, TellsOut};
+ghost use Rattle.zf_enum.specs.{Begins, BeginsCounting, planted_goal, portion};
+ghost use Rattle.zf_ranges.specs.{RefusesStart};
+ghost use Rattle.zf_meaning.specs.{Environment};
+ghost use Rattle.zf_term.specs.{schema_of};
+ghost use Rattle.zf_walk.specs.{HasLength};
 
 use crate::stop::Stop;
 use crate::subject::Subject;

@@ -1,13 +1,9 @@
 //! Which bindings are asked for, and which of their components.
 ghost use Rattle.std.specs.Prelude.{◌≡◌, IfOk, IfErr};
-ghost use Rattle.zf_engine.specs.Answers.{AreHeld};
-ghost use Rattle.zf_engine.specs.Stops.{IfAnswered, TellsMisnamed, TellsNoParts};
-ghost use Rattle.zf_engine.specs.Subjects.{AreNamedIn, IsChosenBy, shown_in};
-ghost use Rattle.zf_meaning.specs.Envs.{environment_of};
-ghost use Rattle.zf_term.specs.SchemaViews.{schema_of};
-ghost use Rattle.zf_print.specs.Clear.{AreClear};
-ghost use Rattle.zf_print.specs.HeldLaws.{HaveClearNames};
-ghost use Rattle.zf_print.specs.Spellings.{spellings};
+ghost use Rattle.zf_engine.specs.{AreHeld, AreNamedIn, IfAnswered, IsChosenBy, shown_in, TellsMisnamed, TellsNoParts};
+ghost use Rattle.zf_meaning.specs.{environment_of};
+ghost use Rattle.zf_term.specs.{schema_of};
+ghost use Rattle.zf_print.specs.{AreClear, HaveClearNames, spellings};
 
 use crate::held::values_held;
 use crate::inquiry::Inquiry;

@@ -1,14 +1,11 @@
 //! What a source defines, its faults, and the answer of `check`.
 ghost use Rattle.std.specs.Prelude.{◌≡◌, [], IfOk, IfErr, map};
-ghost use Rattle.zf_engine.specs.Answers.{IsCheckText, UnreadAnswer, check_status};
-ghost use Rattle.zf_engine.specs.Settings.{Checks};
-ghost use Rattle.zf_engine.specs.Stops.{IfAnswered, IsFaultLine};
-ghost use Rattle.zf_messages.specs.Details.{AreLines};
-ghost use Rattle.zf_messages.specs.AsideViews.{cited_of};
-ghost use Rattle.zf_parse.specs.Parsing.{ReadsSource};
-ghost use Rattle.zf_tree.specs.TreeViews.{boxes_of};
-ghost use Rattle.zf_term.specs.DefinitionViews.{globals_of};
-ghost use Rattle.zf_sorts.specs.Refusals.{fault_of};
+ghost use Rattle.zf_engine.specs.{check_status, Checks, IfAnswered, IsCheckText, IsFaultLine, UnreadAnswer};
+ghost use Rattle.zf_messages.specs.{AreLines, cited_of};
+ghost use Rattle.zf_parse.specs.{ReadsSource};
+ghost use Rattle.zf_tree.specs.{boxes_of};
+ghost use Rattle.zf_term.specs.{globals_of};
+ghost use Rattle.zf_sorts.specs.{fault_of};
 
 use crate::stop::Stop;
 use bumpalo::Bump;

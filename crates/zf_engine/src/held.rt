@@ -1,12 +1,9 @@
 //! The values that are held.
 ghost use Rattle.std.specs.Prelude.{◌≡◌, Some, IfOk, IfErr};
-ghost use Rattle.zf_engine.specs.Answers.{AreHeld};
-ghost use Rattle.zf_engine.specs.Stops.{IfAnswered, TellsNoValues, TellsPlaceHeld};
-ghost use Rattle.zf_meaning.specs.Envs.{environment_of};
-ghost use Rattle.zf_term.specs.SchemaViews.{schema_of};
-ghost use Rattle.zf_print.specs.Clear.{AreClear};
-ghost use Rattle.zf_print.specs.HeldLaws.{HaveClearNames};
-ghost use Rattle.zf_print.specs.Spellings.{spellings};
+ghost use Rattle.zf_engine.specs.{AreHeld, IfAnswered, TellsNoValues, TellsPlaceHeld};
+ghost use Rattle.zf_meaning.specs.{environment_of};
+ghost use Rattle.zf_term.specs.{schema_of};
+ghost use Rattle.zf_print.specs.{AreClear, HaveClearNames, spellings};
 
 use crate::stop::Stop;
 use std::alloc::Global;

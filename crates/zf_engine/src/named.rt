@@ -1,11 +1,9 @@
 //! The binding that a search comes after.
 ghost use Rattle.std.specs.Prelude.{◌≡◌, IfOk, IfErr, option_map};
-ghost use Rattle.zf_engine.specs.Answers.{IsLineOf, IsNamedRow, NamesNoRow};
-ghost use Rattle.zf_engine.specs.Stops.{IfAnswered, TellsNoRow, TellsPlace};
-ghost use Rattle.zf_meaning.specs.Envs.{environment_of};
-ghost use Rattle.zf_term.specs.SchemaViews.{schema_of};
-ghost use Rattle.zf_print.specs.Clear.{AreClear};
-ghost use Rattle.zf_print.specs.Spellings.{spellings};
+ghost use Rattle.zf_engine.specs.{IfAnswered, IsLineOf, IsNamedRow, NamesNoRow, TellsNoRow, TellsPlace};
+ghost use Rattle.zf_meaning.specs.{environment_of};
+ghost use Rattle.zf_term.specs.{schema_of};
+ghost use Rattle.zf_print.specs.{AreClear, spellings};
 
 use crate::stop::Stop;
 use std::alloc::Global;

@@ -1,8 +1,6 @@
 //! The greatest number that a request states.
 ghost use Rattle.std.specs.Prelude.{◌≡◌, IfErr, IfOk, OnOk, Some};
-ghost use Rattle.zf_engine.specs.Numbers.{AreSmall};
-ghost use Rattle.zf_engine.specs.Stops.{IfAnswered};
-ghost use Rattle.zf_engine.specs.Settings.{TellsNumbers};
+ghost use Rattle.zf_engine.specs.{AreSmall, IfAnswered, TellsNumbers};
 
 use crate::stop::Stop;
 use std::alloc::Global;

@@ -2,10 +2,8 @@
 ghost use Rattle.std.specs.Prelude.{◌≡◌, IfErr, IfOk, OnOk, Some, map};
 ghost use Rattle.std.specs.List.{before_first};
 ghost use Rattle.zf_engine.specs.Only as spec;
-ghost use Rattle.zf_engine.specs.Adding.{IsAdded};
-ghost use Rattle.zf_engine.specs.Only.{NamesParts};
-ghost use Rattle.zf_engine.specs.Stops.{IfAnswered, IsMisnamed, TellsNoParts, TellsPlaceMisnamed};
-ghost use Rattle.zf_term.specs.SchemaViews.{comp_of};
+ghost use Rattle.zf_engine.specs.{IfAnswered, IsAdded, IsMisnamed, NamesParts, TellsNoParts, TellsPlaceMisnamed};
+ghost use Rattle.zf_term.specs.{comp_of};
 
 use crate::stop::Stop;
 use std::alloc::Global;

@@ -1,7 +1,6 @@
 //! All that the program does: words in, a status out.
 ghost use Rattle.std.specs.Prelude.{◌≡◌, ◌≤◌, ◌⊎◌, map};
-ghost use Rattle.zf_engine.specs.Answers.{IsLimited};
-ghost use Rattle.zf_engine.specs.Statuses.{status_max, refused_number, IsStatus, IsStatusOfRefused, IsWorkStatus};
+ghost use Rattle.zf_engine.specs.{IsLimited, IsStatus, IsStatusOfRefused, IsWorkStatus, refused_number, status_max};
 
 use crate::run::run;
 use std::convert::AsStr;

@@ -1,8 +1,7 @@
 //! The loop that reads a source.
 ghost use Rattle.std.specs.Prelude.{◌≡◌, ◌≤◌, ◌+◌, IfOk, vec_len};
-ghost use Rattle.zf_lines.specs.Counts.{device_of, failures_of};
-ghost use Rattle.zf_engine.specs.Faults.{Gave, GaveAtMost};
-ghost use Rattle.zf_lines.specs.Faults.{read_failures, write_failures};
+ghost use Rattle.zf_lines.specs.{device_of, failures_of, read_failures, write_failures};
+ghost use Rattle.zf_engine.specs.{Gave, GaveAtMost};
 
 use std::alloc::Global;
 use std::io::Read;

@@ -3,8 +3,8 @@ ghost use Rattle.std.specs.Prelude.{◌≡◌, ◌++◌, ◌∷◌, [], IfOk, On
 ghost use Rattle.std.specs.List.{list_any};
 ghost use Rattle.std.specs.Str.{bytes_eq};
 ghost use Rattle.zf_engine.specs.Settings as spec;
-ghost use Rattle.zf_meaning.specs.Sizes.{given_sets};
-ghost use Rattle.zf_term.specs.DefinitionViews.{globals_of};
+ghost use Rattle.zf_meaning.specs.{given_sets};
+ghost use Rattle.zf_term.specs.{globals_of};
 
 use std::alloc::{AllocError, Global};
 use zf_command::job::{Setting, Size};

@@ -1,6 +1,6 @@
 //! Why no binding is looked for.
 ghost use Rattle.std.specs.Prelude.{◌≡◌};
-ghost use Rattle.zf_engine.specs.Stops.{IsWhole};
+ghost use Rattle.zf_engine.specs.{IsWhole};
 ghost use Rattle.zf_engine.specs.declared.stop.Stop.TheVariants.{OutOfMemory};
 
 use std::alloc::{AllocError, AllocFailed};

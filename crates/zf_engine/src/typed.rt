@@ -1,8 +1,7 @@
 //! What a well typed source defines.
 ghost use Rattle.std.specs.Prelude.{[], IfOk, IfErr};
-ghost use Rattle.zf_engine.specs.Settings.{Checks};
-ghost use Rattle.zf_engine.specs.Stops.{IfAnswered, IsUnfit};
-ghost use Rattle.zf_term.specs.DefinitionViews.{globals_of};
+ghost use Rattle.zf_engine.specs.{Checks, IfAnswered, IsUnfit};
+ghost use Rattle.zf_term.specs.{globals_of};
 
 use crate::check::{checked_in, fault_lines};
 use crate::stop::Stop;

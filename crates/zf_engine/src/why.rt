@@ -1,16 +1,11 @@
 //! The first binding of a schema, or why it has none.
 ghost use Rattle.std.specs.Prelude.{◌≡◌, ◌++◌, [], IfOk, IfErr, MatchOption, OnOk};
-ghost use Rattle.zf_command.specs.Requests.{IsBare};
+ghost use Rattle.zf_command.specs.{IsBare};
 ghost use Rattle.zf_command.specs.declared.job.Job.TheVariants.{Why};
-ghost use Rattle.zf_engine.specs.Answers.{Answer, IsAsked};
-ghost use Rattle.zf_engine.specs.Settings.{Checks, TellsOut};
-ghost use Rattle.zf_engine.specs.Reasons.{no_binding_line, satisfied_line};
-ghost use Rattle.zf_engine.specs.Stops.{AnswersRequest, IfAnswered};
-ghost use Rattle.zf_engine.specs.Subjects.{CanBeSearched, HasNone, environment_in, IsBegunOf, line_in, out_line_in, schema_in, TellsFirst, TellsNone, TellsOf};
-ghost use Rattle.zf_ranges.specs.Ranges.{IsNoneOut};
-ghost use Rattle.zf_meaning.specs.Envs.{environment_of};
-ghost use Rattle.zf_term.specs.DefinitionViews.{globals_of};
-ghost use Rattle.zf_term.specs.SchemaViews.{schema_of};
+ghost use Rattle.zf_engine.specs.{Answer, AnswersRequest, CanBeSearched, Checks, environment_in, HasNone, IfAnswered, IsAsked, IsBegunOf, line_in, no_binding_line, out_line_in, satisfied_line, schema_in, TellsFirst, TellsNone, TellsOf, TellsOut};
+ghost use Rattle.zf_ranges.specs.{IsNoneOut};
+ghost use Rattle.zf_meaning.specs.{environment_of};
+ghost use Rattle.zf_term.specs.{globals_of, schema_of};
 
 use crate::asked::asked_in;
 use crate::begin::begin;

@@ -3,7 +3,7 @@ use Rattle.zf_enum.proofs.Prelude.{◌++◌, ◌+◌, ◌-◌, ◌<◌, ◌∙�
 use Rattle.std.proofs.lemmas.Cmp.{int_ranked}
 use Rattle.std.specs.Ordering.{int_cmp}
 use Rattle.std.specs.declared.cmp.Ordering.TheVariants.{Greater}
-use Rattle.zf_extent.specs.Extents.{is_membership}
+use Rattle.zf_extent.specs.{is_membership}
 use Rattle.zf_tree.specs.declared.symbol.Infix.TheVariants as infixes
 use Rattle.zf_tree.specs.declared.symbol.Infix.{Infix}
 use Rattle.zf_tree.specs.declared.operator.Sign.TheVariants.{Minus}
@@ -13,12 +13,10 @@ use Rattle.zf_tree.specs.declared.operator.Operator.TheVariants.{Function}
 use Rattle.zf_value.specs.declared.plain.Value.TheVariants.{outs-Int}
 use Rattle.zf_value.specs.declared.plain.Value.TheOpen.{Value-F}
 use Rattle.zf_value.specs.declared.value.Truth.TheVariants as truth
-use Rattle.zf_value.specs.Numbers.{number_at, IsSum, IsDifference, IsProduct, IsNegation}
-use Rattle.zf_value.specs.Order.{level_order}
+use Rattle.zf_value.specs.{IsDifference, IsNegation, IsProduct, IsSum, level_order, number_at}
 use Rattle.zf_value.proofs.Compared.{compared_numbers}
-use Rattle.zf_outcome.specs.Truths.{IsLink}
-use Rattle.zf_meaning.specs.NumberSets.{infinite_in}
-use Rattle.zf_meaning.specs.Meaning.{infinite_right}
+use Rattle.zf_outcome.specs.{IsLink}
+use Rattle.zf_meaning.specs.{infinite_in, infinite_right}
 use Rattle.zf_term.specs.declared.resolved.Resolved.TheVariants as form
 use Rattle.zf_term.proofs.ResolvedSeen.{of-Number}
 use Rattle.zf_enum.proofs.Fixed.{truth_at, get_front, get_next}

@@ -2,7 +2,7 @@
 use Rattle.zf_enum.proofs.Prelude.{◌++◌, ◌+◌, ◌<◌, ◌∙◌, ◌∷◌, ◌≡◌, ◌≤◌, ◌⊎◌, [], add-one, ap, arith, Bool, cond, drop, eqb, false, get_or, inl, inr, length, List, map, max, refl, suc, sym, true, zero, ℕ, ⊎_elim, eqb-true, false≢true, nat_le, Reference, Component, Global, Local, link-seen, range-seen, absent, binary, bracket, builder, chain, constant, empty_set, link, links, listed, no_links, no_ranges, no_terms, number, present, quantified, range, range_of, Ranges, ranges, reference, resolved_link_of, resolved_of, ResolvedLinks, ResolvedPart, ResolvedTree, ResolvedTrees, term, terms, unary, references, Resolved, ResolvedLink, all_need, links_need, need, part_need, place_up_to, ranges_need, due, greatest_place, is_among, is_component, place_named, uses}
 use Rattle.std.proofs.lemmas.Bool.Decides.{nat_tests}
 use Rattle.zf_term.specs.declared.resolved.Range.{Range}
-use Rattle.zf_term.specs.References.{onto, all_onto, links_onto, ranges_onto, part_onto}
+use Rattle.zf_term.specs.{all_onto, links_onto, onto, part_onto, ranges_onto}
 
 -- the greatest place up to m, from 1, of a component among the references
 abbrev greatest_up_to : ℕ → List Reference → ℕ

@@ -3,7 +3,7 @@ use Rattle.zf_enum.proofs.Prelude.{◌++◌, ◌+◌, ◌<◌, ◌↔◌, ◌∙
 use Rattle.zf_value.specs.declared.value.Truth as meaning
 use Rattle.zf_walk.specs.declared.judge.Truth.TheVariants.{True, False, Out}
 use Rattle.zf_walk.specs.Conjuncts.{Conjuncts}
-use Rattle.zf_meaning.specs.Laws.{IsBelow, AreBelow, UsesFirst}
+use Rattle.zf_meaning.specs.{AreBelow, IsBelow, UsesFirst}
 
 -- ---- what was not changed
 

@@ -5,10 +5,9 @@ use Rattle.zf_tree.specs.declared.symbol.Connective.TheVariants as connective
 use Rattle.zf_tree.specs.declared.symbol.Quantifier.{Quantifier}
 use Rattle.zf_tree.specs.declared.symbol.Quantifier.TheVariants.{ForAll, Exists, ExistsOne}
 use Rattle.zf_value.specs.declared.value.Truth.TheVariants as truth
-use Rattle.zf_value.specs.Operations.{AreFrom}
-use Rattle.zf_meaning.specs.Meaning.{IsConstraint, Builds, IsBuilt, IsBuiltOver}
-use Rattle.zf_outcome.specs.Outcomes.{Several, values, one_undefined, one_out}
-use Rattle.zf_outcome.specs.Truths.{IsTold, IsQuantified}
+use Rattle.zf_value.specs.{AreFrom}
+use Rattle.zf_meaning.specs.{Builds, IsBuilt, IsBuiltOver, IsConstraint}
+use Rattle.zf_outcome.specs.{IsQuantified, IsTold, one_out, one_undefined, Several, values}
 use Rattle.zf_enum.specs.declared.candidates.Tie.TheVariants as tie
 use Rattle.zf_enum.proofs.Dues.{due_need}
 use Rattle.zf_enum.proofs.Fixed.{IsOther, false_in, side_need, truth_at, get_front, get_next}

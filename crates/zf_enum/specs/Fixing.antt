@@ -2,15 +2,13 @@
 use Rattle.std.specs.Prelude.{◌≡◌, ◌⊎◌, ℕ, ◌<◌, true, false, List, length, Some, Contains, slice_get}
 use Rattle.zf_reference.specs.declared.reference.Reference.TheVariants.{Component}
 use Rattle.zf_tree.specs.declared.symbol.Relation.TheVariants.{Equal}
-use Rattle.zf_term.specs.ResolvedTrees.{ResolvedTree, reference, chain, no_links, link}
+use Rattle.zf_term.specs.{chain, link, no_links, reference, ResolvedTree}
 use Rattle.zf_value.specs.declared.plain.Value.{Value}
 use Rattle.zf_value.specs.declared.value.Outcome.{Outcome}
 use Rattle.zf_value.specs.declared.value.Outcome.TheVariants.{Is, Undefined, Out}
-use Rattle.zf_value.specs.Sets.{IsMember, members}
-use Rattle.zf_walk.specs.Rows.{IsRowOf}
-use Rattle.zf_meaning.specs.Environments.{Environment}
-use Rattle.zf_meaning.specs.InRow.{in_row}
-use Rattle.zf_meaning.specs.Meaning.{HasOutcome}
+use Rattle.zf_value.specs.{IsMember, members}
+use Rattle.zf_walk.specs.{IsRowOf}
+use Rattle.zf_meaning.specs.{Environment, HasOutcome, in_row}
 use Rattle.zf_enum.specs.declared.candidates.Tie.{Tie}
 use Rattle.zf_enum.specs.declared.candidates.Tie.TheVariants as tie
 use Rattle.zf_enum.specs.Uses.{uses}

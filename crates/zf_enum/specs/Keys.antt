@@ -2,14 +2,12 @@
 use Rattle.std.specs.Prelude.{◌≡◌, ◌⊎◌, ℕ, ◌-◌, ◌≤◌, true, cond, List, Some, IfSome, fold, slice_get}
 use Rattle.std.specs.Hash.FoldHasher as folding
 use Rattle.zf_tree.specs.declared.symbol.Relation.TheVariants.{Equal}
-use Rattle.zf_term.specs.ResolvedTrees.{ResolvedTree, chain, no_links, link}
+use Rattle.zf_term.specs.{chain, link, no_links, ResolvedTree}
 use Rattle.zf_value.specs.declared.plain.Value.{Value}
 use Rattle.zf_value.specs.contracts.plain.ValueHash.TheImpl as hashed
 use Rattle.zf_value.specs.declared.value.Outcome.{Outcome}
 use Rattle.zf_value.specs.declared.value.Outcome.TheVariants.{Is, Undefined, Out}
-use Rattle.zf_meaning.specs.Environments.{Environment}
-use Rattle.zf_meaning.specs.InRow.{in_row}
-use Rattle.zf_meaning.specs.Meaning.{HasOutcome}
+use Rattle.zf_meaning.specs.{Environment, HasOutcome, in_row}
 use Rattle.zf_enum.specs.Property.{due}
 use Rattle.zf_enum.specs.Uses.{uses}
 

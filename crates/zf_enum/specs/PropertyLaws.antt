@@ -4,22 +4,18 @@ use Rattle.std.specs.Prelude.{slice_get}
 use Rattle.std.proofs.lemmas.Bool.{eq-eqb}
 use Rattle.zf_reference.specs.declared.reference.Reference.{Reference}
 use Rattle.zf_reference.specs.declared.reference.Reference.TheVariants.{Component, Local, Global}
-use Rattle.zf_term.specs.ResolvedTrees.{ResolvedTree}
-use Rattle.zf_term.specs.References.{references}
+use Rattle.zf_term.specs.{references, ResolvedTree}
 use Rattle.zf_value.specs.declared.plain.Value.{Value}
 use Rattle.zf_value.specs.declared.value.Outcome.{Outcome}
 use Rattle.zf_value.specs.declared.value.Truth.{Truth}
 use Rattle.zf_value.specs.declared.value.Truth.TheVariants as truth
 use Rattle.zf_walk.specs.declared.judge.Truth as walk
 use Rattle.zf_walk.specs.declared.judge.Truth.TheVariants.{True, False, Out}
-use Rattle.zf_walk.specs.ConjunctLaws.{HaveOneTruth, KeepTruths, FollowUsed}
-use Rattle.zf_meaning.specs.Environments.{Environment}
-use Rattle.zf_meaning.specs.Laws.{AreBelow, UsesFirst, IsBelow}
+use Rattle.zf_walk.specs.{FollowUsed, HaveOneTruth, KeepTruths}
+use Rattle.zf_meaning.specs.{AreBelow, Environment, HasOutcome, in_row, IsBelow, UsesFirst}
 use Rattle.zf_meaning.proofs.Unique.{one_truth}
 use Rattle.zf_meaning.proofs.Stays.{truths_stay}
 use Rattle.zf_meaning.proofs.SameRows.{AgreeAt, Agree, same_outcome, same_truth}
-use Rattle.zf_meaning.specs.InRow.{in_row}
-use Rattle.zf_meaning.specs.Meaning.{HasOutcome}
 use Rattle.zf_enum.specs.Property.{place_named, greatest_place, due, due_of, HasTruth, told, property}
 use Rattle.zf_enum.specs.Uses.{is_component, is_among, uses, uses_of, are_used}
 

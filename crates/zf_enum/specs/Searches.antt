@@ -1,15 +1,12 @@
 -- What a search for bindings is seen as.
 use Rattle.std.specs.Prelude.{ℕ, List, Option, Some, None, map, take}
-use Rattle.zf_term.specs.ResolvedTrees.{ResolvedTree}
-use Rattle.zf_term.specs.ResolvedViews.{resolved_of}
+use Rattle.zf_term.specs.{resolved_of, ResolvedTree}
 use Rattle.zf_value.specs.declared.plain.Value.{Value}
 use Rattle.zf_walk.specs.Conjuncts.{Conjuncts}
 use Rattle.zf_walk.specs.Progress as walk
-use Rattle.zf_plan.specs.Trees.{Tree, planted}
-use Rattle.zf_plan.specs.Groves.{trees_of}
+use Rattle.zf_plan.specs.{planted, Tree, trees_of}
 use Rattle.zf_plan.specs.Progress as plan
-use Rattle.zf_meaning.specs.Environments.{Environment}
-use Rattle.zf_meaning.specs.Envs.{environment_of}
+use Rattle.zf_meaning.specs.{Environment, environment_of}
 use Rattle.zf_enum.specs.declared.property.Property as judge
 use Rattle.zf_enum.specs.Property.{property}
 

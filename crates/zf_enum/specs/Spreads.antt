@@ -4,8 +4,7 @@ use Rattle.zf_tree.specs.declared.operator.Operator.TheVariants.{Connective}
 use Rattle.zf_tree.specs.declared.symbol.Connective.TheVariants as connective
 use Rattle.zf_tree.specs.declared.symbol.Quantifier.{Quantifier}
 use Rattle.zf_tree.specs.declared.symbol.Quantifier.TheVariants.{ForAll, Exists, ExistsOne}
-use Rattle.zf_term.specs.ResolvedTrees.{ResolvedTree, bracket, binary, chain, quantified, builder, absent, present}
-use Rattle.zf_term.specs.ResolvedViews.{resolved_of}
+use Rattle.zf_term.specs.{absent, binary, bracket, builder, chain, present, quantified, resolved_of, ResolvedTree}
 use Rattle.zf_enum.specs.declared.spread.Spread.{Spread}
 use Rattle.zf_enum.specs.Fixing.{Fixes}
 

@@ -2,16 +2,13 @@
 use Rattle.std.specs.Prelude.{◌≡◌, ℕ, ℤ, ◌-ℤ◌, false, List, ◌∷◌, ◌++◌, Some, Contains, FitsSigned, slice_get}
 use Rattle.std.specs.Int.{w32}
 use Rattle.zf_tree.specs.declared.symbol.Relation.{Relation}
-use Rattle.zf_extent.specs.Extents.{is_membership}
-use Rattle.zf_term.specs.ResolvedTrees.{ResolvedTree}
+use Rattle.zf_extent.specs.{is_membership}
+use Rattle.zf_term.specs.{ResolvedTree}
 use Rattle.zf_value.specs.declared.plain.Value.{Value, Int}
 use Rattle.zf_value.specs.declared.value.Outcome.TheVariants.{Is}
-use Rattle.zf_walk.specs.Picked.{picked}
-use Rattle.zf_walk.specs.Rows.{IsRowOf}
-use Rattle.zf_outcome.specs.Symbols.{Holds}
-use Rattle.zf_meaning.specs.Environments.{Environment}
-use Rattle.zf_meaning.specs.InRow.{in_row}
-use Rattle.zf_meaning.specs.Meaning.{HasOutcome}
+use Rattle.zf_walk.specs.{IsRowOf, picked}
+use Rattle.zf_outcome.specs.{Holds}
+use Rattle.zf_meaning.specs.{Environment, HasOutcome, in_row}
 use Rattle.zf_enum.specs.declared.span.Span.{Span}
 use Rattle.zf_enum.specs.Spans.{Spans}
 

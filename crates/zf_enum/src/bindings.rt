@@ -1,10 +1,9 @@
 //! The search for the bindings of a schema.
 ghost use Rattle.std.specs.Prelude.{◌≡◌, ◌≤◌, length, IfOk, OnOk, OnErr};
 ghost use Rattle.std.specs.Option.{option_copied};
-ghost use Rattle.zf_value.specs.Sets.{value_order};
-ghost use Rattle.zf_walk.specs.RowLaws.{AreAscending, HasLength};
-ghost use Rattle.zf_walk.specs.Progress.{AreDueWithin, ended, AreAllAhead, SameProblem, Advances, Stays, AreTests, IsBounded};
-ghost use Rattle.zf_enum.specs.Searches.{judged};
+ghost use Rattle.zf_value.specs.{value_order};
+ghost use Rattle.zf_walk.specs.{Advances, AreAllAhead, AreAscending, AreDueWithin, AreTests, ended, HasLength, IsBounded, SameProblem, Stays};
+ghost use Rattle.zf_enum.specs.{judged};
 
 use crate::property::Property;
 use crate::search::{Located, Search};

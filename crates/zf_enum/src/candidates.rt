@@ -1,14 +1,13 @@
 //! The places of a range at which the values of an expression stand.
 ghost use Rattle.std.specs.Prelude.{◌≡◌, ◌<◌, ◌≤◌, ℕ, [], length, true, AllPairs, Some, IsTrue, IfOk, OnOk, slice_get, slice_index_or};
 ghost use Rattle.std.specs.declared.cmp.Ordering.TheVariants.{Less};
-ghost use Rattle.zf_term.specs.ResolvedViews.{resolved_of};
+ghost use Rattle.zf_term.specs.{resolved_of};
 ghost use Rattle.zf_value.specs.declared.plain.Value as value;
-ghost use Rattle.zf_value.specs.Sets.{value_order, IsMember};
-ghost use Rattle.zf_walk.specs.Picked.{AreWithin, picked};
-ghost use Rattle.zf_walk.specs.RowLaws.{AreAscending};
-ghost use Rattle.zf_plan.specs.Choices.{StaysIn};
-ghost use Rattle.zf_meaning.specs.Envs.{environment_of};
-ghost use Rattle.zf_enum.specs.Fixing.{HasPlace, IsKept, AreCandidates};
+ghost use Rattle.zf_value.specs.{IsMember, value_order};
+ghost use Rattle.zf_walk.specs.{AreAscending, AreWithin, picked};
+ghost use Rattle.zf_plan.specs.{StaysIn};
+ghost use Rattle.zf_meaning.specs.{environment_of};
+ghost use Rattle.zf_enum.specs.{AreCandidates, HasPlace, IsKept};
 ghost use Rattle.zf_enum.specs.Property as spec;
 ghost use Rattle.zf_enum.specs.Uses as named;
 

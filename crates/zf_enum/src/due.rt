@@ -1,9 +1,9 @@
 //! Which components a term needs.
 ghost use Rattle.std.specs.Prelude.{◌≡◌, ◌<◌, ◌^◌, ℕ, IsTrue, true, max, map};
-ghost use Rattle.zf_term.specs.ResolvedViews.{resolved_of, resolved_link_of, range_of, terms, links, ranges, part_of};
+ghost use Rattle.zf_term.specs.{links, part_of, range_of, ranges, resolved_link_of, resolved_of, terms};
 ghost use Rattle.zf_enum.specs.Property as spec;
 ghost use Rattle.zf_enum.specs.Uses as named;
-ghost use Rattle.zf_enum.specs.Dues.{place_after, place_up_to, need, all_need, links_need, ranges_need, part_need};
+ghost use Rattle.zf_enum.specs.{all_need, links_need, need, part_need, place_after, place_up_to, ranges_need};
 
 use zf_data::arena::{Boxed, Items};
 use zf_reference::reference::Reference;

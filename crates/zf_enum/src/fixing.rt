@@ -2,9 +2,8 @@
 ghost use Rattle.std.specs.Prelude.{◌≡◌, ℕ, IfSome, IsTrue};
 ghost use Rattle.zf_reference.specs.declared.reference.Reference.TheVariants.{Component};
 ghost use Rattle.zf_tree.specs.declared.symbol.Relation.TheVariants.{Equal};
-ghost use Rattle.zf_term.specs.ResolvedViews.{resolved_of};
-ghost use Rattle.zf_term.specs.ResolvedTrees.{chain, link, no_links};
-ghost use Rattle.zf_enum.specs.Fixing.{IsName, IsBeside, Fixes};
+ghost use Rattle.zf_term.specs.{chain, link, no_links, resolved_of};
+ghost use Rattle.zf_enum.specs.{Fixes, IsBeside, IsName};
 
 use crate::due::uses;
 use zf_reference::reference::Reference;

@@ -1,17 +1,12 @@
 //! The search for the bindings of a schema that counts no tests.
 ghost use Rattle.std.specs.Prelude.{length, IfOk, IfErr};
 ghost use Rattle.std.specs.Option.{option_copied};
-ghost use Rattle.zf_term.specs.SchemaViews.{schema_of};
-ghost use Rattle.zf_finite.specs.Finite.{IsFinite};
-ghost use Rattle.zf_walk.specs.RowLaws.{HasLength};
-ghost use Rattle.zf_walk.specs.Progress.{AreDueWithin};
-ghost use Rattle.zf_meaning.specs.Envs.{environment_of};
-ghost use Rattle.zf_enum.specs.Property.{property};
-ghost use Rattle.zf_enum.specs.Searches.{planted_goal};
-ghost use Rattle.zf_enum.specs.PortionViews.{portion};
-ghost use Rattle.zf_enum.specs.Holding.{CanHold};
-ghost use Rattle.zf_enum.specs.Starts.{Begins};
-ghost use Rattle.zf_ranges.specs.StartFaults.{RefusesStart};
+ghost use Rattle.zf_term.specs.{schema_of};
+ghost use Rattle.zf_finite.specs.{IsFinite};
+ghost use Rattle.zf_walk.specs.{AreDueWithin, HasLength};
+ghost use Rattle.zf_meaning.specs.{environment_of};
+ghost use Rattle.zf_enum.specs.{Begins, CanHold, planted_goal, portion, property};
+ghost use Rattle.zf_ranges.specs.{RefusesStart};
 
 use crate::hopeless::is_hopeless;
 use crate::lifting::{lifted, unfolded};

@@ -1,6 +1,5 @@
 //! Laws of the definitions.
-ghost use Rattle.zf_enum.specs.EventLaws.{OneRanges, OneEvents, EventsResume, TestsAreBound};
-ghost use Rattle.zf_enum.specs.Instances.{HaveSameEvents};
+ghost use Rattle.zf_enum.specs.{EventsResume, HaveSameEvents, OneEvents, OneRanges, TestsAreBound};
 
 /// A schema in an environment has one list of ranges, and one of events.
 pub fn one_list()

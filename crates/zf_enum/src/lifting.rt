@@ -1,10 +1,9 @@
 //! Conjuncts with quantifiers written out, and properties in which closed parts are names.
 ghost use Rattle.std.specs.Prelude.{◌≡◌, ◌<◌, ◌^◌, ℕ, IfOk, map, slice_get};
-ghost use Rattle.zf_term.specs.ResolvedViews.{resolved_of};
-ghost use Rattle.zf_term.specs.SchemaViews.{schema_of};
-ghost use Rattle.zf_meaning.specs.Envs.{environment_of};
-ghost use Rattle.zf_lift.specs.Lifted.{AreLifted};
-ghost use Rattle.zf_enum.specs.Property.{due_of};
+ghost use Rattle.zf_term.specs.{resolved_of, schema_of};
+ghost use Rattle.zf_meaning.specs.{environment_of};
+ghost use Rattle.zf_lift.specs.{AreLifted};
+ghost use Rattle.zf_enum.specs.{due_of};
 
 use crate::conjuncts::Conjuncts;
 use crate::property::{Property, dues};

@@ -1,8 +1,8 @@
 //! Predicates as trees over their parts that are no connectives.
 ghost use Rattle.std.specs.Prelude.{IfOk, OnOk, map};
-ghost use Rattle.zf_term.specs.ResolvedViews.{resolved_of};
-ghost use Rattle.zf_plan.specs.Groves.{trees_of};
-ghost use Rattle.zf_enum.specs.Planting.{Plants, PlantsNext, ArePlanted};
+ghost use Rattle.zf_term.specs.{resolved_of};
+ghost use Rattle.zf_plan.specs.{trees_of};
+ghost use Rattle.zf_enum.specs.{ArePlanted, Plants, PlantsNext};
 
 use bumpalo::Bump;
 use std::alloc::{AllocError, Global};

@@ -1,9 +1,8 @@
 //! What a search for the bindings of a schema does, whether it counts its tests or not.
 ghost use Rattle.std.specs.Prelude.{◌≡◌, ◌<◌, length, take, IfOk, OnOk, OnErr, IfSome, slice_get, slice_index_or, unwrap_or, []};
-ghost use Rattle.zf_value.specs.Sets.{value_order};
-ghost use Rattle.zf_walk.specs.Progress.{ended, past, SameRanges, Advances, Stays};
-ghost use Rattle.zf_walk.specs.RowLaws.{AreAscending};
-ghost use Rattle.zf_enum.specs.Searches.{conjuncts_of};
+ghost use Rattle.zf_value.specs.{value_order};
+ghost use Rattle.zf_walk.specs.{Advances, AreAscending, ended, past, SameRanges, Stays};
+ghost use Rattle.zf_enum.specs.{conjuncts_of};
 
 use std::alloc::AllocError;
 use zf_meaning::row::Row;

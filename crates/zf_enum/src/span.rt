@@ -1,6 +1,7 @@
 //! Numbers of which it is told between which two they lie, by the value of the next component.
 ghost use Rattle.std.specs.Prelude.{◌≡◌, ℤ, ◌+ℤ◌, ◌-ℤ◌, ◌*ℤ◌, IfOk, Some};
-ghost use Rattle.zf_enum.specs.Spans.{IsSmall, Spans};
+ghost use Rattle.zf_enum.specs.{IsSmall};
+ghost use Rattle.zf_enum.specs.Spans.{Spans};
 
 use std::alloc::AllocError;
 

@@ -1,9 +1,8 @@
 //! Expressions that a quantifier equates a component with, for some values of its variables.
 ghost use Rattle.std.specs.Prelude.{◌≡◌, ◌<◌, ◌^◌, ℕ, List, Some, IfOk, IfSome, OnOk, IsTrue, map, slice_get};
-ghost use Rattle.zf_term.specs.ResolvedTrees.{ResolvedTree, absent, builder, present};
-ghost use Rattle.zf_term.specs.ResolvedViews.{range_of, ranges, resolved_of};
+ghost use Rattle.zf_term.specs.{absent, builder, present, range_of, ranges, resolved_of, ResolvedTree};
 ghost use Rattle.zf_enum.specs.Property as spec;
-ghost use Rattle.zf_enum.specs.Spreads.{AddsSpreads, AreSpreads, AsksFor, Equates, IsSetOver, IsSpread, IsThere};
+ghost use Rattle.zf_enum.specs.{AddsSpreads, AreSpreads, AsksFor, Equates, IsSetOver, IsSpread, IsThere};
 
 use crate::due::due;
 use crate::fixing::fixing;

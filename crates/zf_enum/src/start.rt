@@ -1,16 +1,12 @@
 //! Where a search begins.
 ghost use Rattle.std.specs.Prelude.{◌≡◌, length, IfOk, IfErr, map};
 ghost use Rattle.std.specs.Option.{option_copied};
-ghost use Rattle.zf_term.specs.SchemaViews.{conjunct_of, schema_of};
-ghost use Rattle.zf_term.specs.ResolvedViews.{resolved_of};
-ghost use Rattle.zf_finite.specs.Finite.{IsFinite};
-ghost use Rattle.zf_walk.specs.Progress.{AreDueWithin};
-ghost use Rattle.zf_walk.specs.RowLaws.{HasLength};
-ghost use Rattle.zf_meaning.specs.Envs.{environment_of};
-ghost use Rattle.zf_enum.specs.Property.{property};
-ghost use Rattle.zf_enum.specs.PortionViews.{portion};
-ghost use Rattle.zf_enum.specs.Starts.{BeginsCounting};
-ghost use Rattle.zf_ranges.specs.StartFaults.{RefusesStart};
+ghost use Rattle.zf_term.specs.{conjunct_of, resolved_of, schema_of};
+ghost use Rattle.zf_finite.specs.{IsFinite};
+ghost use Rattle.zf_walk.specs.{AreDueWithin, HasLength};
+ghost use Rattle.zf_meaning.specs.{environment_of};
+ghost use Rattle.zf_enum.specs.{BeginsCounting, portion, property};
+ghost use Rattle.zf_ranges.specs.{RefusesStart};
 
 use crate::bindings::Bindings;
 use crate::conjuncts::Conjuncts;

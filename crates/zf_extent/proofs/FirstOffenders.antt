@@ -6,10 +6,9 @@ use Rattle.zf_term.specs.declared.resolved.Range.{Range}
 use Rattle.zf_term.specs.declared.resolved.Resolved.{Resolved}
 use Rattle.zf_term.specs.declared.resolved.Resolved.TheVariants as v
 use Rattle.zf_term.specs.declared.resolved.ResolvedLink.{ResolvedLink}
-use Rattle.zf_term.specs.Definitions.{Defined}
+use Rattle.zf_term.specs.{Defined, links, part_of, range_of, ranges, resolved_link_of, resolved_of, terms}
 use Rattle.zf_extent.specs.declared.offender.Offender.{Offender}
-use Rattle.zf_extent.specs.Extents.{first, unless, tested, is_last, offending, all_offending, links_offending, ranges_offending, part_offending}
-use Rattle.zf_term.specs.ResolvedViews.{resolved_of, resolved_link_of, range_of, terms, links, ranges, part_of}
+use Rattle.zf_extent.specs.{all_offending, first, is_last, links_offending, offending, part_offending, ranges_offending, tested, unless}
 use Rattle.std.specs.Option.{option_or}
 use Rattle.zf_term.proofs.Choices.{or_none, or_else_assoc}
 use Rattle.zf_term.proofs.Walk.{dropped}

@@ -4,22 +4,17 @@ use Rattle.std.proofs.lemmas.List.{append_assoc, append-nil}
 use Rattle.std.proofs.lemmas.Grind.{flat_map-append}
 use Rattle.std.proofs.lemmas.List.Concat.{flat_map-cons}
 use Rattle.std.specs.List.{flat_map}
-use Rattle.zf_data.specs.Chunks.{all_of}
+use Rattle.zf_data.specs.{all_of}
 use Rattle.zf_term.specs.declared.conjunct.Batch.{Batch}
 use Rattle.zf_term.specs.declared.conjunct.Conjunct.{Conjunct}
 use Rattle.zf_term.specs.declared.conjunct.Conjunct.TheVariants as v
 use Rattle.zf_term.specs.declared.resolved.Resolved.{Resolved}
-use Rattle.zf_term.specs.Definitions.{Defined, all_joined, both_hold, is_member, joined, one_holds}
-use Rattle.zf_term.specs.SchemaViews.{batch_of, conjunct_of}
-use Rattle.zf_term.specs.ResolvedTrees.{ResolvedTree}
-use Rattle.zf_term.specs.ResolvedViews.{resolved_of}
-use Rattle.zf_term.specs.Shapes.{moved}
-use Rattle.zf_term.specs.ShapeViews.{numbering}
+use Rattle.zf_term.specs.{all_joined, batch_of, both_hold, conjunct_of, Defined, is_member, joined, moved, numbering, one_holds, resolved_of, ResolvedTree}
 use Rattle.std.specs.Option.{option_or}
 use Rattle.zf_term.proofs.Choices.{or_else_assoc}
 use Rattle.zf_term.proofs.ConjunctsSeen.{batch-seen, of-Either, of-Member, of-Term}
 use Rattle.zf_extent.specs.declared.offender.Offender.{Offender}
-use Rattle.zf_extent.specs.Extents.{direct, first, offending, offending_within, unless}
+use Rattle.zf_extent.specs.{direct, first, offending, offending_within, unless}
 use Rattle.zf_extent.proofs.FirstOffenders.{first_of_both, first_step}
 use Rattle.zf_extent.proofs.SameOffences.{same_offences}
 

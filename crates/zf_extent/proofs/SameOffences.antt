@@ -3,11 +3,10 @@ use Rattle.std.proofs.Common.{◌≡◌, ℕ, List, None, ◌&&◌, if◌then◌
 use Rattle.zf_tree.specs.declared.symbol.Relation.{Relation}
 use Rattle.zf_reference.specs.declared.reference.Reference.{Reference}
 use Rattle.zf_reference.specs.declared.reference.Reference.TheVariants.{Component, Local, Global}
-use Rattle.zf_term.specs.Definitions.{Defined}
-use Rattle.zf_extent.specs.Extents.{direct, extent_named, extent_set, is_last, is_membership, name_offenders, links_offending, all_offending, offending, part_offending, ranges_offending, tested}
-use Rattle.zf_term.specs.ResolvedTrees.{ResolvedTree, reference, number, constant, empty_set, bracket, listed, builder, unary, binary, chain, quantified, ResolvedTrees, no_terms, term, ResolvedLinks, no_links, link, Ranges, no_ranges, range, ResolvedPart, absent, present}
-use Rattle.zf_reference.specs.Numbering.{renumbered}
-use Rattle.zf_term.specs.Shapes.{all_moved, links_moved, moved, part_moved, ranges_moved}
+use Rattle.zf_term.specs.{absent, all_moved, binary, bracket, builder, chain, constant, Defined, empty_set, link, links_moved, listed, moved, no_links, no_ranges, no_terms, number, part_moved, present, quantified, range, Ranges, ranges_moved, reference, ResolvedLinks, ResolvedPart, ResolvedTree, term, unary}
+use Rattle.zf_extent.specs.{all_offending, direct, extent_named, extent_set, is_last, is_membership, links_offending, name_offenders, offending, part_offending, ranges_offending, tested}
+use Rattle.zf_term.specs.ResolvedTrees.{ResolvedTrees}
+use Rattle.zf_reference.specs.{renumbered}
 
 same_extent : (g : List Defined) (f : ℕ → ℕ) (r : Reference) → extent_named g (renumbered f r) ≡ extent_named g r
 same_extent g f (Component i) = refl

@@ -14,8 +14,8 @@ use Rattle.zf_reference.specs.declared.reference.Reference.{Reference}
 use Rattle.zf_reference.specs.declared.reference.Reference.TheVariants.{Global}
 use Rattle.zf_extent.specs.declared.offender.Offender.{Offender}
 use Rattle.zf_extent.specs.declared.offender.Offender.TheVariants.{Name, Symbol}
-use Rattle.zf_term.specs.Definitions.{Defined, Definition, abbreviation}
-use Rattle.zf_term.specs.ResolvedTrees.{ResolvedTree, reference, constant, bracket, listed, builder, unary, binary, chain, quantified, ResolvedTrees, no_terms, term, ResolvedLinks, no_links, link, Ranges, no_ranges, range, ResolvedPart, absent, present}
+use Rattle.zf_term.specs.{abbreviation, absent, binary, bracket, builder, chain, constant, Defined, Definition, link, listed, no_links, no_ranges, no_terms, present, quantified, range, Ranges, reference, ResolvedLinks, ResolvedPart, ResolvedTree, term, unary}
+use Rattle.zf_term.specs.ResolvedTrees.{ResolvedTrees}
 
 -- ---- the infinite set that a term is
 

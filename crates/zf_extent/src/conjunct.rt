@@ -1,8 +1,7 @@
 //! What offends in conjuncts.
 ghost use Rattle.std.specs.Prelude.{◌≡◌, flat_map, map};
-ghost use Rattle.zf_data.specs.Chunks.{all_of};
-ghost use Rattle.zf_term.specs.SchemaViews.{batch_of, conjunct_of};
-ghost use Rattle.zf_term.specs.DefinitionViews.{globals_of};
+ghost use Rattle.zf_data.specs.{all_of};
+ghost use Rattle.zf_term.specs.{batch_of, conjunct_of, globals_of};
 ghost use Rattle.std.specs.Option.{option_or};
 ghost use Rattle.zf_extent.specs.Extents as extents;
 

@@ -1,8 +1,7 @@
 //! Infinite sets in terms: which terms are one, and what offends.
 ghost use Rattle.std.specs.Prelude.{◌≡◌, map};
-ghost use Rattle.zf_term.specs.DefinitionViews.{definition_of, globals_of};
+ghost use Rattle.zf_term.specs.{definition_of, globals_of, links, part_of, range_of, ranges, resolved_link_of, resolved_of, terms};
 ghost use Rattle.zf_extent.specs.Extents as spec;
-ghost use Rattle.zf_term.specs.ResolvedViews.{resolved_of, resolved_link_of, range_of, terms, links, ranges, part_of};
 ghost use Rattle.std.specs.Option.{option_or};
 
 use crate::offender::Offender;

@@ -1,6 +1,6 @@
 //! What offends in a term.
 ghost use Rattle.std.specs.Prelude.{◌≡◌};
-ghost use Rattle.zf_extent.specs.Extents.{offender_line};
+ghost use Rattle.zf_extent.specs.{offender_line};
 
 use zf_tree::symbol::Constant;
 

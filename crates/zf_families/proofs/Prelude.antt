@@ -14,20 +14,13 @@ pub use Rattle.std.specs.declared.alloc.AllocError.{AllocError}
 pub use Rattle.zf_value.proofs.Among.{every_also, every_at, every_from, member_at, members-append, members-take_more, not_below_itself, take_all}
 pub use Rattle.zf_value.proofs.Exact.{cmp_is, exact, ties}
 pub use Rattle.zf_value.proofs.Seen.{members-SetOf, parts-Tuple}
-pub use Rattle.zf_value.specs.Operations.{AreFrom, IsBetween, IsFunctional, IsInjective, IsRelationThat, IsSubset, IsTotal, pair, Relates}
-unfoldable pub use Rattle.zf_value.specs.Operations.{ArePartialFunctions, ArePartialInjections, AreRelations, AreTotalFunctions, AreTotalInjections, IsCross, IsPower}
-pub use Rattle.zf_value.specs.Sets.{IsAscending, IsMember, IsSetOf, members, value_order}
-pub use Rattle.zf_value.specs.SetLaws.{parts}
-pub use Rattle.zf_value.specs.ListLaws.{row_order}
-unfoldable pub use Rattle.zf_value.specs.Sets.{AreAmong}
+pub use Rattle.zf_value.specs.{AreFrom, IsAscending, IsBetween, IsFunctional, IsInjective, IsMember, IsRelationThat, IsSetOf, IsSubset, IsTotal, members, pair, parts, Relates, row_order, value_order}
+unfoldable pub use Rattle.zf_value.specs.{AreAmong, ArePartialFunctions, ArePartialInjections, AreRelations, AreTotalFunctions, AreTotalInjections, IsCross, IsPower}
 pub use Rattle.zf_value.specs.declared.TheConstants.{SET_MAX}
 pub use Rattle.zf_value.specs.declared.plain.Value.{out-Value, SetOf, Tuple, Value}
 pub use Rattle.zf_value.specs.declared.plain.Value.TheOpen.{Value-F}
 pub use Rattle.zf_value.specs.declared.plain.Value.TheVariants.{outs-SetOf, outs-Tuple}
 pub use Rattle.zf_value.specs.declared.value.Outcome.{Outcome}
 pub use Rattle.zf_value.specs.declared.value.Outcome.TheVariants.{Is, Out}
-pub use Rattle.zf_families.specs.Counts.{falling, partial_injection_count, sizes, stepped}
-unfoldable pub use Rattle.zf_families.specs.Families.{IsPartialFunction, IsPartialInjection, IsRelation, IsTotalFunction, IsTotalInjection, IsTupleFrom}
-pub use Rattle.zf_families.specs.Selections.{AllAscend, AreSets, extended, extensions, fits_any, fits_apart, fitting, pairs, second, second_at, singles, some, whole}
-pub use Rattle.zf_families.specs.Tests.{first, first_at, firsts_rise, IsGraph, seconds_apart}
-unfoldable pub use Rattle.zf_families.specs.Tests.{IsFunctionFrom, IsInjectionFrom, IsPairFrom, IsPairOn}
+pub use Rattle.zf_families.specs.{AllAscend, AreSets, extended, extensions, falling, first, first_at, firsts_rise, fits_any, fits_apart, fitting, IsGraph, pairs, partial_injection_count, second, second_at, seconds_apart, singles, sizes, some, stepped, whole}
+unfoldable pub use Rattle.zf_families.specs.{IsFunctionFrom, IsInjectionFrom, IsPairFrom, IsPairOn, IsPartialFunction, IsPartialInjection, IsRelation, IsTotalFunction, IsTotalInjection, IsTupleFrom}

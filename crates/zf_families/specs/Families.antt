@@ -1,7 +1,7 @@
 -- What the members of products and of sets of relations are, each as a word.
 use Rattle.std.specs.Prelude.{◌≡◌, List}
 use Rattle.zf_value.specs.declared.plain.Value.{Value, Tuple}
-use Rattle.zf_value.specs.Operations.{AreFrom, IsFunctional, IsInjective, IsTotal, IsRelationThat}
+use Rattle.zf_value.specs.{AreFrom, IsFunctional, IsInjective, IsRelationThat, IsTotal}
 
 -- a tuple of members of these sets
 unfoldable pub IsTupleFrom : List Value → Value → Type 0

@@ -4,8 +4,7 @@ use Rattle.std.specs.List.{flat_map, list_all}
 use Rattle.std.specs.Ordering.{is_eq}
 use Rattle.zf_value.specs.declared.plain.Value.{Value, SetOf, out-Value}
 use Rattle.zf_value.specs.declared.plain.Value.TheOpen.{Value-F}
-use Rattle.zf_value.specs.Sets.{value_order, IsAscending}
-use Rattle.zf_value.specs.Operations.{pair}
+use Rattle.zf_value.specs.{IsAscending, pair, value_order}
 use Rattle.zf_families.specs.declared.rows.Fits.{Fits}
 use Rattle.zf_families.specs.declared.rows.Fits.TheVariants.{Any, Apart}
 

@@ -3,8 +3,7 @@ use Rattle.std.specs.Prelude.{◌≡◌, Bool, true, ◌&&◌, List, [], ◌∷�
 use Rattle.std.specs.Ordering.{is_lt}
 use Rattle.zf_value.specs.declared.plain.Value.{Value, out-Value}
 use Rattle.zf_value.specs.declared.plain.Value.TheOpen.{Value-F}
-use Rattle.zf_value.specs.Sets.{value_order, IsMember}
-use Rattle.zf_value.specs.Operations.{pair, IsBetween, IsFunctional, IsInjective}
+use Rattle.zf_value.specs.{IsBetween, IsFunctional, IsInjective, IsMember, pair, value_order}
 use Rattle.zf_families.specs.Selections.{fits_apart}
 
 -- a pair of members of the two sets

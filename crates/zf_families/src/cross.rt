@@ -1,12 +1,9 @@
 //! Products.
 ghost use Rattle.std.specs.Prelude.{◌≡◌, ◌+◌, ◌↔◌, ◌⊎◌, IsTrue, IfOk, map, min};
 ghost use Rattle.zf_value.specs.declared.plain.Value as plain;
-ghost use Rattle.zf_value.specs.Operations.{IsCross, AreFrom};
-ghost use Rattle.zf_value.specs.Sets.{IsAscending, members};
+ghost use Rattle.zf_value.specs.{AreFrom, IsAscending, IsCross, members};
 ghost use Rattle.std.specs.List.{AllByRecursion};
-ghost use Rattle.zf_families.specs.Counts.{sizes};
-ghost use Rattle.zf_families.specs.Families.{IsTupleFrom};
-ghost use Rattle.zf_families.specs.Selections.{whole, fits_any};
+ghost use Rattle.zf_families.specs.{fits_any, IsTupleFrom, sizes, whole};
 
 use crate::count;
 use crate::rows::{Fits, copied, set_of_tuples, whole_rows};

@@ -1,10 +1,8 @@
 //! Relations and functions from a set to a set.
 ghost use Rattle.std.specs.Prelude.{◌≡◌, ◌∷◌, [], ◌↔◌, ◌⊎◌, IsTrue, IfOk, map};
 ghost use Rattle.zf_value.specs.declared.plain.Value as plain;
-ghost use Rattle.zf_value.specs.Operations.{pair, AreRelations, ArePartialFunctions, AreTotalFunctions};
-ghost use Rattle.zf_value.specs.Sets.{members};
-ghost use Rattle.zf_families.specs.Families.{IsRelation, IsPartialFunction, IsTotalFunction};
-ghost use Rattle.zf_families.specs.Selections.{whole, fits_any, pairs};
+ghost use Rattle.zf_value.specs.{ArePartialFunctions, AreRelations, AreTotalFunctions, members, pair};
+ghost use Rattle.zf_families.specs.{fits_any, IsPartialFunction, IsRelation, IsTotalFunction, pairs, whole};
 
 use crate::count;
 use crate::members::{is_between, is_function, is_graph};

@@ -1,10 +1,8 @@
 //! Injections from a set to a set.
 ghost use Rattle.std.specs.Prelude.{◌≡◌, [], ◌∷◌, ◌↔◌, ◌⊎◌, IsTrue, IfOk, map};
 ghost use Rattle.zf_value.specs.declared.plain.Value as plain;
-ghost use Rattle.zf_value.specs.Operations.{pair, ArePartialInjections, AreTotalInjections};
-ghost use Rattle.zf_value.specs.Sets.{members, IsAscending};
-ghost use Rattle.zf_families.specs.Families.{IsPartialInjection, IsTotalInjection};
-ghost use Rattle.zf_families.specs.Selections.{whole, some, fits_apart, pairs};
+ghost use Rattle.zf_value.specs.{ArePartialInjections, AreTotalInjections, IsAscending, members, pair};
+ghost use Rattle.zf_families.specs.{fits_apart, IsPartialInjection, IsTotalInjection, pairs, some, whole};
 
 use crate::count;
 use crate::members::{are_seconds_apart, is_graph, is_injection};

@@ -1,9 +1,8 @@
 //! What the members of a relation are, tested without building anything.
 ghost use Rattle.std.specs.Prelude.{◌≡◌, ◌↔◌, IsTrue};
-ghost use Rattle.zf_value.specs.Operations.{IsBetween};
-ghost use Rattle.zf_value.specs.Sets.{members, IsAscending};
+ghost use Rattle.zf_value.specs.{IsAscending, IsBetween, members};
 ghost use Rattle.zf_families.specs.Tests as tests;
-ghost use Rattle.zf_families.specs.Tests.{IsPairFrom, IsPairOn, IsGraph, IsFunctionFrom, IsInjectionFrom, firsts_rise, seconds_apart};
+ghost use Rattle.zf_families.specs.{firsts_rise, IsFunctionFrom, IsGraph, IsInjectionFrom, IsPairFrom, IsPairOn, seconds_apart};
 
 use crate::rows::is_apart;
 use zf_value::set::is_member;

@@ -1,8 +1,7 @@
 //! Power sets.
 ghost use Rattle.std.specs.Prelude.{◌↔◌, ◌⊎◌, IsTrue, IfOk};
 ghost use Rattle.zf_value.specs.declared.plain.Value as plain;
-ghost use Rattle.zf_value.specs.Operations.{IsPower, IsSubset};
-ghost use Rattle.zf_value.specs.Sets.{members};
+ghost use Rattle.zf_value.specs.{IsPower, IsSubset, members};
 
 use crate::count;
 use crate::rows::{Fits, set_of_sets, single_layers, some_rows};

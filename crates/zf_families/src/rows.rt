@@ -2,11 +2,10 @@
 ghost use Rattle.std.specs.Prelude.{◌≡◌, ◌<◌, [], ◌∷◌, ◌++◌, map, drop, vec_len, IfOk, OnOk};
 ghost use Rattle.std.specs.List.{flat_map};
 ghost use Rattle.std.specs.Ordering.{is_eq};
-ghost use Rattle.zf_value.specs.Operations.{pair};
-ghost use Rattle.zf_value.specs.Sets.{value_order, IsAscending};
+ghost use Rattle.zf_value.specs.{IsAscending, pair, value_order};
 ghost use Rattle.zf_value.specs.declared.plain.Value.{Tuple, SetOf};
 ghost use Rattle.zf_families.specs.Selections as rows;
-ghost use Rattle.zf_families.specs.Selections.{fitting, extended, extensions, whole, some, singles, pairs, AreSets};
+ghost use Rattle.zf_families.specs.{AreSets, extended, extensions, fitting, pairs, singles, some, whole};
 
 use std::alloc::{AllocError, Global};
 use zf_value::items::Items;

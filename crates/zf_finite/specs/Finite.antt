@@ -1,13 +1,11 @@
 -- Which schemas are finite, where given sets are, and sets of numbers if there is a greatest one: each component has a finite declared set.
 use Rattle.std.specs.Prelude.{◌≡◌, IsTrue, ℕ, Bool, false, not, ◌&&◌, ◌||◌, is_some, if◌then◌else◌, List, [], ◌∷◌, ◌++◌, flat_map, map, Option, is_none, unwrap_or}
 use Rattle.std.specs.List.{AllByRecursion}
-use Rattle.zf_term.specs.Definitions.{Comp, Schema, DeclaredSet, plain, carrier, sides, DeclaredSets, no_sets, set, sets_of, Defined}
+use Rattle.zf_term.specs.{carrier, Comp, DeclaredSet, DeclaredSets, Defined, has_numbers, no_sets, plain, Schema, set, sets_of, sides, term_line}
 use Rattle.zf_extent.specs.declared.offender.Offender.{Offender}
-use Rattle.zf_extent.specs.Extents.{direct, offender_line, offending, offending_within, first, unless}
+use Rattle.zf_extent.specs.{direct, first, offender_line, offending, offending_within, unless}
 use Rattle.zf_finite.specs.declared.not_finite.NotFinite.{NotFinite}
 use Rattle.zf_finite.specs.declared.not_finite.NotFinite.TheVariants.{Unbounded, Offends}
-use Rattle.zf_term.specs.Shapes.{term_line}
-use Rattle.zf_term.specs.Types.{has_numbers}
 
 -- where n is the greatest number, if there is one: a declared set bounds, unless it is infinite; a disjunction needs a bound on both sides
 abbrev mutual

@@ -1,6 +1,6 @@
 -- What is claimed of finite schemas.
 use Rattle.std.specs.Prelude.{◌≡◌, ◌↔◌, ℕ, List, [], Option}
-use Rattle.zf_term.specs.Definitions.{Schema, Defined}
+use Rattle.zf_term.specs.{Defined, Schema}
 use Rattle.zf_finite.specs.Finite.{causes, IsFinite}
 
 -- a schema is finite exactly where nothing makes it infinite

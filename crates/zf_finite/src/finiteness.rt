@@ -1,13 +1,11 @@
 //! Which schemas are finite.
 ghost use Rattle.std.specs.Prelude.{◌≡◌, OnOk, IfErr, Some, flat_map, map};
-ghost use Rattle.zf_term.specs.SchemaViews.{comp_of, conjunct_of, schema_of, set_of};
-ghost use Rattle.zf_term.specs.DefinitionViews.{globals_of};
-ghost use Rattle.zf_term.specs.Definitions.{sets_of};
-ghost use Rattle.zf_extent.specs.Extents.{first, unless};
+ghost use Rattle.zf_term.specs.{comp_of, conjunct_of, globals_of, schema_of, set_of, sets_of};
+ghost use Rattle.zf_extent.specs.{first, unless};
 ghost use Rattle.zf_extent.specs.Extents as extents;
 ghost use Rattle.std.specs.Option.{option_or};
 ghost use Rattle.zf_finite.specs.Finite as spec;
-ghost use Rattle.zf_finite.specs.Finite.{IsFinite};
+ghost use Rattle.zf_finite.specs.{IsFinite};
 
 use crate::not_finite::NotFinite;
 use zf_data::arena::{Chunked, Items};

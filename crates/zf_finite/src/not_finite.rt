@@ -1,6 +1,6 @@
 //! Why a schema is not finite.
 ghost use Rattle.std.specs.Prelude.{◌≡◌};
-ghost use Rattle.zf_finite.specs.Finite.{cause_line};
+ghost use Rattle.zf_finite.specs.{cause_line};
 
 use zf_data::arena::Lent;
 use zf_extent::offender::Offender;

@@ -4,8 +4,8 @@ use Rattle.std.proofs.lemmas.List.{append_assoc}
 use Rattle.std.specs.Char.{digit_char}
 use Rattle.std.specs.List.{flat_map}
 use Rattle.std.specs.Str.{is_utf8}
-use Rattle.zf_format.specs.Strings.{hidden_text, is_hidden, is_marked, string_byte}
-unfoldable use Rattle.zf_format.specs.Strings.{string_text}
+use Rattle.zf_format.specs.{hidden_text, is_hidden, is_marked, string_byte}
+unfoldable use Rattle.zf_format.specs.{string_text}
 
 -- ---- a byte of a string
 

@@ -1,7 +1,7 @@
 //! Strings of JSON.
 ghost use Rattle.std.specs.Prelude.{◌≡◌, ◌<◌, ◌++◌, OnOk};
 ghost use Rattle.std.specs.Char.{digit_char};
-ghost use Rattle.zf_format.specs.Strings.{hidden_text, string_byte, string_text};
+ghost use Rattle.zf_format.specs.{hidden_text, string_byte, string_text};
 
 use std::alloc::AllocError;
 

@@ -5,8 +5,7 @@ use Rattle.zf_graph.proofs.Places.{at_last}
 use Rattle.zf_graph.proofs.Growing.{at-arrive_all, longer-arrive_all, longer-more}
 use Rattle.zf_graph.proofs.OneWay.{one_more}
 use Rattle.zf_graph.proofs.Writing.{arrive_all-push}
-use Rattle.zf_graph.specs.Seeking.{AreOthers, found, open_ended, Result, Sought, untold}
-use Rattle.zf_graph.specs.SeekingLaws.{IsDecisive}
+use Rattle.zf_graph.specs.{AreOthers, found, IsDecisive, open_ended, Result, Sought, untold}
 
 module _ {N L : Type 0} (eq : N → N → Bool) (a : Met N L) (met : List (Met N L)) where
   -- what is met stays, with further edges

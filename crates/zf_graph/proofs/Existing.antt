@@ -6,8 +6,8 @@ use Rattle.zf_graph.proofs.Prelude.{◌++◌, ◌+◌, ◌<◌, ◌∙◌, ◌�
 use Rattle.zf_graph.proofs.Growing.{longer-arrive_all}
 use Rattle.zf_graph.proofs.Places.{some_at}
 use Rattle.zf_graph.proofs.Writing.{arrive_all-push, Explores-push}
-use Rattle.zf_graph.specs.Texts.{broken, ended, ends, breaks, pauses, inner_edges, no_turn, paused, text_up_to, Words}
-use Rattle.zf_graph.specs.Laws.{Begins, EachNodeHasTurn, IsSomehowWritten}
+use Rattle.zf_graph.specs.{Begins, broken, EachNodeHasTurn, ended, ends, inner_edges, IsSomehowWritten, no_turn, paused, text_up_to, Words}
+use Rattle.zf_graph.specs.Texts.{breaks, pauses}
 
 module _ {N L : Type 0} (eq : N → N → Bool) (a : Met N L) (met : List (Met N L)) (limit : ℕ) where
   -- the edges bring no more nodes than the limit has, or one of them does first

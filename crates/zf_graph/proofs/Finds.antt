@@ -3,8 +3,7 @@ use Rattle.std.proofs.Common.{◌++◌, ◌∙◌, ◌∷◌, ◌≡◌, ◌⊎�
 use Rattle.std.proofs.lemmas.List.{append-nil}
 use Rattle.std.specs.Prelude.{AllPairs, Contains}
 use Rattle.zf_walk.proofs.Lists.{AllPairs-across, AllPairs-head, AllPairs-tail, Contains-cases, Contains-head, Contains-later, Contains-right}
-use Rattle.zf_graph.specs.Parts.{EachHolds, AreFinds, AreFirst, Searched}
-use Rattle.zf_graph.specs.PartLaws.{IsOrderly}
+use Rattle.zf_graph.specs.{AreFinds, AreFirst, EachHolds, IsOrderly, Searched}
 
 abbrev pub IsFront : {X : Type 0} → List X → List X → Type 0
 IsFront {X} xs ys = (more : List X) × (ys ≡ xs ++ more)

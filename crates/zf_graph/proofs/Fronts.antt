@@ -4,8 +4,7 @@ use Rattle.zf_graph.proofs.Prelude.{◌++◌, ◌+◌, ◌∙◌, ◌∷◌, ◌
 use Rattle.zf_graph.proofs.Places.{one_at}
 use Rattle.zf_graph.proofs.Writing.{nodes_of-arrive_all}
 use Rattle.zf_graph.proofs.OneWay.{all, compare, full, IsCompared, IsLonger, last_of, longer, not_longer, one_way, open_after, out, same, shorter, Stop, stop_of, Tail, too_many}
-use Rattle.zf_graph.specs.Texts.{begun_text, broken, edge_text, edges_text, Ending, inner_edges, IsPartlyExplored, IsExplored, no_turn, paused, stuck_text, text_up_to, turns_text, Words}
-use Rattle.zf_graph.specs.Laws.{IsFrontTurn, IsSure, PartsAreFronts}
+use Rattle.zf_graph.specs.{begun_text, broken, edge_text, edges_text, Ending, inner_edges, IsExplored, IsFrontTurn, IsPartlyExplored, IsSure, no_turn, PartsAreFronts, paused, stuck_text, text_up_to, turns_text, Words}
 
 -- the second text is the front of the first
 abbrev IsTextFront : List ℕ → List ℕ → Type 0

@@ -2,9 +2,8 @@
 use Rattle.std.proofs.Common.{◌++◌, ◌+◌, ◌∙◌, ◌∷◌, ◌≡◌, [], ap, arith, inl, inr, List, map, refl, Some, subst, suc, sym, take, zero, ℕ}
 use Rattle.std.proofs.lemmas.List.{append-nil, append_assoc}
 use Rattle.std.specs.Prelude.{Contains, slice_get}
-use Rattle.zf_graph.specs.Edges.{Edge}
+use Rattle.zf_graph.specs.{AreFinds, AreFirst, BeginsParts, BreaksParts, EachHolds, Edge, HasParts, Searched}
 use Rattle.zf_graph.proofs.Places.{none_some, one_some}
-use Rattle.zf_graph.specs.Parts.{EachHolds, AreFinds, AreFirst, BeginsParts, BreaksParts, HasParts, Searched}
 
 module _ {N L O X : Type 0} (s : Searched N L O X) (a : N) where
   abbrev Edges : Type 0

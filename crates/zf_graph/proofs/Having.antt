@@ -4,12 +4,7 @@ use Rattle.std.proofs.lemmas.List.{append_assoc}
 use Rattle.std.specs.Prelude.{AllPairs, Contains}
 use Rattle.zf_walk.proofs.Lists.{AllPairs-across, AllPairs-cons, AllPairs-head, AllPairs-nil, AllPairs-tail, Contains-cases, Contains-either, Contains-head, Contains-later, Contains-left, Contains-nil}
 use Rattle.zf_graph.proofs.Finds.{first_of_all}
-use Rattle.zf_graph.specs.Explorations.{Turn}
-use Rattle.zf_graph.specs.Edges.{Edge}
-use Rattle.zf_graph.specs.Laws.{Begins, EachNodeHasTurn}
-use Rattle.zf_graph.specs.Parts.{EachHolds, AreFinds, AreFirst, BeginsParts, BreaksParts, BreaksTurn, explored_of, HasParts, HasTurn, Searched}
-use Rattle.zf_graph.specs.PartLaws.{IsOrderly}
-use Rattle.zf_graph.specs.Texts.{no_turn}
+use Rattle.zf_graph.specs.{AreFinds, AreFirst, Begins, BeginsParts, BreaksParts, BreaksTurn, EachHolds, EachNodeHasTurn, Edge, explored_of, HasParts, HasTurn, IsOrderly, no_turn, Searched, Turn}
 
 -- ---- fronts of lists
 

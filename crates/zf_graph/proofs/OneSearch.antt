@@ -6,10 +6,8 @@ use Rattle.zf_graph.proofs.Places.{one_at}
 use Rattle.zf_graph.proofs.Growing.{at-Explores, longer-Explores}
 use Rattle.zf_graph.proofs.Deciding.{at-more, Decides, decides_once, IsClear, IsClear-before, is_full, is_sought, is_untold, new_is_met, none_behind}
 use Rattle.zf_graph.proofs.OneWay.{compare, IsCompared, IsLonger, last_of, longer, same, shorter}
-use Rattle.zf_graph.specs.Texts.{inner_edges, no_turn, Words}
-use Rattle.zf_graph.specs.Laws.{IsFrontTurn, IsSure}
-use Rattle.zf_graph.specs.Seeking.{breaks, doubts, finds, found, IsSearched, misses, missing, open_ended, pauses, Result, Sought, untold, way_text}
-use Rattle.zf_graph.specs.SeekingLaws.{IsDecisive, IsSearchedInOneWay}
+use Rattle.zf_graph.specs.{doubts, finds, found, inner_edges, IsDecisive, IsFrontTurn, IsSearched, IsSearchedInOneWay, IsSure, misses, missing, no_turn, open_ended, Result, Sought, untold, way_text, Words}
+use Rattle.zf_graph.specs.Seeking.{breaks, pauses}
 
 module _ {N L : Type 0} (p : Explored N L) (s : Sought N) (w : Words N L) (last : Result → (nodes edges : ℕ) → List ℕ) (limit : ℕ) where
   -- what is written before the last words of a search that ends with this edge

@@ -6,8 +6,8 @@ use Rattle.zf_graph.proofs.Prelude.{◌++◌, ◌+◌, ◌∙◌, ◌∷◌, ◌
 use Rattle.zf_graph.proofs.Places.{one_at}
 use Rattle.zf_graph.proofs.Growing.{longer-arrive_all, longer-Explores, longer-more}
 use Rattle.zf_graph.proofs.Writing.{arrive_all-push}
-use Rattle.zf_graph.specs.Texts.{broken, ended, Ending, ends, breaks, pauses, inner_edges, IsExplored, no_turn, paused, text_up_to, Words}
-use Rattle.zf_graph.specs.Laws.{IsFrontTurn, IsSure, IsWrittenInOneWay}
+use Rattle.zf_graph.specs.{broken, ended, Ending, ends, inner_edges, IsExplored, IsFrontTurn, IsSure, IsWrittenInOneWay, no_turn, paused, text_up_to, Words}
+use Rattle.zf_graph.specs.Texts.{breaks, pauses}
 
 module _ {N L : Type 0} where
   -- with an edge to a new node there is one more

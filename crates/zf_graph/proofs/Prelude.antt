@@ -4,8 +4,4 @@ pub use Rattle.std.proofs.lemmas.Bool.{cases_Bool, cases_lt, cases_eq, false≢t
 pub use Rattle.std.proofs.lemmas.List.{append-nil, append_assoc}
 pub use Rattle.std.proofs.lemmas.Option.{slice_get_within}
 pub use Rattle.std.specs.Prelude.{Contains, slice_get}
-pub use Rattle.zf_graph.specs.Graphs.{Graph, IsReachable, at_root, along, Follows, end_of, IsWay, IsShortest}
-pub use Rattle.zf_graph.specs.Edges.{Edge}
-pub use Rattle.zf_graph.specs.Explorations.{Turn, Explored, with_node, with_ends, number_in, Met, nodes_of, at_first, IsMet, is_met, beyond, arrive, arrive_all, Explores, ExploresAll, ExploresUpTo}
-pub use Rattle.zf_graph.specs.Texts.{with_edge}
-pub use Rattle.zf_graph.specs.Laws.{IsOf}
+pub use Rattle.zf_graph.specs.{along, arrive, arrive_all, at_first, at_root, beyond, Edge, end_of, Explored, Explores, ExploresAll, ExploresUpTo, Follows, Graph, is_met, IsMet, IsOf, IsReachable, IsShortest, IsWay, Met, nodes_of, number_in, Turn, with_edge, with_ends, with_node}

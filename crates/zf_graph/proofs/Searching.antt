@@ -8,9 +8,8 @@ use Rattle.zf_graph.proofs.Growing.{at-arrive_all}
 use Rattle.zf_graph.proofs.SomeSearch.{others-push, others_first}
 use Rattle.zf_graph.proofs.Stages.{inner_edges-edge, inner_edges-none, inner_edges-push}
 use Rattle.zf_graph.proofs.Writing.{arrive_all-push, Explores-push}
-use Rattle.zf_graph.specs.Seeking.{AreOthers, breaks, doubts, finds, found, IsSearched, misses, missing, open_ended, pauses, Result, Sought, untold, way_text}
-use Rattle.zf_graph.specs.Stages.{SeeksBefore, SeeksIn}
-use Rattle.zf_graph.specs.Texts.{inner_edges, Words}
+use Rattle.zf_graph.specs.{AreOthers, doubts, finds, found, inner_edges, IsSearched, misses, missing, open_ended, Result, SeeksBefore, SeeksIn, Sought, untold, way_text, Words}
+use Rattle.zf_graph.specs.Seeking.{breaks, pauses}
 
 module _ {N L : Type 0} (p : Explored N L) (s : Sought N) (limit : ℕ) where
   -- at first

@@ -7,10 +7,8 @@ use Rattle.zf_graph.proofs.Deciding.{Decides, IsClear, is_full, is_sought, is_un
 use Rattle.zf_graph.proofs.Growing.{longer-arrive_all}
 use Rattle.zf_graph.proofs.Places.{at_push, none_some, one_some, some_at}
 use Rattle.zf_graph.proofs.Writing.{arrive_all-push, Explores-push}
-use Rattle.zf_graph.specs.Laws.{Begins, EachNodeHasTurn}
-use Rattle.zf_graph.specs.Seeking.{AreOthers, breaks, doubts, finds, found, misses, missing, open_ended, pauses, Result, Sought, untold, way_text}
-use Rattle.zf_graph.specs.SeekingLaws.{EachIsTold, IsSomehowSearched}
-use Rattle.zf_graph.specs.Texts.{inner_edges, no_turn, Words}
+use Rattle.zf_graph.specs.{AreOthers, Begins, doubts, EachIsTold, EachNodeHasTurn, finds, found, inner_edges, IsSomehowSearched, misses, missing, no_turn, open_ended, Result, Sought, untold, way_text, Words}
+use Rattle.zf_graph.specs.Seeking.{breaks, pauses}
 
 module _ {N L : Type 0} (p : Explored N L) (s : Sought N) where
   -- one more that is another, or the root

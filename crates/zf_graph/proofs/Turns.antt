@@ -2,14 +2,10 @@
 use Rattle.std.proofs.Common.{◌++◌, ◌+◌, ◌∙◌, ◌∷◌, ◌≡◌, ◌⊎◌, [], ap, ap₂, arith, inl, inr, List, map, refl, Some, subst, suc, sym, zero, ℕ}
 use Rattle.std.proofs.lemmas.List.{append-nil, append_assoc, map-append}
 use Rattle.std.specs.Prelude.{Contains, slice_get}
-use Rattle.zf_graph.specs.Explorations.{Turn}
-use Rattle.zf_graph.specs.Edges.{Edge}
-use Rattle.zf_graph.specs.Laws.{IsFrontTurn, IsOf, IsSure}
+use Rattle.zf_graph.specs.{AreFirst, BeginsParts, BreaksParts, EachHolds, Edge, explored_of, graph_of, HasParts, IsFound, IsFrontTurn, IsOf, IsOrderly, IsSure, Searched, Turn}
 use Rattle.zf_graph.proofs.Places.{none_some, one_some}
 use Rattle.zf_walk.proofs.Lists.{Contains-cases, Contains-either, Contains-head, Contains-later, Contains-left, Contains-nil, Contains-right}
 use Rattle.zf_graph.proofs.Finds.{all_or_out, before_out, first_in_all, IsFront, one_all, one_first}
-use Rattle.zf_graph.specs.Parts.{EachHolds, AreFirst, BeginsParts, BreaksParts, explored_of, HasParts, Searched}
-use Rattle.zf_graph.specs.PartLaws.{graph_of, IsFound, IsOrderly}
 
 -- ---- lists
 

@@ -7,9 +7,9 @@ use Rattle.zf_term.specs.declared.resolved.ResolvedLink.{ResolvedLink}
 use Rattle.std.proofs.Common.{add-one, SomeIff, suc, zero}
 use Rattle.std.specs.Prelude.{Err, IfOk, IfSome, Ok, Result}
 use Rattle.std.specs.Result.{result_unwrap_or}
-use Rattle.zf_meaning.specs.InRow.{IsBehind}
+use Rattle.zf_meaning.specs.{IsBehind}
 use Rattle.zf_lift.proofs.Each.{each_more, each_also, each_done, whole}
-use Rattle.zf_lift.specs.Lifts.{variables_of}
+use Rattle.zf_lift.specs.{variables_of}
 use Rattle.zf_lift.proofs.Wherever as made
 
 across : (b : ℕ) (f e : Environment) (c : Bool) (t t' u u' : ResolvedTree) → t' ≡ t → u' ≡ u → IsLift b f e c t u → IsLift b f e c t' u'

@@ -5,7 +5,7 @@ use Rattle.zf_tree.specs.declared.symbol.Connective.TheVariants as connective
 use Rattle.zf_tree.specs.declared.symbol.Quantifier.TheVariants as quantifier
 use Rattle.zf_value.specs.declared.value.Outcome.TheVariants.{Is, Undefined, Out as OutOf}
 use Rattle.zf_value.specs.declared.value.Truth.TheVariants.{True, False, Out}
-use Rattle.zf_value.specs.Operations.{AreFrom}
+use Rattle.zf_value.specs.{AreFrom}
 use Rattle.zf_value.proofs.Making.{same_set}
 
 -- ---- connectives

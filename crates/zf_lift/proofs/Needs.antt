@@ -1,7 +1,7 @@
 -- A term that needs no more components than another uses no more.
 use Rattle.zf_lift.proofs.Prelude.{◌++◌, ◌∷◌, ◌≡◌, ◌≤◌, [], arith, List, max, ℕ, Reference, Component, Global, Local, absent, binary, bracket, builder, chain, constant, empty_set, link, listed, no_links, no_ranges, no_terms, number, present, quantified, range, Ranges, reference, ResolvedLinks, ResolvedPart, ResolvedTree, ResolvedTrees, term, unary, all_need, links_need, need, part_need, place, ranges_need}
-use Rattle.zf_term.specs.References.{onto, all_onto, links_onto, ranges_onto, part_onto, references}
-use Rattle.zf_meaning.specs.Laws.{IsBelow, AreBelow, UsesFirst}
+use Rattle.zf_term.specs.{all_onto, links_onto, onto, part_onto, ranges_onto, references}
+use Rattle.zf_meaning.specs.{AreBelow, IsBelow, UsesFirst}
 
 abbrev greatest : List Reference → ℕ
 greatest [] = 0

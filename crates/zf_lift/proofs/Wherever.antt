@@ -7,14 +7,13 @@ use Rattle.zf_tree.specs.declared.operator.Operator.TheVariants as operator
 use Rattle.zf_tree.specs.declared.operator.Unary.TheVariants as the_unary
 use Rattle.zf_value.specs.declared.value.Truth.TheVariants as truth
 use Rattle.zf_term.specs.declared.extent.Infinite.{Infinite}
-use Rattle.zf_extent.specs.Extents.{constant_set}
-use Rattle.zf_meaning.specs.Meaning.{constant_truth}
-use Rattle.zf_meaning.specs.NumberSets.{infinite_in, unended}
+use Rattle.zf_extent.specs.{constant_set}
+use Rattle.zf_meaning.specs.{constant_truth, infinite_in, unended}
 use Rattle.zf_meaning.proofs.Unique.{one_outcome}
 use Rattle.std.specs.Prelude.{◌+◌}
 use Rattle.std.proofs.lemmas.List.{length-append}
-unfoldable use Rattle.zf_meaning.specs.InRow.{IsBehind}
-use Rattle.zf_lift.specs.Lifts.{variables_of}
+unfoldable use Rattle.zf_meaning.specs.{IsBehind}
+use Rattle.zf_lift.specs.{variables_of}
 use Rattle.zf_lift.proofs.Needs.{uses_no_more}
 use Rattle.zf_lift.proofs.Forms as forms
 use Rattle.zf_lift.proofs.Longer as longer_ones

@@ -1,14 +1,10 @@
 -- Predicates in which closed parts are names.
 use Rattle.std.specs.Prelude.{◌≡◌, ◌↔◌, ℕ, List, [], ◌∷◌}
-use Rattle.zf_term.specs.ResolvedTrees.{ResolvedTree}
+use Rattle.zf_term.specs.{ResolvedTree}
 use Rattle.zf_value.specs.declared.plain.Value.{Value}
 use Rattle.zf_value.specs.declared.value.Outcome.{Outcome}
 use Rattle.zf_value.specs.declared.value.Truth.{Truth}
-use Rattle.zf_meaning.specs.Environments.{Environment}
-use Rattle.zf_meaning.specs.Envs.{longer}
-use Rattle.zf_meaning.specs.InRow.{in_row}
-use Rattle.zf_meaning.specs.Laws.{UsesFirst}
-use Rattle.zf_meaning.specs.Meaning.{IsTruth}
+use Rattle.zf_meaning.specs.{Environment, in_row, IsTruth, longer, UsesFirst}
 
 -- f has the names of e, and maybe more behind them
 abbrev pub IsLonger : Environment → Environment → Type 0

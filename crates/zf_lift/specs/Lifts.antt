@@ -2,10 +2,11 @@
 use Rattle.std.specs.Prelude.{◌≡◌, ◌+◌, ◌≤◌, ℕ, Bool, true, false, ◌&&◌, is_some, length, List, [], Option}
 use Rattle.zf_tree.specs.declared.operator.Operator.TheVariants as operator
 use Rattle.zf_tree.specs.declared.operator.Unary.TheVariants as the_unary
-use Rattle.zf_extent.specs.Extents.{constant_set}
-use Rattle.zf_term.specs.ResolvedTrees.{ResolvedTree, reference, number, constant, empty_set, bracket, listed, builder, unary, binary, chain, quantified, ResolvedTrees, ResolvedLinks, Ranges, no_ranges, range, ResolvedPart}
+use Rattle.zf_extent.specs.{constant_set}
+use Rattle.zf_term.specs.{binary, bracket, builder, chain, constant, empty_set, listed, no_ranges, number, quantified, range, Ranges, reference, ResolvedLinks, ResolvedPart, ResolvedTree, unary}
+use Rattle.zf_term.specs.ResolvedTrees.{ResolvedTrees}
 use Rattle.zf_value.specs.declared.plain.Value.{Value}
-use Rattle.zf_meaning.specs.Environments.{Environment, Context}
+use Rattle.zf_meaning.specs.{Context, Environment}
 use Rattle.zf_lift.specs.Lifted.{IsLonger}
 use Rattle.zf_lift.specs.Needs.{need, all_need, links_need, ranges_need, part_need}
 use Rattle.zf_lift.specs.Same.{IsSame, AreSame, AreSameRanges, AreSameLinks, IsSamePart}

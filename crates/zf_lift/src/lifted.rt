@@ -1,10 +1,8 @@
 //! Predicates in which closed parts are names.
 ghost use Rattle.std.specs.Prelude.{◌≡◌, IfOk, IfSome, OnOk, true, map};
-ghost use Rattle.zf_term.specs.ResolvedViews.{resolved_of};
-ghost use Rattle.zf_meaning.specs.Envs.{environment_of};
-ghost use Rattle.zf_lift.specs.Lifted.{IsLonger, AreLifted};
-ghost use Rattle.zf_lift.specs.Gathering.{Follows};
-ghost use Rattle.zf_lift.specs.Lists.{AreAllLifts};
+ghost use Rattle.zf_term.specs.{resolved_of};
+ghost use Rattle.zf_meaning.specs.{environment_of};
+ghost use Rattle.zf_lift.specs.{AreAllLifts, AreLifted, Follows, IsLonger};
 
 use crate::lifting::{Gathered, lifted};
 use crate::unlifted::Unlifted;

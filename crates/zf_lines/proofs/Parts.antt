@@ -1,7 +1,7 @@
 -- Parts of lines, and columns of them.
 use Rattle.zf_lines.proofs.Prelude.{◌++◌, ◌+◌, ◌<◌, ◌∙◌, ◌∷◌, ◌≡◌, ◌≤◌, [], ap, append_assoc, arith, get_or, inl, inr, length, length-append, List, map, None, Option, refl, Some, subst, suc, sym, take, zero, ℕ, set, length-map, length-set, length-take-le, map_more, take_all, slice_get_read, option_map, slice_get, slice_index_or, unwrap_or, Value, Comp, comp_of, comma_before, component_in, Format, name_in, Spelling, AreColumns, head_of, Keeps, part_at}
 use Rattle.zf_term.specs.declared.schema.Component.{Component}
-use Rattle.zf_print.specs.ValueTexts.{value_in}
+use Rattle.zf_print.specs.{value_in}
 use Rattle.zf_lines.specs.declared.column.Column.{Column}
 use Rattle.zf_lines.proofs.Keeping.{at_push, at_set}
 

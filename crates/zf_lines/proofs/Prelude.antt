@@ -14,30 +14,19 @@ pub use Rattle.std.specs.declared.cmp.Ordering.{Ordering}
 pub use Rattle.std.specs.declared.cmp.Ordering.TheVariants.{Equal, Greater, Less}
 pub use Rattle.zf_walk.proofs.Lists.{AllPairs-across, AllPairs-cons, AllPairs-head, AllPairs-nil, AllPairs-tail, Contains-cases, Contains-either, Contains-head, Contains-later, Contains-left, Contains-nil, Contains-right}
 pub use Rattle.zf_walk.specs.Conjuncts.{Conjuncts}
-pub use Rattle.zf_walk.specs.Events.{Event, IsEvent}
-pub use Rattle.zf_walk.specs.Progress.{Advances, Ahead, AreAllAhead, IsAhead, IsNoneAhead, past, Progress, SameAhead, SameRanges, Stage, Takes}
-pub use Rattle.zf_walk.specs.Rows.{ComesAfter, IsRowOf}
+pub use Rattle.zf_walk.specs.{Advances, Ahead, AreAllAhead, ComesAfter, Event, IsAhead, IsEvent, IsNoneAhead, IsRowOf, past, SameAhead, SameRanges, Stage, Takes}
+pub use Rattle.zf_walk.specs.Progress.{Progress}
 pub use Rattle.zf_walk.specs.declared.judge.Truth.TheVariants.{Out, True}
 pub use Rattle.zf_walk.specs.declared.step.Step.TheVariants.{Breaks, End, Holds}
-pub use Rattle.zf_value.specs.Sets.{value_order}
+pub use Rattle.zf_value.specs.{value_order}
 pub use Rattle.zf_value.specs.declared.plain.Value.{Value}
-pub use Rattle.zf_term.specs.Definitions.{Comp, Schema}
-pub use Rattle.zf_term.specs.SchemaViews.{comp_of, schema_of}
-pub use Rattle.zf_meaning.specs.Environments.{Environment}
-pub use Rattle.zf_print.specs.BindingTexts.{component_in, components_in, name_in, row_text}
+pub use Rattle.zf_term.specs.{Comp, comp_of, Schema, schema_of}
+pub use Rattle.zf_meaning.specs.{Environment}
+pub use Rattle.zf_print.specs.{comma_before, component_in, components_in, later_parts, name_in, parted, row_text}
 pub use Rattle.zf_print.specs.declared.spelling.Spelling.{Spelling}
-pub use Rattle.zf_enum.specs.Property.{property}
-pub use Rattle.zf_enum.specs.Searches.{conjuncts_of, counted_goal, Goal, judged}
+pub use Rattle.zf_enum.specs.{conjuncts_of, counted_goal, Goal, judged, property}
 pub use Rattle.zf_enum.specs.declared.bindings.Bindings.{Bindings}
-pub use Rattle.zf_lines.specs.Columns.{AreColumns, head_of, Keeps, part_at}
-unfoldable pub use Rattle.zf_lines.specs.Columns.{AreTexts}
-pub use Rattle.zf_lines.specs.Counts.{device_of, failures_of}
-pub use Rattle.zf_lines.specs.Ends.{ending_status, EndsBy, IsEnd, last_text}
-pub use Rattle.zf_lines.specs.FaultViews.{AppendsFront}
-pub use Rattle.zf_lines.specs.LastLine.{AreParts, front, IsFront, IsPrinted, opening}
-pub use Rattle.zf_lines.specs.Searches.{AreEventsUpTo, Hold, IsBegun, IsBelow, IsNotAbove, IsWritten, lines, row_wording, HasLimit, Wording}
-pub use Rattle.zf_lines.specs.Shown.{FindsEvents, IsAtStart, IsCountingAtStart, StopsLines, TellsTests, WritesAll}
-pub use Rattle.zf_lines.specs.Texts.{row_line, tests_line}
-pub use Rattle.zf_print.specs.LineTexts.{comma_before}
-pub use Rattle.zf_print.specs.ValueTexts.{later_parts, parted}
+pub use Rattle.zf_lines.specs.{AppendsFront, AreColumns, AreEventsUpTo, AreParts, device_of, ending_status, EndsBy, failures_of, FindsEvents, front, HasLimit, head_of, Hold, IsAtStart, IsBegun, IsBelow, IsCountingAtStart, IsEnd, IsNotAbove, IsPrinted, IsWritten, Keeps, last_text, lines, opening, part_at, row_line, row_wording, StopsLines, TellsTests, tests_line, Wording, WritesAll}
+unfoldable pub use Rattle.zf_lines.specs.{AreTexts}
+pub use Rattle.zf_lines.specs.LastLine.{IsFront}
 pub use Rattle.zf_format.specs.declared.format.Format.{Format}

@@ -1,12 +1,11 @@
 -- How the lines of a search end. No public clause rests on this file.
 use Rattle.std.specs.Prelude.{◌≡◌, ℕ, List, ◌∷◌, [], ◌++◌, length, Option, Some, None}
 use Rattle.std.specs.Io.KnownBytes.{Appends}
-use Rattle.zf_term.specs.Definitions.{Schema}
+use Rattle.zf_term.specs.{Schema}
 use Rattle.zf_value.specs.declared.plain.Value.{Value}
 use Rattle.zf_walk.specs.declared.judge.Truth.TheVariants.{Out}
-use Rattle.zf_walk.specs.Events.{Event}
-use Rattle.zf_walk.specs.Progress.{Stage}
-use Rattle.zf_meaning.specs.Environments.{Environment}
+use Rattle.zf_walk.specs.{Event, Stage}
+use Rattle.zf_meaning.specs.{Environment}
 use Rattle.zf_lines.specs.declared.ending.Ending as ending
 use Rattle.zf_lines.specs.declared.ending.Ending.TheVariants as endings
 use Rattle.zf_lines.specs.declared.fault.Status.{Status}

@@ -4,18 +4,14 @@ use Rattle.std.specs.List.{flat_map}
 use Rattle.std.specs.declared.cmp.Ordering.{Ordering}
 use Rattle.zf_walk.specs.declared.judge.Truth.TheVariants.{True, Out}
 use Rattle.zf_walk.specs.Conjuncts.{Conjuncts}
-use Rattle.zf_walk.specs.Rows.{ComesAfter}
-use Rattle.zf_walk.specs.Events.{Event, IsEvent}
-use Rattle.zf_walk.specs.Tests.{IsUpTo, cut}
+use Rattle.zf_walk.specs.{ComesAfter, cut, Event, IsEvent, IsUpTo}
 use Rattle.zf_value.specs.declared.plain.Value.{Value}
-use Rattle.zf_value.specs.Sets.{value_order}
-use Rattle.zf_meaning.specs.Environments.{Environment}
-use Rattle.zf_enum.specs.Events.{AreTests}
-use Rattle.zf_enum.specs.Portions.{Portion}
-use Rattle.zf_enum.specs.Property.{property}
-use Rattle.zf_ranges.specs.Ranges.{AreRanges}
+use Rattle.zf_value.specs.{value_order}
+use Rattle.zf_meaning.specs.{Environment}
+use Rattle.zf_enum.specs.{AreTests, Portion, property}
+use Rattle.zf_ranges.specs.{AreRanges}
 use Rattle.zf_format.specs.declared.format.Format.{Format}
-use Rattle.zf_term.specs.Definitions.{Comp, Schema}
+use Rattle.zf_term.specs.{Comp, Schema}
 use Rattle.zf_print.specs.declared.spelling.Spelling.{Spelling}
 use Rattle.zf_lines.specs.Texts.{end_line, more_line, out_line, row_line, tests_line}
 use Rattle.zf_lines.specs.declared.fault.Status.{Status}

@@ -1,17 +1,13 @@
 -- What is written of a search that stands at its beginning.
 use Rattle.std.specs.Prelude.{◌≡◌, ◌⊎◌, ℕ, Bool, true, false, List, [], ◌++◌, map, Option, None}
-use Rattle.zf_term.specs.Definitions.{Schema}
+use Rattle.zf_term.specs.{resolved_of, Schema}
 use Rattle.zf_value.specs.declared.plain.Value.{Value}
-use Rattle.zf_walk.specs.Events.{Event}
-use Rattle.zf_term.specs.ResolvedViews.{resolved_of}
-use Rattle.zf_value.specs.Sets.{value_order}
-use Rattle.zf_walk.specs.Progress.{AreAllAhead, Stage}
-use Rattle.zf_walk.specs.Tests.{IsNumberOfTests, cut}
-use Rattle.zf_plan.specs.Alike.{SayTheSame}
-use Rattle.zf_meaning.specs.Environments.{Environment}
+use Rattle.zf_walk.specs.{AreAllAhead, cut, Event, IsNumberOfTests, Stage}
+use Rattle.zf_value.specs.{value_order}
+use Rattle.zf_plan.specs.{SayTheSame}
+use Rattle.zf_meaning.specs.{Environment}
 use Rattle.zf_enum.specs.declared.bindings.Bindings.{Bindings}
-use Rattle.zf_enum.specs.Property.{property}
-use Rattle.zf_enum.specs.Searches.{Goal, conjuncts_of, counted_goal}
+use Rattle.zf_enum.specs.{conjuncts_of, counted_goal, Goal, property}
 use Rattle.zf_lines.specs.declared.fault.Status.{Status}
 use Rattle.zf_lines.specs.FaultViews.{AppendsFront}
 use Rattle.zf_lines.specs.Searches.{AreEventsUpTo, IsBegun, IsWritten, Wording}

@@ -2,8 +2,7 @@
 ghost use Rattle.std.specs.Prelude.{◌≡◌, is_err};
 ghost use Rattle.std.specs.Io.{ReadsAtMost, WritesAtMost};
 ghost use Rattle.std.specs.Io.KnownBytes.{Keeps, ReadConsumes, WriteAppends};
-ghost use Rattle.zf_lines.specs.CountViews.{count_after, is_failed_write};
-ghost use Rattle.zf_lines.specs.Counts.{device_of, failures_of};
+ghost use Rattle.zf_lines.specs.{count_after, device_of, failures_of, is_failed_write};
 
 use std::io;
 use std::io::{Read, Write};

@@ -1,6 +1,6 @@
 //! How the lines of a search end.
 ghost use Rattle.std.specs.Prelude.{◌≡◌};
-ghost use Rattle.zf_lines.specs.Ends.{ending_status};
+ghost use Rattle.zf_lines.specs.{ending_status};
 
 use crate::fault::Status;
 

@@ -1,6 +1,6 @@
 //! How many rows may still be written.
 ghost use Rattle.std.specs.Prelude.{◌≡◌, ◌+◌, Some, MatchBool, option_map};
-ghost use Rattle.zf_lines.specs.Searches.{HasLimit};
+ghost use Rattle.zf_lines.specs.{HasLimit};
 
 /// How many rows are left to be written, after one more.
 pub fn one_less(left: Option<u64>) -> Option<u64>

@@ -1,17 +1,10 @@
 //! The lines of the bindings, each written before the next is looked for.
 ghost use Rattle.std.specs.Prelude.{◌≡◌, ◌++◌, ℕ, List, true, false, IfOk, OnOk, OnErr};
 ghost use Rattle.std.specs.Io.KnownBytes.{Appends};
-ghost use Rattle.zf_enum.specs.Searches.{counted_goal};
-ghost use Rattle.zf_lines.specs.Counts.{device_of, failures_of};
-ghost use Rattle.zf_lines.specs.FaultViews.{AppendsFront};
-ghost use Rattle.zf_lines.specs.Faults.{read_failures, write_failures};
-ghost use Rattle.zf_lines.specs.Ends.{EndsBy, last_text};
-ghost use Rattle.zf_lines.specs.LastLine.{IsPrinted};
-ghost use Rattle.zf_lines.specs.Searches.{HasLimit, row_wording};
-ghost use Rattle.zf_lines.specs.Shown.{IsAtStart, IsCountingAtStart, StopsLines, StopsShown, WritesAll};
-ghost use Rattle.zf_lines.specs.Texts.{row_line};
-ghost use Rattle.zf_term.specs.SchemaViews.{schema_of};
-ghost use Rattle.zf_walk.specs.Progress.{SameRanges};
+ghost use Rattle.zf_enum.specs.{counted_goal};
+ghost use Rattle.zf_lines.specs.{AppendsFront, device_of, EndsBy, failures_of, HasLimit, IsAtStart, IsCountingAtStart, IsPrinted, last_text, read_failures, row_line, row_wording, StopsLines, StopsShown, write_failures, WritesAll};
+ghost use Rattle.zf_term.specs.{schema_of};
+ghost use Rattle.zf_walk.specs.{SameRanges};
 
 use crate::counted::Counted;
 use crate::ending::Ending;

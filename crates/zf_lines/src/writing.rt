@@ -1,9 +1,7 @@
 //! The loop that writes a text.
 ghost use Rattle.std.specs.Prelude.{◌≡◌, OnOk, OnErr, IsOkUnless};
 ghost use Rattle.std.specs.Io.KnownBytes.{Appends};
-ghost use Rattle.zf_lines.specs.Counts.{device_of, failures_of};
-ghost use Rattle.zf_lines.specs.FaultViews.{AppendsFront};
-ghost use Rattle.zf_lines.specs.Faults.{write_failures};
+ghost use Rattle.zf_lines.specs.{AppendsFront, device_of, failures_of, write_failures};
 
 use crate::counted::Counted;
 use crate::fault::RunFault;

@@ -2,14 +2,12 @@
 use Rattle.std.proofs.Common.{◌++◌, ◌∙◌, ◌∷◌, ◌≡◌, [], ap, inl, inr, List, map, None, Option, Some, subst, sym, ℕ}
 use Rattle.std.specs.List.{AllByRecursion}
 use Rattle.std.specs.Prelude.{option_to_list, unwrap_or}
-use Rattle.zf_meaning.specs.Environments.{Environment}
+use Rattle.zf_meaning.specs.{Environment}
 use Rattle.zf_steps.specs.declared.form.Form.{Form}
-use Rattle.zf_steps.specs.Renewing.{CanSearch, CanSearchAll}
-use Rattle.zf_steps.specs.Shapes.{IsInit, operation_in}
-use Rattle.zf_steps.specs.Systems.{Operation, System}
-use Rattle.zf_term.specs.Definitions.{Comp, Schema}
+use Rattle.zf_steps.specs.{CanSearch, CanSearchAll, IsInit, Operation, operation_in, System}
+use Rattle.zf_term.specs.{Comp, Schema}
 use Rattle.zf_print.specs.declared.spelling.Spelling.{Spelling}
-use Rattle.zf_machines.specs.Machines.{all_of, IsMachineOf, Named, Schemas, state_of, test_of}
+use Rattle.zf_machines.specs.{all_of, IsMachineOf, Named, Schemas, state_of, test_of}
 
 one_init : (state : List Comp) (name : List ℕ) (a : Schema) (o u : Operation) → IsInit state name a o → IsInit state name a u → o ≡ u
 one_init state name a o u (inl x) (inl y) = x.1 ∙ sym y.1

@@ -2,18 +2,12 @@
 ghost use Rattle.std.specs.Prelude.{◌≡◌, ◌≤◌, ◌⊎◌, ℕ, List, [], IfOk, OnErr};
 ghost use Rattle.std.specs.List.{AllByRecursion};
 ghost use Rattle.std.specs.Io.KnownBytes.{Appends};
-ghost use Rattle.zf_graph.specs.Texts.{IsExplored};
-ghost use Rattle.zf_lines.specs.Counts.{device_of, failures_of};
-ghost use Rattle.zf_lines.specs.Faults.{read_failures, write_failures};
-ghost use Rattle.zf_machines.specs.Machines.{all_of, HasShape, IsMachineOf};
-ghost use Rattle.zf_machines.specs.SchemaViews.{schemas_of};
-ghost use Rattle.zf_meaning.specs.Envs.{environment_of};
-ghost use Rattle.zf_reach.specs.Machines.{ending_of};
-ghost use Rattle.zf_reach.specs.Runs.{StopsEarly};
-ghost use Rattle.zf_steps.specs.Explored.{explored_in};
-ghost use Rattle.zf_steps.specs.Words.{words};
-ghost use Rattle.zf_steps.specs.Renewing.{CanSearch};
-ghost use Rattle.zf_steps.specs.Systems.{System};
+ghost use Rattle.zf_graph.specs.{IsExplored};
+ghost use Rattle.zf_lines.specs.{device_of, failures_of, read_failures, write_failures};
+ghost use Rattle.zf_machines.specs.{all_of, HasShape, IsMachineOf, schemas_of};
+ghost use Rattle.zf_meaning.specs.{environment_of};
+ghost use Rattle.zf_reach.specs.{ending_of, StopsEarly};
+ghost use Rattle.zf_steps.specs.{CanSearch, explored_in, System, words};
 
 use crate::making::machine_of;
 use crate::schemas::Schemas;

@@ -1,9 +1,8 @@
 //! Whether schemas make a machine.
 ghost use Rattle.std.specs.Prelude.{IfOk, MatchOption, map, option_map};
 ghost use Rattle.std.specs.List.{AllByRecursion};
-ghost use Rattle.zf_machines.specs.Machines.{AllowsSought, CanStep, HasShape, LacksBehind, LacksFirst, LacksStepFirst, SoughtLacks};
-ghost use Rattle.zf_machines.specs.SchemaViews.{named_of, schemas_of};
-ghost use Rattle.zf_steps.specs.States.{AreStates, before_of};
+ghost use Rattle.zf_machines.specs.{AllowsSought, CanStep, HasShape, LacksBehind, LacksFirst, LacksStepFirst, named_of, schemas_of, SoughtLacks};
+ghost use Rattle.zf_steps.specs.{AreStates, before_of};
 
 use crate::schemas::{Named, Schemas};
 use bumpalo::Bump;

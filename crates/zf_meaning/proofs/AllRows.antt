@@ -1,5 +1,5 @@
 -- All rows: they are those that take a value from each range, and none stands twice among them.
-pub use Rattle.zf_meaning.specs.Places.{IsAmong}
+pub use Rattle.zf_meaning.specs.{IsAmong}
 use Rattle.zf_meaning.proofs.Prelude.{◌++◌, ◌∷◌, ◌≡◌, ◌⊎◌, [], ap, inl, inr, List, map, refl, subst, sym, ⊎_elim, AreFrom, IsMember, members, Value, headed, all_rows}
 
 -- no row stands twice

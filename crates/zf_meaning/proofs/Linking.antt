@@ -1,6 +1,6 @@
 -- The links of a chain, one after another.
 use Rattle.zf_meaning.proofs.Prelude.{◌+◌, ◌<◌, ◌∙◌, ◌∷◌, ◌≡◌, ◌≤◌, ap, drop, get_or, inl, length, List, map, None, Option, refl, subst, sym, ℕ, drop_more, IfOk-weaker, Result, IfOk, AllocError, Outcome, Truth, False, True, Relation, link-seen, chain, links, resolved_link_of, resolved_of, ResolvedTree, Infinite, Resolved, ResolvedLink, conjunction, IsDescribed, Describes, IsTruthIn, Context, AreLinked, HasOutcome, infinite_right, IsLink, IsTruth, Described}
-use Rattle.zf_meaning.specs.Linked.{IsLastLink}
+use Rattle.zf_meaning.specs.{IsLastLink}
 use Rattle.zf_meaning.proofs.Connecting.{conjoined, conjunction-assoc, conjunction-true, conjunction-false}
 use Rattle.zf_meaning.proofs.Gathering.{drop-past}
 

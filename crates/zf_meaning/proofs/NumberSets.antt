@@ -2,7 +2,7 @@
 use Rattle.zf_meaning.proofs.Prelude.{◌≡◌, None, Option, refl, Some, subst, sym, ℕ, pos, IfOk-weaker, Result, IfOk, AllocError, IsInterval, Outcome, Out, Infinite, Describes, Interval, Plain}
 use Rattle.std.specs.Prelude.{ℤ}
 use Rattle.zf_outcome.specs.declared.found.Found.TheVariants as found
-use Rattle.zf_meaning.specs.NumberSets.{IsNumberSet, least}
+use Rattle.zf_meaning.specs.{IsNumberSet, least}
 use Rattle.zf_outcome.proofs.Tests.{plain-describes}
 
 from-interval : (n : Option ℕ) (s : Infinite) (k : ℕ) (a b : ℤ) (o : Outcome) → n ≡ Some k → a ≡ least s k → b ≡ pos k → IsInterval a b o → IsNumberSet n s o

@@ -21,12 +21,8 @@ pub use Rattle.zf_value.proofs.Exactly.{same}
 pub use Rattle.zf_value.proofs.Making.{out_told, same_set}
 pub use Rattle.zf_value.proofs.Once.{HasOne, one_number, one_on_number, one_on_numbers, one_set}
 pub use Rattle.zf_value.proofs.Seen.{is_Int, members-SetOf, number_of-Int}
-pub use Rattle.zf_value.specs.Numbers.{IsDifference, IsModulus, IsNegation, IsProduct, IsSum, number_of, OnNumbers}
-unfoldable pub use Rattle.zf_value.specs.Numbers.{IsInterval, IsQuotient}
-pub use Rattle.zf_value.specs.Operations.{AreFrom, IsApplied, IsEmptySet}
-unfoldable pub use Rattle.zf_value.specs.Operations.{AreElements, IsCross, IsDisplay, IsPower, IsSize}
-pub use Rattle.zf_value.specs.Sets.{IsAscending, IsMember, members, value_order}
-unfoldable pub use Rattle.zf_value.specs.ListLaws.{HaveSameMembers}
+pub use Rattle.zf_value.specs.{AreFrom, IsApplied, IsAscending, IsDifference, IsEmptySet, IsMember, IsModulus, IsNegation, IsProduct, IsSum, members, number_of, OnNumbers, value_order}
+unfoldable pub use Rattle.zf_value.specs.{AreElements, HaveSameMembers, IsCross, IsDisplay, IsInterval, IsPower, IsQuotient, IsSize}
 pub use Rattle.zf_value.specs.declared.value.Outcome.{Outcome}
 pub use Rattle.zf_value.specs.declared.value.Outcome.TheVariants.{Is, Out, Undefined}
 pub use Rattle.zf_value.specs.declared.value.Truth.{Truth}
@@ -47,44 +43,17 @@ pub use Rattle.zf_tree.specs.declared.symbol.Quantifier.{Quantifier}
 pub use Rattle.zf_tree.specs.declared.symbol.Quantifier.TheVariants.{Exists, ExistsOne, ForAll}
 pub use Rattle.zf_tree.specs.declared.symbol.Relation.{Relation}
 pub use Rattle.zf_term.proofs.ResolvedSeen.{link-seen, of-Binary, of-Bracket, of-Builder, of-Chain, of-Constant, of-EmptySet, of-Listed, of-Name, of-Number, of-Quantified, of-Unary, range-seen}
-pub use Rattle.zf_term.specs.Definitions.{abbreviation, constructor, Defined, Definition, free_type, given_set, schema}
-pub use Rattle.zf_term.specs.DefinitionViews.{definition_of, globals_of}
-pub use Rattle.zf_term.specs.References.{all_onto, links_onto, onto, part_onto, ranges_onto}
-pub use Rattle.zf_term.specs.ResolvedTrees.{absent, binary, bracket, builder, chain, constant, empty_set, link, listed, no_links, no_ranges, no_terms, number, present, quantified, range, Ranges, reference, ResolvedLinks, ResolvedPart, ResolvedTree, ResolvedTrees, term, unary}
-pub use Rattle.zf_term.specs.ResolvedViews.{links, part_of, range_of, ranges, resolved_link_of, resolved_of, terms}
-pub use Rattle.zf_term.specs.Types.{basic, int, no_types, power, product, Ty, type, types, Tys}
-pub use Rattle.zf_term.specs.TypeViews.{type_of}
+pub use Rattle.zf_term.specs.{abbreviation, absent, all_onto, basic, binary, bracket, builder, chain, constant, constructor, Defined, Definition, definition_of, empty_set, free_type, given_set, globals_of, int, link, links, links_onto, listed, no_links, no_ranges, no_terms, no_types, number, onto, part_of, part_onto, power, present, product, quantified, range, range_of, Ranges, ranges, ranges_onto, reference, resolved_link_of, resolved_of, ResolvedLinks, ResolvedPart, ResolvedTree, schema, term, terms, Ty, type, type_of, types, Tys, unary}
+pub use Rattle.zf_term.specs.ResolvedTrees.{ResolvedTrees}
 pub use Rattle.zf_term.specs.declared.extent.Infinite.{Infinite}
 pub use Rattle.zf_term.specs.declared.resolved.Range.{Range}
 pub use Rattle.zf_term.specs.declared.resolved.Resolved.{Resolved, size-Resolved}
 pub use Rattle.zf_term.specs.declared.resolved.ResolvedLink.{ResolvedLink}
-pub use Rattle.zf_extent.specs.Extents.{is_membership}
-pub use Rattle.zf_meaning.specs.Building.{AddsRow}
-pub use Rattle.zf_meaning.specs.Carriers.{AreCarriers, IsCarrier}
-pub use Rattle.zf_outcome.specs.Connected.{conjunction, connected, connective_of, decided, disjunction, equivalence}
-pub use Rattle.zf_outcome.specs.Described.{IsDescribed}
-unfoldable pub use Rattle.zf_outcome.specs.Described.{Describes, IsTruthIn}
-pub use Rattle.zf_meaning.specs.Early.{AreNeutral, AreNeutralIf, IsBound, IsEarlier, IsEquation, IsOther, IsPart, IsPiece, IsVariable, IsWanted, neutral, NeedsFront, PassesBy}
-unfoldable pub use Rattle.zf_meaning.specs.Early.{ArePassed, Falsifies, IsNeutral, Refutes, Wants}
-pub use Rattle.zf_meaning.specs.Environments.{before, Context, definition_number, element_count, Environment, globally, outcome_in, type_number, within}
-pub use Rattle.zf_meaning.specs.Lookups.{value_or, found_number, AreElementsIf, IsTypeSetIf}
-pub use Rattle.zf_meaning.specs.Laws.{with_further}
-pub use Rattle.zf_meaning.specs.Envs.{environment_of}
-pub use Rattle.zf_outcome.specs.Found.{found_of, found_outcome}
-pub use Rattle.zf_outcome.specs.Gathered.{lack_with, several_by, several_of, values_with}
-pub use Rattle.zf_meaning.specs.GlobalOutcomes.{AreWorkedOut, IsOutcomeOf, IsWorkedOut}
-pub use Rattle.zf_meaning.specs.Meaning.{AreLinked, Builds, HasOutcome, HaveOutcomes, HaveRanges, infinite_right, IsBuilt, IsBuiltBy, IsBuiltOver, IsConstraint, IsOutOfBounds, IsTruth, IsWithinBounds, row_value}
-pub use Rattle.zf_meaning.specs.Needs.{all_need, links_need, need, part_need, place_below, ranges_need}
-pub use Rattle.zf_outcome.specs.Outcomes.{OnBoth, one_more, one_out, one_undefined, OnOne, OnSeveral, repeated, Several, values}
-pub use Rattle.zf_meaning.specs.Places.{headed, headed_from, seen, with_value_at}
-unfoldable pub use Rattle.zf_meaning.specs.Places.{all_rows, ArePlaces, picked, rows_after}
-pub use Rattle.zf_meaning.specs.RangeSets.{declared_of, sets_with, spread}
-pub use Rattle.zf_meaning.specs.Rowed.{ahead, AreOthers, IsAt, IsFirst, IsNext, IsPassed, lists_of, row_of, Skips}
-pub use Rattle.zf_meaning.specs.Scopes.{scope_of}
-pub use Rattle.zf_meaning.specs.Sizes.{AreAccepted, AreComplete, AreSizes, given_sets, IsAccepted, IsRefusal, IsStated, LacksSize, names, IsSizeFault, RefusesSize, with_given}
-pub use Rattle.zf_outcome.specs.Symbols.{ArrowOutcome, BinaryOutcome, Holds, HoldsOf, InfixOutcome, ListedOutcome, PrefixOutcome, SignOutcome, UnaryOutcome}
-pub use Rattle.zf_outcome.specs.Tallies.{is_settled, none, truth_by, when_over, when_settled, with}
-pub use Rattle.zf_outcome.specs.Truths.{HasTwo, IsAtom, IsConjunction, IsConnected, IsDisjunction, IsEquivalence, IsExists, IsExistsOne, IsForAll, IsLink, IsOver, IsQuantified, IsTest, IsTold, opposite, Tells}
+pub use Rattle.zf_extent.specs.{is_membership}
+pub use Rattle.zf_meaning.specs.{AddsRow, ahead, all_need, AreAccepted, AreCarriers, AreComplete, AreElementsIf, AreLinked, AreNeutral, AreNeutralIf, AreOthers, AreSizes, AreWorkedOut, before, Builds, Context, declared_of, definition_number, element_count, Environment, environment_of, found_number, given_sets, globally, HasOutcome, HaveOutcomes, HaveRanges, headed, headed_from, infinite_right, IsAccepted, IsAt, IsBound, IsBuilt, IsBuiltBy, IsBuiltOver, IsCarrier, IsConstraint, IsEarlier, IsEquation, IsFirst, IsNext, IsOther, IsOutcomeOf, IsOutOfBounds, IsPart, IsPassed, IsPiece, IsRefusal, IsSizeFault, IsStated, IsTruth, IsTypeSetIf, IsVariable, IsWanted, IsWithinBounds, IsWorkedOut, LacksSize, links_need, lists_of, names, need, NeedsFront, neutral, outcome_in, part_need, PassesBy, place_below, ranges_need, RefusesSize, row_of, row_value, scope_of, seen, sets_with, Skips, spread, type_number, value_or, with_further, with_given, with_value_at, within}
+pub use Rattle.zf_outcome.specs.{ArrowOutcome, BinaryOutcome, conjunction, connected, connective_of, decided, disjunction, equivalence, found_of, found_outcome, HasTwo, Holds, HoldsOf, InfixOutcome, is_settled, IsAtom, IsConjunction, IsConnected, IsDescribed, IsDisjunction, IsEquivalence, IsExists, IsExistsOne, IsForAll, IsLink, IsOver, IsQuantified, IsTest, IsTold, lack_with, ListedOutcome, none, OnBoth, one_more, one_out, one_undefined, OnOne, OnSeveral, opposite, PrefixOutcome, repeated, Several, several_by, several_of, SignOutcome, Tells, truth_by, UnaryOutcome, values, values_with, when_over, when_settled, with}
+unfoldable pub use Rattle.zf_outcome.specs.{Describes, IsTruthIn}
+unfoldable pub use Rattle.zf_meaning.specs.{all_rows, ArePassed, ArePlaces, Falsifies, IsNeutral, picked, Refutes, rows_after, Wants}
 pub use Rattle.zf_outcome.specs.declared.described.Described.{Described}
 pub use Rattle.zf_outcome.specs.declared.described.Described.TheVariants.{Arrows, Interval, Plain}
 pub use Rattle.zf_meaning.specs.declared.env.Env.{Env}

@@ -14,8 +14,7 @@ use Rattle.zf_tree.specs.declared.operator.Operator.TheVariants as operator
 use Rattle.zf_tree.specs.declared.operator.Unary.TheVariants as the_unary
 use Rattle.zf_value.specs.declared.value.Truth.TheVariants as truth
 use Rattle.zf_term.specs.declared.extent.Infinite.TheVariants.{Num, Nat, Nat1}
-use Rattle.zf_meaning.specs.Meaning.{IsConstantOutcome}
-use Rattle.zf_meaning.specs.NumberSets.{IsNumberSet}
+use Rattle.zf_meaning.specs.{IsConstantOutcome, IsNumberSet}
 use Rattle.zf_value.proofs.Once as once
 
 one_infix : (op : Infix) (v w : Value) → HasOne (InfixOutcome op v w)

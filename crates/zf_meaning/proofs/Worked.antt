@@ -5,7 +5,7 @@ use Rattle.zf_tree.specs.declared.symbol.Constant.TheVariants.{Integers}
 use Rattle.zf_tree.specs.declared.symbol.Prefix.TheVariants.{Size}
 use Rattle.zf_tree.specs.declared.symbol.Relation.TheVariants.{Member, NotMember}
 use Rattle.zf_term.specs.declared.extent.Infinite.TheVariants.{Num}
-use Rattle.zf_meaning.specs.NumberSets.{IsNumberSet, unended}
+use Rattle.zf_meaning.specs.{IsNumberSet, unended}
 
 one_by_zero : ResolvedTree
 one_by_zero = binary 1 (Function Div) (number 1 1) (number 1 0)

@@ -5,8 +5,7 @@ use Rattle.zf_tree.specs.declared.symbol.Quantifier.{Quantifier}
 use Rattle.zf_tree.specs.declared.symbol.Quantifier.TheVariants.{ForAll, Exists, ExistsOne}
 use Rattle.zf_tree.specs.declared.symbol.Relation.TheVariants.{Equal}
 use Rattle.zf_term.specs.declared.resolved.Resolved.{Resolved, size-Resolved}
-use Rattle.zf_term.specs.ResolvedTrees.{ResolvedTree, reference, number, constant, empty_set, bracket, listed, builder, unary, binary, chain, quantified, link, no_links, ResolvedPart}
-use Rattle.zf_term.specs.ResolvedViews.{resolved_of}
+use Rattle.zf_term.specs.{binary, bracket, builder, chain, constant, empty_set, link, listed, no_links, number, quantified, reference, resolved_of, ResolvedPart, ResolvedTree, unary}
 use Rattle.zf_value.specs.declared.plain.Value.{Value}
 use Rattle.zf_value.specs.declared.value.Outcome.{Outcome}
 use Rattle.zf_value.specs.declared.value.Outcome.TheVariants as outcome
@@ -21,7 +20,7 @@ use Rattle.zf_meaning.specs.Environments.{Context, within}
 use Rattle.zf_meaning.specs.Meaning.{HasOutcome, IsConstraint, IsTruth}
 use Rattle.zf_meaning.specs.Needs.{need, part_need}
 use Rattle.zf_meaning.specs.Rowed.{IsPassed}
-use Rattle.zf_outcome.specs.Truths.{IsTold}
+use Rattle.zf_outcome.specs.{IsTold}
 
 -- what a quantifier tells of a row that does not count
 abbrev pub neutral : Quantifier → Truth

@@ -3,12 +3,11 @@ use Rattle.std.specs.Prelude.{◌≡◌, ℕ, ◌^◌, nat_lt, if◌then◌else�
 use Rattle.std.specs.Option.{option_and_then, option_map_or}
 use Rattle.zf_reference.specs.declared.reference.Reference.{Reference}
 use Rattle.zf_reference.specs.declared.reference.Reference.TheVariants.{Component, Local, Global}
-use Rattle.zf_term.specs.Definitions.{Defined, Definition, given_set, free_type}
-use Rattle.zf_term.specs.FirstNamed.{first_named}
+use Rattle.zf_term.specs.{Defined, Definition, first_named, free_type, given_set}
 use Rattle.zf_value.specs.declared.plain.Value.{Value, Elem}
 use Rattle.zf_value.specs.declared.value.Outcome.{Outcome}
 use Rattle.zf_value.specs.declared.value.Outcome.TheVariants.{Is, Undefined}
-use Rattle.zf_value.specs.Operations.{AreElements}
+use Rattle.zf_value.specs.{AreElements}
 
 -- with how many elements each given set and free type has, the outcome of each global, and, if numbers end, the greatest: `\num` goes from its opposite to it
 pub record Environment : Type 0 where

@@ -7,21 +7,18 @@ use Rattle.zf_term.specs.declared.extent.Infinite.{Infinite}
 use Rattle.zf_term.specs.declared.extent.Infinite.TheVariants.{Num, Nat, Nat1}
 use Rattle.zf_tree.specs.declared.operator.Operator.TheVariants.{Connective}
 use Rattle.zf_tree.specs.declared.operator.Unary.TheVariants.{Not}
-use Rattle.zf_extent.specs.Extents.{is_membership}
-use Rattle.zf_term.specs.ResolvedTrees.{ResolvedTree, reference, number, constant, empty_set, bracket, listed, builder, unary, binary, chain, quantified, ResolvedTrees, no_terms, term, ResolvedLinks, no_links, link, Ranges, no_ranges, range, ResolvedPart, absent, present}
+use Rattle.zf_extent.specs.{is_membership}
+use Rattle.zf_term.specs.{absent, binary, bracket, builder, chain, constant, empty_set, link, listed, no_links, no_ranges, no_terms, number, present, quantified, range, Ranges, reference, ResolvedLinks, ResolvedPart, ResolvedTree, term, unary}
+use Rattle.zf_term.specs.ResolvedTrees.{ResolvedTrees}
 use Rattle.zf_value.specs.declared.plain.Value.{Value, Tuple}
 use Rattle.zf_value.specs.declared.value.Outcome.{Outcome}
 use Rattle.zf_value.specs.declared.value.Outcome.TheVariants.{Is, Undefined, Out}
 use Rattle.zf_value.specs.declared.value.Truth.{Truth}
 use Rattle.zf_value.specs.declared.value.Truth.TheVariants as truth
-use Rattle.zf_value.specs.Numbers.{IsNumber}
-use Rattle.zf_value.specs.Operations.{AreFrom, IsEmptySet}
-use Rattle.zf_value.specs.Sets.{IsSetOf}
+use Rattle.zf_value.specs.{AreFrom, IsEmptySet, IsNumber, IsSetOf}
 use Rattle.zf_meaning.specs.Environments.{Context, within, outcome_in}
 use Rattle.zf_meaning.specs.NumberSets.{IsNumberSet, infinite_in}
-use Rattle.zf_outcome.specs.Outcomes.{OnOne, OnBoth, Several, values, one_undefined, one_out, one_more, repeated, OnSeveral}
-use Rattle.zf_outcome.specs.Symbols.{BinaryOutcome, UnaryOutcome, ListedOutcome}
-use Rattle.zf_outcome.specs.Truths.{IsLink, opposite, IsConjunction, IsConnected, IsTold, IsQuantified}
+use Rattle.zf_outcome.specs.{BinaryOutcome, IsConjunction, IsConnected, IsLink, IsQuantified, IsTold, ListedOutcome, OnBoth, one_more, one_out, one_undefined, OnOne, OnSeveral, opposite, repeated, Several, UnaryOutcome, values}
 
 -- where these are the numbers
 abbrev pub IsConstantOutcome : (numbers : Option ℕ) → Constant → Outcome → Type 0

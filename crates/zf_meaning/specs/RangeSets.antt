@@ -5,8 +5,7 @@ use Rattle.zf_value.specs.declared.value.Outcome.{Outcome}
 use Rattle.zf_value.specs.declared.value.Outcome.TheVariants as outcome
 use Rattle.zf_meaning.specs.declared.evaluate.ranges.Declared.{Declared}
 use Rattle.zf_meaning.specs.declared.evaluate.ranges.Spread.{Spread}
-use Rattle.zf_outcome.specs.Gathered.{lack_with, several_by}
-use Rattle.zf_outcome.specs.Outcomes.{Several}
+use Rattle.zf_outcome.specs.{lack_with, Several, several_by}
 
 -- the set of each variable
 abbrev pub spread : List Spread → List Value

@@ -1,17 +1,9 @@
 //! Carriers of types.
 ghost use Rattle.std.specs.Prelude.{◌≡◌, IfOk, map};
-ghost use Rattle.zf_term.specs.DefinitionViews.{definition_of, globals_of};
-ghost use Rattle.zf_term.specs.FirstNamed.{first_named};
-ghost use Rattle.zf_term.specs.TypeViews.{type_of};
-ghost use Rattle.zf_term.specs.Types.{types};
-ghost use Rattle.zf_value.specs.Operations.{IsPower};
-ghost use Rattle.zf_value.specs.Sets.{members};
-ghost use Rattle.zf_meaning.specs.Carriers.{IsCarrier, AreCarriers};
-ghost use Rattle.zf_meaning.specs.Environments.{definition_number, type_number};
-ghost use Rattle.zf_meaning.specs.Lookups.{found_number, IsTypeSetIf};
-ghost use Rattle.zf_meaning.specs.Envs.{environment_of};
-ghost use Rattle.zf_outcome.specs.Gathered.{several_of};
-ghost use Rattle.zf_outcome.specs.Outcomes.{OnOne};
+ghost use Rattle.zf_term.specs.{definition_of, first_named, globals_of, type_of, types};
+ghost use Rattle.zf_value.specs.{IsPower, members};
+ghost use Rattle.zf_meaning.specs.{AreCarriers, definition_number, environment_of, found_number, IsCarrier, IsTypeSetIf, type_number};
+ghost use Rattle.zf_outcome.specs.{OnOne, several_of};
 
 use crate::env::Env;
 use crate::global_outcome::type_set;

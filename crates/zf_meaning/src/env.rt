@@ -1,9 +1,7 @@
 //! Environments: the globals, with the sizes of given sets and free types, which numbers there are, and the outcome of each.
 ghost use Rattle.std.specs.Prelude.{◌≡◌, [], ◌∷◌, None, Some, IfOk, IfErr, MatchOption, OnOk, length, slice_get};
-ghost use Rattle.zf_term.specs.DefinitionViews.{globals_of};
-ghost use Rattle.zf_meaning.specs.Envs.{environment_of, longer};
-ghost use Rattle.zf_meaning.specs.GlobalOutcomes.{IsEnvironment, AreWorkedOut};
-ghost use Rattle.zf_meaning.specs.Sizes.{given_sets, AreComplete, IsRefusal};
+ghost use Rattle.zf_term.specs.{globals_of};
+ghost use Rattle.zf_meaning.specs.{AreComplete, AreWorkedOut, environment_of, given_sets, IsEnvironment, IsRefusal, longer};
 
 use crate::global_outcome::outcome_at;
 use crate::sizes::{Size, SizeFault, check_sizes, given_names, sizes_of};

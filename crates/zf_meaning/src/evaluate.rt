@@ -1,17 +1,11 @@
 //! The evaluator: the outcome of an expression, and the truth of a predicate.
 ghost use Rattle.std.specs.Prelude.{◌≡◌, IfOk, pos, slice_get};
-ghost use Rattle.zf_term.specs.ResolvedViews.{resolved_of};
-ghost use Rattle.zf_value.specs.Numbers.{IsNumber};
-ghost use Rattle.zf_value.specs.Operations.{IsEmptySet};
+ghost use Rattle.zf_term.specs.{resolved_of};
+ghost use Rattle.zf_value.specs.{IsEmptySet, IsNumber};
 ghost use Rattle.zf_meaning.specs.Environments as spec;
-ghost use Rattle.zf_meaning.specs.Lookups.{value_or, outcome_or};
-ghost use Rattle.zf_meaning.specs.Envs.{environment_of};
-ghost use Rattle.zf_outcome.specs.Found.{found_of, found_outcome};
+ghost use Rattle.zf_meaning.specs.{environment_of, HasOutcome, IsConstantOutcome, IsNumberSet, IsTruth, outcome_or, scope_of, seen, value_or};
+ghost use Rattle.zf_outcome.specs.{found_of, found_outcome};
 ghost use Rattle.zf_meaning.specs.Meaning as meaning;
-ghost use Rattle.zf_meaning.specs.Meaning.{HasOutcome, IsConstantOutcome, IsTruth};
-ghost use Rattle.zf_meaning.specs.NumberSets.{IsNumberSet};
-ghost use Rattle.zf_meaning.specs.Places.{seen};
-ghost use Rattle.zf_meaning.specs.Scopes.{scope_of};
 
 mod binders;
 mod chains;

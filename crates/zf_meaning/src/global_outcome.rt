@@ -1,12 +1,8 @@
 //! The outcomes of globals, each by those before it.
 ghost use Rattle.std.specs.Prelude.{◌≡◌, Some, IfOk, slice_get};
-ghost use Rattle.zf_term.specs.Definitions.{Defined};
-ghost use Rattle.zf_term.specs.DefinitionViews.{definition_of};
+ghost use Rattle.zf_term.specs.{Defined, definition_of};
 ghost use Rattle.zf_meaning.specs.Environments as spec;
-ghost use Rattle.zf_meaning.specs.Lookups.{AreElementsIf};
-ghost use Rattle.zf_meaning.specs.Environments.{IsTypeSet};
-ghost use Rattle.zf_meaning.specs.Envs.{environment_of};
-ghost use Rattle.zf_meaning.specs.GlobalOutcomes.{IsOutcomeOf};
+ghost use Rattle.zf_meaning.specs.{AreElementsIf, environment_of, IsOutcomeOf, IsTypeSet};
 
 use crate::env::Env;
 use crate::value::value_of;

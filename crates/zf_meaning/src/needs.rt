@@ -1,7 +1,7 @@
 //! Which bound variables a term needs.
 ghost use Rattle.std.specs.Prelude.{◌≡◌, max, map};
-ghost use Rattle.zf_term.specs.ResolvedViews.{resolved_of, resolved_link_of, range_of, terms, links, ranges, part_of};
-ghost use Rattle.zf_meaning.specs.Needs.{place_below, need, all_need, links_need, ranges_need, part_need};
+ghost use Rattle.zf_term.specs.{links, part_of, range_of, ranges, resolved_link_of, resolved_of, terms};
+ghost use Rattle.zf_meaning.specs.{all_need, links_need, need, part_need, place_below, ranges_need};
 
 use zf_data::arena::{Boxed, Items};
 use zf_reference::reference::Reference;

@@ -1,10 +1,9 @@
 //! The sets of numbers, where numbers end or have no end.
 ghost use Rattle.std.specs.Prelude.{◌≡◌, IfOk, Some};
-ghost use Rattle.zf_term.specs.ResolvedViews.{resolved_of};
-ghost use Rattle.zf_outcome.specs.Described.{Describes};
-ghost use Rattle.zf_meaning.specs.Envs.{environment_of};
+ghost use Rattle.zf_term.specs.{resolved_of};
+ghost use Rattle.zf_outcome.specs.{Describes};
+ghost use Rattle.zf_meaning.specs.{environment_of, IsNumberSet};
 ghost use Rattle.zf_meaning.specs.NumberSets as spec;
-ghost use Rattle.zf_meaning.specs.NumberSets.{IsNumberSet};
 
 use crate::env::Env;
 use std::alloc::AllocError;

@@ -2,9 +2,8 @@
 ghost use Rattle.std.specs.Prelude.{◌≡◌, ◌⊎◌, ◌==◌, ◌+◌, ◌<◌, ◌≤◌, [], ◌∷◌, ◌++◌, IfOk, OnOk, MatchOption, List, length, take, slice_index_or};
 ghost use Rattle.std.specs.List.{list_any};
 ghost use Rattle.zf_value.specs.declared.plain.Value as value;
-ghost use Rattle.zf_meaning.specs.Places.{seen, all_rows, rows_after, picked, ArePlaces};
+ghost use Rattle.zf_meaning.specs.{ahead, all_rows, AreOthers, ArePlaces, IsAt, IsFirst, IsNext, picked, row_of, rows_after, seen, Skips};
 ghost use Rattle.zf_meaning.specs.declared.rows.Passing.TheVariants as passing;
-ghost use Rattle.zf_meaning.specs.Rowed.{ahead, row_of, AreOthers, IsAt, IsFirst, IsNext, Skips};
 
 use std::alloc::{AllocError, Global};
 use zf_value::lent::Lent;

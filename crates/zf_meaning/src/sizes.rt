@@ -1,8 +1,7 @@
 //! The sizes of the given sets.
 ghost use Rattle.std.specs.Prelude.{◌≡◌, [], ◌∷◌, ◌++◌, ◌↔◌, ℕ, Option, option_to_list, Contains, IsTrue, IfOk, IfErr, OnOk, MatchOption};
-ghost use Rattle.zf_term.specs.DefinitionViews.{globals_of};
-ghost use Rattle.zf_meaning.specs.Sizes.{given_sets, names, IsAccepted, AreAccepted, AreComplete, IsSizeFault, IsRefusal, IsStated, AreSizes};
-ghost use Rattle.zf_meaning.specs.Counting.{given_at, CountsAt};
+ghost use Rattle.zf_term.specs.{globals_of};
+ghost use Rattle.zf_meaning.specs.{AreAccepted, AreComplete, AreSizes, CountsAt, given_at, given_sets, IsAccepted, IsRefusal, IsSizeFault, IsStated, names};
 
 use std::alloc::{AllocError, AllocFailed, Global};
 use thiserror::Error;

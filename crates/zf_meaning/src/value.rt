@@ -1,11 +1,8 @@
 //! What terms mean in a row.
 ghost use Rattle.std.specs.Prelude.{◌≡◌, [], IfOk, IfSome, length};
-ghost use Rattle.zf_term.specs.ResolvedViews.{resolved_of};
-ghost use Rattle.zf_outcome.specs.Described.{Describes};
-ghost use Rattle.zf_meaning.specs.InRow.{in_row, IsBehind};
-ghost use Rattle.zf_meaning.specs.Envs.{environment_of};
-ghost use Rattle.zf_meaning.specs.Meaning.{HasOutcome, IsTruth};
-ghost use Rattle.zf_meaning.specs.Needs.{need};
+ghost use Rattle.zf_term.specs.{resolved_of};
+ghost use Rattle.zf_outcome.specs.{Describes};
+ghost use Rattle.zf_meaning.specs.{environment_of, HasOutcome, in_row, IsBehind, IsTruth, need};
 
 use crate::env::Env;
 use crate::evaluate::memberships::described;

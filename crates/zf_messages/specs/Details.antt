@@ -7,23 +7,18 @@ use Rattle.zf_tree.specs.declared.symbol.Constant.{Constant}
 use Rattle.zf_tree.specs.declared.symbol.Constant.TheVariants.{True, False, Integers, Naturals, Positives}
 use Rattle.zf_scan.specs.declared.fault.TextFault.{TextFault}
 use Rattle.zf_scan.specs.declared.scan.TheConstants.{SOURCE_MAX}
-use Rattle.zf_scan.specs.Pieces.{number_max}
+use Rattle.zf_scan.specs.{number_max}
 use Rattle.zf_scan.specs.declared.fault.TextFaultKind.{TextFaultKind}
 use Rattle.zf_scan.specs.declared.fault.TextFaultKind.TheVariants.{BadByte, UnknownCommand, NotInProfile, UnclosedBox, Unexpected, NumberTooLarge, TooDeep, TooLong, OutOfMemory}
 use Rattle.zf_term.specs.declared.fault.Limit.{Limit}
 use Rattle.zf_term.specs.declared.fault.Limit.TheVariants.{TypeNodes, Components, Sets, Conjuncts, Nodes, Height}
-use Rattle.zf_term.specs.Definitions.{Defined, Schema, schema}
-use Rattle.zf_term.specs.Faults.{Fault, Offence, not_declared, already_defined, not_a_schema, local_twice, mismatch, unfit, no_members, misplaced, clash, too_large, Sort, typed, predicate, a_schema}
-use Rattle.zf_term.specs.FirstNamed.{first_named}
-use Rattle.zf_term.specs.Limits.{components_max, sets_max, conjuncts_max, nodes_max, height_max}
-use Rattle.zf_term.specs.Types.{type_nodes_max}
-use Rattle.zf_term.specs.TypeTexts.{type_text}
-use Rattle.zf_parse.specs.Height.{height_limit}
+use Rattle.zf_term.specs.{a_schema, already_defined, clash, components_max, conjuncts_max, Defined, Fault, first_named, height_max, local_twice, mismatch, misplaced, no_members, nodes_max, not_a_schema, not_declared, Offence, predicate, Schema, schema, sets_max, Sort, too_large, type_nodes_max, type_text, typed, unfit}
+use Rattle.zf_parse.specs.{height_limit}
 use Rattle.zf_extent.specs.declared.offender.Offender.{Offender}
 use Rattle.zf_extent.specs.declared.offender.Offender.TheVariants.{Name, Symbol}
 use Rattle.zf_finite.specs.declared.not_finite.NotFinite.{NotFinite}
 use Rattle.zf_finite.specs.declared.not_finite.NotFinite.TheVariants.{Unbounded, Offends}
-use Rattle.zf_finite.specs.Finite.{cause_line}
+use Rattle.zf_finite.specs.{cause_line}
 use Rattle.zf_messages.specs.Texts.{fault_line, not_finite_text, text_fault_line, type_fault_line}
 
 -- `    WORD: TEXT`

@@ -1,9 +1,8 @@
 -- The lines for a schema or a size that is missing: if details are asked for, with the names that there are.
 use Rattle.std.specs.Prelude.{ℕ, Bool, if◌then◌else◌, List, [], ◌∷◌, ◌++◌, codes}
 use Rattle.std.specs.List.{flat_map, fold}
-use Rattle.zf_term.specs.Definitions.{Defined, Definition, schema}
+use Rattle.zf_term.specs.{Defined, Definition, is_like, schema}
 use Rattle.zf_messages.specs.Details.{detail_if_any, with_details}
-use Rattle.zf_term.specs.Likeness.{is_like}
 use Rattle.zf_messages.specs.Texts.{no_schema_line, no_size_line}
 
 abbrev pub and_name : List ℕ → List ℕ → List ℕ

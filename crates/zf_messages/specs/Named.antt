@@ -1,7 +1,7 @@
 -- What the global at a place adds to lists of names. No public clause rests on this file.
 use Rattle.std.specs.Prelude.{ℕ, List, [], Option, None, Some, slice_get}
 use Rattle.std.specs.Option.{option_map_or}
-use Rattle.zf_term.specs.Definitions.{Defined}
+use Rattle.zf_term.specs.{Defined}
 use Rattle.zf_messages.specs.Missing.{if_schema}
 
 abbrev pub schema_by : Option Defined → List (List ℕ)

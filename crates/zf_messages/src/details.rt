@@ -1,13 +1,9 @@
 //! The lines that say what a fault is about, after its own.
 ghost use Rattle.std.specs.Prelude.{◌≡◌, ◌++◌, codes, decimal, IfOk, OnOk, slice_get};
 ghost use Rattle.zf_messages.specs.Details as spec;
-ghost use Rattle.zf_messages.specs.Named.{name_of};
-ghost use Rattle.zf_messages.specs.AsideViews.{aside_of, cited_of};
-ghost use Rattle.zf_term.specs.DefinitionViews.{globals_of};
-ghost use Rattle.zf_term.specs.TypeTexts.{type_text};
-ghost use Rattle.zf_term.specs.TypeViews.{type_of};
-ghost use Rattle.zf_sorts.specs.Refusals.{fault_of, offence_of};
-ghost use Rattle.zf_sorts.specs.RuleViews.{sort_of};
+ghost use Rattle.zf_messages.specs.{aside_of, cited_of, name_of};
+ghost use Rattle.zf_term.specs.{globals_of, type_of, type_text};
+ghost use Rattle.zf_sorts.specs.{fault_of, offence_of, sort_of};
 
 use crate::quoted::{Aside, Quoted};
 use crate::report::Report;

@@ -1,9 +1,8 @@
 //! The lines for a schema or a size that is missing: if details are asked for, with the names that there are.
 ghost use Rattle.std.specs.Prelude.{◌≡◌, ◌++◌, ◌∷◌, [], IfOk, MatchOption, OnOk, codes};
-ghost use Rattle.zf_messages.specs.Details.{detail_if_any};
+ghost use Rattle.zf_messages.specs.{detail_if_any, schema_at};
 ghost use Rattle.zf_messages.specs.Missing as spec;
-ghost use Rattle.zf_messages.specs.Named.{schema_at};
-ghost use Rattle.zf_term.specs.DefinitionViews.{globals_of};
+ghost use Rattle.zf_term.specs.{globals_of};
 
 use crate::details::append_if_any;
 use crate::texts;

@@ -1,7 +1,7 @@
 //! The lines of refusals, each with its newline.
 ghost use Rattle.std.specs.Prelude.{◌≡◌, ◌++◌, codes, decimal, IfOk};
 ghost use Rattle.zf_messages.specs.Texts as spec;
-ghost use Rattle.zf_sorts.specs.Refusals.{fault_of};
+ghost use Rattle.zf_sorts.specs.{fault_of};
 
 use itoa::Buffer;
 use std::alloc::{AllocError, Global};

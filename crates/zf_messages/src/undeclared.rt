@@ -1,7 +1,7 @@
 //! A component that nothing bounds, since a schema on one side of a disjunction does not declare it.
 ghost use Rattle.std.specs.Prelude.{IfOk, IsTrue};
-ghost use Rattle.zf_messages.specs.Details.{IsWithout, LacksComponent};
-ghost use Rattle.zf_term.specs.DefinitionViews.{globals_of};
+ghost use Rattle.zf_messages.specs.{IsWithout, LacksComponent};
+ghost use Rattle.zf_term.specs.{globals_of};
 
 use crate::details::name_at;
 use bumpalo::Bump;

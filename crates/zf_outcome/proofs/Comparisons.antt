@@ -3,8 +3,7 @@ use Rattle.zf_outcome.proofs.Prelude.{if◌then◌else◌, ◌↔◌, ◌∙◌,
 use Rattle.std.specs.Int.{w64}
 use Rattle.zf_term.specs.declared.extent.Infinite.{Infinite}
 use Rattle.zf_term.specs.declared.extent.Infinite.TheVariants.{Num, Nat, Nat1}
-use Rattle.zf_outcome.specs.Arithmetic.{IsFrom}
-use Rattle.zf_outcome.specs.Symbols.{Compares, IsIn}
+use Rattle.zf_outcome.specs.{Compares, IsFrom, IsIn}
 use Rattle.zf_value.specs.declared.value.Truth.TheVariants.{True, False}
 
 -- numbers that were written as words are themselves

@@ -8,7 +8,7 @@ use Rattle.zf_tree.specs.declared.symbol.Arrow.TheVariants as arrow
 use Rattle.zf_tree.specs.declared.symbol.Relation.TheVariants as relation
 use Rattle.zf_value.specs.declared.TheConstants.{SET_MAX}
 use Rattle.zf_value.specs.declared.value.Truth.TheVariants as truth
-use Rattle.zf_value.specs.Order.{level_order}
+use Rattle.zf_value.specs.{level_order}
 use Rattle.zf_value.proofs.Counted.{ascending-first, length-first}
 use Rattle.zf_value.proofs.Exact.{cmp_is}
 use Rattle.zf_value.proofs.Intervals.{number_list, numbers_between, interval_out}

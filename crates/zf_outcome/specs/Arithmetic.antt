@@ -8,7 +8,7 @@ use Rattle.zf_term.specs.declared.extent.Infinite.{Infinite}
 use Rattle.zf_term.specs.declared.extent.Infinite.TheVariants.{Num, Nat, Nat1}
 use Rattle.zf_value.specs.declared.value.Outcome.{Outcome}
 use Rattle.zf_value.specs.declared.value.Outcome.TheVariants.{Undefined}
-use Rattle.zf_value.specs.Numbers.{IsSum, IsDifference, IsProduct, IsQuotient, IsModulus, IsInterval}
+use Rattle.zf_value.specs.{IsDifference, IsInterval, IsModulus, IsProduct, IsQuotient, IsSum}
 
 -- what the symbol makes of two numbers, if it is one of arithmetic
 abbrev pub NumbersOutcome : Infix → ℤ → ℤ → Outcome → Type 0

@@ -11,7 +11,7 @@ use Rattle.zf_value.specs.declared.value.Outcome.{Outcome}
 use Rattle.zf_value.specs.declared.value.Outcome.TheVariants as outcome
 use Rattle.zf_value.specs.declared.value.Truth.{Truth}
 use Rattle.zf_value.specs.declared.value.Truth.TheVariants.{True, False, Out}
-use Rattle.zf_value.specs.Operations.{AreFrom}
+use Rattle.zf_value.specs.{AreFrom}
 use Rattle.zf_outcome.specs.Outcomes.{Several, values, one_undefined, one_out}
 use Rattle.zf_outcome.specs.Symbols.{Holds, HoldsOf}
 

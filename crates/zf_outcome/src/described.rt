@@ -1,17 +1,11 @@
 //! Sets that are tested for members without being built.
 ghost use Rattle.std.specs.Prelude.{◌≡◌, ◌↔◌, ◌⊎◌, IsTrue, IfOk};
-ghost use Rattle.zf_extent.specs.Extents.{is_membership};
+ghost use Rattle.zf_extent.specs.{is_membership};
 ghost use Rattle.zf_value.specs.declared.value.Outcome.TheVariants as outcome;
 ghost use Rattle.zf_value.specs.declared.plain.Value as value;
 ghost use Rattle.zf_outcome.specs.declared.described.Described.TheVariants as form;
-ghost use Rattle.zf_value.specs.Numbers.{number_of, OnNumbers, IsInterval};
-ghost use Rattle.zf_value.specs.Operations.{IsCross, IsPower};
-ghost use Rattle.zf_value.specs.Sets.{members};
-ghost use Rattle.zf_outcome.specs.Described.{Describes, IsDescribed, IsInDescribed, IsOfArrow, IsTruthIn, IsUnbuilt, IsWithin, told_in};
-ghost use Rattle.zf_outcome.specs.Found.{found_outcome};
-ghost use Rattle.zf_outcome.specs.Gathered.{several_of};
-ghost use Rattle.zf_outcome.specs.Outcomes.{OnOne, OnSeveral};
-ghost use Rattle.zf_outcome.specs.Symbols.{ArrowOutcome};
+ghost use Rattle.zf_value.specs.{IsCross, IsInterval, IsPower, members, number_of, OnNumbers};
+ghost use Rattle.zf_outcome.specs.{ArrowOutcome, Describes, found_outcome, IsDescribed, IsInDescribed, IsOfArrow, IsTruthIn, IsUnbuilt, IsWithin, OnOne, OnSeveral, several_of, told_in};
 
 use crate::found::Found;
 use crate::gathered::{Gathered, Lack};

@@ -1,6 +1,6 @@
 //! Outcomes of which nothing is copied.
 ghost use Rattle.std.specs.Prelude.{◌≡◌, IfOk};
-ghost use Rattle.zf_outcome.specs.Found.{found_outcome, found_of};
+ghost use Rattle.zf_outcome.specs.{found_of, found_outcome};
 
 use std::alloc::{AllocError, Global};
 use zf_value::lent::Lent;

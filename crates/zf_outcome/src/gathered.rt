@@ -1,6 +1,6 @@
 //! The values of several terms.
 ghost use Rattle.std.specs.Prelude.{◌≡◌, [], IfOk, OnOk};
-ghost use Rattle.zf_outcome.specs.Found.{found_outcome};
+ghost use Rattle.zf_outcome.specs.{found_outcome};
 ghost use Rattle.zf_outcome.specs.Gathered as spec;
 
 use crate::found::Found;

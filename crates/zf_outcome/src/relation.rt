@@ -2,12 +2,8 @@
 ghost use Rattle.std.specs.Prelude.{◌≡◌, ◌↔◌, if◌then◌else◌, IfSome, IsTrue};
 ghost use Rattle.zf_value.specs.declared.value.Outcome.TheVariants.{Is};
 ghost use Rattle.zf_value.specs.declared.plain.Value.{Int};
-ghost use Rattle.zf_value.specs.Operations.{pair};
-ghost use Rattle.zf_value.specs.Sets.{AreAmong, members};
-ghost use Rattle.zf_outcome.specs.Arithmetic.{AreOrdered, IsFrom};
-ghost use Rattle.zf_outcome.specs.Found.{found_outcome};
-ghost use Rattle.zf_outcome.specs.Symbols.{Compares, Holds, HoldsOf, IsIn};
-ghost use Rattle.zf_outcome.specs.Truths.{IsAtom, IsLink, IsTest};
+ghost use Rattle.zf_value.specs.{AreAmong, members, pair};
+ghost use Rattle.zf_outcome.specs.{AreOrdered, Compares, found_outcome, Holds, HoldsOf, IsAtom, IsFrom, IsIn, IsLink, IsTest};
 
 use crate::found::Found;
 use zf_term::extent::Infinite;

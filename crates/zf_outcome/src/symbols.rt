@@ -1,12 +1,7 @@
 //! What each symbol makes of the outcomes of its operands.
 ghost use Rattle.std.specs.Prelude.{◌≡◌, IfOk};
-ghost use Rattle.zf_value.specs.Numbers.{number_of, OnNumbers};
-ghost use Rattle.zf_value.specs.Operations.{IsCross};
-ghost use Rattle.zf_outcome.specs.Arithmetic.{NumbersOutcome};
-ghost use Rattle.zf_outcome.specs.Found.{found_outcome};
-ghost use Rattle.zf_outcome.specs.Gathered.{several_of};
-ghost use Rattle.zf_outcome.specs.Outcomes.{OnOne, OnBoth, OnSeveral};
-ghost use Rattle.zf_outcome.specs.Symbols.{InfixOutcome, ArrowOutcome, BinaryOutcome, PrefixOutcome, SignOutcome, UnaryOutcome, ListedOutcome};
+ghost use Rattle.zf_value.specs.{IsCross, number_of, OnNumbers};
+ghost use Rattle.zf_outcome.specs.{ArrowOutcome, BinaryOutcome, found_outcome, InfixOutcome, ListedOutcome, NumbersOutcome, OnBoth, OnOne, OnSeveral, PrefixOutcome, several_of, SignOutcome, UnaryOutcome};
 
 use crate::found::Found;
 use crate::gathered::{Gathered, Lack};

@@ -6,7 +6,8 @@ use Rattle.zf_scan.specs.declared.token.Kind.TheVariants as k
 use Rattle.zf_tree.specs.declared.tree.Decl.{Decl}
 use Rattle.zf_tree.specs.declared.tree.Decl.TheVariants as decl
 use Rattle.zf_tree.specs.declared.tree.SchemaRef.{SchemaRef}
-use Rattle.zf_parse.specs.BoxReading.{items, new_ref, marked, ref_by, read_ref, variables, inclusion, is_declared, read_decl, read_decls, predicates}
+use Rattle.zf_parse.specs.{inclusion, is_declared, items, marked, new_ref, predicates, read_decls, read_ref, ref_by, variables}
+use Rattle.zf_parse.specs.BoxReading.{read_decl}
 use Rattle.zf_parse.proofs.Marks as marks
 use Rattle.zf_parse.proofs.Marks.{kind_of, seen, passed, next_shorter}
 use Rattle.zf_parse.proofs.NamesRead.{name_shorter, names_shorter}

@@ -5,7 +5,8 @@ use Rattle.zf_scan.specs.declared.next.Next.TheVariants as next
 use Rattle.zf_scan.specs.declared.token.Kind.TheVariants as k
 use Rattle.zf_scan.specs.declared.token.Separator.{Separator}
 use Rattle.zf_scan.specs.declared.token.Separator.TheVariants.{Semicolon, NewLine, Also}
-use Rattle.zf_parse.specs.Reading.{first, rest, expect, Outcome, Parser, and_then}
+use Rattle.zf_parse.specs.{first, rest}
+use Rattle.zf_parse.specs.Reading.{expect, Outcome, Parser, and_then}
 
 abbrev pub kind_of : Mark → Kind
 kind_of mark.EndBox = k.EndBox

@@ -5,7 +5,7 @@ use Rattle.zf_scan.specs.declared.next.Next as code
 use Rattle.zf_scan.specs.declared.token.Kind.TheVariants as k
 use Rattle.zf_tree.specs.declared.tree.Paragraph.{Paragraph}
 use Rattle.zf_tree.specs.declared.tree.Paragraph.TheVariants as paragraph
-use Rattle.zf_parse.specs.BoxReading.{given, free_type, abbreviation, definition, named_by, named, read_schema, read_paragraph}
+use Rattle.zf_parse.specs.{abbreviation, definition, free_type, given, named, named_by, read_paragraph, read_schema}
 use Rattle.zf_tree.specs.Trees as shape
 use Rattle.zf_parse.proofs.Marks.{marked, seen, passed, next_shorter}
 use Rattle.zf_parse.proofs.NamesRead.{name_shorter, names_shorter, parted_names_shorter, parted_names_ok, ok_name, ok_parted_names}

@@ -1,6 +1,7 @@
 -- Items parted by a symbol: what is read is spelled.
 use Rattle.zf_parse.proofs.Prelude.{◌++◌, ◌∷◌, ◌≡◌, [], Bool, false, length, List, None, refl, Some, subst, suc, true, zero, ℕ, is_mark, Symbol, Mark, Next, PartedBy}
-use Rattle.zf_parse.specs.Reading.{Outcome, Parser, first, rest, parted, parted_from}
+use Rattle.zf_parse.specs.{first, parted, parted_from, rest}
+use Rattle.zf_parse.specs.Reading.{Outcome, Parser}
 use Rattle.zf_parse.proofs.Marks.{kind_of, marked, bound}
 
 pub some_is : {A : Type 0} (xs ys : A) (ts us : List Symbol) → ◌≡◌ {A = Outcome A} (Some (xs, ts)) (Some (ys, us)) → (xs ≡ ys) × (ts ≡ us)

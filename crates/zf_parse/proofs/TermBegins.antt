@@ -6,7 +6,8 @@ use Rattle.zf_tree.specs.declared.operator.Listed.TheVariants as list
 use Rattle.zf_tree.specs.declared.operator.Sign.TheVariants as sign
 use Rattle.zf_tree.specs.declared.operator.Unary.TheVariants as one
 use Rattle.zf_tree.specs.declared.tree.Term.TheVariants as term
-use Rattle.zf_parse.specs.TermReading.{expect, begins_decl, parted_by, closed_by, tall, further, decls, part, listed, empty_set, round_by, round, display, builder, braced, prefixed, quantified, beginning_by, beginning}
+use Rattle.zf_parse.specs.{beginning, beginning_by, begins_decl, braced, builder, closed_by, decls, display, empty_set, further, listed, part, parted_by, prefixed, quantified, round, round_by, tall}
+use Rattle.zf_parse.specs.TermReading.{expect}
 use Rattle.zf_tree.specs.Trees as shape
 use Rattle.zf_parse.proofs.Marks.{kind_of}
 use Rattle.zf_tree.proofs.TermSeen as of

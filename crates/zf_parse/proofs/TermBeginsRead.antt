@@ -8,9 +8,10 @@ use Rattle.zf_tree.specs.declared.operator.Sign.TheVariants as sign
 use Rattle.zf_tree.specs.declared.operator.Unary.TheVariants as one
 use Rattle.zf_parse.specs.Reading as basic
 use Rattle.zf_tree.specs.declared.tree.Term.TheVariants as term
-use Rattle.zf_parse.specs.TermReading.{Outcome, binds, begins_decl, parted_by, closed_by, tall, listed, empty_set, round, display, builder, braced, prefixed, quantified, beginning}
-use Rattle.zf_tree.specs.Trees.{Tree, named, numeral, constant, bracket, Trees, tree, VarDecls, Perhaps}
-use Rattle.zf_tree.specs.TreeViews.{tree_of, part_of}
+use Rattle.zf_parse.specs.{beginning, begins_decl, binds, braced, builder, closed_by, display, empty_set, listed, parted_by, prefixed, quantified, round, tall}
+use Rattle.zf_parse.specs.TermReading.{Outcome}
+use Rattle.zf_tree.specs.{bracket, constant, named, numeral, part_of, Perhaps, Tree, tree, tree_of, VarDecls}
+use Rattle.zf_tree.specs.Trees.{Trees}
 use Rattle.zf_tree.specs.Trees as shape
 use Rattle.zf_parse.proofs.Marks.{kind_of}
 use Rattle.zf_parse.proofs.TermFirsts.{not_closed}

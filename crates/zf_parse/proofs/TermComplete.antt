@@ -9,7 +9,8 @@ use Rattle.zf_tree.specs.declared.operator.Listed.TheVariants as list
 use Rattle.zf_tree.specs.declared.operator.Operator.TheVariants as operator
 use Rattle.zf_tree.specs.declared.operator.Unary.TheVariants as one
 use Rattle.zf_tree.specs.declared.tree.Term.TheVariants as term
-use Rattle.zf_parse.specs.TermReading.{Outcome, role_of, bound_by, binds, place_before, ended_by, tall, chain_links, beginning, binary, chained, longer_by, climb, whole, read_term}
+use Rattle.zf_parse.specs.{beginning, binary, binds, bound_by, chain_links, chained, climb, ended_by, longer_by, place_before, read_term, role_of, tall, whole}
+use Rattle.zf_parse.specs.TermReading.{Outcome}
 use Rattle.zf_tree.specs.Trees as shape
 use Rattle.zf_parse.proofs.TermFirsts.{Joins, joined}
 use Rattle.zf_tree.proofs.TermSeen as of

@@ -7,7 +7,8 @@ use Rattle.zf_parse.specs.declared.levels.Role.TheVariants as role
 use Rattle.zf_tree.specs.declared.operator.Listed.TheVariants as list
 use Rattle.zf_tree.specs.declared.operator.Sign.TheVariants as sign
 use Rattle.zf_tree.specs.declared.operator.Unary.TheVariants as one
-use Rattle.zf_parse.specs.TermReading.{Outcome, Parser, Refused, TooDeep, and_then, expect, read_names, here, role_of, binds, place_before, begins_decl, beyond, parted_by, tall, with_term, with_link, with_decl, further_from, further, links_by, links_from, chain_links, read_decl, decls_from, decls, part, listed, empty_set, round_by, round, display, builder, braced, prefixed, quantified, beginning_by, beginning, binary, chained, longer_by, climb, whole, read_term}
+use Rattle.zf_parse.specs.{beginning, beginning_by, begins_decl, beyond, binary, binds, braced, builder, chain_links, chained, climb, decls, decls_from, display, empty_set, further, further_from, here, links_by, links_from, listed, longer_by, part, parted_by, place_before, prefixed, quantified, read_names, read_term, Refused, role_of, round, round_by, tall, TooDeep, whole, with_decl, with_link, with_term}
+use Rattle.zf_parse.specs.TermReading.{Outcome, Parser, and_then, expect, read_decl}
 
 abbrev pub Under : {A : Type 0} → Outcome A → Outcome A → Type 0
 Under r s = (r ≡ Err TooDeep) ⊎ (r ≡ s)

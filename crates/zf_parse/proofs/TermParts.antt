@@ -2,8 +2,8 @@
 use Rattle.zf_parse.proofs.Prelude.{◌++◌, ◌<◌, ◌∙◌, ◌∷◌, ◌≡◌, ◌≤◌, [], ap, append_assoc, arith, length, List, map, max, None, Ok, Option, refl, Some, subst, suc, sym, true, zero, ℕ, append-nil, Relation, Link, Name, Term, VarDecl, is_mark, next_of, separator, Symbol, symbol, Mark, Kind, tree_height, perhaps_height, trees_height, links_height, decls_height, AreAt, atom_level, DeclsAreLevelled, expression_level, IsLevelled, level, LinksAreLevelled, PartIsAt, first, rest, Next, Spells, SpellsDecls, SpellsFurther, SpellsLinks, SpellsNames, SpellsPart, expect, links_by, Outcome, Parser, read_names, tall, with_decl, with_link, with_term, decls, decls_from, further_from, links_from, part, read_decl, Tall}
 use Rattle.zf_scan.specs.declared.next.Mark.TheVariants as mark
 use Rattle.zf_scan.specs.declared.token.Kind.TheVariants as k
-use Rattle.zf_tree.specs.TreeViews.{new_link, new_decl, trees, links, var_decls, tree_of, link_of, var_decl_of, part_of}
-use Rattle.zf_tree.specs.Trees.{Tree, Trees, Links, no_links, link, VarDecls, no_decls, var_decl}
+use Rattle.zf_tree.specs.{link, link_of, Links, links, new_decl, new_link, no_decls, no_links, part_of, Tree, tree_of, trees, var_decl, var_decl_of, var_decls, VarDecls}
+use Rattle.zf_tree.specs.Trees.{Trees}
 use Rattle.zf_parse.proofs.Marks.{kind_of, marked}
 use Rattle.zf_tree.proofs.TermSeen as of
 use Rattle.zf_parse.proofs.TermSteps.{ok_pair, ok_value, ok_rest, bind_ok, if_cases, expect_ok, names_ok}

@@ -3,8 +3,8 @@ use Rattle.zf_parse.proofs.Prelude.{◌++◌, ◌<◌, ◌∙◌, ◌∷◌, ◌
 use Rattle.zf_scan.specs.declared.next.Mark.TheVariants as mark
 use Rattle.zf_scan.specs.declared.next.Next as code
 use Rattle.zf_scan.specs.declared.token.Kind.TheVariants as k
-use Rattle.zf_tree.specs.TreeViews.{new_link, new_decl, tree_of, part_of}
-use Rattle.zf_tree.specs.Trees.{Tree, named, Trees, no_trees, tree, Links, no_links, link, VarDecls, no_decls, var_decl, Perhaps, absent, present}
+use Rattle.zf_tree.specs.{absent, link, Links, named, new_decl, new_link, no_decls, no_links, no_trees, part_of, Perhaps, present, Tree, tree, tree_of, var_decl, VarDecls}
+use Rattle.zf_tree.specs.Trees.{Trees}
 use Rattle.zf_parse.proofs.Marks.{kind_of, seen, passed, next_shorter}
 use Rattle.zf_parse.proofs.NamesRead.{names_shorter}
 use Rattle.zf_parse.proofs.TermFirsts.{only_name, term_shorter}

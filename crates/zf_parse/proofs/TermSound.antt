@@ -6,7 +6,8 @@ use Rattle.zf_tree.specs.declared.operator.Listed.TheVariants as list
 use Rattle.zf_tree.specs.declared.operator.Operator.TheVariants as operator
 use Rattle.zf_tree.specs.declared.operator.Unary.TheVariants as one
 use Rattle.zf_tree.specs.declared.tree.Term.TheVariants as term
-use Rattle.zf_parse.specs.TermReading.{Outcome, role_of, binds, place_before, beyond, ended_by, tall, with_link, over, over_both, listed, links_from, chain_links, beginning, binary, chained, longer_by, climb, whole, read_term}
+use Rattle.zf_parse.specs.{beginning, beyond, binary, binds, chain_links, chained, climb, ended_by, links_from, listed, longer_by, over, over_both, place_before, read_term, role_of, tall, whole, with_link}
+use Rattle.zf_parse.specs.TermReading.{Outcome}
 use Rattle.zf_tree.specs.Trees as shape
 use Rattle.zf_tree.proofs.TermSeen as of
 use Rattle.zf_parse.proofs.TermSteps.{ok_pair, ok_value, ok_rest, bind_ok, if_ok, if_cases, expect_ok}

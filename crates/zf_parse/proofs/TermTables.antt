@@ -6,7 +6,7 @@ use Rattle.zf_tree.specs.declared.operator.Listed.TheVariants as list
 use Rattle.zf_tree.specs.declared.operator.Operator.TheVariants as operator
 use Rattle.zf_tree.specs.declared.operator.Sign.TheVariants as sign
 use Rattle.zf_tree.specs.declared.operator.Unary.TheVariants as one
-use Rattle.zf_tree.specs.Trees.{Tree, named, listed, unary, binary, chain, quantified}
+use Rattle.zf_tree.specs.{binary, chain, listed, named, quantified, Tree, unary}
 
 -- ---- bounds of the table
 

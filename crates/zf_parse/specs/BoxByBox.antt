@@ -5,15 +5,13 @@ use Rattle.zf_scan.specs.declared.fault.TextFaultKind.{TextFaultKind}
 use Rattle.zf_scan.specs.declared.fault.TextFaultKind.TheVariants.{Unexpected, NotInProfile, TooDeep, OutOfMemory}
 use Rattle.zf_scan.specs.declared.scan.Border.{Border}
 use Rattle.zf_scan.specs.declared.token.Token.{Token}
-use Rattle.zf_scan.specs.Boxes.{IsCutUpTo}
-use Rattle.zf_scan.specs.Separators.{Symbol, reduced}
+use Rattle.zf_scan.specs.{IsCutUpTo, reduced, Symbol}
 use Rattle.zf_tree.specs.declared.tree.ZBox.{ZBox}
 use Rattle.zf_parse.specs.declared.unread.Unread.{Unread}
 use Rattle.zf_parse.specs.Height.{box_height, highest, height_limit}
 use Rattle.zf_parse.specs.Levels.{BoxIsLevelled}
 use Rattle.zf_parse.specs.Spelling.{SpellsBox, SpellsBoxes}
-use Rattle.zf_tree.specs.Trees.{BoxTree}
-use Rattle.zf_tree.specs.TreeViews.{box_of}
+use Rattle.zf_tree.specs.{box_of, BoxTree}
 
 -- ---- one box
 

@@ -20,11 +20,10 @@ use Rattle.zf_tree.specs.declared.tree.Paragraph.TheVariants as paragraph
 use Rattle.zf_tree.specs.declared.tree.ZBox.{ZBox}
 use Rattle.zf_tree.specs.declared.tree.ZBox.TheVariants as zbox
 use Rattle.zf_parse.specs.Levels.{quantifier_level, expression_level}
-use Rattle.zf_tree.specs.NameViews.{is_bare}
+use Rattle.zf_tree.specs.{is_bare}
 use Rattle.zf_parse.specs.Reading as basic
-use Rattle.zf_scan.specs.Choosing.{is_mark}
+use Rattle.zf_scan.specs.{is_mark, Symbol}
 use Rattle.zf_parse.specs.Reading.{first, rest, is_end, read_name, read_opening}
-use Rattle.zf_scan.specs.Separators.{Symbol}
 use Rattle.zf_parse.specs.TermReading.{Parser, Refused, TooDeep, and_then, ◌>>=◌, ◌>>◌, past, pure, refuse, too_deep, lift, expect, read_names, here, tall, read_term}
 
 -- ---- one or more items with their heights, parted by a symbol; the number bounds the turns

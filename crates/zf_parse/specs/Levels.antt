@@ -14,7 +14,8 @@ use Rattle.zf_tree.specs.declared.operator.Sign.{Sign}
 use Rattle.zf_tree.specs.declared.operator.Sign.TheVariants as sign
 use Rattle.zf_tree.specs.declared.operator.Unary.{Unary}
 use Rattle.zf_tree.specs.declared.operator.Unary.TheVariants as one
-use Rattle.zf_tree.specs.Trees.{Tree, empty_set, bracket, listed, builder, unary, binary, chain, quantified, Trees, no_trees, tree, Links, no_links, link, VarDecls, no_decls, var_decl, Perhaps, absent, present, DeclTree, vars, include, SchemaTree, schema_text, schema_reference, both, either, schema_bracket, ParagraphTree, abbreviation, definition, BoxTree, zed, schema_box}
+use Rattle.zf_tree.specs.{abbreviation, absent, binary, both, BoxTree, bracket, builder, chain, DeclTree, definition, either, empty_set, include, link, Links, listed, no_decls, no_links, no_trees, ParagraphTree, Perhaps, present, quantified, schema_box, schema_bracket, schema_reference, schema_text, SchemaTree, Tree, tree, unary, var_decl, VarDecls, vars, zed}
+use Rattle.zf_tree.specs.Trees.{Trees}
 
 -- a quantifier; the place of any term
 abbrev pub quantifier_level : ℕ

@@ -10,7 +10,7 @@ use Rattle.zf_parse.specs.declared.tall.Tall.{Tall}
 use Rattle.zf_tree.specs.declared.tree.SchemaExp.{SchemaExp}
 use Rattle.zf_tree.specs.declared.tree.Term.{Term}
 use Rattle.zf_parse.specs.BoxReading.{read_schema}
-use Rattle.zf_scan.specs.Separators.{Symbol}
+use Rattle.zf_scan.specs.{Symbol}
 use Rattle.zf_parse.specs.TermReading.{read_term, Gives}
 
 abbrev Arena : Type 0

@@ -4,10 +4,10 @@ use Rattle.zf_scan.specs.declared.fault.TextFault.{TextFault}
 use Rattle.zf_scan.specs.declared.fault.TextFaultKind.{TextFaultKind}
 use Rattle.zf_scan.specs.declared.fault.TextFaultKind.TheVariants.{Unexpected, NotInProfile, TooDeep, OutOfMemory}
 use Rattle.zf_scan.specs.declared.token.Token.{Token}
-use Rattle.zf_scan.specs.Cuts.{IsCutInto, HasFault}
+use Rattle.zf_scan.specs.{HasFault, IsCutInto}
 use Rattle.zf_parse.specs.Height.{highest, height_limit}
 use Rattle.zf_parse.specs.Reads.{Reads}
-use Rattle.zf_tree.specs.Trees.{BoxTree}
+use Rattle.zf_tree.specs.{BoxTree}
 
 -- a tree that reads the tokens, with no part above the limit
 pub record ReadsLow (boxes : List BoxTree) (tokens : List Token) : Type 0 where

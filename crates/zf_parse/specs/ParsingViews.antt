@@ -3,9 +3,9 @@ use Rattle.std.specs.Prelude.{ℕ, ◌⊎◌, List, Result, Ok, Err}
 use Rattle.zf_scan.specs.declared.fault.TextFault.{TextFault}
 use Rattle.zf_scan.specs.declared.token.Token.{Token}
 use Rattle.zf_tree.specs.declared.tree.Spec.{Spec}
-use Rattle.zf_scan.specs.CutViews.{IsWantOfMemory}
+use Rattle.zf_scan.specs.{IsWantOfMemory}
 use Rattle.zf_parse.specs.declared.unread.Unread.{Unread}
-use Rattle.zf_tree.specs.TreeViews.{boxes_of}
+use Rattle.zf_tree.specs.{boxes_of}
 use Rattle.zf_parse.specs.Parsing.{ReadsLow, RefusesTokens, ReadsSource, RefusesSource}
 
 abbrev pub Parses : Result Spec TextFault → List Token → Type 0

@@ -6,8 +6,7 @@ use Rattle.zf_scan.specs.declared.next.Mark.{Mark}
 use Rattle.zf_scan.specs.declared.token.Kind.{Kind}
 use Rattle.zf_scan.specs.declared.token.Kind.TheVariants as k
 use Rattle.zf_tree.specs.declared.tree.Name.{Name}
-use Rattle.zf_scan.specs.Choosing.{next_of, is_mark}
-use Rattle.zf_scan.specs.Separators.{Symbol}
+use Rattle.zf_scan.specs.{is_mark, next_of, Symbol}
 
 -- ---- the next symbol
 

@@ -16,8 +16,9 @@ use Rattle.zf_tree.specs.declared.operator.Sign.{Sign}
 use Rattle.zf_tree.specs.declared.operator.Sign.TheVariants as sign
 use Rattle.zf_tree.specs.declared.operator.Unary.{Unary}
 use Rattle.zf_tree.specs.declared.operator.Unary.TheVariants as one
-use Rattle.zf_scan.specs.Separators.{Symbol, symbol, separator}
-use Rattle.zf_tree.specs.Trees.{Tree, named, numeral, constant, empty_set, bracket, listed, builder, unary, binary, chain, quantified, Trees, no_trees, tree, Links, no_links, link, VarDecls, no_decls, var_decl, Perhaps, absent, present, DeclTree, vars, include, SchemaTree, schema_text, schema_reference, both, either, schema_bracket, ParagraphTree, given, free, abbreviation, definition, BoxTree, zed, schema_box, line_of}
+use Rattle.zf_scan.specs.{separator, Symbol, symbol}
+use Rattle.zf_tree.specs.{abbreviation, absent, binary, both, BoxTree, bracket, builder, chain, constant, DeclTree, definition, either, empty_set, free, given, include, line_of, link, Links, listed, named, no_decls, no_links, no_trees, numeral, ParagraphTree, Perhaps, present, quantified, schema_box, schema_bracket, schema_reference, schema_text, SchemaTree, Tree, tree, unary, var_decl, VarDecls, vars, zed}
+use Rattle.zf_tree.specs.Trees.{Trees}
 
 -- the first symbol, with its line, and the rest
 abbrev pub Starts : Kind → ℕ → List Symbol → List Symbol → Type 0

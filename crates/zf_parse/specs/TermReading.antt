@@ -12,7 +12,7 @@ use Rattle.zf_tree.specs.declared.symbol.Infix.TheVariants.{Minus}
 use Rattle.zf_tree.specs.declared.symbol.Quantifier.{Quantifier}
 use Rattle.zf_tree.specs.declared.symbol.Relation.{Relation}
 use Rattle.zf_tree.specs.declared.tree.Link.{Link}
-use Rattle.zf_tree.specs.NameViews.{ident_of}
+use Rattle.zf_tree.specs.{ident_of, line_of, new_decl, new_link, tree_of}
 use Rattle.zf_tree.specs.declared.tree.Name.{Name}
 use Rattle.zf_parse.specs.declared.levels.Role.{Role}
 use Rattle.zf_parse.specs.declared.levels.Role.TheVariants as role
@@ -27,12 +27,9 @@ use Rattle.zf_tree.specs.declared.tree.Term.{Term}
 use Rattle.zf_tree.specs.declared.tree.Term.TheVariants as term
 use Rattle.zf_tree.specs.declared.tree.VarDecl.{VarDecl}
 use Rattle.zf_parse.specs.Levels.{quantifier_level, chain_level, expression_level, product_level, postfix_level, unary_level, operator_level, left_place, right_place, member_place, level}
-use Rattle.zf_scan.specs.Choosing.{next_of, goes_on, ends_names, is_mark}
+use Rattle.zf_scan.specs.{ends_names, goes_on, is_mark, next_of, Symbol}
 use Rattle.zf_parse.specs.Reading as basic
 use Rattle.zf_parse.specs.Reading.{first, rest, read_name, read_number}
-use Rattle.zf_scan.specs.Separators.{Symbol}
-use Rattle.zf_tree.specs.Trees.{line_of}
-use Rattle.zf_tree.specs.TreeViews.{tree_of, new_link, new_decl}
 
 -- ---- a value and the symbols after it, or why there is none
 

@@ -1,7 +1,7 @@
 //! The rules of boxes and of a whole text.
 ghost use Rattle.std.specs.Prelude.{◌≤◌};
 ghost use Rattle.zf_parse.specs.BoxReading as spec;
-ghost use Rattle.zf_parse.specs.TermReading.{Gives};
+ghost use Rattle.zf_parse.specs.{Gives};
 
 use crate::cursor::Cursor;
 use crate::decls::{decls, predicates};

@@ -1,11 +1,10 @@
 //! The symbols of a text that are left to be read.
 ghost use Rattle.std.specs.Prelude.{◌≡◌, ◌⊎◌, true, length, map};
 ghost use Rattle.zf_parse.specs.BoxReading as boxes;
-ghost use Rattle.zf_scan.specs.Choosing.{is_mark};
+ghost use Rattle.zf_scan.specs.{is_mark, symbol_at};
 ghost use Rattle.zf_parse.specs.Reading as spec;
-ghost use Rattle.zf_scan.specs.Placing.{symbol_at};
 ghost use Rattle.zf_parse.specs.TermReading as terms;
-ghost use Rattle.zf_parse.specs.TermReading.{Gives};
+ghost use Rattle.zf_parse.specs.{Gives};
 ghost use Rattle.zf_scan.specs.declared.fault.TextFaultKind.TheVariants.{Unexpected};
 
 use std::marker::Model;

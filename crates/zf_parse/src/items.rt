@@ -1,7 +1,7 @@
 //! One or more items with their heights, parted by a symbol.
 ghost use Rattle.std.specs.Prelude.{◌≤◌, IfOk};
 ghost use Rattle.zf_parse.specs.BoxReading as spec;
-ghost use Rattle.zf_parse.specs.TermReading.{Gives};
+ghost use Rattle.zf_parse.specs.{Gives};
 
 use crate::cursor::Cursor;
 use crate::tall::Tall;

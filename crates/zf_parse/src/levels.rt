@@ -2,7 +2,7 @@
 ghost use Rattle.std.specs.Prelude.{◌≡◌, ◌≤◌};
 ghost use Rattle.zf_parse.specs.Levels as levels;
 ghost use Rattle.zf_parse.specs.TermReading as spec;
-ghost use Rattle.zf_tree.specs.TreeViews.{tree_of};
+ghost use Rattle.zf_tree.specs.{tree_of};
 
 use zf_scan::next::{Mark, Next};
 use zf_tree::operator::{Listed, Operator, Sign, Unary};

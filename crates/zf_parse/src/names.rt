@@ -1,6 +1,6 @@
 //! Lists of names.
 ghost use Rattle.zf_parse.specs.Reading as spec;
-ghost use Rattle.zf_parse.specs.TermReading.{Gives, lift, read_names};
+ghost use Rattle.zf_parse.specs.{Gives, lift, read_names};
 
 use crate::cursor::Cursor;
 use bumpalo::Bump;

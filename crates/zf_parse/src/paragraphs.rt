@@ -1,7 +1,7 @@
 //! The rules of paragraphs.
 ghost use Rattle.std.specs.Prelude.{◌≤◌, IfOk};
 ghost use Rattle.zf_parse.specs.BoxReading as spec;
-ghost use Rattle.zf_parse.specs.TermReading.{Gives, past};
+ghost use Rattle.zf_parse.specs.{Gives, past};
 
 use crate::cursor::Cursor;
 use crate::items::Rule;

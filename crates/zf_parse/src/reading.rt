@@ -1,15 +1,9 @@
 //! Trees out of tokens, and out of a source.
 ghost use Rattle.std.specs.Prelude.{◌≡◌, ◌≤◌, ◌<◌, ◌⊎◌, ◌++◌, ℕ, List, IfOk, IfErr, OnOk, length, map, slice_index_or, slice_set};
-ghost use Rattle.zf_parse.specs.BoxByBox.{ReadsOneBox, ReadsUpTo};
-ghost use Rattle.zf_parse.specs.ParsingViews.{Parses, ReadsSpec};
-ghost use Rattle.zf_parse.specs.Parsing.{RefusesSource};
-ghost use Rattle.zf_scan.specs.Boxes.{IsBorder, IsBoxAtMost, IsCutOn, IsCutUpTo};
-ghost use Rattle.zf_scan.specs.Cuts.{IsStuck};
-ghost use Rattle.zf_scan.specs.CutViews.{IsWantOfMemory};
-ghost use Rattle.zf_scan.specs.Placing.{symbol_at, token_at, unplaced};
+ghost use Rattle.zf_parse.specs.{Parses, ReadsOneBox, ReadsSpec, ReadsUpTo, RefusesSource};
+ghost use Rattle.zf_scan.specs.{IsBorder, IsBoxAtMost, IsCutOn, IsCutUpTo, IsStuck, IsWantOfMemory, reduced, starts_closed, symbol_at, token_at, unplaced};
 ghost use Rattle.zf_parse.specs.Reads.{Reads};
-ghost use Rattle.zf_scan.specs.Separators.{reduced, starts_closed};
-ghost use Rattle.zf_tree.specs.Trees.{BoxTree};
+ghost use Rattle.zf_tree.specs.{BoxTree};
 ghost use Rattle.zf_scan.specs.declared.placed.Placed.{Placed};
 ghost use Rattle.zf_scan.specs.declared.token.Token.{Token};
 

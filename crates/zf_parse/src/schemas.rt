@@ -1,9 +1,7 @@
 //! The rules of schema expressions.
 ghost use Rattle.std.specs.Prelude.{◌+◌, ◌≤◌, IfOk};
 ghost use Rattle.zf_parse.specs.BoxReading as spec;
-ghost use Rattle.zf_parse.specs.BoxReading.{read_schema};
-ghost use Rattle.zf_parse.specs.Nests.{SchemaNests};
-ghost use Rattle.zf_parse.specs.TermReading.{Gives};
+ghost use Rattle.zf_parse.specs.{Gives, read_schema, SchemaNests};
 
 use crate::cursor::Cursor;
 use crate::decls::{decls, predicates, reference};

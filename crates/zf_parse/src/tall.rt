@@ -1,9 +1,9 @@
 //! Parts of a term, each with its height.
 ghost use Rattle.std.specs.Prelude.{◌≡◌, List, Ok, IfOk};
-ghost use Rattle.zf_scan.specs.Separators.{Symbol};
+ghost use Rattle.zf_scan.specs.{Symbol};
 ghost use Rattle.zf_scan.specs.declared.fault.TextFaultKind.TheVariants.{TooDeep};
 ghost use Rattle.zf_parse.specs.TermReading as spec;
-ghost use Rattle.zf_parse.specs.TermReading.{Gives};
+ghost use Rattle.zf_parse.specs.{Gives};
 
 use bumpalo::Bump;
 use zf_data::arena::Boxed;

@@ -4,12 +4,11 @@ use Rattle.std.proofs.Common.{Err, IfOk, Ok, OnErr, Result}
 use Rattle.std.specs.Io.KnownBytes.{Appends}
 use Rattle.zf_lines.specs.declared.fault.RunFault.{RunFault}
 use Rattle.zf_lines.specs.declared.fault.Status.{Status}
-use Rattle.zf_lines.specs.Searches.{Wording}
-use Rattle.zf_meaning.specs.Environments.{Environment}
-use Rattle.zf_term.specs.Definitions.{Schema}
-use Rattle.zf_walk.specs.Progress.{Stage}
-use Rattle.zf_parts.specs.Collected.{AreCollected, StopsKept, WritesKept}
-use Rattle.zf_parts.specs.Shown.{StopsParts, WritesParts}
+use Rattle.zf_lines.specs.{Wording}
+use Rattle.zf_meaning.specs.{Environment}
+use Rattle.zf_term.specs.{Schema}
+use Rattle.zf_walk.specs.{Stage}
+use Rattle.zf_parts.specs.{AreCollected, StopsKept, StopsParts, WritesKept, WritesParts}
 use Rattle.zf_parts.proofs.Keeping.{Entry}
 
 module _ (w : Wording Value) (limit : Option ℕ) (e : Environment) (a : Schema) (b : Stage Value) (places : List ℕ) (after : Option (List Value)) (entries : List Entry) (old new : Option (List ℕ))

@@ -6,8 +6,8 @@ use Rattle.std.proofs.Math.Nat.{mul-le-mul_right}
 use Rattle.std.proofs.lemmas.Bool.{cases_eq, cases_lt}
 use Rattle.std.proofs.lemmas.List.{drop_all, drop_more, get_or-set_other, get_or-set_same, length-set}
 use Rattle.zf_walk.proofs.Picks.{AreWithin-tail, picked-cons, slice_get-nth}
-use Rattle.zf_walk.specs.Picked.{AreWithin, picked}
-use Rattle.zf_parts.specs.Numbers.{counted, IsNumber, ranges_at, total}
+use Rattle.zf_walk.specs.{AreWithin, picked}
+use Rattle.zf_parts.specs.{counted, IsNumber, ranges_at, total}
 use Rattle.zf_parts.proofs.Numbering.{length_ranges, range_there, some_rest, within_more}
 
 -- the values at digits have the number that these count

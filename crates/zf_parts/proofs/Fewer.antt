@@ -5,8 +5,7 @@ use Rattle.std.proofs.lemmas.Bool.{false≢true}
 use Rattle.std.proofs.lemmas.Cmp.{tied_itself}
 use Rattle.std.specs.Cmp.{IsTotalOrder}
 use Rattle.zf_walk.specs.Conjuncts.{Conjuncts}
-use Rattle.zf_walk.specs.Order.{first_of, reaches}
-use Rattle.zf_walk.specs.Progress.{Ahead, past, Takes}
+use Rattle.zf_walk.specs.{Ahead, first_of, past, reaches, Takes}
 use Rattle.zf_lines.proofs.Fewer.{ahead_count, ahead_reached, fewer, in_rows, reached_on, rows_of}
 
 module _ {V : Type 0} (cmp : V → V → Ordering) (o : IsTotalOrder cmp) where

@@ -4,12 +4,11 @@ use Rattle.std.proofs.Common.{◌≤◌, take}
 use Rattle.std.specs.Prelude.{codes}
 use Rattle.zf_format.specs.declared.format.Format.{Format}
 use Rattle.zf_format.specs.declared.format.Format.TheVariants.{Lines, Objects}
-use Rattle.zf_lines.specs.Texts.{row_line}
-use Rattle.zf_term.specs.Definitions.{Comp}
-use Rattle.zf_print.specs.BindingTexts.{component_in, components_in}
+use Rattle.zf_lines.specs.{row_line}
+use Rattle.zf_term.specs.{Comp}
+use Rattle.zf_print.specs.{component_in, components_in, parted}
 use Rattle.zf_print.specs.declared.spelling.Spelling.{Spelling}
-use Rattle.zf_print.specs.ValueTexts.{parted}
-use Rattle.zf_places.specs.Places.{AreFirst}
+use Rattle.zf_places.specs.{AreFirst}
 use Rattle.zf_parts.proofs.Fronting.{first_values}
 
 of_front : (f : Format) (ss : List Spelling) (cs : List Comp) (n : ℕ) (row : List Value) → length cs ≤ n → components_in f ss cs row ≡ components_in f ss cs (take n row)

@@ -9,23 +9,19 @@ use Rattle.std.specs.List.{cons_option, filter_map}
 use Rattle.std.proofs.lemmas.Option.{get_or_from_slice_get, slice_get_past}
 use Rattle.std.specs.Ordering.{ordering_then}
 use Rattle.std.specs.Prelude.{slice_get}
-use Rattle.zf_enum.specs.Property.{property}
-use Rattle.zf_enum.specs.Searches.{conjuncts_of, Goal}
+use Rattle.zf_enum.specs.{conjuncts_of, Goal, property}
 use Rattle.zf_lines.proofs.Searching as searching
 use Rattle.zf_lines.specs.declared.fault.Status.{Status}
 use Rattle.zf_lines.specs.declared.fault.Status.TheVariants.{Done, PastBounds}
-use Rattle.zf_lines.specs.FaultViews.{AppendsFront}
-use Rattle.zf_lines.specs.Searches.{HasLimit, Wording}
-use Rattle.zf_lines.specs.Shown.{IsAtStart}
-use Rattle.zf_term.specs.Definitions.{Schema}
+use Rattle.zf_lines.specs.{AppendsFront, HasLimit, IsAtStart, Wording}
+use Rattle.zf_term.specs.{Schema}
 use Rattle.zf_value.specs.contracts.plain.ValueOrd.TheImpl.Laws as order_laws
 use Rattle.zf_walk.proofs.Picks.{IsRowOf-length}
-use Rattle.zf_walk.specs.Events.{IsEvent}
-use Rattle.zf_walk.specs.Progress.{Advances, Ahead, IsAhead, past, SameRanges, Stage, Takes}
+use Rattle.zf_walk.specs.{Advances, Ahead, IsAhead, IsEvent, past, SameRanges, Stage, Takes}
 use Rattle.zf_walk.specs.declared.step.Step.{Step}
 use Rattle.zf_walk.specs.declared.step.Step.TheVariants.{End}
-use Rattle.zf_places.specs.Places.{AreFirst}
-use Rattle.zf_parts.specs.Shown.{FindsParts, StopsParts, WritesParts}
+use Rattle.zf_places.specs.{AreFirst}
+use Rattle.zf_parts.specs.{FindsParts, StopsParts, WritesParts}
 use Rattle.zf_parts.proofs.Keeping.{event_of}
 use Rattle.zf_parts.proofs.Orders.{comes_on, never_both, never_itself, reversed, same_row}
 use Rattle.zf_parts.proofs.Putting.{Ascends, Follows}

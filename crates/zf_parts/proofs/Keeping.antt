@@ -5,8 +5,7 @@ use Rattle.std.specs.BTreeMap.{insert_entry, is_at}
 use Rattle.std.specs.Map.{lookup}
 use Rattle.std.specs.Ordering.{is_eq}
 use Rattle.std.specs.Prelude.{is_some}
-use Rattle.zf_parts.specs.Collected.{AreKeptAs, IsKeptAs, KeepParts}
-use Rattle.zf_parts.specs.Laws.{Ascend}
+use Rattle.zf_parts.specs.{AreKeptAs, Ascend, IsKeptAs, KeepParts}
 use Rattle.zf_parts.proofs.Growing.{is_new, not_later, not_new}
 use Rattle.zf_parts.proofs.Orders.{itself, same_row}
 use Rattle.zf_parts.proofs.Putting.{HasNone, put}

@@ -10,7 +10,7 @@ use Rattle.std.proofs.lemmas.Nat.Bits.{bit_at-trailing_zeros, bit_at-zero, bit_a
 use Rattle.std.proofs.lemmas.Option.{slice_get_past, slice_get_read, slice_get_within}
 use Rattle.std.specs.Int.{bit_at, trailing_zeros}
 use Rattle.std.specs.Prelude.{bit_or}
-use Rattle.zf_parts.specs.Numbers.{bit_of, counted_page, has_in, IsKept, IsPlaced, IsSight, page_has, page_word, reached, word_in}
+use Rattle.zf_parts.specs.{bit_of, counted_page, has_in, IsKept, IsPlaced, IsSight, page_has, page_word, reached, word_in}
 use Rattle.zf_parts.specs.declared.page.Page.{Page}
 use Rattle.zf_parts.specs.declared.page.Sight.{Sight}
 use Rattle.zf_parts.specs.declared.page.Sight.TheVariants.{Free, Marked}

@@ -13,10 +13,8 @@ use Rattle.zf_value.specs.contracts.plain.ValueOrd.TheImpl.Laws as order_laws
 use Rattle.zf_walk.proofs.Numbering.{one_digit}
 use Rattle.zf_walk.proofs.Order.{IsNth, less-at, nth}
 use Rattle.zf_walk.proofs.Picks.{IsRowOf-length, nth-at, slice_get-nth}
-use Rattle.zf_walk.specs.Picked.{AreWithin}
-use Rattle.zf_walk.specs.RowLaws.{AreAscending}
-use Rattle.zf_walk.specs.Rows.{IsRowOf}
-use Rattle.zf_parts.specs.Numbers.{IsNumber, ranges_at, total, weights}
+use Rattle.zf_walk.specs.{AreAscending, AreWithin, IsRowOf}
+use Rattle.zf_parts.specs.{IsNumber, ranges_at, total, weights}
 use Rattle.zf_parts.proofs.Orders.{never_itself, same_row}
 use Rattle.zf_parts.proofs.Told.{got}
 

@@ -4,22 +4,19 @@ use Rattle.std.proofs.Common.{◌≤◌, get_or, take}
 use Rattle.std.proofs.lemmas.Bool.{false≢true}
 use Rattle.std.proofs.lemmas.List.{take_all}
 use Rattle.std.specs.Prelude.{unwrap_or}
-use Rattle.zf_enum.specs.Property.{property}
-use Rattle.zf_enum.specs.Searches.{conjuncts_of, Goal}
+use Rattle.zf_enum.specs.{conjuncts_of, Goal, property}
 use Rattle.zf_lines.proofs.Searching as searching
-use Rattle.zf_lines.specs.Shown.{IsAtStart}
-use Rattle.zf_meaning.specs.Environments.{Environment}
-use Rattle.zf_term.specs.Definitions.{Schema}
+use Rattle.zf_lines.specs.{IsAtStart}
+use Rattle.zf_meaning.specs.{Environment}
+use Rattle.zf_term.specs.{Schema}
 use Rattle.zf_walk.proofs.Picks.{IsRowOf-length}
-use Rattle.zf_walk.specs.Events.{IsEvent}
-use Rattle.zf_walk.specs.Progress.{Advances, Ahead, ended, IsAhead, past, SameRanges, Stage, Takes}
-use Rattle.zf_walk.specs.RowLaws.{AreAscending}
+use Rattle.zf_walk.specs.{Advances, Ahead, AreAscending, ended, IsAhead, IsEvent, past, SameRanges, Stage, Takes}
 use Rattle.zf_walk.specs.declared.step.Step.{Step}
 use Rattle.zf_walk.specs.declared.step.Step.TheVariants.{Breaks, End, Holds}
 use Rattle.zf_parts.specs.declared.marks.Marks.{Marks}
 use Rattle.zf_parts.specs.declared.meeting.Met.{Met}
 use Rattle.zf_parts.specs.declared.weights.Weights.{Weights}
-use Rattle.zf_parts.specs.Numbers.{AreAllMarked, AreMarked, AreWeights, is_marked, IsFirstOf, IsNumber, Meets, ranges_at, total}
+use Rattle.zf_parts.specs.{AreAllMarked, AreMarked, AreWeights, is_marked, IsFirstOf, IsNumber, Meets, ranges_at, total}
 use Rattle.zf_parts.proofs.Keeping.{event_of}
 use Rattle.zf_parts.proofs.Numbering.{ascending_all, one_number}
 

@@ -3,22 +3,19 @@ use Rattle.zf_parts.proofs.Prelude.{◌+◌, ◌<◌, ◌∙◌, ◌≡◌, [], 
 use Rattle.std.proofs.Common.{take}
 use Rattle.std.specs.Io.KnownBytes.{Appends}
 use Rattle.std.specs.Prelude.{IfSome, unwrap_or}
-use Rattle.zf_enum.specs.Property.{property}
-use Rattle.zf_enum.specs.Searches.{conjuncts_of, Goal}
+use Rattle.zf_enum.specs.{conjuncts_of, Goal, property}
 use Rattle.zf_lines.proofs.Fewer.{ahead_count}
 use Rattle.zf_lines.proofs.Searching as searching
 use Rattle.zf_lines.specs.declared.fault.Status.{Status}
 use Rattle.zf_lines.specs.declared.fault.Status.TheVariants.{Done, PastBounds}
-use Rattle.zf_lines.specs.FaultViews.{AppendsFront}
-use Rattle.zf_lines.specs.Searches.{HasLimit, Wording}
-use Rattle.zf_lines.specs.Shown.{IsAtStart}
-use Rattle.zf_term.specs.Definitions.{Schema}
+use Rattle.zf_lines.specs.{AppendsFront, HasLimit, IsAtStart, Wording}
+use Rattle.zf_term.specs.{Schema}
 use Rattle.zf_value.specs.contracts.plain.ValueOrd.TheImpl.Laws as order_laws
-use Rattle.zf_meaning.specs.Environments.{Environment}
-use Rattle.zf_walk.specs.Progress.{Advances, past, SameRanges, Stage, Takes}
+use Rattle.zf_meaning.specs.{Environment}
+use Rattle.zf_walk.specs.{Advances, past, SameRanges, Stage, Takes}
 use Rattle.zf_walk.specs.declared.step.Step.TheVariants.{Breaks, Holds}
-use Rattle.zf_places.specs.Places.{AreFirst}
-use Rattle.zf_parts.specs.Shown.{StopsParts, WritesParts}
+use Rattle.zf_places.specs.{AreFirst}
+use Rattle.zf_parts.specs.{StopsParts, WritesParts}
 use Rattle.zf_parts.proofs.Keeping.{event_of}
 use Rattle.zf_parts.proofs.Fewer.{fewer_past}
 use Rattle.zf_parts.proofs.Fronting as fronting

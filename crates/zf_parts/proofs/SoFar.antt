@@ -5,9 +5,8 @@ use Rattle.std.specs.Io.KnownBytes.{Appends}
 use Rattle.zf_lines.proofs.Fronts.{front_behind, front_longer}
 use Rattle.zf_lines.specs.declared.fault.Status.{Status}
 use Rattle.zf_lines.specs.declared.fault.Status.TheVariants.{Done, PastBounds}
-use Rattle.zf_lines.specs.FaultViews.{AppendsFront}
-use Rattle.zf_lines.specs.Searches.{HasLimit, Wording}
-use Rattle.zf_parts.specs.Written.{ArePartsWritten}
+use Rattle.zf_lines.specs.{AppendsFront, HasLimit, Wording}
+use Rattle.zf_parts.specs.{ArePartsWritten}
 use Rattle.zf_parts.proofs.Telling.{AllAreTold, told, told_of, told_written}
 
 module _ (w : Wording Value) where

@@ -1,17 +1,16 @@
 -- Where the search for parts stands.
 use Rattle.zf_parts.proofs.Prelude.{◌++◌, ◌∙◌, ◌∷◌, ◌≡◌, [], ap, Bool, cond, false, List, None, Option, refl, Some, subst, sym, true, ℕ, Contains, Contains-head, Event, ComesAfter, Truth, Out, True, value_order, Value}
 use Rattle.std.specs.Prelude.{unwrap_or}
-use Rattle.zf_enum.specs.Property.{property}
-use Rattle.zf_enum.specs.Searches.{conjuncts_of, Goal}
+use Rattle.zf_enum.specs.{conjuncts_of, Goal, property}
 use Rattle.zf_lines.proofs.Behind.{Behind, none_behind, one_behind, up_to_end}
 use Rattle.zf_lines.proofs.Searching as searching
-use Rattle.zf_lines.specs.Shown.{IsAtStart}
-use Rattle.zf_term.specs.Definitions.{Schema}
+use Rattle.zf_lines.specs.{IsAtStart}
+use Rattle.zf_term.specs.{Schema}
 use Rattle.zf_value.specs.contracts.plain.ValueOrd.TheImpl.Laws as order_laws
-use Rattle.zf_walk.specs.Progress.{Advances, SameRanges, Stage, Takes}
+use Rattle.zf_walk.specs.{Advances, SameRanges, Stage, Takes}
 use Rattle.zf_walk.specs.declared.step.Step.{Step}
 use Rattle.zf_walk.specs.declared.step.Step.TheVariants.{Breaks, End, Holds}
-use Rattle.zf_parts.specs.Collected.{AreCollected, KeepParts}
+use Rattle.zf_parts.specs.{AreCollected, KeepParts}
 use Rattle.zf_parts.proofs.Growing.{no_parts}
 use Rattle.zf_parts.proofs.Keeping.{Adds, Entry, event_of}
 

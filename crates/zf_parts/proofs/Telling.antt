@@ -3,9 +3,8 @@ use Rattle.zf_parts.proofs.Prelude.{◌++◌, ◌+◌, ◌<◌, ◌∙◌, ◌�
 use Rattle.std.proofs.lemmas.List.Elements.{All-cons, All-head, All-nil, All-tail}
 use Rattle.zf_lines.specs.declared.fault.Status.{Status}
 use Rattle.zf_lines.specs.declared.fault.Status.TheVariants.{Done, PastBounds}
-use Rattle.zf_lines.specs.Searches.{IsBelow, Wording}
-use Rattle.zf_parts.specs.Laws.{OneTextOfParts, SomeTextOfParts}
-use Rattle.zf_parts.specs.Written.{AllHold, ArePartsWritten, breaks, ends, part_lines, pauses}
+use Rattle.zf_lines.specs.{IsBelow, Wording}
+use Rattle.zf_parts.specs.{AllHold, ArePartsWritten, breaks, ends, OneTextOfParts, part_lines, pauses, SomeTextOfParts}
 
 abbrev IsTrue : Part → Type 0
 IsTrue p = p.first.truth ≡ True

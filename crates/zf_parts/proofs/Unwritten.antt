@@ -4,21 +4,17 @@ use Rattle.std.proofs.Common.{◌≤◌, Err, IfOk, Ok, OnErr, Result}
 use Rattle.std.proofs.lemmas.Bool.{cases_eq, cases_lt, false≢true}
 use Rattle.std.specs.Io.KnownBytes.{Appends}
 use Rattle.zf_format.specs.declared.format.Format.{Format}
-use Rattle.zf_enum.specs.Property.{property}
+use Rattle.zf_enum.specs.{property}
 use Rattle.zf_lines.specs.declared.fault.Status.{Status}
 use Rattle.zf_lines.specs.declared.fault.Status.TheVariants.{Done, PastBounds}
-use Rattle.zf_lines.specs.FaultViews.{AppendsFront}
+use Rattle.zf_lines.specs.{AppendsFront, AreEventsUpTo, HasLimit, Wording}
 use Rattle.zf_lines.specs.declared.fault.RunFault.{RunFault}
-use Rattle.zf_lines.specs.Searches.{AreEventsUpTo, HasLimit, Wording}
-use Rattle.zf_meaning.specs.Environments.{Environment}
-use Rattle.zf_term.specs.Definitions.{Comp, Schema}
+use Rattle.zf_meaning.specs.{Environment}
+use Rattle.zf_term.specs.{Comp, Schema}
 use Rattle.zf_print.specs.declared.spelling.Spelling.{Spelling}
-use Rattle.zf_walk.specs.Events.{IsEvent}
-use Rattle.zf_walk.specs.Progress.{ended, IsAhead, SameRanges, Stage}
+use Rattle.zf_walk.specs.{ended, IsAhead, IsEvent, SameRanges, Stage}
 use Rattle.zf_parts.specs.declared.meeting.Met.{Met}
-use Rattle.zf_parts.specs.Numbers.{AreAllMarked, AreFree, AreMarked, end_status, end_text, is_marked, IsEndOf, IsFirstOf, IsNumber, ranges_at, total}
-use Rattle.zf_parts.specs.Shown.{FindsParts, StopsParts, WritesParts}
-use Rattle.zf_parts.specs.Written.{part_wording}
+use Rattle.zf_parts.specs.{AreAllMarked, AreFree, AreMarked, end_status, end_text, FindsParts, is_marked, IsEndOf, IsFirstOf, IsNumber, part_wording, ranges_at, StopsParts, total, WritesParts}
 use Rattle.zf_parts.proofs.Numbering.{ascending_all, in_order, number_below, one_number, one_row, some_number}
 use Rattle.zf_parts.proofs.Orders.{never_both, never_itself}
 use Rattle.zf_parts.proofs.Putting.{Ascends, Follows}

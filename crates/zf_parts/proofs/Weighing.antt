@@ -6,7 +6,7 @@ use Rattle.std.proofs.Math.Nat.{add_comm, mul_comm}
 use Rattle.std.proofs.lemmas.List.{drop-set, drop_all, drop_more, length-set}
 use Rattle.std.proofs.lemmas.List.Elements.{All-cons, All-nil}
 use Rattle.std.specs.Prelude.{slice_get, slice_index_or}
-use Rattle.zf_parts.specs.Numbers.{AreWeights, IsNumber, ranges_at, total, weights}
+use Rattle.zf_parts.specs.{AreWeights, IsNumber, ranges_at, total, weights}
 use Rattle.zf_parts.specs.declared.weights.Weights.{Weights}
 use Rattle.zf_parts.proofs.Numbering.{fewer_behind, number_below, one_more, weight_at}
 use Rattle.zf_parts.proofs.Told.{got}

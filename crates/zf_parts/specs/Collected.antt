@@ -1,15 +1,13 @@
 -- What is kept of parts. No public clause rests on this file.
 use Rattle.std.specs.Prelude.{◌≡◌, ℕ, List, [], ◌∷◌, Option, Some, None}
 use Rattle.std.specs.Io.KnownBytes.{Appends}
-use Rattle.zf_term.specs.Definitions.{Schema}
+use Rattle.zf_term.specs.{Schema}
 use Rattle.zf_value.specs.declared.plain.Value.{Value}
 use Rattle.zf_walk.specs.declared.judge.Truth.TheVariants.{True, Out}
-use Rattle.zf_walk.specs.Events.{Event}
-use Rattle.zf_walk.specs.Progress.{Stage}
-use Rattle.zf_meaning.specs.Environments.{Environment}
+use Rattle.zf_walk.specs.{Event, Stage}
+use Rattle.zf_meaning.specs.{Environment}
 use Rattle.zf_lines.specs.declared.fault.Status.{Status}
-use Rattle.zf_lines.specs.FaultViews.{AppendsFront}
-use Rattle.zf_lines.specs.Searches.{Wording}
+use Rattle.zf_lines.specs.{AppendsFront, Wording}
 use Rattle.zf_parts.specs.Parts.{AreParts, Part}
 use Rattle.zf_parts.specs.Shown.{FindsParts}
 use Rattle.zf_parts.specs.Written.{ArePartsWritten}

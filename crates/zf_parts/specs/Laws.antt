@@ -1,15 +1,14 @@
 -- What is claimed of parts alone.
 use Rattle.std.specs.Prelude.{◌≡◌, ◌↔◌, ℕ, List, Option, AllPairs, Contains}
-use Rattle.zf_term.specs.Definitions.{Schema}
+use Rattle.zf_term.specs.{Schema}
 use Rattle.zf_value.specs.declared.plain.Value.{Value}
-use Rattle.zf_value.specs.Sets.{value_order}
+use Rattle.zf_value.specs.{value_order}
 use Rattle.zf_walk.specs.declared.judge.Truth.TheVariants.{False}
-use Rattle.zf_walk.specs.Events.{Event}
-use Rattle.zf_walk.specs.Rows.{ComesAfter, IsLater}
+use Rattle.zf_walk.specs.{ComesAfter, Event, IsLater}
 use Rattle.zf_lines.specs.declared.fault.Status.{Status}
-use Rattle.zf_lines.specs.Searches.{Wording}
+use Rattle.zf_lines.specs.{Wording}
 use Rattle.zf_parts.specs.Parts.{AreParts, Part}
-use Rattle.zf_places.specs.Places.{values_at}
+use Rattle.zf_places.specs.{values_at}
 use Rattle.zf_parts.specs.Written.{ArePartsWritten}
 
 -- the events are in their order

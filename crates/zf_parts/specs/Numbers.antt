@@ -4,19 +4,16 @@ use Rattle.std.specs.Int.{bit_at}
 use Rattle.zf_format.specs.declared.format.Format.{Format}
 use Rattle.zf_lines.specs.declared.fault.Status.{Status}
 use Rattle.zf_lines.specs.declared.fault.Status.TheVariants.{Done, PastBounds}
-use Rattle.zf_lines.specs.Texts.{end_line, out_line}
-use Rattle.zf_term.specs.Definitions.{Comp, Schema}
+use Rattle.zf_lines.specs.{end_line, out_line}
+use Rattle.zf_term.specs.{Comp, Schema}
 use Rattle.zf_print.specs.declared.spelling.Spelling.{Spelling}
 use Rattle.zf_value.specs.declared.plain.Value.{Value}
-use Rattle.zf_value.specs.Sets.{value_order}
+use Rattle.zf_value.specs.{value_order}
 use Rattle.zf_walk.specs.declared.judge.Truth.{Truth}
 use Rattle.zf_walk.specs.declared.judge.Truth.TheVariants.{True, Out}
-use Rattle.zf_walk.specs.Events.{Event, IsEvent}
-use Rattle.zf_walk.specs.Progress.{Ahead, ended, IsAhead, Stage, Takes}
-use Rattle.zf_walk.specs.RowLaws.{AreAscending}
-use Rattle.zf_walk.specs.Rows.{ComesAfter, IsLater}
-use Rattle.zf_meaning.specs.Environments.{Environment}
-use Rattle.zf_enum.specs.Property.{property}
+use Rattle.zf_walk.specs.{Ahead, AreAscending, ComesAfter, ended, Event, IsAhead, IsEvent, IsLater, Stage, Takes}
+use Rattle.zf_meaning.specs.{Environment}
+use Rattle.zf_enum.specs.{property}
 use Rattle.zf_parts.specs.declared.marks.Marks.{Marks}
 use Rattle.zf_parts.specs.declared.page.Sight.{Sight}
 use Rattle.zf_parts.specs.declared.page.Sight.TheVariants.{Free, Marked}
@@ -24,7 +21,7 @@ use Rattle.zf_parts.specs.declared.page.Page.{Page}
 use Rattle.zf_parts.specs.declared.meeting.Met.{Met}
 use Rattle.zf_parts.specs.declared.weights.Weights.{Weights}
 use Rattle.zf_parts.specs.declared.words.Words.{Words}
-use Rattle.zf_places.specs.Places.{values_at}
+use Rattle.zf_places.specs.{values_at}
 
 -- ---- numbers
 

@@ -1,14 +1,13 @@
 -- The parts of bindings: what values they have at some places.
 use Rattle.std.specs.Prelude.{◌≡◌, ◌⊎◌, ◌↔◌, ℕ, List, Option, None, AllPairs, Contains}
-use Rattle.zf_term.specs.Definitions.{Schema}
+use Rattle.zf_term.specs.{Schema}
 use Rattle.zf_value.specs.declared.plain.Value.{Value}
-use Rattle.zf_value.specs.Sets.{value_order}
-use Rattle.zf_walk.specs.Events.{Event}
-use Rattle.zf_walk.specs.Rows.{ComesAfter, IsLater}
-use Rattle.zf_meaning.specs.Environments.{Environment}
-use Rattle.zf_enum.specs.Portions.{Portion}
-use Rattle.zf_lines.specs.Searches.{HasEvents}
-use Rattle.zf_places.specs.Places.{values_at}
+use Rattle.zf_value.specs.{value_order}
+use Rattle.zf_walk.specs.{ComesAfter, Event, IsLater}
+use Rattle.zf_meaning.specs.{Environment}
+use Rattle.zf_enum.specs.{Portion}
+use Rattle.zf_lines.specs.{HasEvents}
+use Rattle.zf_places.specs.{values_at}
 
 -- the values of a part, and an event whose row has them
 pub record Part : Type 0 where

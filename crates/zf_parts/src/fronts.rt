@@ -2,17 +2,13 @@
 ghost use Rattle.std.specs.Prelude.{◌≡◌, ◌≤◌, ℕ, List, length, true, IfOk, OnErr, MatchBool};
 ghost use Rattle.std.specs.Io.KnownBytes.{Appends};
 ghost use Rattle.std.specs.Option.{option_copied};
-ghost use Rattle.zf_lines.specs.Counts.{device_of, failures_of};
-ghost use Rattle.zf_lines.specs.Faults.{read_failures, write_failures};
-ghost use Rattle.zf_lines.specs.Searches.{HasLimit};
-ghost use Rattle.zf_lines.specs.Shown.{IsAtStart};
+ghost use Rattle.zf_lines.specs.{device_of, failures_of, HasLimit, IsAtStart, read_failures, write_failures};
 ghost use Rattle.zf_places.specs.Places as spec;
-ghost use Rattle.zf_places.specs.Places.{AreFirst};
-ghost use Rattle.zf_parts.specs.Shown.{StopsParts, WritesParts};
-ghost use Rattle.zf_parts.specs.Written.{part_wording};
-ghost use Rattle.zf_term.specs.SchemaViews.{schema_of};
-ghost use Rattle.zf_value.specs.Sets.{value_order};
-ghost use Rattle.zf_walk.specs.Rows.{IsLater};
+ghost use Rattle.zf_places.specs.{AreFirst};
+ghost use Rattle.zf_parts.specs.{part_wording, StopsParts, WritesParts};
+ghost use Rattle.zf_term.specs.{schema_of};
+ghost use Rattle.zf_value.specs.{value_order};
+ghost use Rattle.zf_walk.specs.{IsLater};
 
 use crate::asked::Parts;
 use crate::collecting::is_later;

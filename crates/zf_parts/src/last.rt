@@ -1,12 +1,9 @@
 //! The last line.
 ghost use Rattle.std.specs.Prelude.{◌≡◌, ◌++◌, cond, IfOk, OnOk, OnErr};
 ghost use Rattle.std.specs.Io.KnownBytes.{Appends};
-ghost use Rattle.zf_lines.specs.Counts.{device_of, failures_of};
-ghost use Rattle.zf_lines.specs.FaultViews.{AppendsFront};
-ghost use Rattle.zf_lines.specs.Faults.{read_failures, write_failures};
-ghost use Rattle.zf_lines.specs.Texts.{end_line, more_line, out_line};
+ghost use Rattle.zf_lines.specs.{AppendsFront, device_of, end_line, failures_of, more_line, out_line, read_failures, write_failures};
 ghost use Rattle.zf_lines.specs.declared.fault.Status.TheVariants.{Done, PastBounds};
-ghost use Rattle.zf_term.specs.SchemaViews.{schema_of};
+ghost use Rattle.zf_term.specs.{schema_of};
 
 use std::alloc::AllocError;
 use std::io::Write;

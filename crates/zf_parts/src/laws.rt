@@ -1,5 +1,5 @@
 //! Laws of parts.
-ghost use Rattle.zf_parts.specs.Laws.{HasEachPart, OneListOfParts, OneTextOfParts, SomeListOfParts, SomeTextOfParts};
+ghost use Rattle.zf_parts.specs.{HasEachPart, OneListOfParts, OneTextOfParts, SomeListOfParts, SomeTextOfParts};
 
 /// Events have one list of parts, which has exactly the parts that they have.
 pub fn one_list()

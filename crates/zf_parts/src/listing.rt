@@ -2,14 +2,9 @@
 ghost use Rattle.std.specs.Prelude.{◌≡◌, ℕ, List, IfOk, OnOk, OnErr};
 ghost use Rattle.std.specs.Io.KnownBytes.{Appends};
 ghost use Rattle.std.specs.Option.{option_copied};
-ghost use Rattle.zf_lines.specs.Counts.{device_of, failures_of};
-ghost use Rattle.zf_lines.specs.FaultViews.{AppendsFront};
-ghost use Rattle.zf_lines.specs.Faults.{read_failures, write_failures};
-ghost use Rattle.zf_lines.specs.Searches.{HasLimit};
-ghost use Rattle.zf_parts.specs.Numbers.{AreAllMarked, end_status, end_text};
-ghost use Rattle.zf_parts.specs.Shown.{StopsParts, WritesParts};
-ghost use Rattle.zf_parts.specs.Written.{part_wording};
-ghost use Rattle.zf_term.specs.SchemaViews.{schema_of};
+ghost use Rattle.zf_lines.specs.{AppendsFront, device_of, failures_of, HasLimit, read_failures, write_failures};
+ghost use Rattle.zf_parts.specs.{AreAllMarked, end_status, end_text, part_wording, StopsParts, WritesParts};
+ghost use Rattle.zf_term.specs.{schema_of};
 
 use crate::asked::Wanted;
 use crate::last::{write_last, write_out};

@@ -1,13 +1,12 @@
 //! The parts that the bindings ahead of a search have, by their numbers.
 ghost use Rattle.std.specs.Prelude.{◌≡◌, ◌<◌, length, cond, All, IfOk, OnOk};
 ghost use Rattle.std.specs.Option.{option_copied};
-ghost use Rattle.zf_lines.specs.Shown.{IsAtStart};
-ghost use Rattle.zf_parts.specs.Numbers.{AreAllMarked, AreWeights, Meets};
-ghost use Rattle.zf_term.specs.SchemaViews.{schema_of};
-ghost use Rattle.zf_value.specs.Sets.{value_order};
+ghost use Rattle.zf_lines.specs.{IsAtStart};
+ghost use Rattle.zf_parts.specs.{AreAllMarked, AreWeights, Meets};
+ghost use Rattle.zf_term.specs.{schema_of};
+ghost use Rattle.zf_value.specs.{value_order};
 ghost use Rattle.zf_walk.specs.declared.judge.Truth.TheVariants.{Out, True};
-ghost use Rattle.zf_walk.specs.Progress.{SameRanges};
-ghost use Rattle.zf_walk.specs.RowLaws.{AreAscending};
+ghost use Rattle.zf_walk.specs.{AreAscending, SameRanges};
 
 use crate::asked::Parts;
 use crate::fronts::is_asked;

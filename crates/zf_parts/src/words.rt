@@ -1,6 +1,6 @@
 //! Words by their numbers.
 ghost use Rattle.std.specs.Prelude.{◌≡◌, ◌⊎◌, ◌+◌, ◌*◌, ◌<◌, ◌≤◌, ◌/◌, ◌%◌, ◌^◌, ℕ, length, MatchOption, IfOk, OnOk, slice_index_or};
-ghost use Rattle.zf_parts.specs.Numbers.{IsKept, word_at};
+ghost use Rattle.zf_parts.specs.{IsKept, word_at};
 
 use crate::page::Page;
 use std::alloc::{AllocError, Global};

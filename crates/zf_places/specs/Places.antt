@@ -1,7 +1,7 @@
 -- What stands at places of a row or of a schema.
 use Rattle.std.specs.Prelude.{◌≡◌, ℕ, ◌<◌, List, length, slice_get, slice_index}
 use Rattle.std.specs.List.{filter_map}
-use Rattle.zf_term.specs.Definitions.{Comp}
+use Rattle.zf_term.specs.{Comp}
 use Rattle.zf_value.specs.declared.plain.Value.{Value}
 
 -- the values at these places

@@ -2,7 +2,7 @@
 ghost use Rattle.std.specs.Prelude.{◌≡◌, ◌++◌, ◌∷◌, [], IfOk, OnOk, map, slice_get};
 ghost use Rattle.std.specs.Option.{option_to_list};
 ghost use Rattle.zf_places.specs.Places as spec;
-ghost use Rattle.zf_term.specs.SchemaViews.{comp_of, schema_of};
+ghost use Rattle.zf_term.specs.{comp_of, schema_of};
 
 use bumpalo::Bump;
 use std::alloc::{AllocError, Global};

@@ -4,11 +4,8 @@ use Rattle.std.specs.Prelude.{bit_or}
 use Rattle.std.specs.Int.{bit_at}
 use Rattle.std.proofs.lemmas.List.{take-append-le}
 use Rattle.std.proofs.lemmas.Nat.Bits.{bit_at-lt, bit_at_or}
-use Rattle.zf_walk.specs.ConjunctLaws.{FollowUsed}
-use Rattle.zf_walk.specs.Seen.{HasBit}
-use Rattle.zf_plan.specs.Blaming.{AreAlike, Covers, HasBits, IsBlamed}
-use Rattle.zf_plan.specs.Choosing.{IsFailed, StaysChoice}
-use Rattle.zf_plan.specs.Knowing.{IsRefuted, touches}
+use Rattle.zf_walk.specs.{FollowUsed, HasBit}
+use Rattle.zf_plan.specs.{AreAlike, Covers, HasBits, IsBlamed, IsFailed, IsRefuted, StaysChoice, touches}
 use Rattle.zf_plan.specs.declared.marks.Mark.{Mark}
 use Rattle.zf_plan.proofs.Marking.{each-leaf, same-get, tree-follows}
 use Rattle.zf_plan.proofs.Moving.{tail-row}

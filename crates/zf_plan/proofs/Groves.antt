@@ -2,8 +2,7 @@
 use Rattle.zf_plan.proofs.Prelude.{◌++◌, ◌+◌, ◌<◌, ◌∙◌, ◌∷◌, ◌≡◌, [], ap, arith, get_or, inl, inr, length, length-append, List, map, refl, Some, subst, suc, sym, zero, ℕ, get_or-append_seam, cases_lt, get_or_append_left, get_or_default, length-map, map-append, get_or_from_slice_get, slice_get-get_or, slice_get_within, All, slice_get, both, either, leaf, negated, Tree, tree_at}
 use Rattle.zf_plan.specs.declared.node.Node.{Node}
 use Rattle.zf_plan.specs.declared.node.Node.TheVariants.{Leaf, Not, And, Or}
-use Rattle.zf_plan.specs.Trees.{HasLeavesWithin, HaveLeavesWithin, IsFlat}
-use Rattle.zf_plan.specs.Groves.{Grove, tree_of, trees_onto, trees_made, trees_of, IsOver, IsGrown, Grows, Takes}
+use Rattle.zf_plan.specs.{Grove, Grows, HasLeavesWithin, HaveLeavesWithin, IsFlat, IsGrown, IsOver, Takes, tree_of, trees_made, trees_of, trees_onto}
 
 onto-append : (made : List Tree) (nodes : List Node) (node : Node) → trees_onto made (nodes ++ node ∷ []) ≡ trees_onto made nodes ++ tree_of (trees_onto made nodes) node ∷ []
 onto-append made [] node = refl

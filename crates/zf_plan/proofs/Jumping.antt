@@ -1,14 +1,8 @@
 -- Where a range is exhausted: back to the last value that its values are to be blamed on.
 use Rattle.zf_plan.proofs.Prelude.{◌++◌, ◌+◌, ◌<◌, ◌∙◌, ◌∷◌, ◌≡◌, ◌≤◌, ◌⊎◌, [], ap, arith, cond, drop, false, false≢true, get_or, get_or-take, inl, inr, length, length-take-le, List, None, Option, refl, subst, suc, sym, take, take-append-drop, take-take, true, zero, ℕ, cases_eq, above, below, AreWithin, bound, Bool, Conjuncts, Event, first_of, IsAt, IsEvent, IsHopeless, IsRowOf, KeepsEvents, Ordering, path, picked, Place, planted, reaches, reaches-under, Remembers, Stands, steps_left, Tree, under}
 use Rattle.std.specs.Prelude.{bit_or}
-use Rattle.zf_walk.specs.ConjunctLaws.{FollowUsed}
-use Rattle.zf_walk.specs.Seen.{HasBit}
-use Rattle.zf_plan.specs.Blaming.{IsBlamed}
-use Rattle.zf_plan.specs.Knowing.{IsRefuted}
-use Rattle.zf_plan.specs.Counts.{IsCounted}
-use Rattle.zf_plan.specs.Marks.{Accuses, mark_at}
-use Rattle.zf_plan.specs.Memories.{Memory}
-use Rattle.zf_plan.specs.Places.{IsKept, Jumps, Passes, PassesOpen}
+use Rattle.zf_walk.specs.{FollowUsed, HasBit}
+use Rattle.zf_plan.specs.{Accuses, IsBlamed, IsCounted, IsKept, IsRefuted, Jumps, mark_at, Memory, Passes, PassesOpen}
 use Rattle.zf_plan.specs.declared.marks.Mark.{Mark}
 use Rattle.zf_plan.specs.declared.marks.Marks.{Marks}
 use Rattle.zf_plan.specs.declared.plan.Plan.{Plan}

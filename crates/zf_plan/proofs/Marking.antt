@@ -3,12 +3,8 @@ use Rattle.zf_plan.proofs.Prelude.{◌++◌, ◌+◌, ◌<◌, ◌∙◌, ◌∷
 use Rattle.std.proofs.lemmas.Bool.{eqb-true}
 use Rattle.std.specs.Vec.{with_item}
 use Rattle.zf_walk.proofs.Picks.{slice_get-picked}
-use Rattle.zf_walk.specs.ConjunctLaws.{FollowUsed}
-use Rattle.zf_walk.specs.Tests.{cut}
-use Rattle.zf_plan.specs.Choosing.{StaysChoice, UsesFirst}
-use Rattle.zf_plan.specs.Marks.{AreNew, is_still, mark_at, unmarked}
-use Rattle.zf_plan.specs.Places.{AreKept, IsKept}
-use Rattle.zf_plan.specs.Trees.{EachLeaf}
+use Rattle.zf_walk.specs.{cut, FollowUsed}
+use Rattle.zf_plan.specs.{AreKept, AreNew, EachLeaf, is_still, IsKept, mark_at, StaysChoice, unmarked, UsesFirst}
 use Rattle.zf_plan.specs.declared.marks.Mark.{Mark}
 use Rattle.zf_plan.specs.declared.marks.Marks.{Marks}
 use Rattle.zf_walk.specs.declared.seen.Seen.{Seen}

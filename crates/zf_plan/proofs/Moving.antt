@@ -2,8 +2,8 @@
 use Rattle.zf_plan.proofs.Prelude.{◌*◌, ◌++◌, ◌+◌, ◌-◌, ◌<◌, ◌∙◌, ◌∷◌, ◌≡◌, ◌≤◌, [], ap, arith, Bool, cond, drop, false, get_or, inl, inr, length, List, None, Option, refl, set, Some, subst, suc, sym, take, true, ℕ, cases_eq, cases_lt, drop_more, get_or-take, length-set, length-take-le, take-set-le, take-take, take_more, take_more_set, IsTotalOrder, AllPairs, Ordering, Equal, Greater, Less, greater-at, IsNth, less-at, nth, reaches-push, reaches-under, tied-at, AreWithin-push, AreWithin-take, length-picked, nth-at, picked-push, Conjuncts, Event, IsEvent, AreWithin, picked, above, below, first_of, reaches, under, AreAscending, IsRowOf, TiesAreEqual, Truth, Tells, bound, IsAt, KeepsEvents, Lands, path, steps_left, Place}
 use Rattle.std.proofs.Math.Nat.{mul-le-mul_right}
 use Rattle.zf_plan.proofs.Forgetting.{AreForgotten}
-use Rattle.zf_walk.specs.Tests.{cut}
-use Rattle.zf_plan.specs.Marks.{Renews}
+use Rattle.zf_walk.specs.{cut}
+use Rattle.zf_plan.specs.{Renews}
 use Rattle.zf_plan.specs.declared.marks.Marks.{Marks}
 
 -- what the row has behind a road is a row of the ranges behind it

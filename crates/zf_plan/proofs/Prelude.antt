@@ -13,23 +13,12 @@ pub use Rattle.std.specs.declared.cmp.Ordering.TheVariants.{Equal, Greater, Less
 pub use Rattle.zf_walk.proofs.Given.{placed, placed_at, stands_there}
 pub use Rattle.zf_walk.proofs.Order.{greater-at, IsNth, less-at, nth, reaches-push, reaches-under, tied-at}
 pub use Rattle.zf_walk.proofs.Picks.{AreWithin-push, AreWithin-tail, AreWithin-take, IsFrontOf-picked, IsRowOf-front, IsRowOf-length, length-picked, nth-at, picked-cons, picked-nil, picked-push, range-is, slice_get-nth}
-pub use Rattle.zf_walk.specs.Conjuncts.{Conjuncts, IsTruthOf}
-pub use Rattle.zf_walk.specs.ConjunctLaws.{HaveOneTruth, KeepTruths}
-pub use Rattle.zf_walk.specs.Events.{Event, IsEvent}
-pub use Rattle.zf_walk.specs.Picked.{AreWithin, picked}
-pub use Rattle.zf_walk.specs.Order.{first_of, is_reached, reaches, under}
-pub use Rattle.zf_walk.specs.Progress.{Advances, Ahead, AreAllAhead, AreDueWithin, ended, IsAhead, IsNoneAhead, SameAhead, Stage, Takes}
-pub use Rattle.zf_walk.specs.RowLaws.{AreAscending, TiesAreEqual}
-pub use Rattle.zf_walk.specs.Rows.{ComesAfter, IsRowOf}
+pub use Rattle.zf_walk.specs.{Advances, Ahead, AreAllAhead, AreAscending, AreDueWithin, AreWithin, ComesAfter, ended, Event, first_of, HaveOneTruth, is_reached, IsAhead, IsEvent, IsNoneAhead, IsRowOf, IsTruthOf, KeepTruths, picked, reaches, SameAhead, Stage, Takes, TiesAreEqual, under}
+pub use Rattle.zf_walk.specs.Conjuncts.{Conjuncts}
 pub use Rattle.zf_walk.specs.declared.judge.Truth.{Truth}
 pub use Rattle.zf_walk.specs.declared.judge.Truth.TheVariants.{False, Out, True}
 pub use Rattle.zf_walk.specs.declared.step.Step.{Step}
 pub use Rattle.zf_walk.specs.declared.step.Step.TheVariants.{Breaks, End, Holds}
-pub use Rattle.zf_plan.specs.Choosing.{IsChoice, IsChosen, IsNextChoice, Narrows}
-pub use Rattle.zf_plan.specs.Groves.{Grove, Grows, IsOver, tree_of, trees_made, trees_of}
-pub use Rattle.zf_plan.specs.Knowing.{AreBelow, conjoined, IsKnown, IsSettled, joined, Remembers, Tells}
-unfoldable pub use Rattle.zf_plan.specs.Knowing.{IsSoFar}
-pub use Rattle.zf_plan.specs.Places.{above, ahead_of, below, bound, Gives, Goes, GoesOn, is_over, IsAt, IsHopeless, IsSound, KeepsEvents, Lands, LandsNext, path, Stands, steps_left}
-pub use Rattle.zf_plan.specs.Plans.{IsPlan}
-pub use Rattle.zf_plan.specs.Trees.{both, due_of, either, HasLeavesWithin, HaveLeavesWithin, IsOfBoth, IsOfEither, IsTreeTruth, leaf, negated, opposite, planted, Tree, tree_at}
+pub use Rattle.zf_plan.specs.{above, ahead_of, AreBelow, below, both, bound, conjoined, due_of, either, Gives, Goes, GoesOn, Grove, Grows, HasLeavesWithin, HaveLeavesWithin, is_over, IsAt, IsChoice, IsChosen, IsHopeless, IsKnown, IsNextChoice, IsOfBoth, IsOfEither, IsOver, IsPlan, IsSettled, IsSound, IsTreeTruth, joined, KeepsEvents, Lands, LandsNext, leaf, Narrows, negated, opposite, path, planted, Remembers, Stands, steps_left, Tells, Tree, tree_at, tree_of, trees_made, trees_of}
+unfoldable pub use Rattle.zf_plan.specs.{IsSoFar}
 pub use Rattle.zf_plan.specs.declared.place.Place.{Place}

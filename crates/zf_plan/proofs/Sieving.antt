@@ -3,11 +3,8 @@ use Rattle.zf_plan.proofs.Prelude.{◌++◌, ◌+◌, ◌<◌, ◌∙◌, ◌∷
 use Rattle.std.proofs.Common.{not}
 use Rattle.std.proofs.lemmas.List.{take-append-le}
 use Rattle.zf_walk.proofs.Lists.{Contains-cases, Contains-head, Contains-later, Contains-nil}
-use Rattle.zf_walk.specs.ConjunctLaws.{FollowUsed}
-use Rattle.zf_walk.specs.Tables.{AreTrue}
-use Rattle.zf_plan.specs.Choosing.{AreLasts, KeepsChosen, passing, StaysChoice}
-use Rattle.zf_plan.specs.Memories.{AreDues, Forgets, Memory}
-use Rattle.zf_plan.specs.Sieves.{AreSifted, IsGreatest, IsOneFalse}
+use Rattle.zf_walk.specs.{AreTrue, FollowUsed}
+use Rattle.zf_plan.specs.{AreDues, AreLasts, AreSifted, Forgets, IsGreatest, IsOneFalse, KeepsChosen, Memory, passing, StaysChoice}
 use Rattle.zf_plan.proofs.Forgetting.{are-forgotten}
 use Rattle.zf_plan.proofs.Marking.{stays-false, uses-more}
 use Rattle.zf_plan.proofs.Moving.{tells-landed}

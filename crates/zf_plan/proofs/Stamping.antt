@@ -6,8 +6,7 @@ use Rattle.std.proofs.Math.Seq.{map-set_same}
 use Rattle.std.proofs.lemmas.Option.{get_or_from_slice_get}
 use Rattle.zf_walk.specs.declared.table.Table.{Table}
 use Rattle.zf_plan.specs.declared.memo.Stamped.{Stamped}
-use Rattle.zf_plan.specs.Memories.{Forgets}
-use Rattle.zf_plan.specs.Stamps.{AreStamped, cleared, known_by, memory_of}
+use Rattle.zf_plan.specs.{AreStamped, cleared, Forgets, known_by, memory_of}
 
 -- a leaf that is read
 pub stamped-at : (stamps : List ℕ) (leaves : List Stamped) → AreStamped stamps leaves → (c : ℕ) (s : Stamped) → c < length leaves → s ≡ get_or leaves c s

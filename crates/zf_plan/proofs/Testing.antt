@@ -1,7 +1,7 @@
 -- Leaves that are tested on a row, one after another.
 use Rattle.zf_plan.proofs.Prelude.{◌+◌, ◌<◌, ◌∙◌, ◌≡◌, ◌⊎◌, arith, inl, inr, length, List, refl, subst, sym, ℕ, cases_eq, ◌≢◌, Conjuncts, Truth, False, Out, True, conjoined}
 use Rattle.std.specs.Prelude.{slice_index}
-use Rattle.zf_plan.specs.Testing.{AreNotFalse, ArePassed, Tests}
+use Rattle.zf_plan.specs.{AreNotFalse, ArePassed, Tests}
 
 module _ {V : Type 0} (l : Conjuncts V) (row : List V) (leaves : List ℕ) (before : Truth) where
   one-more : (P : ℕ → Type 0) (i : ℕ) → ((k : ℕ) → k < i → P k) → P i → (k : ℕ) → k < i + 1 → P k

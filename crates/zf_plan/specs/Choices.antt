@@ -2,8 +2,7 @@
 use Rattle.std.specs.Prelude.{◌≡◌, ◌≢◌, ℕ, ◌+◌, List, [], ◌∷◌, ◌++◌, length, Option, None, Some, Contains, slice_get, slice_index_or}
 use Rattle.zf_walk.specs.declared.judge.Truth.TheVariants.{False}
 use Rattle.zf_walk.specs.Conjuncts.{Conjuncts}
-use Rattle.zf_walk.specs.Picked.{picked}
-use Rattle.zf_walk.specs.Rows.{IsRowOf}
+use Rattle.zf_walk.specs.{IsRowOf, picked}
 
 -- what was gathered stays
 abbrev pub StaysIn : List ℕ → List ℕ → Type 0

@@ -4,11 +4,8 @@ use Rattle.std.specs.declared.cmp.Ordering.{Ordering}
 use Rattle.zf_walk.specs.declared.judge.Truth.{Truth}
 use Rattle.zf_walk.specs.declared.judge.Truth.TheVariants.{True, False, Out}
 use Rattle.zf_walk.specs.Conjuncts.{Conjuncts}
-use Rattle.zf_walk.specs.Tests.{IsWalked, IsCount, cut}
-use Rattle.zf_walk.specs.Picked.{picked}
-use Rattle.zf_walk.specs.Order.{under}
+use Rattle.zf_walk.specs.{cut, IsCount, IsWalked, picked, under, unseen}
 use Rattle.zf_plan.specs.Trees.{Tree, IsFlat}
-use Rattle.zf_walk.specs.Seen.{unseen}
 use Rattle.zf_plan.specs.Places.{bound, seen_at}
 use Rattle.zf_plan.specs.declared.place.Place.{Place}
 use Rattle.zf_plan.specs.declared.plan.Plan.{Plan}

@@ -3,8 +3,7 @@ use Rattle.std.specs.Prelude.{◌≡◌, ◌⊎◌, ℕ, ◌<◌, ◌≤◌, Boo
 use Rattle.zf_walk.specs.declared.judge.Truth.{Truth}
 use Rattle.zf_walk.specs.declared.judge.Truth.TheVariants.{True, False, Out}
 use Rattle.zf_walk.specs.Conjuncts.{Conjuncts}
-use Rattle.zf_walk.specs.Picked.{picked}
-use Rattle.zf_walk.specs.Tables.{AreTrue}
+use Rattle.zf_walk.specs.{AreTrue, picked}
 use Rattle.zf_plan.specs.Memories.{Memory, AreDues}
 use Rattle.zf_plan.specs.Trees.{Tree, leaf, negated, both, either, opposite, IsTreeTruth, due_of, tree_at}
 

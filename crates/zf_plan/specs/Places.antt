@@ -6,11 +6,7 @@ use Rattle.zf_walk.specs.declared.judge.Truth.TheVariants.{True, False, Out}
 use Rattle.zf_walk.specs.declared.step.Step.{Step}
 use Rattle.zf_walk.specs.declared.step.Step.TheVariants.{Holds, Breaks, End}
 use Rattle.zf_walk.specs.Conjuncts.{Conjuncts}
-use Rattle.zf_walk.specs.RowLaws.{TiesAreEqual, AreAscending, HasLength}
-use Rattle.zf_walk.specs.Events.{Event, IsEvent}
-use Rattle.zf_walk.specs.Progress.{Ahead, AreDueWithin, Takes, IsNoneAhead, ended}
-use Rattle.zf_walk.specs.Picked.{AreWithin, picked}
-use Rattle.zf_walk.specs.Order.{reaches, is_reached}
+use Rattle.zf_walk.specs.{Ahead, AreAscending, AreDueWithin, AreWithin, ended, Event, HasBit, HasLength, is_reached, IsEvent, IsNoneAhead, IsSeen, picked, reaches, Takes, TiesAreEqual, unseen}
 use Rattle.zf_plan.specs.declared.place.Place.{Place}
 use Rattle.zf_plan.specs.declared.plan.Plan.{Plan}
 use Rattle.zf_plan.specs.declared.problem.Problem.{Problem}
@@ -19,7 +15,6 @@ use Rattle.zf_plan.specs.Groves.{trees_of}
 use Rattle.zf_plan.specs.Keys.{AreKeyed}
 use Rattle.zf_plan.specs.Memories.{Memory}
 use Rattle.zf_plan.specs.Trees.{Tree, tree_at, HaveLeavesWithin}
-use Rattle.zf_walk.specs.Seen.{HasBit, IsSeen, unseen}
 use Rattle.zf_walk.specs.declared.seen.Seen.{Seen}
 use Rattle.zf_plan.specs.Knowing.{Remembers, IsRefuted, IsSettled, IsSoFar, IsLeafDue, NeedsWithin}
 use Rattle.zf_plan.specs.Choosing.{IsChoice, IsNextChoice, StaysChoice}

@@ -3,9 +3,7 @@ use Rattle.std.specs.Prelude.{◌≡◌, ◌⊎◌, ℕ, ◌+◌, ◌<◌, List,
 use Rattle.zf_walk.specs.declared.judge.Truth.{Truth}
 use Rattle.zf_walk.specs.declared.judge.Truth.TheVariants.{True, False, Out}
 use Rattle.zf_walk.specs.Conjuncts.{Conjuncts}
-use Rattle.zf_walk.specs.Picked.{AreWithin, picked}
-use Rattle.zf_walk.specs.Seen.{IsSeen}
-use Rattle.zf_walk.specs.Tests.{cut}
+use Rattle.zf_walk.specs.{AreWithin, cut, IsSeen, picked}
 use Rattle.zf_walk.specs.declared.seen.Seen.{Seen}
 
 -- each of these is a leaf that needs k values

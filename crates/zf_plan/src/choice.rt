@@ -1,6 +1,6 @@
 //! The values of a range that are tried.
 ghost use Rattle.std.specs.Prelude.{◌≡◌, ◌≤◌, ◌<◌, ℕ, true, false, length, slice_index_or, Contains, IfOk, OnOk, None};
-ghost use Rattle.zf_plan.specs.Choosing.{IsNextChoice, KeepsChosen, passing};
+ghost use Rattle.zf_plan.specs.{IsNextChoice, KeepsChosen, passing};
 
 use std::alloc::{AllocError, Global};
 use std::marker::Model;

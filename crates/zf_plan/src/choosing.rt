@@ -1,14 +1,8 @@
 //! How the values of a range are chosen that are tried.
 ghost use Rattle.std.specs.Prelude.{◌≡◌, ◌<◌, ◌≤◌, ◌+◌, [], length, slice_index_or, IsTrue, IfOk, IfSome, OnOk, OnErr, Ok, None};
-ghost use Rattle.zf_walk.specs.Picked.{AreWithin, picked};
-ghost use Rattle.zf_plan.specs.Trees.{tree_at};
-ghost use Rattle.zf_plan.specs.Groves.{trees_made, trees_of, IsPart};
-ghost use Rattle.zf_plan.specs.Knowing.{Remembers, AreBelow};
-ghost use Rattle.zf_plan.specs.Choices.{Leaves, StaysIn};
-ghost use Rattle.zf_plan.specs.Choosing.{Narrows, StaysChoice};
-ghost use Rattle.zf_plan.specs.Keys.{AreKeyed, AreKeys};
-ghost use Rattle.zf_plan.specs.Plans.{AreChoosers};
-ghost use Rattle.zf_plan.specs.Places.{IsAsked, IsPosed};
+ghost use Rattle.zf_walk.specs.{AreWithin, picked};
+ghost use Rattle.zf_plan.specs.{AreBelow, AreChoosers, AreKeyed, AreKeys, IsAsked, IsPart, IsPosed, Narrows, Remembers, StaysChoice, StaysIn, tree_at, trees_made, trees_of};
+ghost use Rattle.zf_plan.specs.Choices.{Leaves};
 
 use crate::choice::Choice;
 use crate::evaluating::evaluate;

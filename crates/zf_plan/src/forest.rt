@@ -1,7 +1,6 @@
 //! Forests.
 ghost use Rattle.std.specs.Prelude.{◌≡◌, ◌<◌, [], length, IfOk, OnOk, OnErr};
-ghost use Rattle.zf_plan.specs.Trees.{leaf, negated, both, either, tree_at, IsFlat};
-ghost use Rattle.zf_plan.specs.Groves.{trees_made, trees_of, tree_of, IsOver, Grows, Takes};
+ghost use Rattle.zf_plan.specs.{both, either, Grows, IsFlat, IsOver, leaf, negated, Takes, tree_at, tree_of, trees_made, trees_of};
 
 use crate::node::Node;
 use std::alloc::{AllocError, Global};

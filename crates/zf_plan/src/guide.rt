@@ -1,8 +1,8 @@
 //! Which values of a component leaves leave.
 ghost use Rattle.std.specs.Prelude.{◌<◌, ◌≤◌, ℕ, length, IsTrue, IfOk, IfSome};
-ghost use Rattle.zf_walk.specs.Picked.{AreWithin};
-ghost use Rattle.zf_walk.specs.RowLaws.{AreAscending};
-ghost use Rattle.zf_plan.specs.Choices.{IsKeyOf, Leaves, StaysIn};
+ghost use Rattle.zf_walk.specs.{AreAscending, AreWithin};
+ghost use Rattle.zf_plan.specs.{IsKeyOf, StaysIn};
+ghost use Rattle.zf_plan.specs.Choices.{Leaves};
 
 use std::alloc::AllocError;
 use zf_walk::{Judge, Range};

@@ -1,8 +1,7 @@
 //! Keys of the values of components.
 ghost use Rattle.std.specs.Prelude.{◌≡◌, ◌+◌, ◌<◌, ◌≤◌, ℕ, [], length, slice_index_or, Contains, IfOk, OnOk};
-ghost use Rattle.zf_walk.specs.Progress.{AreDueWithin};
-ghost use Rattle.zf_plan.specs.Choices.{StaysIn};
-ghost use Rattle.zf_plan.specs.Keys.{AreKeyed, AreKeys};
+ghost use Rattle.zf_walk.specs.{AreDueWithin};
+ghost use Rattle.zf_plan.specs.{AreKeyed, AreKeys, StaysIn};
 
 use crate::guide::Guide;
 use std::alloc::{AllocError, Global};

@@ -1,6 +1,6 @@
 //! What is known of a tree from what is known of its sides.
 ghost use Rattle.std.specs.Prelude.{◌≡◌};
-ghost use Rattle.zf_plan.specs.Knowing.{known_not, known_both, known_either, conjoined, joined};
+ghost use Rattle.zf_plan.specs.{conjoined, joined, known_both, known_either, known_not};
 
 use zf_walk::Truth;
 

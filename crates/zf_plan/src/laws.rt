@@ -1,5 +1,5 @@
 //! Laws of the definitions, at any leaves.
-ghost use Rattle.zf_plan.specs.Laws.{TreesHaveOneTruth, TreesKeepTruths};
+ghost use Rattle.zf_plan.specs.{TreesHaveOneTruth, TreesKeepTruths};
 
 use zf_walk::Judge;
 

@@ -1,6 +1,6 @@
 //! What was made of values that are still bound.
 ghost use Rattle.std.specs.Prelude.{◌≡◌, ◌+◌, ◌-◌, ◌<◌, ◌≤◌, ◌^◌, length, IfOk};
-ghost use Rattle.zf_plan.specs.Marks.{mark_at, is_still, AreNew, Keeps, Accuses, Renews};
+ghost use Rattle.zf_plan.specs.{Accuses, AreNew, is_still, Keeps, mark_at, Renews};
 
 use std::alloc::{AllocError, Global};
 

@@ -1,14 +1,8 @@
 //! What a search remembers of the leaves.
 ghost use Rattle.std.specs.Prelude.{◌≡◌, ◌≢◌, ◌+◌, ◌<◌, ◌≤◌, ◌^◌, ◌++◌, ◌∷◌, [], length, IfOk, IfSome, OnErr};
 ghost use Rattle.zf_walk.specs.declared.judge.Truth.TheVariants.{False};
-ghost use Rattle.zf_walk.specs.Progress.{AreDueWithin};
-ghost use Rattle.zf_walk.specs.Picked.{AreWithin, picked};
-ghost use Rattle.zf_walk.specs.Tables.{AreTrue};
-ghost use Rattle.zf_plan.specs.Trees.{leaf};
-ghost use Rattle.zf_plan.specs.Memories.{Forgets, IsNew};
-ghost use Rattle.zf_plan.specs.Knowing.{Remembers, IsKnown, IsSettled};
-ghost use Rattle.zf_plan.specs.Testing.{AreLeaves, AreSeenOf, IsTested, Tests};
-ghost use Rattle.zf_plan.specs.Stamps.{AreUnknown, IsCleared, cleared};
+ghost use Rattle.zf_walk.specs.{AreDueWithin, AreTrue, AreWithin, picked};
+ghost use Rattle.zf_plan.specs.{AreLeaves, AreSeenOf, AreUnknown, cleared, Forgets, IsCleared, IsKnown, IsNew, IsSettled, IsTested, leaf, Remembers, Tests};
 
 use crate::guide::Guide;
 use crate::known::conjoin;

@@ -1,7 +1,6 @@
 //! The moves of a search, whatever the conjuncts say.
 ghost use Rattle.std.specs.Prelude.{◌≡◌, ◌+◌, ◌-◌, ◌<◌, [], length, slice_index_or, None, false};
-ghost use Rattle.zf_plan.specs.Memories.{Forgets};
-ghost use Rattle.zf_plan.specs.Places.{IsAt, Lands, LandsNext, Jumps};
+ghost use Rattle.zf_plan.specs.{Forgets, IsAt, Jumps, Lands, LandsNext};
 
 use crate::blame::last_blamed;
 use crate::choice::Choice;

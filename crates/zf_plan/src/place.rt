@@ -1,7 +1,7 @@
 //! Where a search is.
 ghost use Rattle.std.specs.Prelude.{◌≡◌, ◌+◌, ◌≤◌, ℕ, length, slice_index_or, IfSome};
-ghost use Rattle.zf_walk.specs.Seen.{IsSeen};
-ghost use Rattle.zf_plan.specs.Places.{found_before, seen_at};
+ghost use Rattle.zf_walk.specs.{IsSeen};
+ghost use Rattle.zf_plan.specs.{found_before, seen_at};
 
 use crate::marks::Marks;
 use zf_walk::{Seen, Truth};

@@ -1,12 +1,7 @@
 //! Which leaves and which conjuncts a value that is bound concerns.
 ghost use Rattle.std.specs.Prelude.{◌≡◌, ◌+◌, ◌^◌, ◌<◌, ◌≤◌, ℕ, true, false, [], length, IfOk, OnOk, MatchOption};
-ghost use Rattle.zf_plan.specs.Trees.{tree_at, HaveLeavesWithin};
-ghost use Rattle.zf_plan.specs.Groves.{trees_made, trees_of, IsPart};
-ghost use Rattle.zf_plan.specs.Knowing.{AreBelow, IsLeafDue, touches};
-ghost use Rattle.zf_plan.specs.Choosing.{UsesFirst};
-ghost use Rattle.zf_walk.specs.Seen.{HasBit};
-ghost use Rattle.zf_plan.specs.Blaming.{Covers, HasBits};
-ghost use Rattle.zf_plan.specs.Plans.{touches_inside, AreChoosers, AreDue, AreTouched, IsBare, IsLayer, IsPlan};
+ghost use Rattle.zf_plan.specs.{AreBelow, AreChoosers, AreDue, AreTouched, Covers, HasBits, HaveLeavesWithin, IsBare, IsLayer, IsLeafDue, IsPart, IsPlan, touches, touches_inside, tree_at, trees_made, trees_of, UsesFirst};
+ghost use Rattle.zf_walk.specs.{HasBit};
 
 use crate::forest::Forest;
 use crate::guide::{Guide, Means};

@@ -1,8 +1,6 @@
 //! What a search is about.
 ghost use Rattle.std.specs.Prelude.{◌≡◌, ◌≤◌, length, true};
-ghost use Rattle.zf_plan.specs.Groves.{trees_of};
-ghost use Rattle.zf_plan.specs.Plans.{IsBare, IsLayer};
-ghost use Rattle.zf_plan.specs.Places.{IsPosed};
+ghost use Rattle.zf_plan.specs.{IsBare, IsLayer, IsPosed, trees_of};
 
 use crate::forest::Forest;
 use crate::guide::Guide;

@@ -1,15 +1,9 @@
 //! Searches.
 ghost use Rattle.std.specs.Prelude.{◌≡◌, ◌<◌, ◌≤◌, ◌+◌, ◌∷◌, ◌++◌, length, drop, take, IsTrue, IfOk, OnOk, OnErr, IsSomeAnd, IfSome, slice_get, slice_index_or, true, false, unwrap_or, List, Option, []};
 ghost use Rattle.std.specs.Option.{option_copied};
-ghost use Rattle.zf_walk.specs.Rows.{IsRowOf};
-ghost use Rattle.zf_walk.specs.RowLaws.{TiesAreEqual, AreAscending, HasLength};
-ghost use Rattle.zf_walk.specs.Progress.{AreDueWithin, ended, past, AreAllAhead, SameRanges, Advances, Stays, AreTests, IsBounded};
-ghost use Rattle.zf_plan.specs.Trees.{planted, HaveLeavesWithin, IsFlat};
-ghost use Rattle.zf_plan.specs.Groves.{trees_of};
-ghost use Rattle.zf_plan.specs.Exchanges.{exchanged};
-ghost use Rattle.zf_plan.specs.Places.{IsSound, Leaves, begun};
-ghost use Rattle.zf_plan.specs.Counts.{IsPlain};
-ghost use Rattle.zf_plan.specs.Progress.{SameProblem, counted};
+ghost use Rattle.zf_walk.specs.{Advances, AreAllAhead, AreAscending, AreDueWithin, AreTests, ended, HasLength, IsBounded, IsRowOf, past, SameRanges, Stays, TiesAreEqual};
+ghost use Rattle.zf_plan.specs.{begun, counted, exchanged, HaveLeavesWithin, IsFlat, IsPlain, IsSound, planted, SameProblem, trees_of};
+ghost use Rattle.zf_plan.specs.Places.{Leaves};
 
 use crate::choice::{Choice, all_chosen};
 use crate::forest::Forest;

@@ -1,12 +1,7 @@
 //! How the values of a range are sifted by conjuncts that use few of the values before it.
 ghost use Rattle.std.specs.Prelude.{◌≡◌, ◌<◌, ◌≤◌, ℕ, [], length, slice_index_or, None, IsTrue, IfOk, OnOk, OnErr};
-ghost use Rattle.zf_walk.specs.Picked.{picked};
-ghost use Rattle.zf_plan.specs.Groves.{trees_of};
-ghost use Rattle.zf_plan.specs.Knowing.{Remembers, AreBelow};
-ghost use Rattle.zf_plan.specs.Choosing.{StaysChoice};
-ghost use Rattle.zf_plan.specs.Sieves.{AreSifted, IsGreatest, IsOneFalse};
-ghost use Rattle.zf_plan.specs.Plans.{AreChoosers};
-ghost use Rattle.zf_plan.specs.Places.{IsAsked};
+ghost use Rattle.zf_walk.specs.{picked};
+ghost use Rattle.zf_plan.specs.{AreBelow, AreChoosers, AreSifted, IsAsked, IsGreatest, IsOneFalse, Remembers, StaysChoice, trees_of};
 
 use crate::choice::Choice;
 use crate::evaluating::evaluate;

@@ -2,17 +2,9 @@
 ghost use Rattle.std.specs.Prelude.{◌≡◌, ◌≢◌, ◌<◌, ◌≤◌, true, None, [], length, slice_index_or, IsTrue, IfOk, OnOk, OnErr, ℕ, take};
 ghost use Rattle.std.specs.Option.{option_copied};
 ghost use Rattle.zf_walk.specs.declared.judge.Truth.TheVariants.{False};
-ghost use Rattle.zf_walk.specs.Picked.{picked};
-ghost use Rattle.zf_plan.specs.Trees.{planted};
-ghost use Rattle.zf_plan.specs.Groves.{trees_of};
-ghost use Rattle.zf_plan.specs.Keys.{AreKeyed};
-ghost use Rattle.zf_plan.specs.Knowing.{Remembers, IsSoFar, NeedsBelow};
-ghost use Rattle.zf_plan.specs.Choosing.{IsChoice, StaysChoice};
-ghost use Rattle.zf_plan.specs.Marks.{mark_at};
-ghost use Rattle.zf_plan.specs.Counts.{IsPlain, Counts, CountsOn, IsCounted, all_of};
-ghost use Rattle.zf_walk.specs.Seen.{unseen};
-ghost use Rattle.zf_plan.specs.Places.{IsAsked, IsPosed, bound, path, found_before, seen_at, AreHeld, AreSeen, IsAt, IsKept, Enters, Finds, Stands, Goes, Gives, KeepsEvents, Passes, PassesOpen, is_over};
-ghost use Rattle.zf_plan.specs.Blaming.{IsBlamed};
+ghost use Rattle.zf_walk.specs.{picked, unseen};
+ghost use Rattle.zf_plan.specs.{all_of, AreHeld, AreKeyed, AreSeen, bound, CountsOn, Enters, Finds, found_before, Gives, Goes, is_over, IsAsked, IsAt, IsBlamed, IsChoice, IsCounted, IsKept, IsPlain, IsPosed, IsSoFar, KeepsEvents, mark_at, NeedsBelow, Passes, PassesOpen, path, planted, Remembers, seen_at, Stands, StaysChoice, trees_of};
+ghost use Rattle.zf_plan.specs.Counts.{Counts};
 
 use crate::blame::first_bits;
 use crate::choice::Choice;

@@ -1,7 +1,7 @@
 -- A line of some components is the line of a schema with these alone; where names are clear each such line is one.
 use Rattle.zf_print.proofs.Prelude.{Value, Comp, Environment, IsOfType, IsRow, component_text, component_texts, AreApart, AreNames, Ends, IsName, IsNoneOf, held_comps, held_values, HoldNext, goes_on, later_parts, comma_before, value_text, Spelling}
 use Rattle.std.proofs.Common.{◌≡◌, ℕ, suc, ◌+◌, List, [], ◌∷◌, ◌++◌, length, map, Option, Some, None, refl, sym, ap, ◌∙◌, subst, arith, codes, length-append}
-use Rattle.zf_print.specs.Laws.{HeldIsLine, LineIsHeld, OneHeldLine}
+use Rattle.zf_print.specs.{HeldIsLine, LineIsHeld, OneHeldLine}
 use Rattle.zf_print.proofs.HeldSoFar.{component_parts}
 use Rattle.zf_print.proofs.OneHeld.{one_next}
 use Rattle.zf_print.proofs.Printing.{goes_on-first, goes_on-later, goes_on-nil}

@@ -11,35 +11,15 @@ pub use Rattle.std.specs.Prelude.{decimal, FitsSigned, IsErrAnd, IsUtf8, MatchBo
 pub use Rattle.std.specs.Str.Parse.{AllDigits, ParsesSigned, ParsesUnsigned}
 pub use Rattle.zf_format.specs.declared.format.Format.{Format}
 pub use Rattle.zf_format.specs.declared.format.Format.TheVariants.{Lines, Objects}
-unfoldable pub use Rattle.zf_format.specs.Strings.{string_text}
+unfoldable pub use Rattle.zf_format.specs.{string_text}
 pub use Rattle.zf_value.proofs.Exactly.{same}
-pub use Rattle.zf_value.specs.Sets.{IsAscending, value_order}
+pub use Rattle.zf_value.specs.{IsAscending, value_order}
 pub use Rattle.zf_value.specs.declared.TheConstants.{SET_MAX}
 pub use Rattle.zf_value.specs.declared.plain.Value.{Elem, fold-roll-Value, Int, map-Value, roll-Value, SetOf, Tuple, Value}
-pub use Rattle.zf_term.specs.Definitions.{Comp, Defined}
-pub use Rattle.zf_term.specs.SchemaViews.{comp_of}
-pub use Rattle.zf_term.specs.DefinitionViews.{globals_of}
-pub use Rattle.zf_term.specs.FirstNamed.{first_named}
-pub use Rattle.zf_term.specs.Types.{basic, int, no_types, power, product, Ty, type, types, Tys}
-pub use Rattle.zf_term.specs.TypeViews.{type_of}
+pub use Rattle.zf_term.specs.{basic, Comp, comp_of, Defined, first_named, globals_of, int, no_types, power, product, Ty, type, type_of, types, Tys}
 pub use Rattle.zf_term.specs.declared.schema.Component.{Component}
-pub use Rattle.zf_meaning.specs.Environments.{Environment, type_number}
-pub use Rattle.zf_meaning.specs.Lookups.{found_number}
-pub use Rattle.zf_meaning.specs.Envs.{environment_of}
-pub use Rattle.zf_meaning.specs.Rows.{AreOfTypes, IsExistingElement, IsOfType, IsRow}
-pub use Rattle.zf_print.specs.BindingTexts.{binding_text, component_in, components_in, name_in, row_text}
-pub use Rattle.zf_print.specs.Clear.{AreApart, AreClear, AreNames, IsClear, IsName, IsNoneOf}
-pub use Rattle.zf_print.specs.Words.{Ends, is_in_name, is_in_word}
-pub use Rattle.zf_print.specs.HeldLines.{held_comps, held_values}
-pub use Rattle.zf_print.specs.Held.{HoldNext, IsHeldLine, IsNamedNext}
-unfoldable pub use Rattle.zf_print.specs.HeldLaws.{IsNoHeldLine}
-pub use Rattle.zf_print.specs.Readings.{IfMisfit, IsLineOf}
-unfoldable pub use Rattle.zf_print.specs.Readings.{IsNoLine}
-pub use Rattle.zf_print.specs.Spellings.{element_text, spelled, spellings, with_spelling}
-pub use Rattle.zf_print.specs.Steps.{AreMembers, AreMembersAt, ArePartsAt, BeginsWithName, Closes, EndsAs, goes_on, HoldsIfNamed, is_opening, IsComponentAt, IsHeldAt, IsItem, IsNamedAt, IsNext, IsSpelledType, IsValueAt, IsWordAt, or_empty, spelled_if}
-unfoldable pub use Rattle.zf_print.specs.Steps.{AreNoMembers, AreNoParts, BeginsWithoutName, GoesOn, HasNoElements, HoldsNothing, IsNoComponent, IsNoItem, IsNoNext, IsNoRest, IsNoSpelledType, IsNotNamed, IsNoValue, SpellsNone}
-pub use Rattle.zf_print.specs.ValueTexts.{element_in, later_parts, parted, set_in, tuple_in, value_step, value_text}
-pub use Rattle.zf_print.specs.LineTexts.{comma_before, component_text, component_texts}
-unfoldable pub use Rattle.zf_print.specs.ValueTexts.{value_in}
+pub use Rattle.zf_meaning.specs.{AreOfTypes, Environment, environment_of, found_number, IsExistingElement, IsOfType, IsRow, type_number}
+pub use Rattle.zf_print.specs.{AreApart, AreClear, AreMembers, AreMembersAt, AreNames, ArePartsAt, BeginsWithName, binding_text, Closes, comma_before, component_in, component_text, component_texts, components_in, element_in, element_text, Ends, EndsAs, goes_on, held_comps, held_values, HoldNext, HoldsIfNamed, IfMisfit, is_in_name, is_in_word, is_opening, IsClear, IsComponentAt, IsHeldAt, IsHeldLine, IsItem, IsLineOf, IsName, IsNamedAt, IsNamedNext, IsNext, IsNoneOf, IsSpelledType, IsValueAt, IsWordAt, later_parts, name_in, or_empty, parted, row_text, set_in, spelled, spelled_if, spellings, tuple_in, value_step, value_text, with_spelling}
+unfoldable pub use Rattle.zf_print.specs.{AreNoMembers, AreNoParts, BeginsWithoutName, GoesOn, HasNoElements, HoldsNothing, IsNoComponent, IsNoHeldLine, IsNoItem, IsNoLine, IsNoNext, IsNoRest, IsNoSpelledType, IsNotNamed, IsNoValue, SpellsNone, value_in}
 pub use Rattle.zf_print.specs.declared.spelling.Spelling.{Spelling}
 pub use Rattle.zf_print.specs.declared.spelling.Spelling.TheVariants.{Named, Numbered}

@@ -2,8 +2,8 @@
 use Rattle.std.specs.Prelude.{ℕ, List, [], ◌∷◌, ◌++◌, codes}
 use Rattle.zf_format.specs.declared.format.Format.{Format}
 use Rattle.zf_format.specs.declared.format.Format.TheVariants.{Lines, Objects}
-use Rattle.zf_format.specs.Strings.{string_text}
-use Rattle.zf_term.specs.Definitions.{Comp}
+use Rattle.zf_format.specs.{string_text}
+use Rattle.zf_term.specs.{Comp}
 use Rattle.zf_value.specs.declared.plain.Value.{Value}
 use Rattle.zf_print.specs.declared.spelling.Spelling.{Spelling}
 use Rattle.zf_print.specs.ValueTexts.{parted, value_in}

@@ -1,8 +1,8 @@
 -- What readers and laws of held values say.
 use Rattle.std.specs.Prelude.{ℕ, List, map, Option}
-use Rattle.zf_term.specs.Definitions.{Comp}
+use Rattle.zf_term.specs.{Comp}
 use Rattle.zf_value.specs.declared.plain.Value.{Value}
-use Rattle.zf_meaning.specs.Environments.{Environment}
+use Rattle.zf_meaning.specs.{Environment}
 use Rattle.zf_print.specs.declared.spelling.Spelling.{Spelling}
 use Rattle.zf_print.specs.Clear.{AreApart, AreNames, AreClear}
 use Rattle.zf_print.specs.Held.{IsHeldLine}

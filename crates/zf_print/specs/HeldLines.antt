@@ -1,9 +1,8 @@
 -- Held values by the choice of components: the line of the row that they are.
 use Rattle.std.specs.Prelude.{◌≡◌, ℕ, List, [], ◌∷◌, length, Option, Some, None}
-use Rattle.zf_term.specs.Definitions.{Comp}
+use Rattle.zf_term.specs.{Comp}
 use Rattle.zf_value.specs.declared.plain.Value.{Value}
-use Rattle.zf_meaning.specs.Environments.{Environment}
-use Rattle.zf_meaning.specs.Rows.{IsRow}
+use Rattle.zf_meaning.specs.{Environment, IsRow}
 use Rattle.zf_print.specs.declared.spelling.Spelling.{Spelling}
 use Rattle.zf_print.specs.BindingTexts.{binding_text}
 

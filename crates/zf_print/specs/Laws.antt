@@ -1,10 +1,8 @@
 -- What is claimed of the texts alone.
 use Rattle.std.specs.Prelude.{◌≡◌, ℕ, List, ◌++◌, Option}
-use Rattle.zf_term.specs.Definitions.{Comp}
-use Rattle.zf_term.specs.Types.{Ty}
+use Rattle.zf_term.specs.{Comp, Ty}
 use Rattle.zf_value.specs.declared.plain.Value.{Value}
-use Rattle.zf_meaning.specs.Environments.{Environment}
-use Rattle.zf_meaning.specs.Rows.{IsOfType, IsRow}
+use Rattle.zf_meaning.specs.{Environment, IsOfType, IsRow}
 use Rattle.zf_print.specs.declared.spelling.Spelling.{Spelling}
 use Rattle.zf_print.specs.ValueTexts.{value_text}
 use Rattle.zf_print.specs.BindingTexts.{binding_object, binding_text}

@@ -1,6 +1,6 @@
 -- The parts of a line one after another. No public clause rests on this file.
 use Rattle.std.specs.Prelude.{ℕ, zero, suc, List, [], codes}
-use Rattle.zf_term.specs.Definitions.{Comp}
+use Rattle.zf_term.specs.{Comp}
 use Rattle.zf_value.specs.declared.plain.Value.{Value}
 use Rattle.zf_format.specs.declared.format.Format.TheVariants.{Lines}
 use Rattle.zf_print.specs.declared.spelling.Spelling.{Spelling}

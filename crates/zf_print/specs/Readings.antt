@@ -1,9 +1,8 @@
 -- What the reading of a line answers.
 use Rattle.std.specs.Prelude.{◌≡◌, ℕ, List}
-use Rattle.zf_term.specs.Definitions.{Comp}
+use Rattle.zf_term.specs.{Comp}
 use Rattle.zf_value.specs.declared.plain.Value.{Value}
-use Rattle.zf_meaning.specs.Environments.{Environment}
-use Rattle.zf_meaning.specs.Rows.{IsRow}
+use Rattle.zf_meaning.specs.{Environment, IsRow}
 use Rattle.zf_print.specs.declared.fault.AfterFault.{AfterFault}
 use Rattle.zf_print.specs.declared.fault.AfterFault.TheVariants.{NotABinding, OutOfMemory}
 use Rattle.zf_print.specs.declared.spelling.Spelling.{Spelling}

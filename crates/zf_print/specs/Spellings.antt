@@ -1,7 +1,7 @@
 -- How the elements of each given set and free type are spelled, by the number of the type: in order of definition.
 use Rattle.std.specs.Prelude.{ℕ, ◌+◌, List, [], ◌∷◌, ◌++◌, slice_get, codes, decimal, unwrap_or}
 use Rattle.std.specs.Option.{option_map_or}
-use Rattle.zf_term.specs.Definitions.{Defined, Definition, given_set, free_type}
+use Rattle.zf_term.specs.{Defined, Definition, free_type, given_set}
 use Rattle.zf_print.specs.declared.spelling.Spelling.{Spelling}
 use Rattle.zf_print.specs.declared.spelling.Spelling.TheVariants.{Numbered, Named}
 

@@ -2,13 +2,11 @@
 use Rattle.std.specs.Prelude.{◌≡◌, ℕ, suc, zero, ◌+◌, ◌≤◌, Bool, true, false, ◌||◌, ◌<◌, ◌==◌, List, [], ◌∷◌, ◌++◌, length, map, drop, codes, Option, Some, None, slice_get, unwrap_or}
 use Rattle.std.specs.List.{list_all, AllByRecursion}
 use Rattle.std.specs.Option.{option_map_or}
-use Rattle.zf_term.specs.Definitions.{Comp}
-use Rattle.zf_term.specs.Types.{Ty, int, basic, power, product, Tys}
+use Rattle.zf_term.specs.{basic, Comp, int, power, product, Ty, Tys}
 use Rattle.zf_value.specs.declared.TheConstants.{SET_MAX}
 use Rattle.zf_value.specs.declared.plain.Value.{Value}
-use Rattle.zf_value.specs.Sets.{IsAscending}
-use Rattle.zf_meaning.specs.Environments.{Environment, type_number}
-use Rattle.zf_meaning.specs.Rows.{IsExistingElement, IsOfType, AreOfTypes, IsRow}
+use Rattle.zf_value.specs.{IsAscending}
+use Rattle.zf_meaning.specs.{AreOfTypes, Environment, IsExistingElement, IsOfType, IsRow, type_number}
 use Rattle.zf_print.specs.declared.spelling.Spelling.{Spelling}
 use Rattle.zf_print.specs.Spellings.{spelled}
 use Rattle.zf_print.specs.ValueTexts.{parted, later_parts, value_text}

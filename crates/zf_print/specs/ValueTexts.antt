@@ -4,7 +4,7 @@ use Rattle.std.specs.Fmt.{signed_decimal}
 use Rattle.std.specs.List.{flat_map}
 use Rattle.zf_format.specs.declared.format.Format.{Format}
 use Rattle.zf_format.specs.declared.format.Format.TheVariants.{Lines, Objects}
-use Rattle.zf_format.specs.Strings.{string_text}
+use Rattle.zf_format.specs.{string_text}
 use Rattle.zf_value.specs.declared.plain.Value.{Value, fold-Value}
 use Rattle.zf_value.specs.declared.plain.Value.TheOpen.{Value-F}
 use Rattle.zf_print.specs.declared.spelling.Spelling.{Spelling}

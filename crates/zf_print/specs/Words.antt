@@ -1,6 +1,6 @@
 -- The bytes of names, numbers and elements, and where a word ends.
 use Rattle.std.specs.Prelude.{◌≡◌, ℕ, Bool, false, ◌||◌, ◌==◌, List, [], ◌∷◌}
-use Rattle.zf_scan.specs.Pieces.{is_letter}
+use Rattle.zf_scan.specs.{is_letter}
 use Rattle.std.specs.Char.{is_ascii_digit}
 
 -- a byte of a name with its strokes: a letter, a digit, or one of `! ' ? \ _`

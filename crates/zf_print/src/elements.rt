@@ -1,11 +1,8 @@
 //! Elements by their spellings.
 ghost use Rattle.std.specs.Prelude.{◌≡◌, ◌+◌, ◌≤◌, ◌<◌, ◌^◌, ◌++◌, ℕ, Some, List, length, drop, codes, decimal, slice_get, IfOk, IfErr, MatchOption};
-ghost use Rattle.zf_meaning.specs.Environments.{type_number};
-ghost use Rattle.zf_meaning.specs.Envs.{environment_of};
-ghost use Rattle.zf_term.specs.Types.{basic};
-ghost use Rattle.zf_print.specs.Readings.{IfMisfit};
-ghost use Rattle.zf_print.specs.Spellings.{spelled};
-ghost use Rattle.zf_print.specs.Steps.{IsValueAt, IsNoValue, IsSpelledType, IsNoSpelledType, HasNoElements, SpellsNone, or_empty};
+ghost use Rattle.zf_meaning.specs.{environment_of, type_number};
+ghost use Rattle.zf_term.specs.{basic};
+ghost use Rattle.zf_print.specs.{HasNoElements, IfMisfit, IsNoSpelledType, IsNoValue, IsSpelledType, IsValueAt, or_empty, spelled, SpellsNone};
 
 use crate::fault::AfterFault;
 use crate::read::Line;

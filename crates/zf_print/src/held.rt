@@ -1,13 +1,8 @@
 //! Lines of some components, as they are read.
 ghost use Rattle.std.specs.Prelude.{◌≤◌, length, drop, IfOk, IfErr, MatchBool, MatchOption};
-ghost use Rattle.zf_meaning.specs.Envs.{environment_of};
-ghost use Rattle.zf_term.specs.SchemaViews.{comp_of, schema_of};
-ghost use Rattle.zf_print.specs.Words.{Ends};
-ghost use Rattle.zf_print.specs.Held.{IsHeldLine};
-ghost use Rattle.zf_print.specs.HeldLaws.{IsNoHeldLine};
-ghost use Rattle.zf_print.specs.Readings.{IfMisfit};
-ghost use Rattle.zf_print.specs.Steps.{HoldsIfNamed, HoldsNothing, IsItem, IsNamedAt, IsNoItem, BeginsWithoutName, IsNotNamed, BeginsWithName, GoesOn};
-ghost use Rattle.zf_print.specs.LineTexts.{comma_before};
+ghost use Rattle.zf_meaning.specs.{environment_of};
+ghost use Rattle.zf_term.specs.{comp_of, schema_of};
+ghost use Rattle.zf_print.specs.{BeginsWithName, BeginsWithoutName, comma_before, Ends, GoesOn, HoldsIfNamed, HoldsNothing, IfMisfit, IsHeldLine, IsItem, IsNamedAt, IsNoHeldLine, IsNoItem, IsNotNamed};
 
 use crate::fault::AfterFault;
 use crate::read::{Line, read_component};

@@ -1,5 +1,5 @@
 //! Laws of the texts.
-ghost use Rattle.zf_print.specs.Laws.{HeldIsLine, LineIsHeld, OneEnd, OneHeldLine, OneObject, OneRow, OneValue};
+ghost use Rattle.zf_print.specs.{HeldIsLine, LineIsHeld, OneEnd, OneHeldLine, OneObject, OneRow, OneValue};
 
 /// Values of one type with one text are one.
 pub fn one_value()

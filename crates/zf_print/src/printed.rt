@@ -1,12 +1,8 @@
 //! Values and rows as they are printed.
 ghost use Rattle.std.specs.Prelude.{◌≡◌, ◌<◌, ◌∷◌, ◌++◌, [], ℕ, List, IfOk, OnOk, codes, map};
 ghost use Rattle.std.specs.Fmt.{decimal, signed_decimal};
-ghost use Rattle.zf_term.specs.SchemaViews.{comp_of, schema_of};
-ghost use Rattle.zf_print.specs.BindingTexts.{component_in, components_in, name_in, row_text};
-ghost use Rattle.zf_print.specs.Spellings.{spelled, element_text};
-ghost use Rattle.zf_print.specs.Steps.{spelled_if};
-ghost use Rattle.zf_print.specs.ValueTexts.{element_in, parted, set_in, tuple_in, value_in};
-ghost use Rattle.zf_print.specs.LineTexts.{comma_before};
+ghost use Rattle.zf_term.specs.{comp_of, schema_of};
+ghost use Rattle.zf_print.specs.{comma_before, component_in, components_in, element_in, element_text, name_in, parted, row_text, set_in, spelled, spelled_if, tuple_in, value_in};
 
 use crate::spelling::Spelling;
 use itoa::Buffer;

@@ -1,12 +1,9 @@
 //! Values and bindings as they are read back.
 ghost use Rattle.std.specs.Prelude.{◌≡◌, ◌↔◌, ◌≤◌, ◌++◌, [], ◌∷◌, length, map, drop, IsTrue, IfOk, IfErr};
-ghost use Rattle.zf_meaning.specs.Envs.{environment_of};
-ghost use Rattle.zf_term.specs.SchemaViews.{comp_of, schema_of};
-ghost use Rattle.zf_term.specs.Types.{int, power, product, types};
-ghost use Rattle.zf_term.specs.TypeViews.{type_of};
-ghost use Rattle.zf_value.specs.Sets.{IsAscending};
-ghost use Rattle.zf_print.specs.Readings.{IsLineOf, IsNoLine, IfMisfit};
-ghost use Rattle.zf_print.specs.Steps.{IsValueAt, IsNoValue, ArePartsAt, AreNoParts, AreMembersAt, AreNoMembers, IsNext, IsNoNext, IsComponentAt, IsNoComponent};
+ghost use Rattle.zf_meaning.specs.{environment_of};
+ghost use Rattle.zf_term.specs.{comp_of, int, power, product, schema_of, type_of, types};
+ghost use Rattle.zf_value.specs.{IsAscending};
+ghost use Rattle.zf_print.specs.{AreMembersAt, AreNoMembers, AreNoParts, ArePartsAt, IfMisfit, IsComponentAt, IsLineOf, IsNext, IsNoComponent, IsNoLine, IsNoNext, IsNoValue, IsValueAt};
 
 use crate::elements::read_element;
 use crate::fault::AfterFault;

@@ -1,8 +1,8 @@
 //! How elements are spelled.
 ghost use Rattle.std.specs.Prelude.{◌≡◌, ◌+◌, ◌++◌, ℕ, List, drop, IfOk, OnOk};
-ghost use Rattle.zf_term.specs.DefinitionViews.{definition_of, globals_of};
+ghost use Rattle.zf_term.specs.{definition_of, globals_of};
 ghost use Rattle.zf_print.specs.declared.spelling.Spelling as declared;
-ghost use Rattle.zf_print.specs.Spellings.{with_spelling, spellings};
+ghost use Rattle.zf_print.specs.{spellings, with_spelling};
 
 use std::alloc::{AllocError, Global};
 use zf_data::arena::Lent;

@@ -3,9 +3,7 @@ ghost use Rattle.std.specs.Prelude.{◌≡◌, ◌+◌, ◌≤◌, ◌<◌, ◌^
 ghost use Rattle.std.specs.Fmt.{signed_decimal};
 ghost use Rattle.std.specs.Int.{w64};
 ghost use Rattle.zf_print.specs.Words as spec;
-ghost use Rattle.zf_print.specs.Readings.{IfMisfit};
-ghost use Rattle.zf_print.specs.Steps.{IsItem, IsNoItem, IsWordAt};
-ghost use Rattle.zf_print.specs.LineTexts.{comma_before};
+ghost use Rattle.zf_print.specs.{comma_before, IfMisfit, IsItem, IsNoItem, IsWordAt};
 
 use crate::fault::AfterFault;
 use itoa::Buffer;

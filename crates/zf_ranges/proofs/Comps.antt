@@ -3,7 +3,7 @@ use Rattle.zf_ranges.proofs.Prelude.{◌++◌, ◌+◌, ◌<◌, ◌∙◌, ◌�
 use Rattle.zf_term.specs.declared.schema.Component.{Component}
 use Rattle.zf_ranges.specs.declared.start_fault.StartFault.{StartFault}
 use Rattle.zf_ranges.specs.declared.start_fault.StartFault.TheVariants.{DeclaredOut, OutOfMemory}
-use Rattle.zf_ranges.specs.StartFaults.{RefusesStart}
+use Rattle.zf_ranges.specs.{RefusesStart}
 
 -- ---- what is held
 

@@ -1,6 +1,6 @@
 -- Ascending lists of exactly the values that pass.
 use Rattle.zf_ranges.proofs.Prelude.{◌++◌, ◌+◌, ◌<◌, ◌↔◌, ◌∷◌, ◌≡◌, ◌≤◌, ◌⊎◌, [], add-one, arith, get_or, inl, inr, length, List, subst, suc, sym, take, zero, ℕ, ⊎_elim, Less, ascending-push, every_at, every_from, member_at, members-append, members-push, members-take_more, take_all, IsAscending, IsMember, value_order, HaveSameMembers, Outcome, Undefined, Value}
-use Rattle.zf_ranges.specs.Parts.{Lists, Grows, IsListed, IsIn}
+use Rattle.zf_ranges.specs.{Grows, IsIn, IsListed, Lists}
 
 -- the same values pass
 pub lists_same : (P Q : Value → Type 0) (xs : List Value) → ((v : Value) → P v ↔ Q v) → Lists P xs → Lists Q xs

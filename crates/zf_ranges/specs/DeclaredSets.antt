@@ -1,19 +1,13 @@
 -- What lies in the declared sets of a component, and which of them are out.
 use Rattle.std.specs.Prelude.{◌⊎◌, ℕ, Bool, true, false, Option, Some, None}
 use Rattle.zf_term.specs.declared.extent.Infinite.{Infinite}
-use Rattle.zf_term.specs.Definitions.{DeclaredSet, plain, carrier, sides, DeclaredSets, no_sets, set}
-use Rattle.zf_term.specs.ResolvedTrees.{ResolvedTree}
-use Rattle.zf_term.specs.Types.{Ty, has_numbers}
+use Rattle.zf_term.specs.{carrier, DeclaredSet, DeclaredSets, has_numbers, no_sets, plain, ResolvedTree, set, sides, Ty}
 use Rattle.zf_value.specs.declared.plain.Value.{Value}
 use Rattle.zf_value.specs.declared.value.Outcome.{Outcome}
 use Rattle.zf_value.specs.declared.value.Outcome.TheVariants.{Is, Out}
-use Rattle.zf_value.specs.Sets.{IsMember, members}
-use Rattle.zf_meaning.specs.Environments.{Environment, globally}
-use Rattle.zf_meaning.specs.Meaning.{HasOutcome}
-use Rattle.zf_meaning.specs.NumberSets.{infinite_in}
-use Rattle.zf_meaning.specs.Rows.{IsOfType}
-use Rattle.zf_meaning.specs.Carriers.{IsCarrier}
-use Rattle.zf_outcome.specs.Symbols.{IsIn}
+use Rattle.zf_value.specs.{IsMember, members}
+use Rattle.zf_meaning.specs.{Environment, globally, HasOutcome, infinite_in, IsCarrier, IsOfType}
+use Rattle.zf_outcome.specs.{IsIn}
 
 -- a member of the set that has such an outcome; what is undefined has no members
 abbrev pub IsInOne : (Outcome → Type 0) → Value → Type 0

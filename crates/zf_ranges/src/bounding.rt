@@ -1,11 +1,9 @@
 //! Which of several declared sets bounds, and which of those is likely to be the smallest.
 ghost use Rattle.std.specs.Prelude.{◌≡◌, true, map, IfOk, IfSome};
-ghost use Rattle.zf_term.specs.DefinitionViews.{globals_of};
-ghost use Rattle.zf_term.specs.SchemaViews.{set_of};
-ghost use Rattle.zf_term.specs.Definitions.{sets_of};
-ghost use Rattle.zf_meaning.specs.Envs.{environment_of};
+ghost use Rattle.zf_term.specs.{globals_of, set_of, sets_of};
+ghost use Rattle.zf_meaning.specs.{environment_of};
 ghost use Rattle.zf_finite.specs.Finite as spec;
-ghost use Rattle.zf_ranges.specs.Parts.{BoundsAt};
+ghost use Rattle.zf_ranges.specs.{BoundsAt};
 
 use crate::weight::weight;
 use std::alloc::AllocError;

@@ -1,15 +1,10 @@
 //! The ranges of components.
 ghost use Rattle.std.specs.Prelude.{◌≡◌, true, IsTrue, IfOk, IfErr, map, option_map};
 ghost use Rattle.std.specs.List.{AllByRecursion};
-ghost use Rattle.zf_term.specs.SchemaViews.{comp_of};
-ghost use Rattle.zf_term.specs.Definitions.{sets_of};
-ghost use Rattle.zf_finite.specs.Finite.{one_bounds};
-ghost use Rattle.zf_meaning.specs.Envs.{environment_of};
-ghost use Rattle.zf_ranges.specs.Components.{AreAllRanges, AreHeldRanges, IsHeldRange, IsOneRange, IsOutBy, held_at};
-ghost use Rattle.zf_ranges.specs.DeclaredSets.{IsOneOut};
-ghost use Rattle.zf_ranges.specs.Parts.{IsAllWith, Tells};
-ghost use Rattle.zf_ranges.specs.Ranges.{IsNoneOut};
-ghost use Rattle.zf_ranges.specs.StartFaults.{RefusesStart};
+ghost use Rattle.zf_term.specs.{comp_of, sets_of};
+ghost use Rattle.zf_finite.specs.{one_bounds};
+ghost use Rattle.zf_meaning.specs.{environment_of};
+ghost use Rattle.zf_ranges.specs.{AreAllRanges, AreHeldRanges, held_at, IsAllWith, IsHeldRange, IsNoneOut, IsOneOut, IsOneRange, IsOutBy, RefusesStart, Tells};
 
 use crate::lack::Lack;
 use crate::ranges::values_with;

@@ -1,8 +1,8 @@
 //! Tests of values, and the values that pass one.
 ghost use Rattle.std.specs.Prelude.{◌≡◌, ◌↔◌, IsTrue, IfOk, OnOk};
 ghost use Rattle.zf_value.specs.declared.plain.Value as value;
-ghost use Rattle.zf_value.specs.Sets.{IsAscending, IsMember};
-ghost use Rattle.zf_ranges.specs.Parts.{Lists, Grows};
+ghost use Rattle.zf_value.specs.{IsAscending, IsMember};
+ghost use Rattle.zf_ranges.specs.{Grows, Lists};
 
 use std::alloc::{AllocError, Global};
 use zf_value::value::Value;

@@ -1,16 +1,11 @@
 //! The values of a declared set that is no disjunction.
 ghost use Rattle.std.specs.Prelude.{◌≡◌, true, IfOk, IfErr};
-ghost use Rattle.zf_term.specs.Definitions.{plain, carrier};
-ghost use Rattle.zf_term.specs.ResolvedViews.{resolved_of};
-ghost use Rattle.zf_term.specs.TypeViews.{type_of};
-ghost use Rattle.zf_value.specs.Sets.{IsAscending};
-ghost use Rattle.zf_meaning.specs.Environments.{globally};
-ghost use Rattle.zf_meaning.specs.Envs.{environment_of};
-ghost use Rattle.zf_meaning.specs.Meaning.{HasOutcome};
+ghost use Rattle.zf_term.specs.{carrier, plain, resolved_of, type_of};
+ghost use Rattle.zf_value.specs.{IsAscending};
+ghost use Rattle.zf_meaning.specs.{environment_of, globally, HasOutcome};
 ghost use Rattle.zf_finite.specs.Finite as spec;
 ghost use Rattle.zf_ranges.specs.DeclaredSets as sets;
-ghost use Rattle.zf_ranges.specs.DeclaredSets.{IsSetOut};
-ghost use Rattle.zf_ranges.specs.Parts.{Narrows, IsAllOf, Tells};
+ghost use Rattle.zf_ranges.specs.{IsAllOf, IsSetOut, Narrows, Tells};
 
 use crate::filters::InNumbers;
 use crate::kept::kept;

@@ -1,9 +1,9 @@
 //! The members of a set that an expression comes to.
 ghost use Rattle.std.specs.Prelude.{◌≡◌, ◌↔◌, ◌++◌, ◌⊎◌, [], ◌∷◌, IsTrue, IfOk, IfErr, OnOk};
 ghost use Rattle.zf_value.specs.declared.value.Outcome.TheVariants as outcome;
-ghost use Rattle.zf_value.specs.Sets.{IsAscending, IsMember};
-ghost use Rattle.zf_outcome.specs.Described.{IsDescribed};
-ghost use Rattle.zf_ranges.specs.Parts.{Lists, Filters, IsListed, IsIn, Tells};
+ghost use Rattle.zf_value.specs.{IsAscending, IsMember};
+ghost use Rattle.zf_outcome.specs.{IsDescribed};
+ghost use Rattle.zf_ranges.specs.{Filters, IsIn, IsListed, Lists, Tells};
 
 use crate::kept::{Test, kept};
 use crate::lack::Lack;

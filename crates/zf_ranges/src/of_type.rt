@@ -1,12 +1,9 @@
 //! Which values are of a type.
 ghost use Rattle.std.specs.Prelude.{◌≡◌, ◌↔◌, ◌<◌, IsTrue, IsSomeAnd, map};
-ghost use Rattle.zf_term.specs.TypeViews.{type_of};
-ghost use Rattle.zf_term.specs.Types.{types, power, product};
+ghost use Rattle.zf_term.specs.{power, product, type_of, types};
 ghost use Rattle.zf_value.specs.declared.plain.Value.{Elem};
-ghost use Rattle.zf_meaning.specs.Environments.{type_number};
-ghost use Rattle.zf_meaning.specs.Envs.{environment_of};
-ghost use Rattle.zf_meaning.specs.Rows.{IsExistingElement, IsOfType, AreOfTypes};
-ghost use Rattle.zf_ranges.specs.OfTypes.{IsNumberHere, AreAllOf};
+ghost use Rattle.zf_meaning.specs.{AreOfTypes, environment_of, IsExistingElement, IsOfType, type_number};
+ghost use Rattle.zf_ranges.specs.{AreAllOf, IsNumberHere};
 
 use crate::kept::Test;
 use zf_meaning::carrier::number_named;

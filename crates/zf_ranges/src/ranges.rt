@@ -1,13 +1,10 @@
 //! The values that lie in declared sets.
 ghost use Rattle.std.specs.Prelude.{◌≡◌, ◌≤◌, ◌<◌, true, IfOk, IfErr, MatchOption, length, map, option_map, slice_get};
-ghost use Rattle.zf_term.specs.DefinitionViews.{globals_of};
-ghost use Rattle.zf_term.specs.SchemaViews.{set_of};
-ghost use Rattle.zf_term.specs.Definitions.{sets_of};
-ghost use Rattle.zf_meaning.specs.Envs.{environment_of};
+ghost use Rattle.zf_term.specs.{globals_of, set_of, sets_of};
+ghost use Rattle.zf_meaning.specs.{environment_of};
 ghost use Rattle.zf_finite.specs.Finite as spec;
-ghost use Rattle.zf_value.specs.Sets.{IsAscending};
-ghost use Rattle.zf_ranges.specs.DeclaredSets.{IsSetOut, IsOneOut};
-ghost use Rattle.zf_ranges.specs.Parts.{Narrows, NarrowsAll, IsAllOf, IsAllOfEach, IsAllWith, Tells};
+ghost use Rattle.zf_value.specs.{IsAscending};
+ghost use Rattle.zf_ranges.specs.{IsAllOf, IsAllOfEach, IsAllWith, IsOneOut, IsSetOut, Narrows, NarrowsAll, Tells};
 
 use crate::bounding::lightest_bounding;
 use crate::lack::Lack;

@@ -4,7 +4,7 @@ use Rattle.std.specs.List.{position_or_len}
 use Rattle.std.specs.Prelude.{nat_eq, not}
 use Rattle.zf_graph.proofs.Places.{at_last}
 use Rattle.zf_reach.proofs.Prelude.{◌++◌, ◌+◌, ◌<◌, ◌∙◌, ◌∷◌, ◌≡◌, ◌≤◌, ◌⊎◌, [], ap, arith, Bool, cases_Bool, cases_eq, cond, cond-false, cond-true, eq-eqb, false, inl, inr, length, length-append, List, list_any, ne_eqb, refl, slice_get, Some, some_at, subst, sym, true, ℕ, edge_text, IsFull, with_node, Words}
-use Rattle.zf_reach.specs.Runs.{edge}
+use Rattle.zf_reach.specs.{edge}
 
 module _ {X : Type 0} (test : X → Bool) where
   -- where none passes, the place is behind the last

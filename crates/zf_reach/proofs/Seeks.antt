@@ -5,11 +5,7 @@ use Rattle.std.specs.Prelude.{not}
 use Rattle.zf_graph.proofs.Numbers.{numbered}
 use Rattle.zf_graph.proofs.Places.{at_last, at_left, at_map, at_push, map_at, none_some, one_at, one_some}
 use Rattle.zf_graph.proofs.Searching.{item_at, met_with_new, seeks_begun, seeks_broken, seeks_first, seeks_found, seeks_full, seeks_known, seeks_missing, seeks_new, seeks_over, seeks_untold}
-use Rattle.zf_graph.specs.Explorations.{at_first, beyond, Met, nodes_of}
-use Rattle.zf_graph.specs.Graphs.{Graph}
-use Rattle.zf_graph.specs.Laws.{IsOf}
-use Rattle.zf_graph.specs.Seeking.{found, IsSearched, missing, open_ended, Result, Sought, untold, way_text}
-use Rattle.zf_graph.specs.Stages.{IsNumbered, SeeksIn}
+use Rattle.zf_graph.specs.{at_first, beyond, found, Graph, IsNumbered, IsOf, IsSearched, Met, missing, nodes_of, open_ended, Result, SeeksIn, Sought, untold, way_text}
 use Rattle.zf_reach.proofs.Prelude.{◌++◌, ◌+◌, ◌-◌, ◌<◌, ◌∙◌, ◌∷◌, ◌≡◌, ◌≤◌, ◌⊎◌, [], ap, Appends-nil, AppendsFront, arith, Bool, cases_lt, cond-false, cond-true, counted, cut, Explored, false, inl, inr, KeepsNodes, length, length-append, List, list_any, no_turn, None, Option, refl, slice_get, slice_get_within, Some, subst, suc, sym, true, Turn, with_edge, with_node, Words, zero, ℕ}
 use Rattle.zf_reach.proofs.Fronts.{front_whole}
 use Rattle.zf_reach.proofs.Passing.{place-none}
@@ -19,9 +15,7 @@ use Rattle.zf_reach.specs.declared.finding.Finding.TheVariants as findings
 use Rattle.zf_reach.specs.declared.machine.Beginning.{Beginning}
 use Rattle.zf_reach.specs.declared.machine.Beginning.TheVariants as beginnings
 use Rattle.zf_reach.specs.declared.trail.Arrival.{Arrival}
-use Rattle.zf_reach.specs.Machines.{BeginsAs, result_of, UnlessOut}
-use Rattle.zf_reach.specs.Runs.{edge, StopsSearch}
-use Rattle.zf_reach.specs.Searches.{AtSearch, Brings, Concludes, EndsWithout, InSearch, IsArrival, IsEarlier, IsFoundBy, IsTrail, SaysWay, SeesNew}
+use Rattle.zf_reach.specs.{AtSearch, BeginsAs, Brings, Concludes, edge, EndsWithout, InSearch, IsArrival, IsEarlier, IsFoundBy, IsTrail, result_of, SaysWay, SeesNew, StopsSearch, UnlessOut}
 
 -- ---- the trail
 

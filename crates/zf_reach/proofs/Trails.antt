@@ -1,14 +1,11 @@
 -- The way to a node that is met, backwards along the trail.
 use Rattle.zf_graph.proofs.Numbers.{way_text-push}
 use Rattle.zf_graph.proofs.Places.{at_map, one_at}
-use Rattle.zf_graph.specs.Explorations.{Met, number_in}
-use Rattle.zf_graph.specs.Graphs.{end_of}
-use Rattle.zf_graph.specs.Seeking.{way_text}
+use Rattle.zf_graph.specs.{end_of, Met, number_in, way_text}
 use Rattle.zf_reach.proofs.Prelude.{◌++◌, ◌-◌, ◌<◌, ◌∙◌, ◌∷◌, ◌≡◌, [], ap, append-nil, append_assoc, arith, Explored, length, List, refl, slice_get, Some, subst, sym, Words, ℕ}
 use Rattle.std.proofs.lemmas.List.{length-append, same_from_push}
 use Rattle.zf_reach.specs.declared.trail.Arrival.{Arrival}
-use Rattle.zf_reach.specs.Runs.{edge}
-use Rattle.zf_reach.specs.Searches.{by, IsArrival, IsChain, over, SaysStep, SaysWay}
+use Rattle.zf_reach.specs.{by, edge, IsArrival, IsChain, over, SaysStep, SaysWay}
 
 module _ {L : Type 0} (trail : List (Arrival L)) (target : ℕ) where
   -- one more number

@@ -1,8 +1,6 @@
 -- What the search for the edges of a node answers, and how explorations and searches end.
 use Rattle.std.specs.Prelude.{◌≡◌, ℕ, ◌<◌, true, List, []}
-use Rattle.zf_graph.specs.Explorations.{Explored, Turn}
-use Rattle.zf_graph.specs.Seeking.{found, missing, open_ended, Result, Sought, untold}
-use Rattle.zf_graph.specs.Texts.{broken, ended, Ending, no_turn, paused, with_edge}
+use Rattle.zf_graph.specs.{broken, ended, Ending, Explored, found, missing, no_turn, open_ended, paused, Result, Sought, Turn, untold, with_edge}
 use Rattle.zf_reach.specs.declared.ending.Ending as code
 use Rattle.zf_reach.specs.declared.ending.Ending.TheVariants as endings
 use Rattle.zf_reach.specs.declared.machine.Beginning.{Beginning}

@@ -2,14 +2,8 @@
 use Rattle.std.specs.Prelude.{◌≡◌, ℕ, ◌+◌, ◌-◌, ◌^◌, ◌≤◌, Bool, true, false, cond, eqb, min, List, [], ◌∷◌, ◌++◌, length, Option, None, Some, slice_get}
 use Rattle.std.specs.List.{list_any}
 use Rattle.std.specs.Io.KnownBytes.{Appends}
-use Rattle.zf_graph.specs.Explorations.{Explored, Turn, with_node}
-use Rattle.zf_graph.specs.Edges.{Edge}
-use Rattle.zf_graph.specs.Seeking.{Result, Sought}
-use Rattle.zf_graph.specs.SeekingLaws.{IsSearchedPart}
-use Rattle.zf_graph.specs.Stages.{StandsBefore, StandsIn}
-use Rattle.zf_graph.specs.Texts.{Ending, IsExplored, Words}
-use Rattle.zf_graph.specs.Laws.{IsPart}
-use Rattle.zf_lines.specs.FaultViews.{AppendsFront}
+use Rattle.zf_graph.specs.{Edge, Ending, Explored, IsExplored, IsPart, IsSearchedPart, Result, Sought, StandsBefore, StandsIn, Turn, with_node, Words}
+use Rattle.zf_lines.specs.{AppendsFront}
 use Rattle.zf_reach.specs.declared.ending.Ending as code
 use Rattle.zf_reach.specs.Machines.{ending_of}
 

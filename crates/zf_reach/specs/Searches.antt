@@ -1,10 +1,7 @@
 -- Where a search for a node stands, and how it goes on. No public clause rests on this file.
 use Rattle.std.specs.Prelude.{◌≡◌, ◌⊎◌, ℕ, ◌+◌, ◌-◌, ◌<◌, ◌≤◌, true, false, List, [], ◌∷◌, ◌++◌, length, Option, None, Some, slice_get}
 use Rattle.std.specs.List.{list_any}
-use Rattle.zf_graph.specs.Explorations.{Explored, Met, nodes_of, Turn}
-use Rattle.zf_graph.specs.Seeking.{found, IsSearched, missing, open_ended, Result, Sought, untold, way_text}
-use Rattle.zf_graph.specs.Stages.{IsNumbered, SeeksBefore, SeeksIn}
-use Rattle.zf_graph.specs.Texts.{Words}
+use Rattle.zf_graph.specs.{Explored, found, IsNumbered, IsSearched, Met, missing, nodes_of, open_ended, Result, SeeksBefore, SeeksIn, Sought, Turn, untold, way_text, Words}
 use Rattle.zf_reach.specs.declared.finding.Finding.{Finding}
 use Rattle.zf_reach.specs.declared.finding.Finding.TheVariants as findings
 use Rattle.zf_reach.specs.declared.trail.Arrival.{Arrival}

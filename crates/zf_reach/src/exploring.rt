@@ -2,12 +2,9 @@
 ghost use Rattle.std.specs.Prelude.{◌≡◌, ◌<◌, ◌≤◌, ◌+◌, ◌∷◌, [], ℕ, List, Option, IfOk, MatchBool, OnErr, OnOk};
 ghost use Rattle.std.specs.Io.KnownBytes.{Appends};
 ghost use Rattle.indexmap.specs.IndexSet.{index_set_len};
-ghost use Rattle.zf_graph.specs.Texts.{broken, IsExplored};
-ghost use Rattle.zf_lines.specs.Counts.{device_of, failures_of};
-ghost use Rattle.zf_lines.specs.FaultViews.{AppendsFront};
-ghost use Rattle.zf_lines.specs.Faults.{read_failures, write_failures};
-ghost use Rattle.zf_reach.specs.Machines.{ending_of};
-ghost use Rattle.zf_reach.specs.Runs.{AtTurn, Closes, InParts, KeepsNodes, LeavesTurn, StopsEarly};
+ghost use Rattle.zf_graph.specs.{broken, IsExplored};
+ghost use Rattle.zf_lines.specs.{AppendsFront, device_of, failures_of, read_failures, write_failures};
+ghost use Rattle.zf_reach.specs.{AtTurn, Closes, ending_of, InParts, KeepsNodes, LeavesTurn, StopsEarly};
 
 use crate::ending::Ending;
 use crate::machine::{Beginning, Found, Machine};

@@ -1,7 +1,6 @@
 //! Laws of explorations.
 ghost use Rattle.std.specs.Prelude.{◌≤◌, ℕ, Bool, IsTrue};
-ghost use Rattle.zf_graph.specs.Laws.{EachNodeHasTurn, FindsShortest, HasEachStep, IsSomehowWritten, IsWrittenInOneWay, MeetsOnce, MeetsReachable, MeetsShortly, PartsAreFronts};
-ghost use Rattle.zf_graph.specs.SeekingLaws.{EachIsTold, FoundIsShortest, IsSearchedInOneWay, IsSomehowSearched, MissingIsNowhere};
+ghost use Rattle.zf_graph.specs.{EachIsTold, EachNodeHasTurn, FindsShortest, FoundIsShortest, HasEachStep, IsSearchedInOneWay, IsSomehowSearched, IsSomehowWritten, IsWrittenInOneWay, MeetsOnce, MeetsReachable, MeetsShortly, MissingIsNowhere, PartsAreFronts};
 
 use crate::machine::Machine;
 

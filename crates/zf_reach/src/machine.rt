@@ -1,12 +1,7 @@
 //! What is explored: a graph whose edges are searched for, node by node, what is sought in it, and the words in which it is written.
 ghost use Rattle.std.specs.Prelude.{◌≡◌, ◌<◌, ◌+◌, ◌-◌, ◌^◌, ◌++◌, ℕ, List, min, IfOk, OnOk};
-ghost use Rattle.zf_graph.specs.Explorations.{Explored, Turn};
-ghost use Rattle.zf_graph.specs.Graphs.{Graph};
-ghost use Rattle.zf_graph.specs.Laws.{IsOf, IsSure};
-ghost use Rattle.zf_graph.specs.Seeking.{Result, Sought};
-ghost use Rattle.zf_graph.specs.SeekingLaws.{IsDecisive};
-ghost use Rattle.zf_graph.specs.Texts.{Words};
-ghost use Rattle.zf_reach.specs.Machines.{AdvancesTo, BeginsAs, ending_of, HasFewer, IsSeenAs, result_of, UnlessOut};
+ghost use Rattle.zf_graph.specs.{Explored, Graph, IsDecisive, IsOf, IsSure, Result, Sought, Turn, Words};
+ghost use Rattle.zf_reach.specs.{AdvancesTo, BeginsAs, ending_of, HasFewer, IsSeenAs, result_of, UnlessOut};
 
 use crate::ending::Ending;
 use crate::finding::Finding;

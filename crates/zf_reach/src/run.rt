@@ -1,10 +1,8 @@
 //! Where an exploration stands.
 ghost use Rattle.std.specs.Prelude.{◌≡◌, ℕ, ◌<◌, ◌∷◌, ◌-◌, ◌++◌, [], IfOk, OnOk, cond, false, length, slice_get, Some, true};
 ghost use Rattle.indexmap.specs.IndexSet.{index_set_len};
-ghost use Rattle.zf_graph.specs.Explorations.{Turn, with_node};
-ghost use Rattle.zf_graph.specs.Texts.{edge_text};
-ghost use Rattle.zf_reach.specs.Machines.{BeginsAs, ending_of, UnlessOut};
-ghost use Rattle.zf_reach.specs.Runs.{edge, counted, cut, IsFull};
+ghost use Rattle.zf_graph.specs.{edge_text, Turn, with_node};
+ghost use Rattle.zf_reach.specs.{BeginsAs, counted, cut, edge, ending_of, IsFull, UnlessOut};
 
 use crate::ending::Ending;
 use crate::machine::{Beginning, Machine};

@@ -1,10 +1,8 @@
 //! Where a search for a node stands, and what an edge brings to it.
 ghost use Rattle.std.specs.Prelude.{◌≡◌, ◌<◌, ◌∷◌, [], IfOk, OnOk, slice_get, Some};
 ghost use Rattle.indexmap.specs.IndexSet.{index_set_len};
-ghost use Rattle.zf_graph.specs.Explorations.{Turn};
-ghost use Rattle.zf_reach.specs.Machines.{IsSeenAs};
-ghost use Rattle.zf_reach.specs.Runs.{counted};
-ghost use Rattle.zf_reach.specs.Searches.{Brings};
+ghost use Rattle.zf_graph.specs.{Turn};
+ghost use Rattle.zf_reach.specs.{Brings, counted, IsSeenAs};
 
 use crate::finding::Finding;
 use crate::machine::Machine;

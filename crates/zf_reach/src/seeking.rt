@@ -2,12 +2,9 @@
 ghost use Rattle.std.specs.Prelude.{◌≡◌, ◌<◌, ◌≤◌, ◌+◌, ℕ, List, IfOk, OnErr, OnOk};
 ghost use Rattle.indexmap.specs.IndexSet.{index_set_len};
 ghost use Rattle.std.specs.Io.KnownBytes.{Appends};
-ghost use Rattle.zf_graph.specs.Seeking.{IsSearched};
-ghost use Rattle.zf_lines.specs.Counts.{device_of, failures_of};
-ghost use Rattle.zf_lines.specs.Faults.{read_failures, write_failures};
-ghost use Rattle.zf_reach.specs.Machines.{result_of};
-ghost use Rattle.zf_reach.specs.Runs.{KeepsNodes, StopsSearch};
-ghost use Rattle.zf_reach.specs.Searches.{AtSearch, Concludes, InSearch, LeavesSearch};
+ghost use Rattle.zf_graph.specs.{IsSearched};
+ghost use Rattle.zf_lines.specs.{device_of, failures_of, read_failures, write_failures};
+ghost use Rattle.zf_reach.specs.{AtSearch, Concludes, InSearch, KeepsNodes, LeavesSearch, result_of, StopsSearch};
 
 use crate::finding::Finding;
 use crate::machine::{Beginning, Found, Machine};

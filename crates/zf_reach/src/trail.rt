@@ -1,6 +1,6 @@
 //! The way to a node that is found.
 ghost use Rattle.std.specs.Prelude.{◌≡◌, ◌+◌, ◌<◌, ◌≤◌, length, IfOk, OnOk};
-ghost use Rattle.zf_reach.specs.Searches.{IsChain, IsEarlier, SaysStep, SaysWay};
+ghost use Rattle.zf_reach.specs.{IsChain, IsEarlier, SaysStep, SaysWay};
 
 use crate::machine::Machine;
 use crate::search::Search;

@@ -1,9 +1,9 @@
 -- To number components anew is to rename them.
 use Rattle.std.proofs.Common.{◌≡◌, ℕ, ap, refl}
-use Rattle.zf_reference.specs.Numbering.{renumbered}
-use Rattle.zf_term.specs.ResolvedTrees.{ResolvedTree, reference, number, constant, empty_set, bracket, listed, builder, unary, binary, chain, quantified, ResolvedTrees, no_terms, term, ResolvedLinks, no_links, link, Ranges, no_ranges, range, ResolvedPart, absent, present}
-use Rattle.zf_term.specs.Shapes.{moved, all_moved, links_moved, ranges_moved, part_moved}
-use Rattle.zf_resolved.specs.Renamed.{renamed, all_renamed, links_renamed, ranges_renamed, part_renamed}
+use Rattle.zf_reference.specs.{renumbered}
+use Rattle.zf_term.specs.{absent, all_moved, binary, bracket, builder, chain, constant, empty_set, link, links_moved, listed, moved, no_links, no_ranges, no_terms, number, part_moved, present, quantified, range, Ranges, ranges_moved, reference, ResolvedLinks, ResolvedPart, ResolvedTree, term, unary}
+use Rattle.zf_term.specs.ResolvedTrees.{ResolvedTrees}
+use Rattle.zf_resolved.specs.{all_renamed, links_renamed, part_renamed, ranges_renamed, renamed}
 
 mutual
   pub of_term : (f : ℕ → ℕ) (t : ResolvedTree) → renamed (renumbered f) t ≡ moved f t

@@ -11,9 +11,8 @@ use Rattle.zf_term.specs.declared.resolved.Range.{Range}
 use Rattle.zf_term.specs.declared.resolved.Resolved.{Resolved}
 use Rattle.zf_term.specs.declared.resolved.Resolved.TheVariants as v
 use Rattle.zf_term.specs.declared.resolved.ResolvedLink.{ResolvedLink}
-use Rattle.zf_term.specs.ResolvedTrees.{binary, bracket, builder, chain, empty_set, listed, quantified, reference, ResolvedTree, unary}
-use Rattle.zf_term.specs.ResolvedViews.{terms, links, ranges, resolved_of, resolved_link_of, range_of, part_of}
-use Rattle.zf_resolved.specs.Renamed.{renamed, all_renamed, links_renamed, ranges_renamed, part_renamed, link_renamed, range_renamed}
+use Rattle.zf_term.specs.{binary, bracket, builder, chain, empty_set, links, listed, part_of, quantified, range_of, ranges, reference, resolved_link_of, resolved_of, ResolvedTree, terms, unary}
+use Rattle.zf_resolved.specs.{all_renamed, link_renamed, links_renamed, part_renamed, range_renamed, ranges_renamed, renamed}
 use Rattle.zf_term.proofs.ResolvedSeen.{of-Binary, of-Bracket, of-Builder, of-Chain, of-Constant, of-EmptySet, of-Listed, of-Name, of-Number, of-Quantified, of-Unary}
 
 pub all-terms : (f : Reference → Reference) (ts : List ResolvedTree) → all_renamed f (terms ts) ≡ terms (map (renamed f) ts)

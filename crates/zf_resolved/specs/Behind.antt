@@ -1,9 +1,7 @@
 -- Terms that are joined one after another. For private contracts alone.
 use Rattle.std.specs.Prelude.{ℕ, List, [], ◌∷◌, Option, None, Some}
 use Rattle.zf_tree.specs.declared.symbol.Constant.TheVariants.{True}
-use Rattle.zf_term.specs.Definitions.{both_hold}
-use Rattle.zf_term.specs.ResolvedTrees.{ResolvedTree, constant}
-use Rattle.zf_term.specs.ResolvedViews.{resolved_of}
+use Rattle.zf_term.specs.{both_hold, constant, resolved_of, ResolvedTree}
 use Rattle.zf_term.specs.declared.resolved.Resolved.{Resolved}
 
 abbrev pub tree_in : Option Resolved → Option ResolvedTree

@@ -1,15 +1,13 @@
 //! Conjuncts, by the places in their schema.
 ghost use Rattle.std.specs.Prelude.{◌≡◌, IfOk, map};
-ghost use Rattle.zf_data.specs.Chunks.{all_of};
+ghost use Rattle.zf_data.specs.{all_of};
 ghost use Rattle.zf_tree.specs.declared.operator.Operator.TheVariants as operator;
 ghost use Rattle.zf_tree.specs.declared.symbol.Connective.TheVariants as connective;
 ghost use Rattle.zf_term.specs.Definitions as spec;
-ghost use Rattle.zf_term.specs.SchemaViews.{batch_of, conjunct_of};
-ghost use Rattle.zf_term.specs.ResolvedTrees.{binary};
-ghost use Rattle.zf_term.specs.ResolvedViews.{resolved_of};
+ghost use Rattle.zf_term.specs.{batch_of, binary, conjunct_of, resolved_of};
 ghost use Rattle.zf_term.specs.Shapes as shape;
 ghost use Rattle.zf_term.specs.ShapeViews as shape_views;
-ghost use Rattle.zf_resolved.specs.Behind.{behind, onto, tree_in};
+ghost use Rattle.zf_resolved.specs.{behind, onto, tree_in};
 
 use crate::moving::{copy, moved};
 use bumpalo::Bump;

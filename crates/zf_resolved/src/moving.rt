@@ -1,6 +1,6 @@
 //! Copies of resolved terms, with their components numbered anew.
 ghost use Rattle.std.specs.Prelude.{◌≡◌, IfOk};
-ghost use Rattle.zf_term.specs.ResolvedViews.{resolved_of};
+ghost use Rattle.zf_term.specs.{resolved_of};
 ghost use Rattle.zf_term.specs.Shapes as spec;
 ghost use Rattle.zf_reference.specs.NumberingViews as numbers;
 

@@ -1,7 +1,7 @@
 //! Copies of resolved terms in which names become others.
 ghost use Rattle.std.specs.Prelude.{◌≡◌, IfOk, map};
 ghost use Rattle.zf_reference.specs.declared.reference.Reference.{Reference};
-ghost use Rattle.zf_term.specs.ResolvedViews.{resolved_of, resolved_link_of, range_of, part_of};
+ghost use Rattle.zf_term.specs.{part_of, range_of, resolved_link_of, resolved_of};
 ghost use Rattle.zf_resolved.specs.Renamed as spec;
 
 use bumpalo::Bump;

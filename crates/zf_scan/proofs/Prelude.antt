@@ -9,19 +9,11 @@ pub use Rattle.std.specs.Cmp.Lexicographic.{bytes_decides}
 pub use Rattle.std.specs.List.{fold, list_all, starts_with}
 pub use Rattle.std.specs.Prelude.{if◌then◌else◌, ◌&&◌, ◌==◌, ◌||◌, codes, nat_eq, nat_le, not}
 pub use Rattle.std.specs.Str.{bytes_eq}
-pub use Rattle.zf_scan.specs.Boxes.{Before, begins_box, BeginsBox, ends_box, EndsOnce, Follows, IsBox, IsBoxAtMost, IsCutOn, IsCutUpTo}
-pub use Rattle.zf_scan.specs.Choosing.{next_of}
-pub use Rattle.zf_scan.specs.Cuts.{Cuts, entered, Fails, reported_line, HasFault, IsCutInto, IsRead, IsStuck, spot_line, newlines, past, Spot, Stands, StandsInside, StandsOutside, start, tokens_from, tokens_of}
-pub use Rattle.zf_scan.specs.CutLaws.{FaultsOnce, IsCutOnce, IsCutOrFaults, IsNotBoth}
-pub use Rattle.zf_scan.specs.CutViews.{IsUncut, IsWantOfMemory}
-pub use Rattle.zf_scan.specs.Laying.{amount, AreWithin, IsLaid, spelling}
-pub use Rattle.zf_scan.specs.Pieces.{closing, comment, escape, fixed, informal, InsideKind, is_base, is_directive, is_letter, is_number, is_one, is_run, is_two, IsCommand, IsComment, look_up, name, number_piece, number_max, digits, opening, OutsideKind, remark, schema_opening, SpellsInside, SpellsOutside, turn, unknown, value}
+pub use Rattle.zf_scan.specs.{amount, AreWithin, base_len, Before, begins, begins_box, BeginsBox, between, command_len, comment, digits, ends_box, EndsOnce, entered, escape, Fails, FaultsOnce, fixed, Follows, Found, found, has_no_name, HasFault, informal, InsideKind, is_base, is_directive, is_letter, is_number, is_one, is_run, is_two, IsBox, IsBoxAtMost, IsCommand, IsComment, IsCutInto, IsCutOn, IsCutOnce, IsCutOrFaults, IsCutUpTo, IsLaid, IsNotBoth, IsRead, IsStuck, IsUncut, IsWantOfMemory, kind_of, long_len, look_up, name, name_of, newlines, next_of, number_max, number_piece, opening, or_else, OutsideKind, past, piece_of, plain, remark, reported_line, run_len, schema_opening, seen, spelling, SpellsInside, SpellsOutside, Spot, spot_line, Stands, StandsInside, StandsOutside, start, step_len, strokes_len, symbol_at, symbol_len, tail_len, token_at, tokens_from, tokens_of, told, turn, unknown, unplaced, value, word_len}
+pub use Rattle.zf_scan.specs.Cuts.{Cuts}
+pub use Rattle.zf_scan.specs.Pieces.{closing}
 pub use Rattle.std.specs.Char.{is_ascii_digit}
-unfoldable pub use Rattle.zf_scan.specs.Pieces.{openings, symbols}
-pub use Rattle.zf_scan.specs.Placing.{between, symbol_at, token_at, unplaced}
-pub use Rattle.zf_scan.specs.Sights.{kind_of, piece_of, seen, told}
-pub use Rattle.zf_scan.specs.Steps.{base_len, begins, command_len, Found, found, has_no_name, long_len, name_of, or_else, plain, run_len, step_len, strokes_len, symbol_len, tail_len, word_len}
-unfoldable pub use Rattle.zf_scan.specs.Steps.{command_found, comment_found, found_at, inside_found, number_found, opening_found, other_opening_found, outside_found, schema_found, short_command, symbol_found, word_found}
+unfoldable pub use Rattle.zf_scan.specs.{command_found, comment_found, found_at, inside_found, number_found, opening_found, openings, other_opening_found, outside_found, schema_found, short_command, symbol_found, symbols, word_found}
 pub use Rattle.zf_scan.specs.declared.fault.TextFault.{TextFault}
 pub use Rattle.zf_scan.specs.declared.fault.TextFaultKind.{TextFaultKind}
 pub use Rattle.zf_scan.specs.declared.fault.TextFaultKind.TheVariants.{BadByte, NotInProfile, TooLong, UnclosedBox}

@@ -2,8 +2,7 @@
 #![tactic(auto, unfolding(crate::specs::Pieces::symbols))]
 
 ghost use Rattle.std.specs.Prelude.{◌≡◌, ◌∷◌};
-ghost use Rattle.zf_scan.specs.Pieces.{look_up, symbols};
-ghost use Rattle.zf_scan.specs.Sights.{seen};
+ghost use Rattle.zf_scan.specs.{look_up, seen, symbols};
 
 use crate::fault::TextFaultKind;
 use crate::next::Next;

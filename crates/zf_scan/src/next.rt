@@ -1,9 +1,8 @@
 //! What comes next, for the rules of the grammar to choose by.
 ghost use Rattle.std.specs.Prelude.{◌≡◌, ℕ, List};
-ghost use Rattle.zf_scan.specs.Boxes.{ends_box};
+ghost use Rattle.zf_scan.specs.{ends_box, kind_of};
 ghost use Rattle.zf_scan.specs.Choosing as spec;
 ghost use Rattle.zf_scan.specs.Separators as separators;
-ghost use Rattle.zf_scan.specs.Sights.{kind_of};
 
 use crate::token::{Kind, Separator};
 use zf_tree::symbol::{Arrow, Connective, Constant, Infix, Prefix, Quantifier, Relation};

@@ -1,6 +1,6 @@
 //! The piece that begins a text outside the boxes.
 ghost use Rattle.std.specs.Prelude.{◌≡◌, ◌≤◌, length};
-ghost use Rattle.zf_scan.specs.Sights.{told};
+ghost use Rattle.zf_scan.specs.{told};
 ghost use Rattle.zf_scan.specs.Steps as steps;
 
 use crate::fault::TextFaultKind;

@@ -1,7 +1,7 @@
 //! Symbols with their places in a text, which keeps the names.
 ghost use Rattle.std.specs.Prelude.{◌≡◌, IfOk, take, drop};
 ghost use Rattle.zf_scan.specs.Placing as spec;
-ghost use Rattle.zf_scan.specs.Sights.{kind_of, opening_len};
+ghost use Rattle.zf_scan.specs.{kind_of, opening_len};
 ghost use Rattle.zf_scan.specs.declared.next.Next.TheVariants as next;
 ghost use Rattle.zf_scan.specs.declared.token.Separator.TheVariants.{Semicolon};
 

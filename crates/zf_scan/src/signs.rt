@@ -1,6 +1,6 @@
 //! The symbols of a box that are neither words, numbers nor commands.
 ghost use Rattle.std.specs.Prelude.{◌≡◌, ◌<◌, ◌≤◌, ℕ, List, ◌∷◌, length};
-ghost use Rattle.zf_scan.specs.Sights.{told};
+ghost use Rattle.zf_scan.specs.{told};
 ghost use Rattle.zf_scan.specs.Steps as steps;
 
 use crate::fault::TextFaultKind;

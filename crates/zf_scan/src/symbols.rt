@@ -3,8 +3,7 @@
 
 ghost use Rattle.std.specs.Prelude.{◌≡◌, ◌∷◌, if◌then◌else◌, Some, None};
 ghost use Rattle.std.specs.Str.{bytes_eq};
-ghost use Rattle.zf_scan.specs.Pieces.{look_up, symbols};
-ghost use Rattle.zf_scan.specs.Sights.{seen};
+ghost use Rattle.zf_scan.specs.{look_up, seen, symbols};
 
 use crate::commands as by_letter;
 use crate::fault::TextFaultKind;

@@ -4,7 +4,7 @@ use Rattle.zf_tree.specs.declared.operator.Need.TheVariants as need
 use Rattle.zf_tree.specs.declared.tree.RefMark.{RefMark}
 use Rattle.zf_tree.specs.declared.tree.RefMark.TheVariants.{Plain, Delta, Xi}
 use Rattle.zf_term.specs.declared.fault.Limit.TheVariants as limit
-use Rattle.zf_calculus.specs.Calculus.{comp, schema_with, empty_schema, Agrees, Agree, HasTypeOf, comp_named, with_comp, conjoined, decorated, marked, MarkAgrees, disjoined, prime}
+use Rattle.zf_calculus.specs.{Agree, Agrees, comp, comp_named, conjoined, decorated, disjoined, empty_schema, HasTypeOf, MarkAgrees, marked, prime, schema_with, with_comp}
 use Rattle.zf_schema.proofs.Once.{taken_comps}
 use Rattle.zf_schema.proofs.Texts.{same_judged}
 use Rattle.zf_schema.proofs.OneSchema.{one_base, one_reference, one_added, one_declaration, all_declared, one_constraint, one_schema}

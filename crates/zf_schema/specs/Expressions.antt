@@ -2,19 +2,11 @@
 use Rattle.std.specs.Prelude.{◌≡◌, ℕ, List, [], ◌∷◌, ◌++◌, Some}
 use Rattle.zf_tree.specs.declared.tree.Name.{Name}
 use Rattle.zf_tree.specs.declared.tree.SchemaRef.{SchemaRef}
-use Rattle.zf_tree.specs.Trees.{Tree, DeclTree, vars, include, SchemaTree, schema_text, schema_reference, both, either, schema_bracket}
-use Rattle.zf_term.specs.FirstNamed.{first_named}
-use Rattle.zf_term.specs.Definitions.{Schema, DeclaredSet, plain, Defined, schema}
-use Rattle.zf_term.specs.ResolvedTrees.{ResolvedTree}
-use Rattle.zf_term.specs.Shapes.{conjuncts}
-use Rattle.zf_term.specs.Types.{Ty}
-use Rattle.zf_typing.specs.Resolving.{resolved}
-use Rattle.zf_sorts.specs.Rules.{set_sort, predicate}
-use Rattle.zf_typing.specs.Scopes.{Scope}
-use Rattle.zf_tree.specs.Names.{spelling}
-use Rattle.zf_typing.specs.Typing.{IsOf}
-use Rattle.zf_calculus.specs.Calculus.{comp, schema_with, empty_schema, Agree, conjoined, decorated, marked, MarkAgrees, disjoined}
-use Rattle.zf_calculus.specs.Steps.{IsNext, Adds, Includes}
+use Rattle.zf_tree.specs.{both, DeclTree, either, include, schema_bracket, schema_reference, schema_text, SchemaTree, spelling, Tree, vars}
+use Rattle.zf_term.specs.{conjuncts, DeclaredSet, Defined, first_named, plain, ResolvedTree, Schema, schema, Ty}
+use Rattle.zf_typing.specs.{IsOf, resolved, Scope}
+use Rattle.zf_sorts.specs.{predicate, set_sort}
+use Rattle.zf_calculus.specs.{Adds, Agree, comp, conjoined, decorated, disjoined, empty_schema, Includes, IsNext, MarkAgrees, marked, schema_with}
 
 -- what is in scope in a declared set: the globals
 abbrev pub outside : List Defined → Scope

@@ -3,15 +3,11 @@ use Rattle.std.specs.Prelude.{◌≡◌, ℕ, List, [], ◌∷◌, ◌++◌, map
 use Rattle.std.specs.List.{AllByRecursion}
 use Rattle.zf_tree.specs.declared.symbol.Relation.TheVariants.{Equal}
 use Rattle.zf_tree.specs.declared.tree.RefMark.TheVariants.{Xi}
-use Rattle.zf_tree.specs.Trees.{SchemaTree, BoxTree, ParagraphTree, given, free}
+use Rattle.zf_tree.specs.{BoxTree, free, given, ParagraphTree, SchemaTree}
 use Rattle.zf_reference.specs.declared.reference.Reference.TheVariants.{Component}
-use Rattle.zf_term.specs.Definitions.{Comp, Schema, DeclaredSet, sides, sets_of, Defined, Definition, given_set, free_type, constructor, abbreviation, schema}
-use Rattle.zf_term.specs.ResolvedTrees.{reference, chain, no_links, link}
+use Rattle.zf_term.specs.{abbreviation, chain, Comp, constructor, DeclaredSet, Defined, Definition, Fault, free_type, given_set, link, no_links, Offence, reference, Schema, schema, sets_of, sides, Ty}
 use Rattle.std.specs.Option.{option_or}
-use Rattle.zf_term.specs.Types.{Ty}
-use Rattle.zf_term.specs.Faults.{Offence, Fault}
-use Rattle.zf_calculus.specs.CalculusLaws.{EachOnce, AreOnce}
-use Rattle.zf_calculus.specs.Calculus.{comp, comp_named, Agree, with_comps, new_place, conjoined, decorated, prime, delta, all_unchanged, xi, MarkAgrees, sets_on, disjoined}
+use Rattle.zf_calculus.specs.{Agree, all_unchanged, AreOnce, comp, comp_named, conjoined, decorated, delta, disjoined, EachOnce, MarkAgrees, new_place, prime, sets_on, with_comps, xi}
 use Rattle.zf_schema.specs.Checking.{Item, Defines, OffendsItem, IsChecked}
 use Rattle.zf_schema.specs.Expressions.{IsSchema}
 use Rattle.zf_schema.specs.SchemaOffences.{OffendsSchema}

@@ -2,23 +2,13 @@
 use Rattle.std.specs.Prelude.{◌≡◌, ◌⊎◌, ℕ, List, [], ◌∷◌, ◌++◌, None, Some}
 use Rattle.zf_tree.specs.declared.tree.Name.{Name}
 use Rattle.zf_tree.specs.declared.tree.SchemaRef.{SchemaRef}
-use Rattle.zf_tree.specs.Trees.{Tree, DeclTree, vars, include, SchemaTree, schema_text, schema_reference, both, either, schema_bracket}
-use Rattle.zf_term.specs.FirstNamed.{first_named}
+use Rattle.zf_tree.specs.{both, DeclTree, either, include, schema_bracket, schema_reference, schema_text, SchemaTree, spelling, Tree, vars}
+use Rattle.zf_term.specs.{conjuncts, DeclaredSet, Defined, Definition, first_named, IsTooLarge, not_a_schema, not_declared, Offence, plain, ResolvedTree, Schema, schema, term_line, Ty}
 use Rattle.zf_tree.specs.declared.operator.Need.TheVariants as need
-use Rattle.zf_term.specs.Definitions.{Schema, DeclaredSet, plain, Defined, Definition, schema}
-use Rattle.zf_term.specs.ResolvedTrees.{ResolvedTree}
-use Rattle.zf_term.specs.Shapes.{term_line, conjuncts}
-use Rattle.zf_term.specs.Types.{Ty}
-use Rattle.zf_term.specs.Faults.{Offence, not_declared, not_a_schema}
-use Rattle.zf_typing.specs.Offences.{Offends}
-use Rattle.zf_typing.specs.Resolving.{resolved}
-use Rattle.zf_sorts.specs.Rules.{set_sort, predicate}
-use Rattle.zf_tree.specs.Names.{spelling}
-use Rattle.zf_typing.specs.Typing.{IsOf}
-use Rattle.zf_calculus.specs.Calculus.{comp, schema_with, empty_schema, Agrees, Agree, with_comp, conjoined, decorated, marked, MarkAgrees, disjoined}
+use Rattle.zf_typing.specs.{IsOf, Offends, resolved}
+use Rattle.zf_sorts.specs.{predicate, set_sort}
+use Rattle.zf_calculus.specs.{Adds, Agree, Agrees, Clashes, comp, conjoined, decorated, disjoined, empty_schema, IsNext, MarkAgrees, MarkClashes, marked, OneClashes, schema_with, Stops, with_comp}
 use Rattle.zf_schema.specs.Expressions.{outside, inside, Refers, DeclaresOne, Declares, ConstrainsOne, IsSchema}
-use Rattle.zf_calculus.specs.Steps.{IsNext, Adds, Clashes, OneClashes, MarkClashes, Stops}
-use Rattle.zf_term.specs.Limits.{IsTooLarge}
 
 -- it holds of one of them
 abbrev pub AnyByRecursion : {A : Type 0} → (A → Type 0) → List A → Type 0

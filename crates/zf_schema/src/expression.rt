@@ -1,17 +1,12 @@
 //! The schemas that schema expressions are.
 ghost use Rattle.std.specs.Prelude.{◌≡◌, IfErr, IfOk, map};
 ghost use Rattle.zf_tree.specs.TreeViews as tree;
-ghost use Rattle.zf_tree.specs.TreeViews.{decl_of};
-ghost use Rattle.zf_term.specs.DefinitionViews.{globals_of};
-ghost use Rattle.zf_term.specs.SchemaViews.{schema_of};
-ghost use Rattle.zf_sorts.specs.Refusals.{IfFault};
-ghost use Rattle.zf_calculus.specs.Calculus.{Agree, conjoined, disjoined};
-ghost use Rattle.zf_schema.specs.Expressions.{IsSchema};
-ghost use Rattle.zf_calculus.specs.Steps.{IsNext, OneClashes};
-ghost use Rattle.zf_calculus.specs.Growth.{IsGrowing};
-ghost use Rattle.zf_schema.specs.Refusing.{CantConjoin};
+ghost use Rattle.zf_tree.specs.{decl_of};
+ghost use Rattle.zf_term.specs.{globals_of, schema_of};
+ghost use Rattle.zf_sorts.specs.{IfFault};
+ghost use Rattle.zf_calculus.specs.{Agree, conjoined, disjoined, IsGrowing, IsNext, OneClashes};
+ghost use Rattle.zf_schema.specs.{CantConjoin, IsSchema, OffendsSchema, StopsEither};
 ghost use Rattle.zf_schema.specs.SchemaOffences as spec;
-ghost use Rattle.zf_schema.specs.SchemaOffences.{OffendsSchema, StopsEither};
 
 use crate::reference::referred;
 use crate::stop::{either_line, refusal};

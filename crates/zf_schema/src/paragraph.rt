@@ -1,22 +1,14 @@
 //! What a paragraph or box adds to the globals.
 ghost use Rattle.std.specs.Prelude.{◌≡◌, ◌<◌, ◌^◌, map, length, take, IfOk, IfErr, OnOk, OnErr};
-ghost use Rattle.zf_tree.specs.TreeViews.{paragraph_of, schema_tree_of, decl_of, tree_of};
+ghost use Rattle.zf_tree.specs.{decl_of, paragraph_of, schema_tree_of, spelling, tree_of};
 ghost use Rattle.zf_tree.specs.Trees as text;
 ghost use Rattle.zf_tree.specs.TreeViews as text_views;
 ghost use Rattle.zf_tree.specs.declared.operator.Need.TheVariants as need;
-ghost use Rattle.zf_term.specs.DefinitionViews.{definition_of, globals_of};
-ghost use Rattle.zf_term.specs.Numbers.{next_number};
-ghost use Rattle.zf_term.specs.Types.{Ty};
-ghost use Rattle.zf_typing.specs.Offences.{Offends};
-ghost use Rattle.zf_typing.specs.Resolving.{resolved};
-ghost use Rattle.zf_sorts.specs.Rules.{typed};
-ghost use Rattle.zf_typing.specs.Typing.{IsOf};
-ghost use Rattle.zf_schema.specs.Expressions.{outside};
-ghost use Rattle.zf_sorts.specs.Refusals.{IfFault};
-ghost use Rattle.zf_tree.specs.Names.{spelling};
+ghost use Rattle.zf_term.specs.{definition_of, globals_of, next_number, Ty};
+ghost use Rattle.zf_typing.specs.{IsOf, Offends, resolved};
+ghost use Rattle.zf_sorts.specs.{IfFault, typed};
+ghost use Rattle.zf_schema.specs.{a_box, abbreviated, Constructs, Defines, DefinesParagraph, elements, Gives, IsNew, IsTaken, OffendsConstructors, OffendsGiven, OffendsItem, OffendsParagraph, outside, with_global};
 ghost use Rattle.zf_schema.specs.Checking as spec;
-ghost use Rattle.zf_schema.specs.SchemaLaws.{elements};
-ghost use Rattle.zf_schema.specs.Checking.{IsNew, with_global, abbreviated, Gives, Constructs, DefinesParagraph, Defines, a_box, IsTaken, OffendsGiven, OffendsConstructors, OffendsParagraph, OffendsItem};
 
 use crate::expression::schema_of_expression;
 use crate::text::{scope_over, text_of};

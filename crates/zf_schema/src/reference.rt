@@ -1,14 +1,9 @@
 //! References to schemas.
 ghost use Rattle.std.specs.Prelude.{◌≡◌, ◌⊎◌, ℕ, IfErr, IfOk, MatchOption, Some, None};
-ghost use Rattle.zf_term.specs.Definitions.{Defined, schema};
-ghost use Rattle.zf_term.specs.DefinitionViews.{definition_of, globals_of};
-ghost use Rattle.zf_term.specs.SchemaViews.{schema_of};
-ghost use Rattle.zf_term.specs.FirstNamed.{first_named};
-ghost use Rattle.zf_sorts.specs.Refusals.{IfFault, offence_of};
-ghost use Rattle.zf_schema.specs.Expressions.{Refers};
-ghost use Rattle.zf_calculus.specs.Growth.{IsGrowing};
-ghost use Rattle.zf_schema.specs.Refusing.{IsNamed, LacksSchema};
-ghost use Rattle.zf_schema.specs.SchemaOffences.{IsNoSchema, OffendsRef};
+ghost use Rattle.zf_term.specs.{Defined, definition_of, first_named, globals_of, schema, schema_of};
+ghost use Rattle.zf_sorts.specs.{IfFault, offence_of};
+ghost use Rattle.zf_schema.specs.{IsNamed, IsNoSchema, LacksSchema, OffendsRef, Refers};
+ghost use Rattle.zf_calculus.specs.{IsGrowing};
 
 use crate::stop::refusal;
 use bumpalo::Bump;

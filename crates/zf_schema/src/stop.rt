@@ -1,7 +1,7 @@
 //! The refusal of a step that stops.
 ghost use Rattle.std.specs.Prelude.{◌≡◌};
 ghost use Rattle.zf_schema.specs.Refusing as spec;
-ghost use Rattle.zf_schema.specs.Refusing.{Refuses};
+ghost use Rattle.zf_schema.specs.{Refuses};
 
 use bumpalo::Bump;
 use zf_calculus::stop::Stop;

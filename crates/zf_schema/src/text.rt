@@ -1,26 +1,13 @@
 //! The schemas of boxes and of horizontal texts: declarations, and predicates over them.
 ghost use Rattle.std.specs.Prelude.{◌≡◌, ◌∷◌, [], IfErr, IfOk, OnOk, map};
-ghost use Rattle.zf_tree.specs.TreeViews.{decl_of, tree_of};
-ghost use Rattle.zf_tree.specs.Trees.{include, vars};
-ghost use Rattle.zf_term.specs.SchemaViews.{comp_of, schema_of};
-ghost use Rattle.zf_term.specs.DefinitionViews.{globals_of};
-ghost use Rattle.zf_term.specs.Definitions.{plain};
-ghost use Rattle.zf_term.specs.ResolvedViews.{resolved_of};
-ghost use Rattle.zf_term.specs.TypeViews.{type_of};
+ghost use Rattle.zf_tree.specs.{decl_of, include, spelling, tree_of, vars};
+ghost use Rattle.zf_term.specs.{comp_of, globals_of, plain, resolved_of, schema_of, type_of};
 ghost use Rattle.zf_tree.specs.declared.operator.Need.TheVariants as needs;
-ghost use Rattle.zf_typing.specs.Offences.{Offends};
-ghost use Rattle.zf_sorts.specs.Refusals.{IfFault};
-ghost use Rattle.zf_typing.specs.Resolving.{resolved};
+ghost use Rattle.zf_typing.specs.{IsOf, Offends, resolved, scope_of};
+ghost use Rattle.zf_sorts.specs.{IfFault};
 ghost use Rattle.zf_sorts.specs.Rules as rules;
-ghost use Rattle.zf_typing.specs.ScopeViews.{scope_of};
-ghost use Rattle.zf_tree.specs.Names.{spelling};
-ghost use Rattle.zf_typing.specs.Typing.{IsOf};
-ghost use Rattle.zf_calculus.specs.Calculus.{comp};
-ghost use Rattle.zf_schema.specs.Expressions.{AddsAll, ConstrainsOne, Constrains, Declares, DeclaresOne, IsText, TakesAll};
-ghost use Rattle.zf_calculus.specs.Steps.{Adds, IsNext};
-ghost use Rattle.zf_calculus.specs.Growth.{IsGrowing, constrained};
-ghost use Rattle.zf_schema.specs.Refusing.{CantAdd, CantConstrain, CantDeclare, CantTake, over};
-ghost use Rattle.zf_schema.specs.SchemaOffences.{OffendsConjuncts, OffendsDecls, OffendsNames, OffendsPredicates, OffendsText};
+ghost use Rattle.zf_calculus.specs.{Adds, comp, constrained, IsGrowing, IsNext};
+ghost use Rattle.zf_schema.specs.{AddsAll, CantAdd, CantConstrain, CantDeclare, CantTake, Constrains, ConstrainsOne, Declares, DeclaresOne, IsText, OffendsConjuncts, OffendsDecls, OffendsNames, OffendsPredicates, OffendsText, over, TakesAll};
 ghost use Rattle.zf_term.specs.Shapes as shape;
 
 use crate::reference::referred;

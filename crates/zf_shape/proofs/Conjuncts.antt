@@ -3,7 +3,7 @@ use Rattle.zf_shape.proofs.Prelude.{◌+◌, ◌-◌, ◌<◌, ◌↔◌, ◌∙
 use Rattle.zf_term.proofs.ConjunctsSeen.{of-Either, of-Member, of-Term}
 use Rattle.zf_term.proofs.Renumbered.{same_height, same_nodes}
 use Rattle.zf_term.specs.declared.conjunct.Conjunct.TheVariants as v
-use Rattle.zf_shape.specs.Joined.{AreLow}
+use Rattle.zf_shape.specs.{AreLow}
 use Rattle.zf_shape.proofs.Heights.{below_nodes, some_height}
 use Rattle.zf_shape.proofs.Joined.{all_in, as_high, low_joined}
 

@@ -1,7 +1,6 @@
 -- How high terms are that are joined. For private contracts alone.
 use Rattle.std.specs.Prelude.{ℕ, ◌+◌, ◌-◌, ◌≤◌, min, List, [], ◌∷◌}
-use Rattle.zf_term.specs.ResolvedTrees.{ResolvedTree}
-use Rattle.zf_term.specs.Shapes.{height}
+use Rattle.zf_term.specs.{height, ResolvedTree}
 
 -- none of the terms is too high, where each stands as much deeper as terms are ahead, itself among them, and at most so deep
 abbrev pub AreLow : (highest deepest ahead : ℕ) → List ResolvedTree → Type 0

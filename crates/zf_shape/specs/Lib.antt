@@ -1,1 +1,3 @@
 pub mod Joined
+
+pub use Rattle.zf_shape.specs.Joined.{AreLow}

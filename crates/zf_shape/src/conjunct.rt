@@ -1,12 +1,9 @@
 //! The nodes and the height of conjuncts.
 ghost use Rattle.std.specs.Prelude.{◌≡◌, ◌+◌, ◌<◌, ◌≤◌, ◌↔◌, IsTrue, MatchOption, length, map};
-ghost use Rattle.zf_data.specs.Chunks.{all_of};
-ghost use Rattle.zf_shape.specs.Joined.{AreLow};
-ghost use Rattle.zf_term.specs.SchemaViews.{batch_of, conjunct_of};
-ghost use Rattle.zf_term.specs.Definitions.{joined};
-ghost use Rattle.zf_term.specs.ResolvedViews.{terms};
+ghost use Rattle.zf_data.specs.{all_of};
+ghost use Rattle.zf_shape.specs.{AreLow};
+ghost use Rattle.zf_term.specs.{all_nodes, batch_of, conjunct_of, joined, terms};
 ghost use Rattle.zf_term.specs.Shapes as spec;
-ghost use Rattle.zf_term.specs.ShapeViews.{all_nodes};
 
 use crate::terms;
 use zf_data::arena::Items;

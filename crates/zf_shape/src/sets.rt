@@ -1,8 +1,6 @@
 //! How many declared sets there are, and the nodes in them.
 ghost use Rattle.std.specs.Prelude.{◌≡◌, ◌+◌, ◌<◌, MatchOption, map};
-ghost use Rattle.zf_term.specs.SchemaViews.{set_of};
-ghost use Rattle.zf_term.specs.SetShapes.{set_count, set_nodes};
-ghost use Rattle.zf_term.specs.SetShapeViews.{all_set_counts, all_set_nodes};
+ghost use Rattle.zf_term.specs.{all_set_counts, all_set_nodes, set_count, set_nodes, set_of};
 
 use crate::terms;
 use zf_data::arena::Items;

@@ -1,8 +1,7 @@
 //! The nodes and the height of resolved terms.
 ghost use Rattle.std.specs.Prelude.{◌≡◌, ◌+◌, ◌<◌, ◌≤◌, ◌↔◌, IsTrue, MatchOption, map};
-ghost use Rattle.zf_term.specs.ResolvedViews.{resolved_of, resolved_link_of, range_of, terms, links, ranges, part_of};
+ghost use Rattle.zf_term.specs.{all_nodes, link_nodes, links, part_height, part_nodes, part_of, range_nodes, range_of, ranges, resolved_link_of, resolved_of, tallest, tallest_link, tallest_range, terms};
 ghost use Rattle.zf_term.specs.Shapes as spec;
-ghost use Rattle.zf_term.specs.ShapeViews.{all_nodes, link_nodes, part_height, part_nodes, range_nodes, tallest, tallest_link, tallest_range};
 
 use zf_data::arena::{Boxed, Items};
 use zf_term::resolved::{Links, Part, Range, Resolved, ResolvedLink, Terms};

@@ -2,8 +2,7 @@
 pub use Rattle.std.proofs.Common.{◌∙◌, ◌≡◌, ◌⊎◌, None, Option, Some, subst, sym, ⊎_elim}
 pub use Rattle.std.proofs.lemmas.Result.{IfOk-weaker}
 pub use Rattle.std.specs.Prelude.{MatchOption}
-pub use Rattle.zf_tree.specs.Operators.{left_need}
+pub use Rattle.zf_tree.specs.{left_need}
 pub use Rattle.zf_tree.specs.declared.operator.Rule.{Rule}
-pub use Rattle.zf_sorts.specs.Rules.{Meets, predicate, Sort}
-pub use Rattle.zf_sorts.specs.RuleViews.{sort_of}
-unfoldable pub use Rattle.zf_sorts.specs.RuleViews.{IsMade}
+pub use Rattle.zf_sorts.specs.{Meets, predicate, Sort, sort_of}
+unfoldable pub use Rattle.zf_sorts.specs.{IsMade}

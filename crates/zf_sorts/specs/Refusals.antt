@@ -1,7 +1,6 @@
 -- What a refusal says, and the program's faults as plain data.
 use Rattle.std.specs.Prelude.{◌≡◌, ℕ}
-use Rattle.zf_term.specs.Faults.{Offence, Fault, not_declared, already_defined, not_a_schema, local_twice, mismatch, unfit, no_members, misplaced, clash, too_large}
-use Rattle.zf_term.specs.TypeViews.{type_of}
+use Rattle.zf_term.specs.{already_defined, clash, Fault, local_twice, mismatch, misplaced, no_members, not_a_schema, not_declared, Offence, too_large, type_of, unfit}
 use Rattle.zf_sorts.specs.declared.fault.Offence as program
 use Rattle.zf_sorts.specs.declared.fault.Offence.TheVariants as variant
 use Rattle.zf_sorts.specs.declared.fault.TypeFault.{TypeFault}

@@ -1,9 +1,8 @@
 -- The program's sorts as those of `Faults`, and what its rules make of operands.
 use Rattle.std.specs.Prelude.{Option, Some, None}
-use Rattle.zf_term.specs.TypeViews.{type_of}
+use Rattle.zf_term.specs.{a_schema, predicate, Sort, type_of, typed}
 use Rattle.zf_tree.specs.declared.operator.Rule.{Rule}
 use Rattle.zf_tree.specs.declared.operator.Unary.{Unary}
-use Rattle.zf_term.specs.Faults.{Sort, typed, predicate, a_schema}
 use Rattle.zf_sorts.specs.declared.sort.Sort as program
 use Rattle.zf_sorts.specs.declared.sort.Sort.TheVariants.{Typed}
 use Rattle.zf_sorts.specs.Rules.{Takes, UnaryTakes}

@@ -6,15 +6,14 @@ use Rattle.zf_tree.specs.declared.symbol.Prefix.{Prefix}
 use Rattle.zf_tree.specs.declared.symbol.Prefix.TheVariants.{Power, Finset, Domain, Range, Size}
 use Rattle.zf_tree.specs.declared.operator.Sign.{Sign}
 use Rattle.zf_tree.specs.declared.operator.Sign.TheVariants as sign
-use Rattle.zf_term.specs.Types.{Ty, int, power, pair_type, IsSmall}
+use Rattle.zf_term.specs.{int, IsSmall, mismatch, Offence, pair_type, power, Ty, unfit}
 use Rattle.zf_tree.specs.declared.operator.Need.{Need}
 use Rattle.zf_tree.specs.declared.operator.Need.TheVariants as need
 use Rattle.zf_tree.specs.declared.operator.Rule.{Rule}
 use Rattle.zf_tree.specs.declared.operator.Rule.TheVariants as rule
 use Rattle.zf_tree.specs.declared.operator.Unary.{Unary}
 use Rattle.zf_tree.specs.declared.operator.Unary.TheVariants as unary
-use Rattle.zf_term.specs.Faults.{Offence, mismatch, unfit}
-pub use Rattle.zf_term.specs.Faults.{Sort, typed, predicate, a_schema}
+pub use Rattle.zf_term.specs.{a_schema, predicate, Sort, typed}
 
 abbrev pub number_sort : Sort
 number_sort = typed int

@@ -1,13 +1,10 @@
 //! What is wrong with two operands that a rule doesn't take together.
 ghost use Rattle.std.specs.Prelude.{◌≡◌, IfOk};
 ghost use Rattle.zf_term.specs.Faults as faults;
-ghost use Rattle.zf_term.specs.Types.{power};
-ghost use Rattle.zf_term.specs.TypeViews.{type_of};
-ghost use Rattle.zf_tree.specs.Operators.{left_need, right_need};
+ghost use Rattle.zf_term.specs.{power, type_of};
+ghost use Rattle.zf_tree.specs.{left_need, right_need};
 ghost use Rattle.zf_tree.specs.declared.operator.Rule.TheVariants as rule;
-ghost use Rattle.zf_sorts.specs.Rules.{Disagreement, Meets};
-ghost use Rattle.zf_sorts.specs.Refusals.{IfFault, offence_of};
-ghost use Rattle.zf_sorts.specs.RuleViews.{sort_of};
+ghost use Rattle.zf_sorts.specs.{Disagreement, IfFault, Meets, offence_of, sort_of};
 
 use crate::fault::{Offence, Refusal, refused};
 use crate::sort::Sort;

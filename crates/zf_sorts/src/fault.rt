@@ -1,8 +1,7 @@
 //! Faults of types.
 ghost use Rattle.std.specs.Prelude.{◌≡◌, IfOk};
-ghost use Rattle.zf_term.specs.Faults.{kind_of, misplaced};
-ghost use Rattle.zf_sorts.specs.Refusals.{IsRefusal, fault_of, offence_of};
-ghost use Rattle.zf_sorts.specs.RuleViews.{sort_of};
+ghost use Rattle.zf_term.specs.{kind_of, misplaced};
+ghost use Rattle.zf_sorts.specs.{fault_of, IsRefusal, offence_of, sort_of};
 
 use crate::sort::Sort;
 use bumpalo::Bump;

@@ -1,6 +1,6 @@
 //! What is reported beside a fault: the term that it is about, or a name that may be meant.
 ghost use Rattle.std.specs.Prelude.{◌≡◌, IfOk};
-ghost use Rattle.zf_sorts.specs.Refusals.{IsRefusal, IsStill, offence_of};
+ghost use Rattle.zf_sorts.specs.{IsRefusal, IsStill, offence_of};
 
 use crate::fault::{Hint, Offence, QuotedTerm, Refusal, TypeFault, fault};
 use bumpalo::Bump;

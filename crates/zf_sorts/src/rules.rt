@@ -2,14 +2,12 @@
 ghost use Rattle.std.specs.Prelude.{◌≡◌, ◌↔◌, IsTrue, IfOk, MatchOption};
 ghost use Rattle.zf_tree.specs.declared.symbol.Prefix.TheVariants as prefix;
 ghost use Rattle.zf_tree.specs.declared.operator.Sign.TheVariants as sign;
-ghost use Rattle.zf_tree.specs.Operators.{left_need};
+ghost use Rattle.zf_tree.specs.{left_need};
 ghost use Rattle.zf_tree.specs.declared.operator.Rule.TheVariants as rule;
 ghost use Rattle.zf_tree.specs.declared.operator.Unary.TheVariants as unary;
-ghost use Rattle.zf_term.specs.Types.{int};
-ghost use Rattle.zf_term.specs.TypeViews.{type_of};
+ghost use Rattle.zf_term.specs.{int, type_of};
 ghost use Rattle.zf_sorts.specs.Rules as spec;
-ghost use Rattle.zf_sorts.specs.RuleViews.{IsMade, IsMadeOfOne, sort_of};
-ghost use Rattle.zf_sorts.specs.Rules.{Meets, predicate, relation_sort, set_sort};
+ghost use Rattle.zf_sorts.specs.{IsMade, IsMadeOfOne, Meets, predicate, relation_sort, set_sort, sort_of};
 
 use crate::sort::Sort;
 use bumpalo::Bump;

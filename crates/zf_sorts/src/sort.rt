@@ -1,10 +1,7 @@
 //! What a term can be.
 ghost use Rattle.std.specs.Prelude.{◌≡◌, ◌↔◌, IsTrue, IfOk, MatchOption};
-ghost use Rattle.zf_term.specs.Types.{Ty};
-ghost use Rattle.zf_term.specs.TypeViews.{type_of};
-ghost use Rattle.zf_term.specs.Faults.{lack, lack_of, untyped_lack, typed};
-ghost use Rattle.zf_sorts.specs.Rules.{IsSmallSort, Meets, relation_sort, set_sort};
-ghost use Rattle.zf_sorts.specs.RuleViews.{sort_of};
+ghost use Rattle.zf_term.specs.{lack, lack_of, Ty, type_of, typed, untyped_lack};
+ghost use Rattle.zf_sorts.specs.{IsSmallSort, Meets, relation_sort, set_sort, sort_of};
 
 use std::alloc::AllocError;
 use zf_term::fault::TypeFaultKind;

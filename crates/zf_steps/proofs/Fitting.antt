@@ -5,9 +5,9 @@ use Rattle.std.specs.List.{AllByRecursion}
 use Rattle.std.proofs.lemmas.Option.{slice_get-get_or}
 use Rattle.std.specs.Prelude.{slice_get, slice_index_or, slice_set}
 use Rattle.zf_graph.proofs.Places.{none_some, one_some}
-use Rattle.zf_meaning.specs.Environments.{Environment}
-use Rattle.zf_term.specs.Definitions.{Schema}
-use Rattle.zf_steps.specs.Fitting.{AreFor}
+use Rattle.zf_meaning.specs.{Environment}
+use Rattle.zf_term.specs.{Schema}
+use Rattle.zf_steps.specs.{AreFor}
 
 -- what holds of all holds of what stands at a place
 pub all_at : {X : Type 0} (P : X → Type 0) (xs : List X) (i : ℕ) (d : X) → AllByRecursion P xs → i < length xs → P (get_or xs i d)

@@ -4,20 +4,17 @@ use Rattle.std.proofs.lemmas.List.{length-map}
 use Rattle.std.specs.Prelude.{slice_get, slice_index_or, slice_set}
 use Rattle.zf_graph.proofs.Going.{begins_with_none}
 use Rattle.zf_graph.proofs.Places.{at_map, one_some}
-use Rattle.zf_graph.specs.Explorations.{Explored, Turn}
-use Rattle.zf_graph.specs.Parts.{AreFirst}
-use Rattle.zf_meaning.specs.Environments.{Environment}
+use Rattle.zf_graph.specs.{AreFirst, Explored, Turn}
+use Rattle.zf_meaning.specs.{Environment}
 use Rattle.zf_reach.specs.declared.machine.Beginning.TheVariants.{Regular}
 use Rattle.zf_reach.specs.declared.machine.Found.{Found}
 use Rattle.zf_reach.specs.declared.machine.Found.TheVariants.{Edge, Out, Over}
-use Rattle.zf_reach.specs.Machines.{AdvancesTo, HasFewer}
-use Rattle.zf_term.specs.Definitions.{Schema}
+use Rattle.zf_reach.specs.{AdvancesTo, HasFewer}
+use Rattle.zf_term.specs.{Schema}
 use Rattle.zf_value.specs.declared.plain.Value.{Value}
-use Rattle.zf_value.specs.Sets.{value_order}
+use Rattle.zf_value.specs.{value_order}
 use Rattle.zf_walk.proofs.Lists.{AllPairs-nil, Contains-nil}
-use Rattle.zf_walk.specs.Events.{Event}
-use Rattle.zf_walk.specs.Progress.{Stage}
-use Rattle.zf_walk.specs.Rows.{ComesAfter}
+use Rattle.zf_walk.specs.{ComesAfter, Event, Stage}
 use Rattle.zf_steps.proofs.Fitting.{another, for_at, same_length, set_at, stands_at}
 use Rattle.zf_steps.proofs.Searching.{started}
 use Rattle.zf_steps.specs.declared.cursor.Part.{Part}
@@ -25,12 +22,8 @@ use Rattle.zf_steps.specs.declared.cursor.Part.TheVariants.{Initial, Operation}
 use Rattle.zf_steps.specs.declared.node.Label.{Label}
 use Rattle.zf_steps.specs.declared.node.Node.{Node}
 use Rattle.zf_steps.specs.declared.node.Node.TheVariants.{Root, State}
-use Rattle.zf_steps.specs.Finders.{BeginsFor}
-use Rattle.zf_steps.specs.Machines.{BeginsState, Fits, GoesOn, HasPart, number_of, rows_ahead, rows_ahead_at, search_of, Stands}
-use Rattle.zf_steps.specs.Searching.{HasFound, HasPassed}
-use Rattle.zf_steps.specs.Steps.{exploration, held_by, parts_of, searched}
+use Rattle.zf_steps.specs.{BeginsFor, BeginsState, exploration, Fits, GoesOn, HasFound, HasPart, HasPassed, held_by, number_of, parts_of, rows_ahead, rows_ahead_at, search_of, searched, Stands, System}
 use Rattle.zf_steps.specs.Systems as systems
-use Rattle.zf_steps.specs.Systems.{System}
 
 -- ---- the turn of what is before the initial states begins
 

@@ -3,26 +3,18 @@ use Rattle.std.proofs.Common.{◌≡◌, ◌≢◌, ◌∙◌, ◌∷◌, [], ap
 use Rattle.std.proofs.lemmas.Bool.{false≢true}
 use Rattle.std.specs.Option.{is_some}
 use Rattle.zf_plan.proofs.Alike.{advances}
-use Rattle.zf_plan.specs.Alike.{SayTheSame}
+use Rattle.zf_plan.specs.{SayTheSame}
 use Rattle.zf_value.specs.declared.plain.Value.{Value}
-use Rattle.zf_value.specs.Sets.{value_order}
-use Rattle.zf_walk.specs.Progress.{Advances, SameRanges}
-use Rattle.zf_meaning.specs.Environments.{Environment}
-use Rattle.zf_meaning.specs.Envs.{environment_of}
-use Rattle.zf_term.specs.Definitions.{Schema}
-use Rattle.zf_term.specs.SchemaViews.{schema_of}
-use Rattle.zf_ranges.specs.Components.{held_at}
-use Rattle.zf_ranges.specs.Ranges.{AreRanges}
+use Rattle.zf_value.specs.{value_order}
+use Rattle.zf_walk.specs.{Advances, SameRanges}
+use Rattle.zf_meaning.specs.{Environment, environment_of}
+use Rattle.zf_term.specs.{Schema, schema_of}
+use Rattle.zf_ranges.specs.{AreRanges, held_at}
 use Rattle.zf_enum.specs.declared.instances.Instances.{Instances}
-use Rattle.zf_enum.specs.Holding.{CanHold}
-use Rattle.zf_enum.specs.PortionViews.{portion}
-use Rattle.zf_enum.specs.Property.{property}
-use Rattle.zf_enum.specs.Searches.{conjuncts_of, planted_goal}
-use Rattle.zf_enum.specs.Starts.{Begins}
+use Rattle.zf_enum.specs.{Begins, CanHold, conjuncts_of, planted_goal, portion, property}
 use Rattle.zf_steps.specs.declared.renewed.Renewed.{Renewed}
 use Rattle.zf_steps.specs.declared.stepped.Stepped.{Stepped}
-use Rattle.zf_steps.specs.Finders.{BeginsFor}
-use Rattle.zf_steps.specs.Renewing.{AreMarked, AreMarkedHeld, CanSearch, GoesBy, GoesOver, IsFor, stage_of}
+use Rattle.zf_steps.specs.{AreMarked, AreMarkedHeld, BeginsFor, CanSearch, GoesBy, GoesOver, IsFor, stage_of}
 
 pub goes_by_schema : {E : Type 0} (r : Renewed) (i j : Instances) (result : Result Stepped E) → r.search ≡ Some i
     → IfOk result (λ s. Advances value_order (conjuncts_of (planted_goal i.names i.search)) s.step i.search.stage j.search.stage)

@@ -1,22 +1,17 @@
 -- What is found of a state in a schema that is sought: its rows that agree with the state.
 use Rattle.std.proofs.Common.{◌∷◌, ◌≡◌, ◌≢◌, [], inl, inr, List, Option, subst, sym, ℕ}
 use Rattle.std.specs.Prelude.{Contains}
-use Rattle.zf_term.specs.Definitions.{Comp, Schema}
+use Rattle.zf_term.specs.{Comp, Schema}
 use Rattle.zf_value.specs.declared.plain.Value.{Value}
-use Rattle.zf_value.specs.Sets.{IsMember}
+use Rattle.zf_value.specs.{IsMember}
 use Rattle.zf_walk.proofs.Lists.{Contains-cases, Contains-head, Contains-later, Contains-nil}
 use Rattle.zf_walk.specs.declared.judge.Truth.{Truth}
 use Rattle.zf_walk.specs.declared.judge.Truth.TheVariants.{False, Out, True}
-use Rattle.zf_walk.specs.Events.{Event}
-use Rattle.zf_walk.specs.Rows.{IsRowOf}
-use Rattle.zf_meaning.specs.Environments.{Environment}
-use Rattle.zf_ranges.specs.Ranges.{AreRanges}
+use Rattle.zf_walk.specs.{Event, IsRowOf}
+use Rattle.zf_meaning.specs.{Environment}
+use Rattle.zf_ranges.specs.{AreRanges}
 use Rattle.zf_steps.specs.declared.node.Node.TheVariants.{State}
-use Rattle.zf_steps.specs.Explored.{IsOther, IsSought}
-use Rattle.zf_steps.specs.Satisfying.{AgreesWith, HasRow, IsRowIn, Satisfies}
-use Rattle.zf_steps.specs.Shapes.{sources_of, test_in}
-use Rattle.zf_steps.specs.Steps.{held_by, IsDoubtful, IsEventOf}
-use Rattle.zf_steps.specs.Systems.{Operation, System}
+use Rattle.zf_steps.specs.{AgreesWith, HasRow, held_by, IsDoubtful, IsEventOf, IsOther, IsRowIn, IsSought, Operation, Satisfies, sources_of, System, test_in}
 
 is_member : (xs : List Value) (v : Value) → Contains xs v → IsMember v xs
 is_member [] v k = absurd (Contains-nil v k)

@@ -6,12 +6,9 @@ use Rattle.std.proofs.lemmas.Option.{slice_get-get_or}
 use Rattle.std.specs.List.{filter_map}
 use Rattle.std.specs.Prelude.{cond, option_to_list, slice_get}
 use Rattle.zf_graph.proofs.Places.{none_some, one_some}
-use Rattle.zf_term.specs.Definitions.{Comp, Schema}
+use Rattle.zf_term.specs.{Comp, comp_of, first_named, Schema}
 use Rattle.zf_term.specs.declared.schema.Component.{Component}
-use Rattle.zf_term.specs.FirstNamed.{first_named}
-use Rattle.zf_term.specs.SchemaViews.{comp_of}
-use Rattle.zf_steps.specs.Shapes.{Has, HasAll, init_in, IsInit, is_other, Lacks, others_from, with_strokes}
-use Rattle.zf_steps.specs.Systems.{Operation}
+use Rattle.zf_steps.specs.{Has, HasAll, init_in, is_other, IsInit, Lacks, Operation, others_from, with_strokes}
 use Rattle.zf_steps.proofs.Fitting.{map_map}
 
 -- ---- lists, item by item

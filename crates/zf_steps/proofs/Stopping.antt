@@ -1,11 +1,9 @@
 -- A search that stops before anything is written.
 use Rattle.std.proofs.Common.{[], inl, List, Option, refl, ℕ}
 use Rattle.std.proofs.KnownBytes.{Appends-nil}
-use Rattle.zf_graph.specs.Explorations.{Explored}
-use Rattle.zf_graph.specs.Seeking.{Result, Sought}
-use Rattle.zf_graph.specs.Texts.{Words}
+use Rattle.zf_graph.specs.{Explored, Result, Sought, Words}
 use Rattle.zf_reach.proofs.Fronts.{front_whole}
-use Rattle.zf_reach.specs.Runs.{StopsSearch}
+use Rattle.zf_reach.specs.{StopsSearch}
 
 pub stops_at_once : {N L : Type 0} (p : Explored N L) (s : Sought N) (w : Words N L) (last : Result → (nodes edges : ℕ)
     → List ℕ) (limit : ℕ) (origin : Option (List ℕ)) → StopsSearch p s w last limit origin origin

@@ -3,8 +3,7 @@ use Rattle.std.proofs.Common.{◌++◌, ◌∙◌, ◌≡◌, [], ap, append-nil
 use Rattle.zf_steps.specs.declared.form.Form.{Form}
 use Rattle.zf_steps.specs.declared.form.Form.TheVariants as forms
 use Rattle.zf_steps.specs.declared.node.Node.TheVariants.{Root}
-use Rattle.zf_steps.specs.Systems.{System}
-use Rattle.zf_steps.specs.Words.{words, words_in}
+use Rattle.zf_steps.specs.{System, words, words_in}
 
 no_words : (f : Form) (m : System) (from number : ℕ) → (words_in f m).node from number Root ≡ []
 no_words forms.Lines m from number = refl

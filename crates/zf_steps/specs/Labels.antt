@@ -3,8 +3,8 @@ use Rattle.std.specs.Prelude.{ℕ, List, [], ◌∷◌, codes, cond, eqb, flat_m
 use Rattle.zf_format.specs.declared.format.Format.TheVariants.{Lines}
 use Rattle.zf_value.specs.declared.plain.Value.{Value}
 use Rattle.zf_print.specs.declared.spelling.Spelling.{Spelling}
-use Rattle.zf_print.specs.BindingTexts.{components_in}
-use Rattle.zf_term.specs.Definitions.{Comp}
+use Rattle.zf_print.specs.{components_in}
+use Rattle.zf_term.specs.{Comp}
 
 -- each text on a line of its own
 abbrev pub column : List (List ℕ) → List ℕ

@@ -1,9 +1,8 @@
 -- The lines of states and steps.
 use Rattle.std.specs.Prelude.{ℕ, ◌-◌, ◌^◌, ◌++◌, List, [], ◌∷◌, codes, cond, decimal, eqb, min, Option, slice_get}
-use Rattle.zf_graph.specs.Seeking.{found, missing, open_ended, Result, untold}
-use Rattle.zf_graph.specs.Texts.{broken, ended, Ending, paused, Words}
-use Rattle.zf_term.specs.Definitions.{Comp}
-use Rattle.zf_print.specs.BindingTexts.{binding_text}
+use Rattle.zf_graph.specs.{broken, ended, Ending, found, missing, open_ended, paused, Result, untold, Words}
+use Rattle.zf_term.specs.{Comp}
+use Rattle.zf_print.specs.{binding_text}
 use Rattle.zf_value.specs.declared.plain.Value.{Value}
 use Rattle.zf_steps.specs.declared.node.Label.{Label}
 use Rattle.zf_steps.specs.declared.node.Node.{Node}

@@ -1,19 +1,15 @@
 -- A search that is begun anew for each state. Public clauses cite `CanSearch` and `CanSearchAll` alone.
 use Rattle.std.specs.Prelude.{◌≡◌, ◌≢◌, ◌⊎◌, ℕ, Bool, true, List, [], length, Option, None, Some, slice_get}
 use Rattle.std.specs.List.{AllByRecursion}
-use Rattle.zf_term.specs.Definitions.{Schema}
-use Rattle.zf_term.specs.SchemaViews.{schema_of}
-use Rattle.zf_finite.specs.Finite.{IsFinite}
+use Rattle.zf_term.specs.{Schema, schema_of}
+use Rattle.zf_finite.specs.{IsFinite}
 use Rattle.zf_value.specs.declared.plain.Value.{Value}
-use Rattle.zf_walk.specs.Progress.{AreDueWithin, ended, Stage}
-use Rattle.zf_plan.specs.Alike.{SayTheSame}
-use Rattle.zf_meaning.specs.Environments.{Environment}
-use Rattle.zf_meaning.specs.Envs.{environment_of}
+use Rattle.zf_walk.specs.{AreDueWithin, ended, Stage}
+use Rattle.zf_plan.specs.{SayTheSame}
+use Rattle.zf_meaning.specs.{Environment, environment_of}
 use Rattle.zf_enum.specs.declared.instances.Instances.{Instances}
-use Rattle.zf_enum.specs.Property.{property}
-use Rattle.zf_ranges.specs.Components.{held_at}
-use Rattle.zf_ranges.specs.Ranges.{AreRanges, IsNoneOut}
-use Rattle.zf_enum.specs.Searches.{conjuncts_of, planted_goal}
+use Rattle.zf_enum.specs.{conjuncts_of, planted_goal, property}
+use Rattle.zf_ranges.specs.{AreRanges, held_at, IsNoneOut}
 use Rattle.zf_steps.specs.declared.renewed.Renewed.{Renewed}
 use Rattle.zf_steps.specs.Finders.{Place}
 use Rattle.zf_steps.specs.Systems.{System}

@@ -1,14 +1,13 @@
 -- What it means that a state is sought: some row of the schema that is sought agrees with the state in the components that they share.
 use Rattle.std.specs.Prelude.{List, [], ◌∷◌}
-use Rattle.zf_term.specs.Definitions.{Comp, Schema, sets_of}
+use Rattle.zf_term.specs.{Comp, Schema, sets_of}
 use Rattle.zf_value.specs.declared.plain.Value.{Value}
 use Rattle.zf_walk.specs.declared.judge.Truth.{Truth}
 use Rattle.zf_walk.specs.declared.judge.Truth.TheVariants.{True}
-use Rattle.zf_walk.specs.Conjuncts.{IsTruthOf}
-use Rattle.zf_meaning.specs.Environments.{Environment}
-use Rattle.zf_enum.specs.Property.{property}
-use Rattle.zf_ranges.specs.DeclaredSets.{IsInSets}
-use Rattle.zf_ranges.specs.Ranges.{IsHeld}
+use Rattle.zf_walk.specs.{IsTruthOf}
+use Rattle.zf_meaning.specs.{Environment}
+use Rattle.zf_enum.specs.{property}
+use Rattle.zf_ranges.specs.{IsHeld, IsInSets}
 use Rattle.zf_steps.specs.Shapes.{place_of}
 use Rattle.zf_steps.specs.Steps.{source_value}
 

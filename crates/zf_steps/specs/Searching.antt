@@ -1,14 +1,11 @@
 -- Where the search for the steps of a node stands. No public clause rests on this file.
 use Rattle.std.specs.Prelude.{◌≡◌, ℕ, Bool, List, ◌++◌, map, take, None, Some, slice_get}
-use Rattle.zf_graph.specs.Explorations.{Turn}
-use Rattle.zf_graph.specs.Edges.{Edge}
-use Rattle.zf_graph.specs.Parts.{EachHolds, HasParts}
+use Rattle.zf_graph.specs.{EachHolds, Edge, HasParts, Turn}
 use Rattle.zf_value.specs.declared.plain.Value.{Value}
-use Rattle.zf_value.specs.Sets.{value_order}
-use Rattle.zf_walk.specs.Events.{Event}
-use Rattle.zf_walk.specs.Progress.{Stage}
-use Rattle.zf_enum.specs.Property.{property}
-use Rattle.zf_ranges.specs.Ranges.{AreRanges}
+use Rattle.zf_value.specs.{value_order}
+use Rattle.zf_walk.specs.{Event, Stage}
+use Rattle.zf_enum.specs.{property}
+use Rattle.zf_ranges.specs.{AreRanges}
 use Rattle.zf_lines.proofs.Behind.{Behind}
 use Rattle.zf_steps.specs.declared.node.Label.{Label}
 use Rattle.zf_steps.specs.declared.node.Node.{Node}

@@ -1,26 +1,23 @@
 -- The graph of a specification: its states, and the steps that its operations make.
 use Rattle.std.specs.Prelude.{◌≡◌, ◌⊎◌, ℕ, ◌++◌, Bool, List, [], ◌∷◌, codes, map, Option, None, Some, slice_get}
-use Rattle.zf_format.specs.Strings.{string_text}
-use Rattle.zf_graph.specs.Edges.{Edge}
-use Rattle.zf_graph.specs.Explorations.{Explored}
-use Rattle.zf_term.specs.Definitions.{Schema}
-use Rattle.zf_print.specs.BindingTexts.{binding_object, binding_text}
+use Rattle.zf_format.specs.{string_text}
+use Rattle.zf_graph.specs.{Edge, Explored, explored_of, Searched}
+use Rattle.zf_term.specs.{Schema}
+use Rattle.zf_print.specs.{binding_object, binding_text}
 use Rattle.zf_print.specs.declared.spelling.Spelling.{Spelling}
 use Rattle.zf_value.specs.declared.plain.Value.{Value}
-use Rattle.zf_value.specs.Sets.{value_order}
+use Rattle.zf_value.specs.{value_order}
 use Rattle.zf_walk.specs.declared.judge.Truth.TheVariants as truth
-use Rattle.zf_walk.specs.Events.{Event, IsEvent}
-use Rattle.zf_walk.specs.Rows.{ComesAfter}
-use Rattle.zf_meaning.specs.Environments.{Environment}
-use Rattle.zf_enum.specs.Property.{property}
-use Rattle.zf_ranges.specs.Ranges.{AreRanges}
-use Rattle.zf_places.specs.Places.{values_at}
+use Rattle.zf_walk.specs.{ComesAfter, Event, IsEvent}
+use Rattle.zf_meaning.specs.{Environment}
+use Rattle.zf_enum.specs.{property}
+use Rattle.zf_ranges.specs.{AreRanges}
+use Rattle.zf_places.specs.{values_at}
 use Rattle.zf_steps.specs.declared.form.Form.{Form}
 use Rattle.zf_steps.specs.declared.form.Form.TheVariants as forms
 use Rattle.zf_steps.specs.declared.node.Label.{Label}
 use Rattle.zf_steps.specs.declared.node.Node.{Node}
 use Rattle.zf_steps.specs.declared.node.Node.TheVariants.{Root, State}
-use Rattle.zf_graph.specs.Parts.{explored_of, Searched}
 use Rattle.zf_steps.specs.Systems.{Operation, System}
 
 -- ---- rows in parts

@@ -8,26 +8,19 @@ use Rattle.std.specs.Cmp.Lexicographic.{lists_ties, lists_total, pointwise, slic
 use Rattle.std.specs.declared.cmp.Ordering.{Ordering}
 use Rattle.std.specs.declared.cmp.Ordering.TheVariants.{Equal, Greater, Less}
 use Rattle.std.specs.Ordering.{is_eq, ordering_reverse}
-use Rattle.zf_graph.specs.Explorations.{Turn}
-use Rattle.zf_graph.specs.Parts.{HasParts, HasTurn}
-use Rattle.zf_graph.specs.PartLaws.{IsOrderly}
-use Rattle.zf_graph.specs.SeekingLaws.{IsDecisive}
-use Rattle.zf_term.specs.Definitions.{Schema}
+use Rattle.zf_graph.specs.{HasParts, HasTurn, IsDecisive, IsOrderly, Turn}
+use Rattle.zf_term.specs.{ResolvedTree, Schema}
 use Rattle.zf_value.specs.contracts.plain.ValueOrd.TheImpl.Laws as order_laws
 use Rattle.zf_value.specs.contracts.plain.ValuePartialEq.TheImpl as equality
 use Rattle.zf_value.proofs.Exact.{exact, is_eq_true}
 use Rattle.zf_value.specs.declared.plain.Value.{Value}
-use Rattle.zf_value.specs.Sets.{value_order}
+use Rattle.zf_value.specs.{value_order}
 use Rattle.zf_walk.specs.declared.judge.Truth.{Truth}
 use Rattle.zf_walk.specs.declared.judge.Truth.TheVariants.{True, False, Out}
-use Rattle.zf_walk.specs.Conjuncts.{IsTruthOf}
+use Rattle.zf_walk.specs.{ComesAfter, Event, IsTruthOf}
 use Rattle.zf_walk.proofs.Order.{slice-ties}
-use Rattle.zf_walk.specs.Events.{Event}
-use Rattle.zf_walk.specs.Rows.{ComesAfter}
-use Rattle.zf_meaning.specs.Environments.{Environment}
-use Rattle.zf_enum.specs.Property.{property}
-use Rattle.zf_enum.specs.PropertyLaws.{one_truth_in}
-use Rattle.zf_term.specs.ResolvedTrees.{ResolvedTree}
+use Rattle.zf_meaning.specs.{Environment}
+use Rattle.zf_enum.specs.{one_truth_in, property}
 use Rattle.zf_steps.specs.contracts.node.NodePartialEq.TheImpl as nodes
 use Rattle.zf_steps.specs.declared.node.Label.{Label}
 use Rattle.zf_steps.specs.declared.node.Node.{Node}

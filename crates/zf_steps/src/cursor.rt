@@ -1,15 +1,11 @@
 //! The searches of an exploration, and what a step of one comes to.
 ghost use Rattle.std.specs.Prelude.{◌≡◌, IfOk, OnOk};
-ghost use Rattle.zf_meaning.specs.Environments.{Environment};
-ghost use Rattle.zf_reach.specs.Machines.{HasFewer, IsSeenAs};
+ghost use Rattle.zf_meaning.specs.{Environment};
+ghost use Rattle.zf_reach.specs.{HasFewer, IsSeenAs};
 ghost use Rattle.zf_steps.specs.contracts.node.NodePartialEq.TheImpl as nodes;
 ghost use Rattle.zf_steps.specs.declared.node.Node.TheVariants.{State};
-ghost use Rattle.zf_steps.specs.Explored.{sought_in};
-ghost use Rattle.zf_steps.specs.Finders.{BeginsFor, IsForIn, stage_in};
-ghost use Rattle.zf_steps.specs.Machines.{BeginsState, begun_as, GoesOn, IsFound, IsSight, rows_ahead};
-ghost use Rattle.zf_steps.specs.Steps.{held_by};
-ghost use Rattle.zf_steps.specs.SystemViews.{operation_of, system_of};
-ghost use Rattle.zf_term.specs.Definitions.{Schema};
+ghost use Rattle.zf_steps.specs.{BeginsFor, BeginsState, begun_as, GoesOn, held_by, IsForIn, IsFound, IsSight, operation_of, rows_ahead, sought_in, stage_in, system_of};
+ghost use Rattle.zf_term.specs.{Schema};
 
 use crate::finder::{Finder, advance, begin};
 use crate::given::{Schematic, Surrounding};

@@ -1,16 +1,10 @@
 //! The text of what a specification can reach.
 ghost use Rattle.std.specs.Prelude.{◌≡◌, ◌≤◌, ℕ, List, IfOk, OnErr};
 ghost use Rattle.std.specs.Io.KnownBytes.{Appends};
-ghost use Rattle.zf_graph.specs.Texts.{IsExplored};
-ghost use Rattle.zf_lines.specs.Counts.{device_of, failures_of};
-ghost use Rattle.zf_lines.specs.Faults.{read_failures, write_failures};
-ghost use Rattle.zf_reach.specs.Machines.{ending_of};
-ghost use Rattle.zf_reach.specs.Runs.{StopsEarly};
-ghost use Rattle.zf_steps.specs.Explored.{explored_in};
-ghost use Rattle.zf_steps.specs.Finders.{IsForIn};
-ghost use Rattle.zf_steps.specs.Machines.{Fits};
-ghost use Rattle.zf_steps.specs.SystemViews.{system_of};
-ghost use Rattle.zf_steps.specs.Words.{words};
+ghost use Rattle.zf_graph.specs.{IsExplored};
+ghost use Rattle.zf_lines.specs.{device_of, failures_of, read_failures, write_failures};
+ghost use Rattle.zf_reach.specs.{ending_of, StopsEarly};
+ghost use Rattle.zf_steps.specs.{explored_in, Fits, IsForIn, system_of, words};
 
 use crate::cursor::Cursor;
 use crate::finder::Finder;

@@ -1,6 +1,6 @@
 //! A search for bindings that can be begun again with other values held.
 ghost use Rattle.std.specs.Option.{option_copied};
-ghost use Rattle.zf_steps.specs.Finders.{BeginsAgain, GoesAhead, Goes, IsSearch, MayGo};
+ghost use Rattle.zf_steps.specs.{BeginsAgain, Goes, GoesAhead, IsSearch, MayGo};
 
 use crate::stepped::Stepped;
 use std::alloc::AllocError;

@@ -1,6 +1,6 @@
 //! What an exploration asks of a schema and of an environment. It names neither type, so that the machine's statements stay small; nor does a value of the environment's stand in them.
 ghost use Rattle.std.specs.Prelude.{◌≡◌, ◌++◌, OnOk};
-ghost use Rattle.zf_steps.specs.Layouts.{laid_out};
+ghost use Rattle.zf_steps.specs.{laid_out};
 
 use crate::labels::append_column;
 use crate::layout::Layout;

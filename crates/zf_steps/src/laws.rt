@@ -1,12 +1,7 @@
 //! Laws of what is explored of a specification.
 ghost use Rattle.std.specs.Prelude.{ℕ};
-ghost use Rattle.zf_graph.specs.Laws.{IsOf, IsSure};
-ghost use Rattle.zf_graph.specs.SeekingLaws.{IsDecisive, IsSearchedInOneWay};
-ghost use Rattle.zf_steps.specs.Explored.{explored_in, sought_in};
-ghost use Rattle.zf_steps.specs.Steps.{exploration};
-ghost use Rattle.zf_steps.specs.StepGraphs.{steps};
-ghost use Rattle.zf_steps.specs.Systems.{System};
-ghost use Rattle.zf_steps.specs.Words.{verdict, words};
+ghost use Rattle.zf_graph.specs.{IsDecisive, IsOf, IsSearchedInOneWay, IsSure};
+ghost use Rattle.zf_steps.specs.{exploration, explored_in, sought_in, steps, System, verdict, words};
 ghost use Rattle.zf_steps.specs.contracts.node.NodePartialEq.TheImpl as nodes;
 
 /// What is explored of a specification is its graph: a turn of a state has exactly the steps from it, and a state has one turn, or one place at which its turn breaks off.

@@ -1,10 +1,9 @@
 //! The lines of states and steps, each with its newline.
 ghost use Rattle.std.specs.Prelude.{◌≡◌, ◌-◌, ◌^◌, ◌++◌, ℕ, OnOk, Some, codes, decimal, min, slice_get};
-ghost use Rattle.zf_graph.specs.Texts.{broken};
-ghost use Rattle.zf_reach.specs.Machines.{ending_of};
+ghost use Rattle.zf_graph.specs.{broken};
+ghost use Rattle.zf_reach.specs.{ending_of};
 ghost use Rattle.zf_steps.specs.declared.node.Node.TheVariants.{State};
-ghost use Rattle.zf_steps.specs.Lines.{count_line, ending_line, label_text, operation_text, state_line, step_line, stuck_line};
-ghost use Rattle.zf_steps.specs.SystemViews.{operation_of, system_of};
+ghost use Rattle.zf_steps.specs.{count_line, ending_line, label_text, operation_of, operation_text, state_line, step_line, stuck_line, system_of};
 
 use crate::given::{Schematic, Surrounding};
 use crate::layout::Layout;

@@ -1,10 +1,9 @@
 //! The objects of states and steps, each with its newline.
 ghost use Rattle.std.specs.Prelude.{◌≡◌, ◌-◌, ◌^◌, ◌++◌, ℕ, OnOk, Some, codes, decimal, min, slice_get};
-ghost use Rattle.zf_graph.specs.Texts.{broken};
-ghost use Rattle.zf_reach.specs.Machines.{ending_of, result_of};
+ghost use Rattle.zf_graph.specs.{broken};
+ghost use Rattle.zf_reach.specs.{ending_of, result_of};
 ghost use Rattle.zf_steps.specs.declared.node.Node.TheVariants.{State};
-ghost use Rattle.zf_steps.specs.Objects.{count_object, ending_object, result_object, state_object, step_members, step_object, stray_object, stuck_object};
-ghost use Rattle.zf_steps.specs.SystemViews.{operation_of, system_of};
+ghost use Rattle.zf_steps.specs.{count_object, ending_object, operation_of, result_object, state_object, step_members, step_object, stray_object, stuck_object, system_of};
 
 use crate::given::{Schematic, Surrounding};
 use crate::layout::Layout;

@@ -1,7 +1,6 @@
 //! Rows in parts: what is held of a schema where the state has these values, and the values at places of a binding.
 ghost use Rattle.std.specs.Prelude.{◌≡◌, ◌++◌, IfOk, OnOk};
-ghost use Rattle.zf_steps.specs.Steps.{held_by, source_value, stop_object, stop_text, stopped};
-ghost use Rattle.zf_steps.specs.SystemViews.{operation_of};
+ghost use Rattle.zf_steps.specs.{held_by, operation_of, source_value, stop_object, stop_text, stopped};
 
 use crate::form::Form;
 use crate::given::Schematic;

@@ -2,9 +2,8 @@
 ghost use Rattle.std.specs.Prelude.{◌≡◌, ◌⊎◌, ◌++◌, ◌∷◌, ◌↔◌, [], IfOk, IsTrue, MatchOption, OnOk, cond, map, option_to_list, slice_get};
 ghost use Rattle.std.specs.List.{filter_map};
 ghost use Rattle.zf_steps.specs.Shapes as spec;
-ghost use Rattle.zf_steps.specs.States.{AreStates, before_of, after_of};
-ghost use Rattle.zf_steps.specs.SystemViews.{operation_of};
-ghost use Rattle.zf_term.specs.SchemaViews.{comp_of, schema_of};
+ghost use Rattle.zf_steps.specs.{after_of, AreStates, before_of, operation_of};
+ghost use Rattle.zf_term.specs.{comp_of, schema_of};
 
 use crate::system::Operation;
 use bumpalo::Bump;

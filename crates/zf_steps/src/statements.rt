@@ -1,11 +1,8 @@
 //! The statements of a graph for Graphviz: its nodes are the states, by their numbers, its edges the steps.
 ghost use Rattle.std.specs.Prelude.{◌≡◌, ◌-◌, ◌^◌, ◌++◌, ℕ, OnOk, Some, codes, decimal, min, slice_get};
-ghost use Rattle.zf_reach.specs.Machines.{ending_of, result_of};
+ghost use Rattle.zf_reach.specs.{ending_of, result_of};
 ghost use Rattle.zf_steps.specs.declared.node.Node.TheVariants.{State};
-ghost use Rattle.zf_steps.specs.Labels.{label_of, column_text};
-ghost use Rattle.zf_steps.specs.Lines.{count_line, ending_line, result_line};
-ghost use Rattle.zf_steps.specs.Statements.{edge_statement, frame_text, graph_head, graph_last, node_statement, step_text, stray_statement, stuck_statement};
-ghost use Rattle.zf_steps.specs.SystemViews.{operation_of, system_of};
+ghost use Rattle.zf_steps.specs.{column_text, count_line, edge_statement, ending_line, frame_text, graph_head, graph_last, label_of, node_statement, operation_of, result_line, step_text, stray_statement, stuck_statement, system_of};
 
 use crate::given::{Schematic, Surrounding};
 use crate::labels::append_as_label;

@@ -1,8 +1,7 @@
 -- What holds of the declarations, and of the links of a chain, that are ahead.
 use Rattle.std.proofs.Common.{◌≡◌, ℕ, ◌+◌, ◌<◌, List, length, map, drop, get_or, sym, subst}
 use Rattle.zf_tree.specs.declared.tree.VarDecl.{VarDecl}
-use Rattle.zf_tree.specs.Trees.{VarDecls, var_decl, Links, link}
-use Rattle.zf_tree.specs.TreeViews.{var_decls, var_decl_of, tree_of, links, link_of}
+use Rattle.zf_tree.specs.{link, link_of, Links, links, tree_of, var_decl, var_decl_of, var_decls, VarDecls}
 use Rattle.zf_tree.specs.declared.tree.Link.{Link}
 use Rattle.zf_tree.proofs.TermSeen as seen
 use Rattle.zf_term.proofs.Walk.{at_step}

@@ -1,6 +1,6 @@
 -- What the references of a term are when its components are numbered anew.
 use Rattle.zf_term.proofs.Prelude.{◌∙◌, ◌∷◌, ◌≡◌, [], ap, List, map, refl, sym, ℕ, map-append, renumbered, Reference, all_onto, links_onto, onto, part_onto, ranges_onto, absent, binary, bracket, builder, chain, constant, empty_set, link, listed, no_links, no_ranges, no_terms, number, present, quantified, range, Ranges, reference, ResolvedLinks, ResolvedPart, ResolvedTree, ResolvedTrees, term, unary, all_moved, links_moved, moved, part_moved, ranges_moved}
-use Rattle.zf_term.specs.TermLaws.{ComponentsAloneNumbered, MovedKeepsVariables}
+use Rattle.zf_term.specs.{ComponentsAloneNumbered, MovedKeepsVariables}
 
 -- behind others, numbered anew with them
 mutual

@@ -6,28 +6,15 @@ pub use Rattle.std.proofs.lemmas.Slice.Eq.{bytes_eq-Decides}
 pub use Rattle.std.specs.Map.{keys_of, lookup}
 pub use Rattle.std.specs.Prelude.{Vec}
 pub use Rattle.std.specs.Str.{bytes_eq}
-pub use Rattle.zf_reference.specs.NumberingViews.{place_in}
-pub use Rattle.zf_reference.specs.Numbering.{renumbered}
+pub use Rattle.zf_reference.specs.{place_in, renumbered}
 pub use Rattle.zf_reference.specs.declared.reference.Reference.{Reference}
 pub use Rattle.zf_reference.specs.declared.reference.Reference.TheVariants.{Component, Global, Local}
 pub use Rattle.zf_tree.specs.declared.symbol.Relation.{Relation}
-pub use Rattle.zf_data.specs.Chunks.{all_of}
-pub use Rattle.zf_term.specs.SchemaViews.{batch_step, comp_of, conjunct_step, domain_step}
-pub use Rattle.zf_term.specs.Definitions.{carrier, DeclaredSet, Defined, is_member, one_holds, plain, sets_of, sides}
-pub use Rattle.zf_term.specs.DefinitionViews.{definition_of, entry_of, globals_of}
-unfoldable pub use Rattle.zf_term.specs.SchemaViews.{batch_of, conjunct_of, set_of}
-pub use Rattle.zf_term.specs.FirstNamed.{first_named, later}
+pub use Rattle.zf_data.specs.{all_of}
+pub use Rattle.zf_term.specs.{absent, all_moved, all_onto, basic, batch_step, binary, bracket, builder, carrier, chain, comp_of, conjunct_step, constant, DeclaredSet, Defined, definition_of, domain_step, empty_set, entry_of, first_named, globals_of, have_numbers, int, is_member, later, later_parts_text, link, links, links_moved, links_onto, listed, moved, no_links, no_ranges, no_terms, no_types, nodes_of_all, number, numbering, one_holds, onto, pair_type, part_moved, part_of, part_onto, parts_text, plain, power, present, product, quantified, range, range_step, Ranges, ranges, ranges_moved, ranges_onto, reference, resolved_link_step, resolved_step, ResolvedLinks, ResolvedPart, ResolvedTree, sets_of, sides, term, terms, Ty, type, type_nodes, type_step, type_text, types, Tys, unary}
+unfoldable pub use Rattle.zf_term.specs.{batch_of, conjunct_of, range_of, resolved_link_of, resolved_of, set_of, type_of}
 pub use Rattle.std.specs.Option.{option_or}
-pub use Rattle.zf_term.specs.References.{all_onto, links_onto, onto, part_onto, ranges_onto}
-pub use Rattle.zf_term.specs.ResolvedTrees.{absent, binary, bracket, builder, chain, constant, empty_set, link, listed, no_links, no_ranges, no_terms, number, present, quantified, range, Ranges, reference, ResolvedLinks, ResolvedPart, ResolvedTree, ResolvedTrees, term, unary}
-pub use Rattle.zf_term.specs.ResolvedViews.{links, part_of, range_step, ranges, resolved_link_step, resolved_step, terms}
-unfoldable pub use Rattle.zf_term.specs.ResolvedViews.{range_of, resolved_link_of, resolved_of}
-pub use Rattle.zf_term.specs.Shapes.{all_moved, links_moved, moved, part_moved, ranges_moved}
-pub use Rattle.zf_term.specs.ShapeViews.{numbering}
-pub use Rattle.zf_term.specs.TypeTexts.{later_parts_text, parts_text, type_text}
-pub use Rattle.zf_term.specs.Types.{basic, have_numbers, int, no_types, type_nodes, nodes_of_all, pair_type, power, product, Ty, type, types, Tys}
-pub use Rattle.zf_term.specs.TypeViews.{type_step}
-unfoldable pub use Rattle.zf_term.specs.TypeViews.{type_of}
+pub use Rattle.zf_term.specs.ResolvedTrees.{ResolvedTrees}
 pub use Rattle.zf_term.specs.declared.globals.Entry.{Entry}
 pub use Rattle.zf_term.specs.declared.resolved.Range.{Range}
 pub use Rattle.zf_term.specs.declared.resolved.Resolved.{Resolved}

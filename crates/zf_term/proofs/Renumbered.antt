@@ -1,7 +1,6 @@
 -- What a term keeps when its components are numbered anew, and that it can be done at once.
 use Rattle.zf_term.proofs.Prelude.{◌+◌, ◌≡◌, ap, refl, ℕ, Component, Global, Local, absent, binary, bracket, builder, chain, constant, empty_set, link, listed, no_links, no_ranges, no_terms, number, present, quantified, range, Ranges, reference, ResolvedLinks, ResolvedPart, ResolvedTree, ResolvedTrees, term, unary}
-use Rattle.zf_term.specs.Shapes.{all_moved, height, term_line, links_moved, moved, nodes, part_moved, ranges_moved}
-use Rattle.zf_term.specs.ShapeViews.{all_nodes, link_nodes, part_height, part_nodes, range_nodes, tallest, tallest_link, tallest_range}
+use Rattle.zf_term.specs.{all_moved, all_nodes, height, link_nodes, links_moved, moved, nodes, part_height, part_moved, part_nodes, range_nodes, ranges_moved, tallest, tallest_link, tallest_range, term_line}
 
 -- ---- one after the other
 

@@ -1,6 +1,6 @@
 -- How the program's schemas are seen as those of `Schemas`.
 use Rattle.std.specs.Prelude.{List, map}
-use Rattle.zf_data.specs.Chunks.{all_of}
+use Rattle.zf_data.specs.{all_of}
 use Rattle.zf_term.specs.declared.conjunct.Batch.{Batch}
 use Rattle.zf_term.specs.declared.conjunct.Conjunct.{Conjunct}
 use Rattle.zf_term.specs.declared.conjunct.Conjunct.TheFolds.{fold-Batch, fold-Conjunct}

@@ -1,7 +1,7 @@
 -- New numbers of components by a list, and of parts of a term; the nodes and the height of several terms.
 use Rattle.std.specs.Prelude.{ℕ, ◌+◌, max, List, Option, Some, None}
 use Rattle.zf_tree.specs.declared.symbol.Relation.{Relation}
-use Rattle.zf_reference.specs.NumberingViews.{place_in}
+use Rattle.zf_reference.specs.{place_in}
 use Rattle.zf_term.specs.ResolvedTrees.{Ranges, ResolvedLinks, ResolvedPart, ResolvedTree, ResolvedTrees}
 use Rattle.zf_term.specs.Shapes.{links_measure, moved, part_measure, ranges_measure, terms_measure}
 

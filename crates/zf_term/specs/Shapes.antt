@@ -3,7 +3,7 @@ use Rattle.std.specs.Prelude.{ℕ, ◌+◌, max, Bool, true, false, if◌then◌
 use Rattle.zf_tree.specs.declared.symbol.Connective.TheVariants.{And}
 use Rattle.zf_tree.specs.declared.operator.Operator.{Operator}
 use Rattle.zf_tree.specs.declared.operator.Operator.TheVariants as operator
-use Rattle.zf_reference.specs.Numbering.{renumbered}
+use Rattle.zf_reference.specs.{renumbered}
 use Rattle.zf_term.specs.ResolvedTrees.{ResolvedTree, reference, number, constant, empty_set, bracket, listed, builder, unary, binary, chain, quantified, ResolvedTrees, no_terms, term, ResolvedLinks, no_links, link, Ranges, no_ranges, range, ResolvedPart, absent, present}
 
 -- the line of the first token

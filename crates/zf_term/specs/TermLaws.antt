@@ -3,7 +3,7 @@ use Rattle.std.specs.Prelude.{◌≡◌, ℕ, map}
 use Rattle.zf_reference.specs.declared.reference.Reference.TheVariants.{Component, Local, Global}
 use Rattle.zf_term.specs.ResolvedTrees.{ResolvedTree}
 use Rattle.zf_term.specs.References.{references}
-use Rattle.zf_reference.specs.Numbering.{renumbered}
+use Rattle.zf_reference.specs.{renumbered}
 use Rattle.zf_term.specs.Shapes.{moved}
 
 -- a term that is moved has the same references in the same order, each numbered anew

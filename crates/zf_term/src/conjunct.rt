@@ -1,9 +1,7 @@
 //! Conjuncts of schemas.
 ghost use Rattle.std.specs.Prelude.{◌≡◌, ℕ, IfOk, map};
-ghost use Rattle.zf_data.specs.Chunks.{all_of};
-ghost use Rattle.zf_term.specs.SchemaViews.{batch_of, conjunct_of};
-ghost use Rattle.zf_term.specs.Definitions.{is_member, one_holds};
-ghost use Rattle.zf_term.specs.ResolvedViews.{resolved_of};
+ghost use Rattle.zf_data.specs.{all_of};
+ghost use Rattle.zf_term.specs.{batch_of, conjunct_of, is_member, one_holds, resolved_of};
 ghost use Rattle.zf_term.specs.Shapes as spec;
 ghost use Rattle.zf_term.specs.ShapeViews as spec_views;
 ghost use Rattle.zf_reference.specs.NumberingViews as numbers;

@@ -1,9 +1,7 @@
 //! What a text defines.
 ghost use Rattle.std.specs.Prelude.{◌≡◌, ◌++◌, ◌^◌, ◌<◌, ◌↔◌, ℕ, [], ◌∷◌, None, Some, IsTrue, IfOk, MatchOption, OnOk, OnErr, length, slice_get, take};
 ghost use Rattle.zf_term.specs.Definitions as spec;
-ghost use Rattle.zf_term.specs.DefinitionViews.{definition_of, globals_of};
-ghost use Rattle.zf_term.specs.SchemaViews.{schema_of};
-ghost use Rattle.zf_term.specs.FirstNamed.{first_named};
+ghost use Rattle.zf_term.specs.{definition_of, first_named, globals_of, schema_of};
 
 use crate::extent::Extent;
 use crate::measured::Measured;

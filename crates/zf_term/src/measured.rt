@@ -1,7 +1,6 @@
 //! Schemas within the limits.
 ghost use Rattle.std.specs.Prelude.{◌≡◌};
-ghost use Rattle.zf_term.specs.LimitViews.{HasLeft};
-ghost use Rattle.zf_term.specs.SchemaViews.{schema_of};
+ghost use Rattle.zf_term.specs.{HasLeft, schema_of};
 
 use crate::schema::Flat;
 use std::marker::Model;

@@ -1,9 +1,6 @@
 //! The component and the global that a name stands for.
 ghost use Rattle.std.specs.Prelude.{◌≡◌, map};
-ghost use Rattle.zf_term.specs.FirstNamed.{first_named};
-ghost use Rattle.zf_term.specs.FoundViews.{found_as};
-ghost use Rattle.zf_term.specs.SchemaViews.{comp_of};
-ghost use Rattle.zf_term.specs.DefinitionViews.{entry_of, globals_of};
+ghost use Rattle.zf_term.specs.{comp_of, entry_of, first_named, found_as, globals_of};
 
 use crate::globals::{Entry, Globals};
 use crate::schema::Component;

@@ -1,6 +1,6 @@
 //! Resolved terms: terms in which each name says what it stands for.
 ghost use Rattle.std.specs.Prelude.{◌≡◌};
-ghost use Rattle.zf_term.specs.ResolvedViews.{resolved_of};
+ghost use Rattle.zf_term.specs.{resolved_of};
 ghost use Rattle.zf_term.specs.Shapes as spec;
 
 use zf_data::arena::{Boxed, Items};

@@ -1,8 +1,7 @@
 //! Types as they are printed.
 ghost use Rattle.std.specs.Prelude.{◌≡◌, ◌++◌, IfOk, OnOk, map};
 ghost use Rattle.zf_term.specs.TypeTexts as spec;
-ghost use Rattle.zf_term.specs.Types.{types};
-ghost use Rattle.zf_term.specs.TypeViews.{type_of};
+ghost use Rattle.zf_term.specs.{type_of, types};
 
 use crate::ztype::ZType;
 use std::alloc::{AllocError, Global};

@@ -1,7 +1,6 @@
 //! Types.
 ghost use Rattle.std.specs.Prelude.{◌≡◌, ◌+◌, ◌<◌, ◌↔◌, IsTrue, IfOk, MatchOption, map};
-ghost use Rattle.zf_term.specs.Types.{Ty, int, power, product, types, type_nodes, nodes_of_all, IsSmall, pair_type};
-ghost use Rattle.zf_term.specs.TypeViews.{type_of};
+ghost use Rattle.zf_term.specs.{int, IsSmall, nodes_of_all, pair_type, power, product, Ty, type_nodes, type_of, types};
 ghost use Rattle.zf_term.specs.Types as spec;
 
 use bumpalo::Bump;

@@ -8,8 +8,7 @@ use Rattle.zf_tree.specs.declared.tree.SchemaExp.TheOpen.{SchemaExp-F}
 use Rattle.zf_tree.specs.declared.tree.SchemaExp.TheViews.{roll-SchemaExp}
 use Rattle.zf_tree.specs.declared.tree.SchemaExp.TheVariants as v
 use Rattle.zf_tree.specs.declared.tree.SchemaExp.TheFolds.{fold-roll-SchemaExp, map-SchemaExp}
-use Rattle.zf_tree.specs.Trees.{SchemaTree, schema_text, schema_reference, both, either, schema_bracket}
-use Rattle.zf_tree.specs.TreeViews.{decl_of, tree_of, schema_tree_of, schema_step}
+use Rattle.zf_tree.specs.{both, decl_of, either, schema_bracket, schema_reference, schema_step, schema_text, schema_tree_of, SchemaTree, tree_of}
 
 rolled : (x : SchemaExp-F SchemaExp) → schema_tree_of (roll-SchemaExp x) ≡ schema_step (map-SchemaExp SchemaExp SchemaTree schema_tree_of x)
 unfolding schema_tree_of

@@ -3,7 +3,7 @@ use Rattle.std.proofs.Common.{◌≡◌, ℕ, List, map, Option, Some, None, sym
 use Rattle.zf_tree.specs.declared.symbol.Constant.{Constant}
 use Rattle.zf_tree.specs.declared.symbol.Quantifier.{Quantifier}
 use Rattle.zf_tree.specs.declared.symbol.Relation.{Relation}
-use Rattle.zf_tree.specs.NameViews.{Ident, name_at}
+use Rattle.zf_tree.specs.{binary, bracket, builder, chain, constant, decl_step, empty_set, Ident, link_of, link_step, links, listed, name_at, named, new_decl, new_link, numeral, part_of, quantified, Tree, tree_of, tree_step, trees, unary, var_decl_of, var_decls}
 use Rattle.zf_tree.specs.declared.tree.Name.{Name}
 use Rattle.zf_tree.specs.declared.operator.Listed.{Listed}
 use Rattle.zf_tree.specs.declared.operator.Operator.{Operator}
@@ -15,8 +15,6 @@ use Rattle.zf_tree.specs.declared.tree.Term.TheOpen.{Term-F}
 use Rattle.zf_tree.specs.declared.tree.Term.TheViews.{roll-Term}
 use Rattle.zf_tree.specs.declared.tree.Term.TheVariants as v
 use Rattle.zf_tree.specs.declared.tree.Term.TheFolds.{fold-roll-Term, fold-roll-Link, fold-roll-VarDecl, map-Term}
-use Rattle.zf_tree.specs.Trees.{Tree, named, numeral, constant, empty_set, bracket, listed, builder, unary, binary, chain, quantified}
-use Rattle.zf_tree.specs.TreeViews.{trees, links, var_decls, tree_of, link_of, var_decl_of, part_of, tree_step, link_step, decl_step, new_link, new_decl}
 
 rolled : (x : Term-F Term Link VarDecl) → tree_of (roll-Term x) ≡ tree_step (map-Term Term Link VarDecl Tree (Relation × Tree) (List Name × Tree) tree_of link_of var_decl_of x)
 unfolding tree_of link_of var_decl_of

@@ -1,9 +1,7 @@
 //! The trees of a text.
 ghost use Rattle.std.specs.Prelude.{◌≡◌, ◌++◌};
 ghost use Rattle.zf_tree.specs.NameViews as spec;
-ghost use Rattle.zf_tree.specs.NameViews.{ident_of, name_at};
-ghost use Rattle.zf_tree.specs.Trees.{line_of};
-ghost use Rattle.zf_tree.specs.TreeViews.{tree_of};
+ghost use Rattle.zf_tree.specs.{ident_of, line_of, name_at, tree_of};
 
 use crate::ends::{back, front};
 use crate::operator::{Listed, Operator, Unary};

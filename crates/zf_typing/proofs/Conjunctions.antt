@@ -3,7 +3,7 @@ use Rattle.zf_typing.proofs.Prelude.{Tree, conjuncts, is_and, is_conjunction, re
 use Rattle.std.proofs.Common.{◌≡◌, ℕ, true, false, Result, Ok, Err, OnOk, List, ◌∷◌, [], ◌++◌, append_assoc, refl, sym, ap, ◌∙◌}
 use Rattle.zf_tree.specs.declared.operator.Operator.{Operator}
 use Rattle.zf_tree.specs.Trees as text
-use Rattle.zf_term.specs.ResolvedTrees.{ResolvedTree, bracket, binary}
+use Rattle.zf_term.specs.{binary, bracket, ResolvedTree}
 use Rattle.zf_term.specs.Shapes as shape
 
 -- a predicate is a conjunction where the term is

@@ -10,10 +10,8 @@ pub use Rattle.std.specs.Prelude.{IfErr, IfOk, IsErr, IsErrAnd, Result, slice_ge
 pub use Rattle.std.specs.Str.{bytes_eq}
 pub use Rattle.std.specs.Vec.Iter.{into_iter_items}
 pub use Rattle.zf_reference.specs.declared.reference.Reference.TheVariants.{Component, Global, Local}
-pub use Rattle.zf_tree.specs.Names.{spelling}
-pub use Rattle.zf_tree.specs.Operators.{left_need, need_of, prefix_need, relation_rule, right_need, rule_of, sign_need}
-pub use Rattle.zf_tree.specs.Trees.{absent, binary, bracket, builder, chain, constant, empty_set, line_of, link, Links, listed, named, no_decls, no_links, no_trees, numeral, Perhaps, present, quantified, Tree, tree, Trees, unary, var_decl, VarDecls}
-pub use Rattle.zf_tree.specs.TreeViews.{link_of, links, part_of, tree_of, trees, var_decl_of, var_decls}
+pub use Rattle.zf_tree.specs.{absent, binary, bracket, builder, chain, constant, empty_set, left_need, line_of, link, link_of, Links, links, listed, named, need_of, no_decls, no_links, no_trees, numeral, part_of, Perhaps, prefix_need, present, quantified, relation_rule, right_need, rule_of, sign_need, spelling, Tree, tree, tree_of, trees, unary, var_decl, var_decl_of, var_decls, VarDecls}
+pub use Rattle.zf_tree.specs.Trees.{Trees}
 pub use Rattle.zf_tree.specs.declared.operator.Listed.{Listed}
 pub use Rattle.zf_tree.specs.declared.operator.Listed.TheVariants.{Display, Product, Tuple}
 pub use Rattle.zf_tree.specs.declared.operator.Need.{Need}
@@ -26,34 +24,14 @@ pub use Rattle.zf_tree.specs.declared.symbol.Relation.{Relation}
 pub use Rattle.zf_tree.specs.declared.tree.Name.{Name}
 pub use Rattle.zf_tree.specs.declared.tree.Term.{Term}
 pub use Rattle.zf_term.proofs.Walk.{at_end, at_step, dropped, pushed}
-pub use Rattle.zf_term.specs.Definitions.{Comp, Defined}
-pub use Rattle.zf_term.specs.SchemaViews.{comp_of}
-pub use Rattle.zf_term.specs.DefinitionViews.{entry_of, globals_of}
-pub use Rattle.zf_term.specs.FirstNamed.{first_named, later}
+pub use Rattle.zf_term.specs.{Comp, comp_of, conjuncts, Defined, entry_of, first_named, found_as, globals_of, int, is_and, IsSmall, later, local_twice, mismatch, no_members, no_types, not_declared, Offence, pair_type, power, product, range_of, ranges, reference, resolved_link_of, resolved_of, ResolvedTree, too_large, Ty, type, type_of, types, Tys}
 pub use Rattle.std.specs.Option.{option_or}
-pub use Rattle.zf_term.specs.FoundViews.{found_as}
-pub use Rattle.zf_term.specs.ResolvedViews.{range_of, ranges, resolved_link_of, resolved_of}
-pub use Rattle.zf_term.specs.ResolvedTrees.{reference, ResolvedTree}
-pub use Rattle.zf_term.specs.Shapes.{conjuncts, is_and}
-pub use Rattle.zf_term.specs.Types.{int, IsSmall, no_types, pair_type, power, product, Ty, type, types, Tys}
-pub use Rattle.zf_term.specs.TypeViews.{type_of}
-pub use Rattle.zf_term.specs.Faults.{local_twice, mismatch, no_members, not_declared, Offence, too_large}
 pub use Rattle.zf_term.specs.declared.fault.Limit.TheVariants.{TypeNodes}
 pub use Rattle.zf_term.specs.declared.ztype.ZType.{ZType}
-pub use Rattle.zf_typing.specs.Buckets.{before, bucket_from, last_in}
-unfoldable pub use Rattle.zf_typing.specs.Buckets.{AreHeads, bucket, IsIndexed}
-pub use Rattle.zf_typing.specs.Judging.{AreNew, AreRepeated, DeclarationsOffend, DiffersAt, is_conjunction, IsBound, IsJudged, IsOther, IsPart, var_type}
-unfoldable pub use Rattle.zf_typing.specs.Judging.{Judges, JudgesPart}
-pub use Rattle.zf_typing.specs.Offences.{BuildsTooLarge, Clash, Differ, Disagree, IsRepeated, LinksOffend, ListedTooLarge, MakesTooLarge, MakeTooLarge, Misplaced, Offends, OneDiffers, OneOffends, PartOffends, Repeats, SetsOffend}
-pub use Rattle.zf_sorts.specs.Rules.{Disagreement, a_schema, IsSmallSort, Meets, number_sort, predicate, PrefixTakes, set_sort, SignTakes, Sort, Takes, typed, UnaryTakes}
-pub use Rattle.zf_sorts.specs.Refusals.{IfFault, IsRefusal, IsStill, offence_of}
-pub use Rattle.zf_typing.specs.Resolving.{bound, referent, resolved, resolved_all, resolved_links, resolved_part, resolved_ranges}
-pub use Rattle.zf_sorts.specs.RuleViews.{sort_of}
-unfoldable pub use Rattle.zf_sorts.specs.RuleViews.{IsMade, IsMadeOfOne}
-pub use Rattle.zf_typing.specs.Scopes.{global_sort, last_named, meaning, Scope, Var, component_meaning, global_meaning, variable_meaning, with_variables}
-pub use Rattle.zf_typing.specs.ScopeViews.{meant, variable_of}
-unfoldable pub use Rattle.zf_typing.specs.ScopeViews.{scope_of}
-pub use Rattle.zf_typing.specs.Typing.{AreAll, AreApart, LinksAreTyped, AreMembers, HasMemberType, PartIsPredicate, Declare, declared, IsApart, IsOf, Makes, member_need, member_sort, row_type, types_of, variables}
+pub use Rattle.zf_typing.specs.{AreAll, AreApart, AreMembers, AreNew, AreRepeated, before, bound, bucket_from, BuildsTooLarge, Clash, component_meaning, DeclarationsOffend, Declare, declared, Differ, DiffersAt, Disagree, global_meaning, global_sort, HasMemberType, is_conjunction, IsApart, IsBound, IsJudged, IsOf, IsOther, IsPart, IsRepeated, last_in, last_named, LinksAreTyped, LinksOffend, ListedTooLarge, Makes, MakesTooLarge, MakeTooLarge, meaning, meant, member_need, member_sort, Misplaced, Offends, OneDiffers, OneOffends, PartIsPredicate, PartOffends, referent, Repeats, resolved, resolved_all, resolved_links, resolved_part, resolved_ranges, row_type, Scope, SetsOffend, types_of, Var, var_type, variable_meaning, variable_of, variables, with_variables}
+unfoldable pub use Rattle.zf_typing.specs.{AreHeads, bucket, IsIndexed, Judges, JudgesPart, scope_of}
+pub use Rattle.zf_sorts.specs.{a_schema, Disagreement, IfFault, IsRefusal, IsSmallSort, IsStill, Meets, number_sort, offence_of, predicate, PrefixTakes, set_sort, SignTakes, Sort, sort_of, Takes, typed, UnaryTakes}
+unfoldable pub use Rattle.zf_sorts.specs.{IsMade, IsMadeOfOne}
 pub use Rattle.zf_sorts.specs.declared.fault.Refusal.{Refusal}
 pub use Rattle.zf_sorts.specs.declared.fault.Refusal.TheVariants.{Fault, OutOfMemory}
 pub use Rattle.zf_typing.specs.declared.index.Chained.{Chained}

@@ -2,7 +2,7 @@
 use Rattle.zf_typing.proofs.Prelude.{if◌then◌else◌, ◌++◌, ◌+◌, ◌∙◌, ◌∷◌, ◌≡◌, [], ap, Bool, false, List, map, None, Option, refl, Some, sym, true, ℕ, map-append, bytes_eq, Local, spelling, Links, no_decls, no_trees, Perhaps, Tree, tree, Trees, var_decl, VarDecls, Name, Comp, Defined, first_named, later, int, Ty, bound, referent, resolved, resolved_all, resolved_links, resolved_part, resolved_ranges, Sort, last_named, meaning, Scope, Var, component_meaning, global_meaning, variable_meaning, with_variables, Declare, declared, variables, option_or}
 use Rattle.zf_tree.specs.Trees as text
 use Rattle.zf_reference.specs.declared.reference.Reference.{Reference}
-use Rattle.zf_term.specs.ResolvedTrees.{reference, empty_set, bracket, listed, unary, present}
+use Rattle.zf_term.specs.{bracket, empty_set, listed, present, reference, unary}
 
 abbrev pub names : List Var → List (List ℕ)
 names vs = map (λ v. v.name) vs

@@ -7,21 +7,15 @@ use Rattle.zf_tree.specs.declared.tree.Link.{Link}
 use Rattle.zf_tree.specs.declared.tree.VarDecl.{VarDecl}
 use Rattle.zf_tree.specs.declared.operator.Operator.{Operator}
 use Rattle.zf_tree.specs.declared.symbol.Quantifier.{Quantifier}
-use Rattle.zf_tree.specs.Trees.{line_of, Tree, VarDecls, Perhaps, absent, present, bracket, binary}
+use Rattle.zf_tree.specs.{absent, binary, bracket, line_of, Perhaps, present, spelling, Tree, VarDecls}
 use Rattle.zf_tree.specs.declared.operator.Need.{Need}
-use Rattle.zf_term.specs.ResolvedViews.{resolved_of}
-use Rattle.zf_term.specs.Shapes.{is_and}
-use Rattle.zf_term.specs.Types.{Ty, Tys, no_types, type}
+use Rattle.zf_term.specs.{is_and, local_twice, mismatch, no_members, no_types, Offence, resolved_of, Ty, type, Tys}
 use Rattle.zf_sorts.specs.declared.fault.Refusal.{Refusal}
 use Rattle.zf_typing.specs.declared.judge.Judged.{Judged}
-use Rattle.zf_term.specs.Faults.{Offence, local_twice, mismatch, no_members}
 use Rattle.zf_typing.specs.Offences.{Offends, PartOffends, SetsOffend, Repeats, IsRepeated}
-use Rattle.zf_sorts.specs.Refusals.{IfFault}
+use Rattle.zf_sorts.specs.{IfFault, Meets, sort_of, typed}
 use Rattle.zf_typing.specs.Resolving.{resolved}
-use Rattle.zf_sorts.specs.Rules.{typed, Meets}
-use Rattle.zf_sorts.specs.RuleViews.{sort_of}
 use Rattle.zf_typing.specs.Scopes.{Scope, Var}
-use Rattle.zf_tree.specs.Names.{spelling}
 use Rattle.zf_typing.specs.Typing.{IsOf, IsApart, declared}
 
 -- the term is of this sort, which its place takes, and kept as it is resolved

@@ -1,9 +1,9 @@
 -- What is wrong with a term that has no sort, or not one that its place takes. It is told apart from the checker, and has no order.
 use Rattle.std.specs.Prelude.{◌≡◌, ◌⊎◌, ℕ, List, [], ◌∷◌, None}
 use Rattle.zf_tree.specs.declared.tree.Name.{Name}
-use Rattle.zf_tree.specs.Trees.{line_of, Tree, named, empty_set, bracket, listed, builder, unary, binary, chain, quantified, Trees, no_trees, tree, Links, no_links, link, VarDecls, no_decls, var_decl, Perhaps, absent, present}
-use Rattle.zf_tree.specs.Operators.{left_need, right_need, rule_of, relation_rule, need_of}
-use Rattle.zf_term.specs.Types.{Ty, power, Tys, IsSmall}
+use Rattle.zf_tree.specs.{absent, binary, bracket, builder, chain, empty_set, left_need, line_of, link, Links, listed, named, need_of, no_decls, no_links, no_trees, Perhaps, present, quantified, relation_rule, right_need, rule_of, spelling, Tree, tree, unary, var_decl, VarDecls}
+use Rattle.zf_tree.specs.Trees.{Trees}
+use Rattle.zf_term.specs.{IsSmall, local_twice, mismatch, no_members, not_declared, Offence, power, too_large, Ty, Tys}
 use Rattle.zf_tree.specs.declared.operator.Need.{Need}
 use Rattle.zf_tree.specs.declared.operator.Need.TheVariants as need
 use Rattle.zf_tree.specs.declared.operator.Rule.{Rule}
@@ -11,11 +11,9 @@ use Rattle.zf_tree.specs.declared.operator.Unary.{Unary}
 use Rattle.zf_tree.specs.declared.operator.Listed.{Listed}
 use Rattle.zf_tree.specs.declared.operator.Listed.TheVariants.{Display}
 use Rattle.zf_term.specs.declared.fault.Limit.TheVariants.{TypeNodes}
-use Rattle.zf_term.specs.Faults.{Offence, not_declared, local_twice, mismatch, no_members, too_large}
 use Rattle.zf_term.specs.Faults as fault
-use Rattle.zf_sorts.specs.Rules.{Disagreement, Sort, typed, IsSmallSort, Meets, Takes, UnaryTakes}
+use Rattle.zf_sorts.specs.{Disagreement, IsSmallSort, Meets, Sort, Takes, typed, UnaryTakes}
 use Rattle.zf_typing.specs.Scopes.{Scope, Var, with_variables, meaning}
-use Rattle.zf_tree.specs.Names.{spelling}
 use Rattle.zf_typing.specs.Typing.{IsOf, AreMembers, Makes, member_need, Binds, HasMemberType, declared}
 
 -- the term has a sort that its place does not take

@@ -1,14 +1,14 @@
 -- Resolved terms: each name of a term is resolved where it stands, and all else stays as it is.
 use Rattle.std.specs.Prelude.{length, Option, Some, None}
 use Rattle.zf_tree.specs.Trees as text
-use Rattle.zf_tree.specs.Trees.{Tree, Trees, no_trees, tree, Links, VarDecls, no_decls, var_decl, Perhaps}
+use Rattle.zf_tree.specs.{Links, no_decls, no_trees, Perhaps, spelling, Tree, tree, var_decl, VarDecls}
+use Rattle.zf_tree.specs.Trees.{Trees}
 use Rattle.zf_reference.specs.declared.reference.Reference.{Reference}
 use Rattle.zf_reference.specs.declared.reference.Reference.TheVariants.{Global}
-use Rattle.zf_term.specs.ResolvedTrees.{ResolvedTree, reference, number, constant, empty_set, bracket, listed, builder, unary, binary, chain, quantified, ResolvedTrees, no_terms, term, ResolvedLinks, no_links, link, Ranges, no_ranges, range, ResolvedPart, absent, present}
-use Rattle.zf_term.specs.Types.{int}
-use Rattle.zf_sorts.specs.Rules.{Sort}
+use Rattle.zf_term.specs.{absent, binary, bracket, builder, chain, constant, empty_set, int, link, listed, no_links, no_ranges, no_terms, number, present, quantified, range, Ranges, reference, ResolvedLinks, ResolvedPart, ResolvedTree, term, unary}
+use Rattle.zf_term.specs.ResolvedTrees.{ResolvedTrees}
+use Rattle.zf_sorts.specs.{Sort}
 use Rattle.zf_typing.specs.Scopes.{Scope, with_variables, meaning}
-use Rattle.zf_tree.specs.Names.{spelling}
 use Rattle.zf_typing.specs.Typing.{variables, declared}
 
 -- what a name refers to; of a name that is not in scope nothing is asked

@@ -2,12 +2,10 @@
 use Rattle.std.specs.Prelude.{ℕ, if◌then◌else◌, List, [], ◌∷◌, ◌++◌, Option, Some, None}
 use Rattle.std.specs.Str.{bytes_eq}
 use Rattle.std.specs.Option.{option_map, option_or}
-use Rattle.zf_term.specs.FirstNamed.{later, first_named}
+use Rattle.zf_term.specs.{abbreviation, basic, Comp, constructor, Defined, Definition, first_named, free_type, given_set, later, schema, Ty}
 use Rattle.zf_reference.specs.declared.reference.Reference.{Reference}
 use Rattle.zf_reference.specs.declared.reference.Reference.TheVariants.{Component, Local, Global}
-use Rattle.zf_term.specs.Definitions.{Comp, Defined, Definition, given_set, free_type, constructor, abbreviation, schema}
-use Rattle.zf_term.specs.Types.{Ty, basic}
-use Rattle.zf_sorts.specs.Rules.{Sort, typed, a_schema, set_sort}
+use Rattle.zf_sorts.specs.{a_schema, set_sort, Sort, typed}
 
 pub record Var : Type 0 where
   pub name : List ℕ

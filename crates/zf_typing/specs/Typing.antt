@@ -2,18 +2,17 @@
 use Rattle.std.specs.Prelude.{◌≡◌, List, [], ◌∷◌, ◌++◌, Some, map}
 use Rattle.std.specs.List.{AllByRecursion}
 use Rattle.zf_tree.specs.declared.tree.Name.{Name}
-use Rattle.zf_tree.specs.Trees.{Tree, named, numeral, constant, empty_set, bracket, listed, builder, unary, binary, chain, quantified, Trees, no_trees, tree, Links, no_links, link, VarDecls, no_decls, var_decl, Perhaps, absent, present}
-use Rattle.zf_tree.specs.Operators.{rule_of, relation_rule}
-use Rattle.zf_term.specs.Types.{Ty, power, Tys, no_types, type, IsSmall, types}
+use Rattle.zf_tree.specs.{absent, binary, bracket, builder, chain, constant, empty_set, link, Links, listed, named, no_decls, no_links, no_trees, numeral, Perhaps, present, quantified, relation_rule, rule_of, spelling, Tree, tree, unary, var_decl, VarDecls}
+use Rattle.zf_tree.specs.Trees.{Trees}
+use Rattle.zf_term.specs.{IsSmall, no_types, power, Ty, type, types, Tys}
 use Rattle.zf_tree.specs.declared.operator.Listed.{Listed}
 use Rattle.zf_tree.specs.declared.operator.Listed.TheVariants.{Tuple, Display, Product}
 use Rattle.zf_tree.specs.declared.operator.Need.{Need}
 use Rattle.zf_tree.specs.declared.operator.Need.TheVariants as need
 use Rattle.zf_reference.specs.declared.reference.Reference.{Reference}
 use Rattle.zf_term.specs.Types as t
-use Rattle.zf_sorts.specs.Rules.{Sort, typed, predicate, a_schema, number_sort, set_sort, IsSmallSort, Takes, UnaryTakes, constant_sort}
+use Rattle.zf_sorts.specs.{a_schema, constant_sort, IsSmallSort, number_sort, predicate, set_sort, Sort, Takes, typed, UnaryTakes}
 use Rattle.zf_typing.specs.Scopes.{Scope, Var, with_variables, meaning}
-use Rattle.zf_tree.specs.Names.{spelling}
 
 -- the variables of names that are declared to be in a set
 abbrev pub variables : List Name → Ty → List Var

@@ -1,17 +1,12 @@
 //! Bound variables: how declarations bring them into scope, and how they leave it.
 ghost use Rattle.std.specs.Prelude.{◌≡◌, ℕ, IfOk, IfErr, OnOk, OnErr, List, ◌++◌, length, map};
 ghost use Rattle.zf_tree.specs.declared.tree.Name as program;
-ghost use Rattle.zf_term.specs.Types.{Ty};
-ghost use Rattle.zf_term.specs.TypeViews.{type_of};
+ghost use Rattle.zf_term.specs.{Ty, type_of};
 ghost use Rattle.zf_tree.specs.declared.operator.Need.TheVariants as needs;
-ghost use Rattle.zf_typing.specs.Judging.{AreNew, AreRepeated, var_type};
-ghost use Rattle.zf_sorts.specs.Refusals.{IfFault};
-ghost use Rattle.zf_sorts.specs.Rules.{Meets, set_sort};
-ghost use Rattle.zf_sorts.specs.RuleViews.{sort_of};
+ghost use Rattle.zf_typing.specs.{AreNew, AreRepeated, scope_of, Var, var_type, variable_of, with_variables};
+ghost use Rattle.zf_sorts.specs.{IfFault, Meets, set_sort, sort_of};
 ghost use Rattle.zf_typing.specs.Scopes as spec;
-ghost use Rattle.zf_typing.specs.Scopes.{Var, with_variables};
-ghost use Rattle.zf_typing.specs.ScopeViews.{scope_of, variable_of};
-ghost use Rattle.zf_tree.specs.Names.{spelling};
+ghost use Rattle.zf_tree.specs.{spelling};
 ghost use Rattle.zf_typing.specs.Typing as typing;
 ghost use Rattle.zf_term.specs.Faults as faults;
 

@@ -1,16 +1,11 @@
 //! The conjuncts of a predicate of the text.
 ghost use Rattle.std.specs.Prelude.{◌≡◌, ◌++◌, [], ◌∷◌, IfErr, OnOk, map};
-ghost use Rattle.zf_tree.specs.TreeViews.{tree_of};
-ghost use Rattle.zf_term.specs.ResolvedViews.{resolved_of};
+ghost use Rattle.zf_tree.specs.{tree_of};
+ghost use Rattle.zf_term.specs.{resolved_of};
 ghost use Rattle.zf_term.specs.Shapes as spec;
 ghost use Rattle.zf_tree.specs.declared.operator.Need.TheVariants as needs;
-ghost use Rattle.zf_typing.specs.Judging.{is_conjunction};
-ghost use Rattle.zf_typing.specs.Offences.{Offends};
-ghost use Rattle.zf_sorts.specs.Refusals.{IfFault};
-ghost use Rattle.zf_typing.specs.Resolving.{resolved};
-ghost use Rattle.zf_sorts.specs.Rules.{predicate};
-ghost use Rattle.zf_typing.specs.ScopeViews.{scope_of};
-ghost use Rattle.zf_typing.specs.Typing.{IsOf};
+ghost use Rattle.zf_typing.specs.{is_conjunction, IsOf, Offends, resolved, scope_of};
+ghost use Rattle.zf_sorts.specs.{IfFault, predicate};
 
 use crate::judge::judge;
 use crate::scope::Scope;

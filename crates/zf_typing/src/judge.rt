@@ -1,20 +1,11 @@
 //! What a term is by the typing rules, or an offence against them.
 ghost use Rattle.std.specs.Prelude.{◌≡◌, IfOk, IfErr};
-ghost use Rattle.zf_tree.specs.Names.{spelling};
+ghost use Rattle.zf_tree.specs.{named, numeral, spelling, Tree, tree_of};
 ghost use Rattle.zf_tree.specs.Trees as tree;
-ghost use Rattle.zf_tree.specs.Trees.{Tree, named, numeral};
-ghost use Rattle.zf_tree.specs.TreeViews.{tree_of};
-ghost use Rattle.zf_term.specs.Faults.{not_declared, too_large};
-ghost use Rattle.zf_term.specs.ResolvedViews.{resolved_of};
-ghost use Rattle.zf_typing.specs.Judging.{Judges};
-ghost use Rattle.zf_typing.specs.Offences.{Offends};
-ghost use Rattle.zf_sorts.specs.Refusals.{IfFault, IsRefusal};
-ghost use Rattle.zf_typing.specs.Resolving.{resolved};
-ghost use Rattle.zf_sorts.specs.Rules.{IsSmallSort, Meets};
-ghost use Rattle.zf_sorts.specs.RuleViews.{sort_of};
+ghost use Rattle.zf_term.specs.{not_declared, resolved_of, too_large};
+ghost use Rattle.zf_typing.specs.{IsOf, Judges, Offends, resolved, scope_of};
+ghost use Rattle.zf_sorts.specs.{IfFault, IsRefusal, IsSmallSort, Meets, sort_of};
 ghost use Rattle.zf_typing.specs.Scopes as spec;
-ghost use Rattle.zf_typing.specs.ScopeViews.{scope_of};
-ghost use Rattle.zf_typing.specs.Typing.{IsOf};
 
 mod binders;
 mod chains;

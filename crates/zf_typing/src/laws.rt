@@ -1,5 +1,5 @@
 //! What holds of every term.
-ghost use Rattle.zf_typing.specs.Laws.{NoOffence, OneSort};
+ghost use Rattle.zf_typing.specs.{NoOffence, OneSort};
 
 /// In a scope a term is an expression of one type at most, a predicate or a schema's name, and no two of these.
 pub fn one_sort()

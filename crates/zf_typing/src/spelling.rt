@@ -1,6 +1,6 @@
 //! Spellings of names: which bucket one is found in.
 ghost use Rattle.std.specs.Prelude.{◌≡◌, ◌<◌};
-ghost use Rattle.zf_typing.specs.Buckets.{bucket};
+ghost use Rattle.zf_typing.specs.{bucket};
 
 /// How many buckets there are.
 pub(crate) const BUCKETS: usize = 4_096;

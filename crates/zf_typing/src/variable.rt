@@ -1,8 +1,7 @@
 //! Bound variables.
 ghost use Rattle.std.specs.Prelude.{◌≡◌, map};
-ghost use Rattle.zf_typing.specs.Scopes.{last_named};
-ghost use Rattle.zf_typing.specs.ScopeViews.{variable_of};
-ghost use Rattle.zf_term.specs.FoundViews.{found_as};
+ghost use Rattle.zf_typing.specs.{last_named, variable_of};
+ghost use Rattle.zf_term.specs.{found_as};
 
 use zf_data::arena::Lent;
 use zf_term::spelling::is_same;

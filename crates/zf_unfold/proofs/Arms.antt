@@ -11,7 +11,7 @@ use Rattle.zf_term.proofs.ResolvedSeen.{of-Binary, of-Bracket, of-Quantified, of
 use Rattle.zf_term.specs.declared.resolved.Range.{Range}
 use Rattle.zf_term.specs.declared.resolved.Resolved.{Resolved}
 use Rattle.zf_term.specs.declared.resolved.Resolved.TheVariants as v
-use Rattle.zf_unfold.specs.Renaming.{fewer}
+use Rattle.zf_unfold.specs.{fewer}
 use Rattle.zf_unfold.proofs.WrittenOut.{unfold_bracket, unfold_connected, unfold_not, unfold_outside}
 
 across : (f e : Environment) (t t' u u' : ResolvedTree) → t' ≡ t → u' ≡ u → IsUnfolded f e t u → IsUnfolded f e t' u'

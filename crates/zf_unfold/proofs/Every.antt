@@ -3,11 +3,9 @@ use Rattle.zf_unfold.proofs.Prelude.{◌++◌, ◌↔◌, ◌∷◌, ◌≡◌, 
 use Rattle.zf_tree.specs.declared.symbol.Quantifier.TheVariants.{ForAll}
 use Rattle.zf_value.specs.declared.value.Outcome.TheVariants.{Is}
 use Rattle.zf_value.specs.declared.value.Truth.TheVariants.{True, False, Out}
-use Rattle.zf_value.specs.Lists.{IsMember}
-use Rattle.zf_value.specs.Sets.{members}
-use Rattle.zf_value.specs.Operations.{AreFrom}
-use Rattle.zf_outcome.specs.Outcomes.{repeated}
-use Rattle.zf_meaning.specs.Places.{all_rows, IsAmong}
+use Rattle.zf_value.specs.{AreFrom, IsMember, members}
+use Rattle.zf_outcome.specs.{repeated}
+use Rattle.zf_meaning.specs.{all_rows, IsAmong}
 use Rattle.zf_meaning.proofs.AllRows.{row-among, among-row}
 use Rattle.std.specs.Prelude.{map}
 

@@ -3,11 +3,11 @@ use Rattle.zf_unfold.proofs.Prelude.{◌↔◌, Reference, ◌∙◌, ◌∷◌,
 use Rattle.zf_tree.specs.declared.symbol.Quantifier.TheVariants.{ForAll}
 use Rattle.zf_value.specs.declared.value.Outcome.TheVariants.{Is}
 use Rattle.zf_value.specs.declared.value.Truth.TheVariants.{True, False, Out}
-use Rattle.zf_value.specs.Operations.{AreFrom}
-use Rattle.zf_outcome.specs.Truths.{IsDisjunction, opposite}
+use Rattle.zf_value.specs.{AreFrom}
+use Rattle.zf_outcome.specs.{IsDisjunction, opposite}
 use Rattle.zf_meaning.proofs.Unique.{one_outcome}
 use Rattle.zf_lift.proofs.Mapped as mapped
-use Rattle.zf_unfold.specs.Renaming.{implied, instance, others, over}
+use Rattle.zf_unfold.specs.{implied, instance, others, over}
 use Rattle.zf_unfold.proofs.Agreeing.{part_same, ranges_same, same_renamed}
 use Rattle.zf_unfold.proofs.Names.{agree_inside, agree_outside}
 use Rattle.zf_unfold.proofs.Every.{behind, says_behind}

@@ -5,11 +5,11 @@ use Rattle.std.specs.Prelude.{IfSome}
 use Rattle.std.proofs.lemmas.Result.{IfOk-weaker}
 use Rattle.zf_term.specs.declared.resolved.Resolved.{Resolved}
 use Rattle.zf_value.specs.declared.value.Outcome.TheVariants.{Is}
-use Rattle.zf_value.specs.Sets.{members}
+use Rattle.zf_value.specs.{members}
 use Rattle.zf_lift.specs.declared.lifted.Lifted.{Lifted}
 use Rattle.zf_lift.proofs.Longer.{itself}
 use Rattle.zf_unfold.specs.declared.instance.Universal.{Universal}
-use Rattle.zf_unfold.specs.RenamingViews.{instances_of, universal_of}
+use Rattle.zf_unfold.specs.{instances_of, universal_of}
 use Rattle.zf_unfold.proofs.Arms.{plain}
 use Rattle.zf_unfold.proofs.Steps.{all_further, unfold_members}
 

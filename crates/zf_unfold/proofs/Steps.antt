@@ -7,9 +7,9 @@ use Rattle.zf_term.specs.declared.resolved.Resolved.TheVariants as v
 use Rattle.zf_tree.specs.declared.symbol.Quantifier.TheVariants.{ForAll}
 use Rattle.zf_value.specs.declared.value.Outcome.TheVariants.{Is, Undefined}
 use Rattle.zf_lift.proofs.Each.{each_also, whole}
-use Rattle.zf_value.specs.Sets.{members}
+use Rattle.zf_value.specs.{members}
 use Rattle.zf_lift.proofs.Longer as longer_ones
-use Rattle.zf_unfold.specs.Renaming.{instances}
+use Rattle.zf_unfold.specs.{instances}
 use Rattle.zf_unfold.proofs.Names.{base_later}
 use Rattle.zf_unfold.proofs.WrittenOut.{is_unfolded, unfold_quantified}
 

@@ -8,7 +8,7 @@ use Rattle.zf_term.proofs.ResolvedSeen.{of-Binary, of-Quantified, range-seen}
 use Rattle.zf_term.specs.declared.resolved.Range.{Range}
 use Rattle.zf_term.specs.declared.resolved.Resolved.{Resolved}
 use Rattle.zf_term.specs.declared.resolved.Resolved.TheVariants as v
-use Rattle.zf_unfold.specs.Renaming.{fewer, implied, instance, instances, over}
+use Rattle.zf_unfold.specs.{fewer, implied, instance, instances, over}
 use Rattle.zf_unfold.proofs.Arms.{left_none, left_some}
 use Rattle.zf_resolved.proofs.Renamings.{all-ranges}
 

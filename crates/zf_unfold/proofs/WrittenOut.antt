@@ -6,15 +6,13 @@ use Rattle.zf_tree.specs.declared.symbol.Connective as connective
 use Rattle.zf_tree.specs.declared.symbol.Connective.TheVariants.{And}
 use Rattle.zf_tree.specs.declared.symbol.Quantifier.TheVariants.{ForAll}
 use Rattle.zf_value.specs.declared.value.Outcome.TheVariants.{Is}
-use Rattle.zf_value.specs.Lists.{IsMember}
-use Rattle.zf_value.specs.Sets.{members}
-use Rattle.zf_outcome.specs.Truths.{opposite}
+use Rattle.zf_value.specs.{IsMember, members}
+use Rattle.zf_outcome.specs.{opposite}
 use Rattle.zf_lift.proofs.Longer as longer_ones
 use Rattle.zf_lift.proofs.Mapped as mapped
 use Rattle.zf_lift.proofs.Needs.{uses_no_more}
 use Rattle.law_total.proofs.Terms.{some_truth}
-use Rattle.zf_unfold.specs.Renaming.{instance, instances}
-use Rattle.zf_unfold.specs.Unfolded.{AreNamed}
+use Rattle.zf_unfold.specs.{AreNamed, instance, instances}
 use Rattle.zf_unfold.proofs.Agreeing.{same_renamed}
 use Rattle.zf_unfold.proofs.Every.{every_both, every_one, IsEvery, quantified_first, says_behind}
 use Rattle.zf_unfold.proofs.Instances.{instance_same, one_ranges, Told}

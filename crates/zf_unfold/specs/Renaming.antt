@@ -5,8 +5,8 @@ use Rattle.zf_reference.specs.declared.reference.Reference.TheVariants.{Componen
 use Rattle.zf_tree.specs.declared.operator.Operator.TheVariants.{Connective}
 use Rattle.zf_tree.specs.declared.symbol.Connective.TheVariants.{And, Implies}
 use Rattle.zf_tree.specs.declared.symbol.Quantifier.TheVariants.{ForAll}
-use Rattle.zf_term.specs.ResolvedTrees.{ResolvedTree, binary, quantified, Ranges, no_ranges, range, ResolvedPart, absent, present}
-pub use Rattle.zf_resolved.specs.Renamed.{renamed, all_renamed, links_renamed, ranges_renamed, part_renamed, range_renamed}
+use Rattle.zf_term.specs.{absent, binary, no_ranges, present, quantified, range, Ranges, ResolvedPart, ResolvedTree}
+pub use Rattle.zf_resolved.specs.{all_renamed, links_renamed, part_renamed, range_renamed, ranges_renamed, renamed}
 
 -- ---- names
 

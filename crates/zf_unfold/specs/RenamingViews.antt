@@ -2,8 +2,7 @@
 use Rattle.std.specs.Prelude.{ℕ, map}
 use Rattle.zf_tree.specs.declared.symbol.Quantifier.TheVariants.{ForAll}
 use Rattle.zf_reference.specs.declared.reference.Reference.{Reference}
-use Rattle.zf_term.specs.ResolvedTrees.{quantified, range, Ranges, ResolvedTree}
-use Rattle.zf_term.specs.ResolvedViews.{part_of, range_of, ranges, resolved_of}
+use Rattle.zf_term.specs.{part_of, quantified, range, range_of, Ranges, ranges, resolved_of, ResolvedTree}
 use Rattle.zf_unfold.specs.declared.instance.Universal.{Universal}
 use Rattle.zf_unfold.specs.declared.renaming.Renaming.{Renaming}
 use Rattle.zf_unfold.specs.Renaming.{instance, instances, named}

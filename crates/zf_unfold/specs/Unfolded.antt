@@ -1,16 +1,12 @@
 -- Predicates that say in a longer environment what others say. No public clause rests on this.
 use Rattle.std.specs.Prelude.{◌≡◌, ◌↔◌, ℕ, suc, ◌≤◌, List, [], ◌∷◌, length, Some, slice_get}
-use Rattle.zf_term.specs.ResolvedTrees.{ResolvedTree}
+use Rattle.zf_term.specs.{ResolvedTree}
 use Rattle.zf_value.specs.declared.plain.Value.{Value}
 use Rattle.zf_value.specs.declared.value.Outcome.{Outcome}
 use Rattle.zf_value.specs.declared.value.Outcome.TheVariants.{Is, Undefined}
 use Rattle.zf_value.specs.declared.value.Truth.{Truth}
-use Rattle.zf_meaning.specs.Environments.{Environment}
-use Rattle.zf_meaning.specs.InRow.{in_row}
-use Rattle.zf_meaning.specs.Meaning.{HasOutcome, IsTruth}
-use Rattle.zf_lift.specs.Lifted.{AreEach, IsLonger}
-use Rattle.zf_lift.specs.Lifts.{Keeps}
-use Rattle.zf_lift.specs.Needs.{need}
+use Rattle.zf_meaning.specs.{Environment, HasOutcome, in_row, IsTruth}
+use Rattle.zf_lift.specs.{AreEach, IsLonger, Keeps, need}
 
 -- e has n names, and f one more, which is undefined, and maybe further ones
 pub record IsBase (n : ℕ) (e f : Environment) : Type 0 where

@@ -1,6 +1,6 @@
 //! What a universal quantifier says of each member of its first declared set.
 ghost use Rattle.std.specs.Prelude.{◌≡◌, ◌++◌, ◌+◌, ◌<◌, ◌^◌, None, IfOk, OnOk, map};
-ghost use Rattle.zf_term.specs.ResolvedViews.{resolved_of, range_of, ranges, part_of};
+ghost use Rattle.zf_term.specs.{part_of, range_of, ranges, resolved_of};
 ghost use Rattle.zf_unfold.specs.Renaming as spec;
 ghost use Rattle.zf_unfold.specs.RenamingViews as views;
 

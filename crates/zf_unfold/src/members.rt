@@ -1,10 +1,10 @@
 //! The members of declared sets as names.
 ghost use Rattle.std.specs.Prelude.{◌≡◌, ◌<◌, ℕ, IfOk, IfSome, IsTrue, OnOk, map};
-ghost use Rattle.zf_term.specs.ResolvedViews.{resolved_of};
+ghost use Rattle.zf_term.specs.{resolved_of};
 ghost use Rattle.zf_reference.specs.declared.reference.Reference.TheVariants as names;
 ghost use Rattle.zf_value.specs.declared.value.Outcome.TheVariants.{Is};
-ghost use Rattle.zf_meaning.specs.Envs.{environment_of, longer};
-ghost use Rattle.zf_unfold.specs.Unfolded.{IsSetNamed};
+ghost use Rattle.zf_meaning.specs.{environment_of, longer};
+ghost use Rattle.zf_unfold.specs.{IsSetNamed};
 
 use std::alloc::{AllocError, Global};
 use zf_meaning::env::Env;

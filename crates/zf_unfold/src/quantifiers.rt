@@ -1,7 +1,7 @@
 //! Universal quantifiers among the parts of a predicate that are no connectives.
 ghost use Rattle.std.specs.Prelude.{◌≡◌, ◌<◌, IfSome, IsTrue};
 ghost use Rattle.zf_tree.specs.declared.symbol.Quantifier.TheVariants.{ForAll};
-ghost use Rattle.zf_term.specs.ResolvedViews.{resolved_of};
+ghost use Rattle.zf_term.specs.{resolved_of};
 ghost use Rattle.zf_unfold.specs.RenamingViews as views;
 
 use crate::instance::Universal;

@@ -1,11 +1,10 @@
 //! Predicates whose universal quantifiers over small closed sets are written out.
 ghost use Rattle.std.specs.Prelude.{◌≤◌, ◌≡◌, None, IfOk, IfSome, OnOk, length, map};
-ghost use Rattle.zf_term.specs.ResolvedViews.{resolved_of};
-ghost use Rattle.zf_meaning.specs.Environments.{Environment};
-ghost use Rattle.zf_meaning.specs.Envs.{environment_of};
-ghost use Rattle.zf_lift.specs.Lifted.{AreLifted, IsLonger};
+ghost use Rattle.zf_term.specs.{resolved_of};
+ghost use Rattle.zf_meaning.specs.{Environment, environment_of};
+ghost use Rattle.zf_lift.specs.{AreLifted, IsLonger};
 ghost use Rattle.zf_unfold.specs.Renaming as spec;
-ghost use Rattle.zf_unfold.specs.Unfolded.{AreAllUnfolded, IsBase, IsUnfolded};
+ghost use Rattle.zf_unfold.specs.{AreAllUnfolded, IsBase, IsUnfolded};
 
 use crate::instance::instances;
 use crate::members::{add_members, set_named};

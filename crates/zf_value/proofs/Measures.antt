@@ -2,7 +2,7 @@
 use Rattle.zf_value.proofs.Prelude.{◌*◌, ◌+◌, ◌<◌, ◌∙◌, ◌∷◌, ◌≡◌, ◌≤◌, [], ap, arith, Bool, false, get_or, Greater, length, Less, List, map, None, Ordering, refl, Some, subst, suc, sym, true, zero, ℕ, ℤ, level_of, value_of, number_at, number_of, pair, members, members_at, parts, value_order, place_at, place_beside, place_of_first, Elem, out-Value, roll-out-Value, roll-Value, SetOf, Tuple, Value, Value-F, outs-Elem, outs-Int, outs-SetOf, outs-Tuple, rolls-SetOf, Form}
 use Rattle.zf_value.specs.declared.value.Form.TheVariants as form
 use Rattle.zf_value.proofs.Seen.{number_of-Int, parts-Tuple}
-use Rattle.zf_value.specs.Heights.{greatest, height, height-Tuple, height-SetOf}
+use Rattle.zf_value.specs.{greatest, height, height-SetOf, height-Tuple}
 use Rattle.zf_value.specs.declared.value.Value.TheDeep.{size-Value}
 use denote.Param.Weighed.{most}
 

@@ -17,19 +17,8 @@ pub use Rattle.std.specs.Prelude.{◌*ℤ◌, ◌+ℤ◌, ◌-ℤ◌, ◌<ℤ◌
 pub use Rattle.std.specs.Result.{IfOk, is_ok}
 pub use Rattle.std.specs.declared.alloc.AllocError.{AllocError}
 pub use denote.Ref.{Bor}
-pub use Rattle.zf_value.specs.Forms.{level_of, value_of}
-pub use Rattle.zf_value.specs.NumberLaws.{DivisionsTell}
-pub use Rattle.zf_value.specs.Numbers.{IsDivision, IsNumber, IsRemainder, number_at, number_of, OnNumber, OnNumbers}
-unfoldable pub use Rattle.zf_value.specs.Numbers.{IsBetweenNumbers, IsDifference, IsInterval, IsModulus, IsNegation, IsProduct, IsQuotient, IsSum}
-pub use Rattle.zf_value.specs.Operations.{IsInDomain, IsInRange, IsPairOf, pair, Relates}
-unfoldable pub use Rattle.zf_value.specs.Operations.{AreElements, IsApplied, IsComposition, IsDisplay, IsDomain, IsDomainRestriction, IsDomainSubtraction, IsElement, IsImage, IsIntersection, IsInverse, IsOverriding, IsRange, IsRangeRestriction, IsRangeSubtraction, IsSetDifference, IsSize, IsUnion}
-pub use Rattle.zf_value.specs.Order.{level_order}
-pub use Rattle.zf_value.specs.Sets.{IsAscending, IsMember, IsSetOf, members, members_at, value_order}
-pub use Rattle.zf_value.specs.SetLaws.{parts, parts_at}
-unfoldable pub use Rattle.zf_value.specs.Sets.{AreAmong}
-unfoldable pub use Rattle.zf_value.specs.ListLaws.{HaveSameMembers}
-pub use Rattle.zf_value.specs.Steps.{AreRelated, IsKept, IsPartOf, IsSelected, ListsNumbers, place_at, place_beside, place_of_first}
-unfoldable pub use Rattle.zf_value.specs.Steps.{AddsPairs, GivesJust, IsGathered, IsJoined}
+pub use Rattle.zf_value.specs.{AreRelated, DivisionsTell, IsAscending, IsDivision, IsInDomain, IsInRange, IsKept, IsMember, IsNumber, IsPairOf, IsPartOf, IsRemainder, IsSelected, IsSetOf, level_of, level_order, ListsNumbers, members, members_at, number_at, number_of, OnNumber, OnNumbers, pair, parts, parts_at, place_at, place_beside, place_of_first, Relates, value_of, value_order}
+unfoldable pub use Rattle.zf_value.specs.{AddsPairs, AreAmong, AreElements, GivesJust, HaveSameMembers, IsApplied, IsBetweenNumbers, IsComposition, IsDifference, IsDisplay, IsDomain, IsDomainRestriction, IsDomainSubtraction, IsElement, IsGathered, IsImage, IsIntersection, IsInterval, IsInverse, IsJoined, IsModulus, IsNegation, IsOverriding, IsProduct, IsQuotient, IsRange, IsRangeRestriction, IsRangeSubtraction, IsSetDifference, IsSize, IsSum, IsUnion}
 pub use Rattle.zf_value.specs.declared.TheConstants.{SET_MAX}
 pub use Rattle.zf_value.specs.declared.part.Keep.{Keep}
 pub use Rattle.zf_value.specs.declared.part.Keep.TheVariants.{Members, Others}

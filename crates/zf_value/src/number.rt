@@ -1,8 +1,7 @@
 //! The operations on numbers.
 ghost use Rattle.std.specs.Prelude.{◌≡◌, ◌↔◌, pos, ◌+ℤ◌, ◌≤ℤ◌, IsTrue, IfOk, MatchOption};
-ghost use Rattle.zf_value.specs.Numbers.{IsNegation, IsSum, IsDifference, IsProduct, IsQuotient, IsModulus, IsInterval, IsBetweenNumbers, IsRemainder};
+ghost use Rattle.zf_value.specs.{IsBetweenNumbers, IsDifference, IsInterval, IsModulus, IsNegation, IsProduct, IsQuotient, IsRemainder, IsSum, ListsNumbers};
 ghost use Rattle.zf_value.specs.declared.plain.Value.{Int};
-ghost use Rattle.zf_value.specs.Steps.{ListsNumbers};
 
 use crate::SET_MAX;
 use crate::set::set_of;

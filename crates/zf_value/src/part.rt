@@ -1,7 +1,6 @@
 //! The parts of members that operations test and give.
 ghost use Rattle.std.specs.Prelude.{◌↔◌, IsTrue, IfOk};
-ghost use Rattle.zf_value.specs.Sets.{IsAscending};
-ghost use Rattle.zf_value.specs.Steps.{GivesJust, IsGathered, IsPartOf, IsKept, IsSelected};
+ghost use Rattle.zf_value.specs.{GivesJust, IsAscending, IsGathered, IsKept, IsPartOf, IsSelected};
 
 use crate::set::is_found;
 use crate::value::Value;

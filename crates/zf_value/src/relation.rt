@@ -1,9 +1,7 @@
 //! The operations on relations. A relation is a set of pairs; what is no pair relates nothing.
 ghost use Rattle.std.specs.Prelude.{◌≡◌, ◌↔◌, ◌≤◌, ◌∷◌, [], length, slice_range, IfOk, IsTrue, OnOk, MatchOption};
 ghost use Rattle.std.specs.Cmp.Lexicographic.{slice_cmp};
-ghost use Rattle.zf_value.specs.Operations.{pair, IsDomain, IsRange, IsInverse, IsImage, IsComposition, IsOverriding, IsDomainRestriction, IsDomainSubtraction, IsRangeRestriction, IsRangeSubtraction, IsApplied};
-ghost use Rattle.zf_value.specs.Sets.{members, value_order, IsAscending, IsMember};
-ghost use Rattle.zf_value.specs.Steps.{AreRelated, AddsPairs, place_beside as place};
+ghost use Rattle.zf_value.specs.{AddsPairs, AreRelated, IsApplied, IsAscending, IsComposition, IsDomain, IsDomainRestriction, IsDomainSubtraction, IsImage, IsInverse, IsMember, IsOverriding, IsRange, IsRangeRestriction, IsRangeSubtraction, members, pair, place_beside as place, value_order};
 
 use crate::part::{Keep, Part, Selection, parts, selected};
 use crate::set::{copy_onto, display, is_too_many, make_ascending, tuple_of_two};

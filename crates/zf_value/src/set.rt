@@ -1,10 +1,7 @@
 //! The operations that make tuples and sets.
 ghost use Rattle.std.specs.Bool.{MatchBool};
 ghost use Rattle.std.specs.Prelude.{◌≡◌, true, ◌↔◌, ◌*◌, ◌≤◌, ◌++◌, length, IsTrue, IfOk, OnOk};
-ghost use Rattle.zf_value.specs.Operations.{pair, IsPair, IsTuple, IsEmptySet, IsElement, AreElements, IsDisplay, IsUnion, IsIntersection, IsSetDifference, IsSize};
-ghost use Rattle.zf_value.specs.Steps.{IsJoined};
-ghost use Rattle.zf_value.specs.Sets.{members, IsMember, IsAscending, AreAmong};
-ghost use Rattle.zf_value.specs.ListLaws.{HaveSameMembers};
+ghost use Rattle.zf_value.specs.{AreAmong, AreElements, HaveSameMembers, IsAscending, IsDisplay, IsElement, IsEmptySet, IsIntersection, IsJoined, IsMember, IsPair, IsSetDifference, IsSize, IsTuple, IsUnion, members, pair};
 
 use crate::SET_MAX;
 use crate::items::Items;

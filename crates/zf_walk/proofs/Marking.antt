@@ -8,8 +8,7 @@ use Rattle.std.proofs.Math.Nat.{mod-lt}
 use Rattle.std.proofs.lemmas.Nat.{div-add-mod'}
 use Rattle.std.proofs.lemmas.Nat.Bits.{bit_at-lt, bit_at-zero, bit_at_and, bit_at_or}
 use Rattle.zf_walk.proofs.Numbering.{digit_small, next_digit, one_digit}
-use Rattle.zf_walk.specs.Seen.{HasBit, IsSeen, unseen}
-use Rattle.zf_walk.specs.Tables.{IsMarked}
+use Rattle.zf_walk.specs.{HasBit, IsMarked, IsSeen, unseen}
 use Rattle.zf_walk.specs.declared.seen.Seen.{Seen}
 
 pub unseen-nothing : (i : ℕ) (t : Truth) → IsSeen unseen i t → ⊥

@@ -12,17 +12,8 @@ pub use Rattle.std.specs.Ordering.{ordering_reverse, ordering_then}
 pub use Rattle.std.specs.Prelude.{◌≢◌, AllPairs, Contains, IfSome, IsSomeAnd, IsTrue, slice_get, unwrap_or}
 pub use Rattle.std.specs.declared.cmp.Ordering.{Ordering}
 pub use Rattle.std.specs.declared.cmp.Ordering.TheVariants.{Equal, Greater, Less}
-pub use Rattle.zf_walk.specs.Conjuncts.{Conjuncts, IsTruthOf}
-pub use Rattle.zf_walk.specs.ConjunctLaws.{FollowUsed, HaveOneTruth, KeepTruths}
-pub use Rattle.zf_walk.specs.Events.{Event, IsEvent}
-pub use Rattle.zf_walk.specs.Picked.{AreWithin, picked}
-pub use Rattle.zf_walk.specs.Order.{first_of, is_reached, reaches, under}
-pub use Rattle.zf_walk.specs.Progress.{Ahead, AreAllAhead, AreDueWithin, ended, IsAhead, IsBounded, IsRest, past, SameAhead, Takes}
-pub use Rattle.zf_walk.specs.RowLaws.{AreAscending, HasLength, TiesAreEqual}
-pub use Rattle.zf_walk.specs.Rows.{ComesAfter, IsFrontOf, IsLater, IsRowOf}
-pub use Rattle.zf_walk.specs.Tables.{AreTables, AreTrue, AreUsed, combinations, HavePlaces, number}
-pub use Rattle.zf_walk.specs.Tests.{cut, IsCount, IsNumberOfTests, IsDueTest, IsReached, IsUpTo, IsWalked}
-pub use Rattle.zf_walk.specs.TestBounds.{IsBound}
+pub use Rattle.zf_walk.specs.{Ahead, AreAllAhead, AreAscending, AreDueWithin, AreTables, AreTrue, AreUsed, AreWithin, combinations, ComesAfter, cut, ended, Event, first_of, FollowUsed, HasLength, HaveOneTruth, HavePlaces, is_reached, IsAhead, IsBound, IsBounded, IsCount, IsDueTest, IsEvent, IsFrontOf, IsLater, IsNumberOfTests, IsReached, IsRest, IsRowOf, IsTruthOf, IsUpTo, IsWalked, KeepTruths, number, past, picked, reaches, SameAhead, Takes, TiesAreEqual, under}
+pub use Rattle.zf_walk.specs.Conjuncts.{Conjuncts}
 pub use Rattle.zf_walk.specs.declared.judge.Truth.{Truth}
 pub use Rattle.zf_walk.specs.declared.judge.Truth.TheVariants.{False, Out, True}
 pub use Rattle.zf_walk.specs.declared.table.Table.{Table}

@@ -1,6 +1,6 @@
 //! What is known of a truth, in a byte.
 ghost use Rattle.std.specs.Prelude.{◌≡◌, Some};
-ghost use Rattle.zf_walk.specs.Tables.{told};
+ghost use Rattle.zf_walk.specs.{told};
 
 use crate::judge::Truth;
 

@@ -2,7 +2,7 @@
 ghost use Rattle.std.specs.Prelude.{◌≡◌, ◌<◌, ◌≤◌, ℕ, Bool, length, slice_index_or, IfOk};
 ghost use Rattle.zf_walk.specs.declared.judge.Truth.{Truth};
 ghost use Rattle.zf_walk.specs.Conjuncts.{Conjuncts};
-ghost use Rattle.zf_walk.specs.ConjunctLaws.{HaveOneTruth, KeepTruths, FollowUsed};
+ghost use Rattle.zf_walk.specs.{FollowUsed, HaveOneTruth, KeepTruths};
 
 use crate::row::Row;
 use std::alloc::AllocError;

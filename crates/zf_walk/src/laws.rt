@@ -1,5 +1,5 @@
 //! Laws of the definitions, at any conjuncts and ordered values.
-ghost use Rattle.zf_walk.specs.Laws.{HasOneList, Resumes, StartsWithAll, TakesFirst, EndsWithNone, StaysWithinBound};
+ghost use Rattle.zf_walk.specs.{EndsWithNone, HasOneList, Resumes, StartsWithAll, StaysWithinBound, TakesFirst};
 
 use crate::judge::Judge;
 

@@ -1,6 +1,6 @@
 //! Rows by the places of their values in ranges.
 ghost use Rattle.std.specs.Prelude.{◌≡◌, ◌<◌, length, slice_get};
-ghost use Rattle.zf_walk.specs.Picked.{AreWithin, picked};
+ghost use Rattle.zf_walk.specs.{AreWithin, picked};
 
 use crate::range::Range;
 use crate::row::Row;

@@ -1,9 +1,7 @@
 //! Which rows come after the named one.
 ghost use Rattle.std.specs.Prelude.{◌≡◌, length};
 ghost use Rattle.std.specs.Option.{option_copied};
-ghost use Rattle.zf_walk.specs.RowLaws.{HasLength};
-ghost use Rattle.zf_walk.specs.Picked.{AreWithin, picked};
-ghost use Rattle.zf_walk.specs.Order.{is_reached, reaches};
+ghost use Rattle.zf_walk.specs.{AreWithin, HasLength, is_reached, picked, reaches};
 
 use crate::picked::pick;
 use crate::range::Range;

@@ -2,7 +2,7 @@
 ghost use Rattle.std.specs.Prelude.{◌≡◌, ◌⊎◌, ◌<◌, ℕ, true, IfSome};
 ghost use Rattle.zf_walk.specs.declared.judge.Truth.{Truth};
 ghost use Rattle.zf_walk.specs.declared.judge.Truth.TheVariants.{False, True};
-ghost use Rattle.zf_walk.specs.Seen.{HasBit, IsSeen, unseen};
+ghost use Rattle.zf_walk.specs.{HasBit, IsSeen, unseen};
 
 use crate::judge::Truth;
 

@@ -1,8 +1,7 @@
 //! What is known of the truths of one conjunct.
 ghost use Rattle.std.specs.Prelude.{◌≡◌, ◌⊎◌, ◌+◌, ◌<◌, ◌≤◌, ◌^◌, ◌++◌, ◌∷◌, [], ℕ, drop, length, slice_index_or, IfSome, IsTrue};
 ghost use Rattle.zf_walk.specs.declared.judge.Truth.{Truth};
-ghost use Rattle.zf_walk.specs.Seen.{IsSeen, unseen};
-ghost use Rattle.zf_walk.specs.Tables.{Fits, IsMarked, Keeps, known, number};
+ghost use Rattle.zf_walk.specs.{Fits, IsMarked, IsSeen, Keeps, known, number, unseen};
 
 use crate::entry::Entry;
 use crate::judge::Truth;

@@ -1,10 +1,7 @@
 //! What is known of the truths of all conjuncts.
 ghost use Rattle.std.specs.Prelude.{◌≡◌, ◌+◌, ◌<◌, ◌≤◌, ◌++◌, ◌∷◌, ℕ, length, [], IfOk, IfSome};
 ghost use Rattle.zf_walk.specs.declared.judge.Truth.{Truth};
-ghost use Rattle.zf_walk.specs.Seen.{IsSeen};
-ghost use Rattle.zf_walk.specs.Progress.{AreDueWithin};
-ghost use Rattle.zf_walk.specs.Picked.{AreWithin, picked};
-ghost use Rattle.zf_walk.specs.Tables.{AreTrue, IsTableOf};
+ghost use Rattle.zf_walk.specs.{AreDueWithin, AreTrue, AreWithin, IsSeen, IsTableOf, picked};
 
 use crate::judge::{Judge, Truth};
 use crate::picked::Picked;

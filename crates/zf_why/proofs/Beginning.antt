@@ -1,11 +1,10 @@
 -- Where a search over some predicates can begin, so can one over some of them.
 use Rattle.zf_why.proofs.Prelude.{◌++◌, ◌<◌, ◌∷◌, ◌≡◌, ◌≤◌, [], arith, Bool, length, List, Some, subst, suc, sym, zero, ℕ, AllByRecursion, slice_get, Comp, sets_of, ResolvedTree, Environment, property, IsNoneOut, chosen_of, CanAsk, CanBegin, schema_with}
-use Rattle.zf_extent.specs.Extents.{offending, unless}
-use Rattle.zf_finite.specs.Finite.{all_set_offenders, IsFinite, one_bounds}
-use Rattle.zf_walk.specs.Progress.{AreDueWithin}
-use Rattle.zf_enum.specs.Property.{due_of}
-use Rattle.zf_ranges.specs.DeclaredSets.{IsOneOut}
-use Rattle.zf_ranges.specs.Ranges.{IsOutAt}
+use Rattle.zf_extent.specs.{offending, unless}
+use Rattle.zf_finite.specs.{all_set_offenders, IsFinite, one_bounds}
+use Rattle.zf_walk.specs.{AreDueWithin}
+use Rattle.zf_enum.specs.{due_of}
+use Rattle.zf_ranges.specs.{IsOneOut, IsOutAt}
 use Rattle.std.specs.Prelude.{IsTrue}
 use Rattle.zf_why.proofs.Lists.{all_at}
 use Rattle.zf_cores.proofs.Choosing.{all_chosen_of}

@@ -3,14 +3,13 @@ use Rattle.zf_why.proofs.Prelude.{◌++◌, ◌+◌, ◌<◌, ◌≤◌, ◌∙�
 use Rattle.std.proofs.Common.{Global, Vec}
 use Rattle.std.proofs.lemmas.List.{drop_all, map-append}
 use Rattle.std.specs.Prelude.{IfOk, Err, Ok, Result}
-use Rattle.zf_data.specs.Chunks.{all_of}
+use Rattle.zf_data.specs.{all_of}
 use Rattle.zf_term.specs.declared.conjunct.Batch.{Batch}
 use Rattle.zf_term.specs.declared.conjunct.Conjunct.{Conjunct}
-use Rattle.zf_term.specs.SchemaViews.{batch_of}
-use Rattle.zf_term.specs.Shapes.{moved, term_line}
+use Rattle.zf_term.specs.{batch_of, moved, term_line}
 use Rattle.zf_term.proofs.Walk.{dropped}
 use Rattle.zf_cores.proofs.Choosing.{seen_chosen}
-use Rattle.zf_why.specs.Told.{AreBlamed}
+use Rattle.zf_why.specs.{AreBlamed}
 
 module _ (f : ℕ → ℕ) where
   -- the conjuncts of batches

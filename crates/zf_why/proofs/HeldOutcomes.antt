@@ -5,18 +5,14 @@ use Rattle.zf_reference.specs.declared.reference.Reference.{Reference}
 use Rattle.zf_reference.specs.declared.reference.Reference.TheVariants.{Component, Local, Global}
 use Rattle.zf_tree.specs.declared.symbol.Relation.{Relation}
 use Rattle.zf_term.proofs.ResolvedSeen.{link-seen}
-use Rattle.zf_term.specs.References.{references, onto}
-use Rattle.zf_term.specs.ResolvedTrees.{reference, number, constant, empty_set, bracket, listed, builder, unary, binary, chain, quantified, no_links, link}
-use Rattle.zf_term.specs.ResolvedViews.{links, resolved_link_of, resolved_of}
+use Rattle.zf_term.specs.{binary, bracket, builder, chain, constant, empty_set, link, links, listed, no_links, number, onto, quantified, reference, references, resolved_link_of, resolved_of, unary}
 use Rattle.zf_term.specs.declared.resolved.ResolvedLink.{ResolvedLink}
 use Rattle.zf_value.specs.declared.value.Outcome.{Outcome}
-use Rattle.zf_meaning.specs.InRow.{in_row}
-use Rattle.zf_meaning.specs.Meaning.{HasOutcome}
+use Rattle.zf_meaning.specs.{HasOutcome, in_row}
 use Rattle.zf_meaning.proofs.SameRows.{Agree, AgreeAt, same_outcome}
 use Rattle.zf_why.specs.declared.told.Operands.{Operands}
-use Rattle.zf_why.specs.HeldRows.{AreOutcomesIn, filled}
+use Rattle.zf_why.specs.{are_held, AreOperands, AreOperandsOf, AreOutcomes, AreOutcomesIn, filled, HasHeld, HasHeldOutcome, is_held, is_value, only_link, operands_of, with_first}
 use Rattle.zf_why.proofs.NamesHeld.{held_before}
-use Rattle.zf_why.specs.Operands.{are_held, AreOperands, AreOperandsOf, AreOutcomes, HasHeld, HasHeldOutcome, is_held, is_value, only_link, operands_of, with_first}
 
 -- ---- rows with the values that are held
 

@@ -3,13 +3,11 @@ use Rattle.zf_why.proofs.Prelude.{◌++◌, ◌+◌, ◌<◌, ◌∙◌, ◌∷�
 use Rattle.std.specs.Prelude.{cond, max}
 use Rattle.zf_reference.specs.declared.reference.Reference.{Reference}
 use Rattle.zf_term.proofs.ResolvedSeen.{link-seen, range-seen}
-use Rattle.zf_term.specs.ResolvedTrees.{reference, number, constant, empty_set, bracket, listed, builder, unary, binary, chain, quantified, ResolvedTrees, no_terms, term, ResolvedLinks, no_links, link, Ranges, no_ranges, range, ResolvedPart, absent, present}
-use Rattle.zf_term.specs.ResolvedViews.{links, range_of, ranges, resolved_link_of, resolved_of}
-use Rattle.zf_term.specs.References.{references, onto, all_onto, links_onto, ranges_onto, part_onto}
+use Rattle.zf_term.specs.{absent, all_onto, binary, bracket, builder, chain, constant, empty_set, link, links, links_onto, listed, no_links, no_ranges, no_terms, number, onto, part_onto, present, quantified, range, range_of, Ranges, ranges, ranges_onto, reference, references, resolved_link_of, resolved_of, ResolvedLinks, ResolvedPart, term, unary}
+use Rattle.zf_term.specs.ResolvedTrees.{ResolvedTrees}
 use Rattle.zf_term.specs.declared.resolved.Range.{Range}
 use Rattle.zf_term.specs.declared.resolved.ResolvedLink.{ResolvedLink}
-use Rattle.zf_why.specs.Operands.{are_held, is_held}
-use Rattle.zf_why.specs.Unheld.{all_lack, flag, lacks, links_lack, name_lacks, part_lacks, ranges_lack}
+use Rattle.zf_why.specs.{all_lack, are_held, flag, is_held, lacks, links_lack, name_lacks, part_lacks, ranges_lack}
 
 module _ (held : List (Option Value)) where
   -- 1 where one of the names is not held

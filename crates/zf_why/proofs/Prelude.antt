@@ -3,25 +3,15 @@ pub use Rattle.std.proofs.Common.{◌++◌, ◌+◌, ◌<◌, ◌≤◌, ◌∙�
 pub use Rattle.std.specs.List.{AllByRecursion}
 pub use Rattle.std.specs.Prelude.{Contains, slice_get, slice_set, slice_index_or}
 pub use Rattle.zf_walk.proofs.Lists.{Contains-cases, Contains-head, Contains-later, Contains-nil}
-pub use Rattle.zf_walk.specs.Conjuncts.{Conjuncts, IsTruthOf}
-pub use Rattle.zf_walk.specs.Events.{Event, IsEvent}
-pub use Rattle.zf_walk.specs.Progress.{Advances, AreAllAhead, IsNoneAhead, Stage}
+pub use Rattle.zf_walk.specs.{Advances, AreAllAhead, Event, IsEvent, IsNoneAhead, IsTruthOf, Stage}
+pub use Rattle.zf_walk.specs.Conjuncts.{Conjuncts}
 pub use Rattle.zf_walk.specs.declared.judge.Truth.TheVariants.{False, Out, True}
 pub use Rattle.zf_walk.specs.declared.step.Step.TheVariants.{Breaks, End, Holds}
-pub use Rattle.zf_term.specs.Definitions.{Comp, Schema, sets_of}
-pub use Rattle.zf_term.specs.ResolvedTrees.{ResolvedTree}
-pub use Rattle.zf_value.specs.Sets.{IsMember, value_order}
+pub use Rattle.zf_term.specs.{Comp, comp_of, conjunct_of, ResolvedTree, Schema, sets_of}
+pub use Rattle.zf_value.specs.{IsMember, value_order}
 pub use Rattle.zf_value.specs.declared.plain.Value.{Value}
-pub use Rattle.zf_meaning.specs.Environments.{Environment}
-pub use Rattle.zf_meaning.specs.Envs.{environment_of}
-pub use Rattle.zf_term.specs.SchemaViews.{comp_of, conjunct_of}
-pub use Rattle.zf_enum.specs.PortionViews.{portion}
-pub use Rattle.zf_enum.specs.Property.{HasTruth, property, told}
-pub use Rattle.zf_ranges.specs.Ranges.{AreRanges, first_held, IsNoneOut, later_held}
-pub use Rattle.zf_enum.specs.Searches.{conjuncts_of, Goal}
-pub use Rattle.zf_enum.specs.Starts.{Begins}
-pub use Rattle.zf_why.specs.Rows.{HasRow, IsAllowed, IsInHeldRange, IsHeldRow, RuleOut}
-pub use Rattle.zf_cores.specs.Choices.{chosen_of, HasChosen, IsChosen, IsLeft, IsMinimal}
-pub use Rattle.zf_cores.specs.Trials.{IsFewer, OneOf}
-pub use Rattle.zf_why.specs.Cores.{AreAlone, AreEmpty, ArePicked, HasNoValue, HasValue, IsCore}
-pub use Rattle.zf_why.specs.Searching.{CanAsk, CanBegin, Decides, HaveRanges, schema_with}
+pub use Rattle.zf_meaning.specs.{Environment, environment_of}
+pub use Rattle.zf_enum.specs.{Begins, conjuncts_of, Goal, HasTruth, portion, property, told}
+pub use Rattle.zf_ranges.specs.{AreRanges, first_held, IsNoneOut, later_held}
+pub use Rattle.zf_why.specs.{AreAlone, AreEmpty, ArePicked, CanAsk, CanBegin, Decides, HasNoValue, HasRow, HasValue, HaveRanges, IsAllowed, IsCore, IsHeldRow, IsInHeldRange, RuleOut, schema_with}
+pub use Rattle.zf_cores.specs.{chosen_of, HasChosen, IsChosen, IsFewer, IsLeft, IsMinimal, OneOf}

@@ -2,13 +2,10 @@
 use Rattle.std.specs.Prelude.{◌≡◌, ℕ, Bool, true, false, cond, List, [], ◌∷◌, Option, Some, None, slice_get}
 use Rattle.zf_reference.specs.declared.reference.Reference.{Reference}
 use Rattle.zf_reference.specs.declared.reference.Reference.TheVariants.{Component, Local, Global}
-use Rattle.zf_term.specs.References.{references}
-use Rattle.zf_term.specs.ResolvedTrees.{ResolvedTree, bracket, chain, ResolvedLinks, no_links, link}
+use Rattle.zf_term.specs.{bracket, chain, link, no_links, references, ResolvedLinks, ResolvedTree}
 use Rattle.zf_value.specs.declared.plain.Value.{Value}
 use Rattle.zf_value.specs.declared.value.Outcome.{Outcome}
-use Rattle.zf_meaning.specs.Environments.{Environment}
-use Rattle.zf_meaning.specs.InRow.{in_row}
-use Rattle.zf_meaning.specs.Meaning.{HasOutcome}
+use Rattle.zf_meaning.specs.{Environment, HasOutcome, in_row}
 use Rattle.zf_why.specs.declared.told.Operands.{Operands}
 
 -- ---- relations

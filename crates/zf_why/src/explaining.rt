@@ -1,18 +1,13 @@
 //! Why a schema has no binding.
 ghost use Rattle.std.specs.Prelude.{◌≡◌, ◌++◌, ◌∷◌, [], IfOk, length, map};
-ghost use Rattle.zf_term.specs.SchemaViews.{comp_of, conjunct_of, schema_of};
-ghost use Rattle.zf_finite.specs.Finite.{IsFinite};
-ghost use Rattle.zf_walk.specs.Progress.{AreDueWithin};
-ghost use Rattle.zf_meaning.specs.Envs.{environment_of};
-ghost use Rattle.zf_enum.specs.Property.{property};
-ghost use Rattle.zf_ranges.specs.Ranges.{IsNoneOut};
-ghost use Rattle.zf_cores.specs.Choices.{HasChosen};
-ghost use Rattle.zf_cores.specs.Trials.{OneOf};
-ghost use Rattle.zf_why.specs.Rows.{RuleOut};
-ghost use Rattle.zf_why.specs.Cores.{AreAlone, AreEmpty, IsCore};
-ghost use Rattle.zf_why.specs.Explaining.{Explains};
-ghost use Rattle.zf_why.specs.Disjunctions.{disjunction_at};
-ghost use Rattle.zf_why.specs.Searching.{CanBegin};
+ghost use Rattle.zf_term.specs.{comp_of, conjunct_of, schema_of};
+ghost use Rattle.zf_finite.specs.{IsFinite};
+ghost use Rattle.zf_walk.specs.{AreDueWithin};
+ghost use Rattle.zf_meaning.specs.{environment_of};
+ghost use Rattle.zf_enum.specs.{property};
+ghost use Rattle.zf_ranges.specs.{IsNoneOut};
+ghost use Rattle.zf_cores.specs.{HasChosen, OneOf};
+ghost use Rattle.zf_why.specs.{AreAlone, AreEmpty, CanBegin, disjunction_at, Explains, IsCore, RuleOut};
 
 use crate::beside::Beside;
 use crate::cause::Cause;

@@ -1,11 +1,9 @@
 //! The outcomes of the operands of a relation.
 ghost use Rattle.std.specs.Prelude.{IfOk, Some, map};
-ghost use Rattle.zf_term.specs.ResolvedViews.{links, resolved_link_of, resolved_of};
-ghost use Rattle.zf_meaning.specs.Envs.{environment_of};
-ghost use Rattle.zf_meaning.specs.InRow.{in_row};
-ghost use Rattle.zf_why.specs.HeldRows.{AreOutcomesIn};
+ghost use Rattle.zf_term.specs.{links, resolved_link_of, resolved_of};
+ghost use Rattle.zf_meaning.specs.{environment_of, in_row};
+ghost use Rattle.zf_why.specs.{AreOperandsOf, AreOutcomesIn};
 ghost use Rattle.zf_why.specs.Operands as spec;
-ghost use Rattle.zf_why.specs.Operands.{AreOperandsOf};
 
 use crate::held_row::HeldRow;
 use crate::told::Operands;

@@ -1,18 +1,12 @@
 //! Whether some row makes some predicates other than False.
 ghost use Rattle.std.specs.Prelude.{◌≡◌, ◌<◌, ◌++◌, ◌∷◌, [], IfOk, IfSome, List, OnOk, Option, drop, length, map, slice_get};
-ghost use Rattle.zf_term.specs.Definitions.{Comp, Schema};
-ghost use Rattle.zf_term.specs.SchemaViews.{comp_of, conjunct_of, schema_of};
+ghost use Rattle.zf_term.specs.{Comp, comp_of, conjunct_of, Schema, schema_of};
 ghost use Rattle.zf_value.specs.declared.plain.Value as value;
-ghost use Rattle.zf_meaning.specs.Environments.{Environment};
-ghost use Rattle.zf_meaning.specs.Envs.{environment_of};
-ghost use Rattle.zf_enum.specs.PortionViews.{portion};
-ghost use Rattle.zf_ranges.specs.Ranges.{IsNoneOut};
-ghost use Rattle.zf_ranges.specs.StartFaults.{RefusesStart};
-ghost use Rattle.zf_enum.specs.Starts.{Begins};
-ghost use Rattle.zf_cores.specs.Choices.{chosen_of};
-ghost use Rattle.zf_cores.specs.Trials.{OneOf};
-ghost use Rattle.zf_why.specs.Cores.{HasNoValue, HasValue};
-ghost use Rattle.zf_why.specs.Searching.{CanBegin, Decides};
+ghost use Rattle.zf_meaning.specs.{Environment, environment_of};
+ghost use Rattle.zf_enum.specs.{Begins, portion};
+ghost use Rattle.zf_ranges.specs.{IsNoneOut, RefusesStart};
+ghost use Rattle.zf_cores.specs.{chosen_of, OneOf};
+ghost use Rattle.zf_why.specs.{CanBegin, Decides, HasNoValue, HasValue};
 
 use bumpalo::Bump;
 use std::alloc::{AllocError, Global};

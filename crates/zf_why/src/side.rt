@@ -1,9 +1,7 @@
 //! The conjuncts of one side of a disjunction of schemas.
 ghost use Rattle.std.specs.Prelude.{◌≡◌, ◌++◌, IfOk, OnOk, map};
-ghost use Rattle.zf_data.specs.Chunks.{all_of};
-ghost use Rattle.zf_term.specs.SchemaViews.{batch_of, conjunct_of};
-ghost use Rattle.zf_term.specs.Shapes.{moved};
-ghost use Rattle.zf_term.specs.ShapeViews.{numbering};
+ghost use Rattle.zf_data.specs.{all_of};
+ghost use Rattle.zf_term.specs.{batch_of, conjunct_of, moved, numbering};
 
 use bumpalo::Bump;
 use std::alloc::AllocError;

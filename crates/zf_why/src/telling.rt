@@ -1,16 +1,9 @@
 //! What is told of conjuncts that are to blame.
 ghost use Rattle.std.specs.Prelude.{◌≡◌, ◌<◌, ◌++◌, ◌∷◌, ℕ, [], IfOk, Some, false, length, map, slice_get, slice_set};
-ghost use Rattle.zf_term.specs.ResolvedTrees.{ResolvedTree};
-ghost use Rattle.zf_term.specs.SchemaViews.{comp_of, conjunct_of};
-ghost use Rattle.zf_term.specs.Shapes.{term_line};
-ghost use Rattle.zf_meaning.specs.Envs.{environment_of};
-ghost use Rattle.zf_cores.specs.Choices.{IsChosen, chosen_of};
-ghost use Rattle.zf_why.specs.Rows.{RuleOut};
-ghost use Rattle.zf_why.specs.Cores.{AreAlone, IsCore};
-ghost use Rattle.zf_why.specs.Disjunctions.{disjunction_at, is_disjunction};
-ghost use Rattle.zf_why.specs.Operands.{AreOperands};
-ghost use Rattle.zf_why.specs.Told.{AreBlamed, AreSidesOf, AreTold, IsTelling, nothing_beside, others_beside};
-ghost use Rattle.zf_why.specs.Searching.{CanBegin};
+ghost use Rattle.zf_term.specs.{comp_of, conjunct_of, ResolvedTree, term_line};
+ghost use Rattle.zf_meaning.specs.{environment_of};
+ghost use Rattle.zf_cores.specs.{chosen_of, IsChosen};
+ghost use Rattle.zf_why.specs.{AreAlone, AreBlamed, AreOperands, AreSidesOf, AreTold, CanBegin, disjunction_at, is_disjunction, IsCore, IsTelling, nothing_beside, others_beside, RuleOut};
 
 use crate::explaining::core;
 use crate::operands::operands_told;

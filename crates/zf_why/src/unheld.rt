@@ -1,9 +1,7 @@
 //! Whether a term names held components alone.
 ghost use Rattle.std.specs.Prelude.{◌≡◌, max, map, slice_get};
-ghost use Rattle.zf_term.specs.References.{references};
-ghost use Rattle.zf_term.specs.ResolvedViews.{resolved_of, resolved_link_of, range_of, terms, links, ranges, part_of};
-ghost use Rattle.zf_why.specs.Operands.{are_held, is_value};
-ghost use Rattle.zf_why.specs.Unheld.{all_lack, flag, lacks, links_lack, name_lacks, part_lacks, ranges_lack};
+ghost use Rattle.zf_term.specs.{links, part_of, range_of, ranges, references, resolved_link_of, resolved_of, terms};
+ghost use Rattle.zf_why.specs.{all_lack, are_held, flag, is_value, lacks, links_lack, name_lacks, part_lacks, ranges_lack};
 
 use zf_data::arena::{Boxed, Items};
 use zf_reference::reference::Reference;

@@ -1,9 +1,9 @@
 //! A search goes on where memory was refused: the steps are the same, and each finished test counts once.
 //! `bench/refuse-growths` refuses each growth of this test in turn.
 ghost use Rattle.std.specs.Prelude.{IfOk};
-ghost use Rattle.zf_meaning.specs.Envs.{environment_of};
-ghost use Rattle.zf_checker.specs.WellTypedGlobals.{AreWellTyped};
-ghost use Rattle.zf_term.specs.DefinitionViews.{globals_of};
+ghost use Rattle.zf_meaning.specs.{environment_of};
+ghost use Rattle.zf_checker.specs.{AreWellTyped};
+ghost use Rattle.zf_term.specs.{globals_of};
 
 use crate::tests::holds::holds;
 use bumpalo::Bump;

@@ -2,7 +2,7 @@
 ghost use Rattle.std.specs.Prelude.{◌≡◌, ◌++◌, ◌∷◌, [], ◌<◌, IfOk, MatchOption, OnErr, OnOk, length};
 ghost use Rattle.std.specs.Iterator.{YieldsFirstRef, item_count};
 ghost use Rattle.std.specs.Mem.{manually_drop_value};
-ghost use Rattle.zf_data.specs.Chunks.{all_of};
+ghost use Rattle.zf_data.specs.{all_of};
 
 use super::{Items, Shared};
 use bumpalo::Bump;

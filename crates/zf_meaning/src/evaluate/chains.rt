@@ -1,16 +1,12 @@
 //! Chains of relations.
 ghost use Rattle.std.specs.Prelude.{◌≡◌, ◌↔◌, IfOk, IsTrue, List, None, map};
 ghost use Rattle.zf_term.specs.ResolvedViews as tree;
-ghost use Rattle.zf_term.specs.ResolvedViews.{resolved_of, resolved_link_of};
+ghost use Rattle.zf_term.specs.{resolved_link_of, resolved_of};
 ghost use Rattle.zf_value.specs.declared.plain.Value as value;
-ghost use Rattle.zf_extent.specs.Extents.{is_membership};
-ghost use Rattle.zf_meaning.specs.Envs.{environment_of};
-ghost use Rattle.zf_outcome.specs.Found.{found_outcome};
-ghost use Rattle.zf_meaning.specs.Linked.{IsLastLink};
-ghost use Rattle.zf_meaning.specs.Meaning.{IsTruth, AreLinked};
-ghost use Rattle.zf_meaning.specs.Forms.{IsChain};
+ghost use Rattle.zf_extent.specs.{is_membership};
+ghost use Rattle.zf_meaning.specs.{AreLinked, environment_of, IsChain, IsLastLink, IsTruth, scope_of};
+ghost use Rattle.zf_outcome.specs.{found_outcome};
 ghost use Rattle.zf_meaning.specs.Meaning as spec;
-ghost use Rattle.zf_meaning.specs.Scopes.{scope_of};
 
 use super::memberships::described;
 use super::outcome;

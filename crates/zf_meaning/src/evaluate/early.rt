@@ -8,12 +8,11 @@ ghost use Rattle.zf_tree.specs.declared.symbol.Relation.TheVariants as relations
 ghost use Rattle.zf_term.specs.declared.resolved.Resolved as resolved;
 ghost use Rattle.zf_term.specs.declared.resolved.ResolvedLink as link;
 ghost use Rattle.zf_term.specs.declared.resolved.Resolved.{size-Resolved};
-ghost use Rattle.zf_term.specs.ResolvedViews.{resolved_of, part_of};
+ghost use Rattle.zf_term.specs.{part_of, resolved_of};
 ghost use Rattle.zf_meaning.specs.Early as spec;
-ghost use Rattle.zf_meaning.specs.Early.{Falsifies, IsEarlier, IsEquation, IsOther, IsPart, IsPiece, IsVariable, IsWanted, NeedsFront, PassesBy, Refutes};
+ghost use Rattle.zf_meaning.specs.{Falsifies, IsEarlier, IsEquation, IsOther, IsPart, IsPiece, IsVariable, IsWanted, NeedsFront, PassesBy, Refutes, seen};
 ghost use Rattle.zf_meaning.specs.declared.rows.Passing.TheVariants as passing;
-ghost use Rattle.zf_outcome.specs.Found.{found_outcome};
-ghost use Rattle.zf_meaning.specs.Places.{seen};
+ghost use Rattle.zf_outcome.specs.{found_outcome};
 
 use crate::needs::{last_local, last_of_part};
 use crate::rows::{Passing, Rows};

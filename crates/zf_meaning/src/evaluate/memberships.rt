@@ -6,15 +6,11 @@ ghost use Rattle.zf_tree.specs.declared.operator.Sign.TheVariants as sign;
 ghost use Rattle.zf_tree.specs.declared.operator.Operator.TheVariants as operator;
 ghost use Rattle.zf_tree.specs.declared.operator.Unary.TheVariants as unaries;
 ghost use Rattle.zf_value.specs.declared.value.Outcome.TheVariants.{Is};
-ghost use Rattle.zf_outcome.specs.Found.{found_outcome};
+ghost use Rattle.zf_outcome.specs.{Describes, found_outcome};
 ghost use Rattle.zf_term.specs.ResolvedTrees as tree;
 ghost use Rattle.zf_term.specs.ResolvedViews as tree_views;
-ghost use Rattle.zf_term.specs.ResolvedViews.{resolved_of};
-ghost use Rattle.zf_outcome.specs.Described.{Describes};
-ghost use Rattle.zf_meaning.specs.Envs.{environment_of};
-ghost use Rattle.zf_meaning.specs.Forms.{IsBinary};
-ghost use Rattle.zf_meaning.specs.Meaning.{HasOutcome, IsConstantOutcome};
-ghost use Rattle.zf_meaning.specs.Scopes.{scope_of};
+ghost use Rattle.zf_term.specs.{resolved_of};
+ghost use Rattle.zf_meaning.specs.{environment_of, HasOutcome, IsBinary, IsConstantOutcome, scope_of};
 
 use super::operands::gather;
 use super::outcome;

@@ -2,12 +2,9 @@
 ghost use Rattle.std.specs.Prelude.{ℕ, IfOk, map};
 ghost use Rattle.zf_term.specs.ResolvedTrees as tree;
 ghost use Rattle.zf_term.specs.ResolvedViews as tree_views;
-ghost use Rattle.zf_term.specs.ResolvedViews.{resolved_of};
-ghost use Rattle.zf_outcome.specs.Found.{found_outcome};
-ghost use Rattle.zf_outcome.specs.Gathered.{several_of};
-ghost use Rattle.zf_meaning.specs.Forms.{IsBinary};
-ghost use Rattle.zf_meaning.specs.Meaning.{HasOutcome, HaveOutcomes, IsTruth};
-ghost use Rattle.zf_meaning.specs.Scopes.{scope_of};
+ghost use Rattle.zf_term.specs.{resolved_of};
+ghost use Rattle.zf_outcome.specs.{found_outcome, several_of};
+ghost use Rattle.zf_meaning.specs.{HasOutcome, HaveOutcomes, IsBinary, IsTruth, scope_of};
 
 use super::{outcome, truth};
 use crate::env::Env;

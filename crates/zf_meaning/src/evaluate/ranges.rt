@@ -1,15 +1,12 @@
 //! The declared sets of bound variables.
 ghost use Rattle.std.specs.Prelude.{◌≡◌, ◌++◌, [], IfOk, OnOk, map, replicate};
 ghost use Rattle.zf_term.specs.ResolvedViews as tree;
-ghost use Rattle.zf_term.specs.ResolvedViews.{range_of};
-ghost use Rattle.zf_value.specs.Sets.{IsAscending, members};
+ghost use Rattle.zf_term.specs.{range_of};
+ghost use Rattle.zf_value.specs.{IsAscending, members};
 ghost use Rattle.std.specs.List.{AllByRecursion};
 ghost use Rattle.zf_meaning.specs.RangeSets as spec;
-ghost use Rattle.zf_meaning.specs.RangeSets.{spread, declared_of};
-ghost use Rattle.zf_outcome.specs.Found.{found_outcome};
-ghost use Rattle.zf_meaning.specs.Meaning.{HaveRanges};
-ghost use Rattle.zf_meaning.specs.Places.{seen};
-ghost use Rattle.zf_meaning.specs.Scopes.{scope_of};
+ghost use Rattle.zf_meaning.specs.{declared_of, HaveRanges, scope_of, seen, spread};
+ghost use Rattle.zf_outcome.specs.{found_outcome};
 
 use super::outcome;
 use crate::env::Env;

@@ -2,7 +2,7 @@
 ghost use Rattle.std.specs.Prelude.{◌≡◌, ◌+◌, ◌≤◌, IfOk};
 ghost use Rattle.zf_parse.specs.Nests.{Nests};
 ghost use Rattle.zf_parse.specs.TermReading as spec;
-ghost use Rattle.zf_parse.specs.TermReading.{Gives, read_term};
+ghost use Rattle.zf_parse.specs.{Gives, read_term};
 ghost use Rattle.zf_scan.specs.declared.next.Next.TheVariants as next;
 
 use super::Grammar;

@@ -1,10 +1,9 @@
 //! What goes on with a term.
 ghost use Rattle.std.specs.Prelude.{◌≡◌, ◌+◌, ◌≤◌, IfOk};
 ghost use Rattle.zf_parse.specs.Nests.{Nests};
-ghost use Rattle.zf_tree.specs.Trees.{line_of};
-ghost use Rattle.zf_tree.specs.TreeViews.{tree_of};
+ghost use Rattle.zf_tree.specs.{line_of, tree_of};
 ghost use Rattle.zf_parse.specs.TermReading as spec;
-ghost use Rattle.zf_parse.specs.TermReading.{Gives, read_term};
+ghost use Rattle.zf_parse.specs.{Gives, read_term};
 ghost use Rattle.zf_parse.specs.declared.levels.Role.TheVariants as role;
 
 use super::Grammar;

@@ -2,20 +2,14 @@
 ghost use Rattle.std.specs.Prelude.{◌≡◌, IfOk, IfErr, OnErr, OnOk, List, map};
 ghost use Rattle.zf_tree.specs.Trees as tree;
 ghost use Rattle.zf_tree.specs.TreeViews as tree_views;
-ghost use Rattle.zf_tree.specs.Trees.{Tree};
-ghost use Rattle.zf_tree.specs.TreeViews.{part_of, tree_of, var_decl_of};
+ghost use Rattle.zf_tree.specs.{part_of, Tree, tree_of, var_decl_of};
 ghost use Rattle.zf_term.specs.ResolvedViews as kept;
-ghost use Rattle.zf_term.specs.ResolvedViews.{range_of};
-ghost use Rattle.zf_term.specs.TypeViews.{type_of};
+ghost use Rattle.zf_term.specs.{range_of, type_of};
 ghost use Rattle.zf_tree.specs.declared.operator.Need.TheVariants as needs;
 ghost use Rattle.zf_tree.specs.declared.operator.Need as need;
-ghost use Rattle.zf_typing.specs.Judging.{DeclarationsOffend, IsBuilder, IsPart, IsQuantified, Judges, JudgesPart};
-ghost use Rattle.zf_sorts.specs.Refusals.{IfFault};
-ghost use Rattle.zf_typing.specs.Resolving.{resolved_part, resolved_ranges};
+ghost use Rattle.zf_typing.specs.{Binds, DeclarationsOffend, HasMemberType, IsBuilder, IsPart, IsQuantified, Judges, JudgesPart, resolved_part, resolved_ranges, row_type, scope_of, Var, variable_of, with_variables};
+ghost use Rattle.zf_sorts.specs.{IfFault};
 ghost use Rattle.zf_typing.specs.Scopes as spec;
-ghost use Rattle.zf_typing.specs.Scopes.{Var, with_variables};
-ghost use Rattle.zf_typing.specs.ScopeViews.{scope_of, variable_of};
-ghost use Rattle.zf_typing.specs.Typing.{Binds, HasMemberType, row_type};
 
 use super::{Judged, Place, judge_boxed, judge_term, made, placed};
 use crate::binding::{bind, declare_names, depth, row, unbind};

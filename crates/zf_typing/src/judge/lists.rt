@@ -1,22 +1,14 @@
 //! What several terms make: tuples, displays and products.
 ghost use Rattle.std.specs.Prelude.{◌≡◌, IfOk, IfErr, length, map};
 ghost use Rattle.zf_tree.specs.Trees as tree;
-ghost use Rattle.zf_tree.specs.TreeViews.{tree_of, trees};
+ghost use Rattle.zf_tree.specs.{tree_of, trees};
 ghost use Rattle.zf_term.specs.ResolvedViews as kept;
-ghost use Rattle.zf_term.specs.ResolvedViews.{resolved_of};
+ghost use Rattle.zf_term.specs.{power, resolved_of, Ty, type_of};
 ghost use Rattle.zf_term.specs.Types as tys;
-ghost use Rattle.zf_term.specs.Types.{Ty, power};
-ghost use Rattle.zf_term.specs.TypeViews.{type_of};
-ghost use Rattle.zf_typing.specs.Judging.{DiffersAt, Judges};
-ghost use Rattle.zf_typing.specs.Offences.{OneOffends};
-ghost use Rattle.zf_sorts.specs.Refusals.{IfFault};
-ghost use Rattle.zf_typing.specs.Resolving.{resolved_all};
-ghost use Rattle.zf_sorts.specs.Rules.{Meets};
-ghost use Rattle.zf_sorts.specs.RuleViews.{sort_of};
+ghost use Rattle.zf_typing.specs.{AreMembers, DiffersAt, Judges, Makes, member_sort, OneOffends, resolved_all, scope_of};
+ghost use Rattle.zf_sorts.specs.{IfFault, Meets, sort_of};
 ghost use Rattle.zf_typing.specs.Scopes as spec;
-ghost use Rattle.zf_typing.specs.ScopeViews.{scope_of};
 ghost use Rattle.zf_typing.specs.Typing as typing;
-ghost use Rattle.zf_typing.specs.Typing.{AreMembers, Makes, member_sort};
 
 use super::{Judged, Place, judge_term, made};
 use crate::scope::Scope;

@@ -1,14 +1,10 @@
 //! Symbols that stand before a term or between two, and their rules.
 ghost use Rattle.std.specs.Prelude.{◌≡◌};
 ghost use Rattle.zf_tree.specs.Trees as tree;
-ghost use Rattle.zf_tree.specs.Trees.{line_of, Tree};
-ghost use Rattle.zf_tree.specs.TreeViews.{tree_of};
-ghost use Rattle.zf_tree.specs.Operators.{left_need, need_of, right_need, rule_of};
-ghost use Rattle.zf_typing.specs.Judging.{IsBinary, IsJudged, Judges};
-ghost use Rattle.zf_sorts.specs.Rules.{Meets};
-ghost use Rattle.zf_sorts.specs.RuleViews.{sort_of};
+ghost use Rattle.zf_tree.specs.{left_need, line_of, need_of, right_need, rule_of, Tree, tree_of};
+ghost use Rattle.zf_typing.specs.{IsBinary, IsJudged, Judges, scope_of};
+ghost use Rattle.zf_sorts.specs.{Meets, sort_of};
 ghost use Rattle.zf_typing.specs.Scopes as spec;
-ghost use Rattle.zf_typing.specs.ScopeViews.{scope_of};
 
 use super::{Judged, Place, judge_term, made};
 use crate::scope::Scope;

@@ -1,4 +1,4 @@
-use Rattle.zf_term.specs.SchemaViews.{schema_of}
+use Rattle.zf_term.specs.{schema_of}
 use Rattle.zf_calculus.proofs.Decorating.{left_decorated}
 use Rattle.zf_calculus.proofs.marking.alike.Goals as goal
 

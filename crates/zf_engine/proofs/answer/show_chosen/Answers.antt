@@ -1,5 +1,5 @@
 use Rattle.zf_engine.proofs.Prelude.{◌∙◌, arith, comp_of, length-map, None, subst, sym, option_copied, portion, planted_goal, at_start, schema_of, IsNamedRow}
-use Rattle.zf_engine.specs.Subjects.{environment_in, schema_in}
+use Rattle.zf_engine.specs.{environment_in, schema_in}
 use Rattle.zf_engine.proofs.Parts.{parts_shown}
 use Rattle.zf_engine.proofs.Refusing.{out_answers, some_shown}
 use Rattle.zf_engine.proofs.Subjects.{can_be_searched, chosen_by, part_worded, searched_some}

@@ -1,6 +1,6 @@
 -- The status, by what the words ask for.
 use Rattle.zf_engine.proofs.Prelude.{map, subst, IsStatus, IsWorkStatus}
-use Rattle.zf_command.specs.Jobs.{IsAsked}
+use Rattle.zf_command.specs.{IsAsked}
 use Rattle.zf_engine.proofs.Statuses.{status_of_refused}
 use Rattle.zf_engine.proofs.program.program.Goals as goal
 

@@ -2,10 +2,10 @@
 use Rattle.zf_engine.proofs.Prelude.{List, map, ℕ, environment_of, Status, TellsOut}
 use Rattle.std.proofs.Common.{drop}
 use Rattle.std.specs.List.{AllByRecursion}
-use Rattle.zf_finite.specs.Finite.{IsFinite}
+use Rattle.zf_finite.specs.{IsFinite}
 use Rattle.zf_machines.proofs.Firsts.{IsAhead}
-use Rattle.zf_machines.specs.SchemaViews.{named_of}
-use Rattle.zf_ranges.specs.Ranges.{IsNoneOut}
+use Rattle.zf_machines.specs.{named_of}
+use Rattle.zf_ranges.specs.{IsNoneOut}
 use Rattle.zf_engine.proofs.reach.check_declared_among.Given as goal
 
 abbrev pub invariant-loop-named : goal.invariant-loop-named

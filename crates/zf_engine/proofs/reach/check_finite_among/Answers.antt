@@ -1,9 +1,7 @@
 use Rattle.zf_engine.proofs.Prelude.{List, map, rules, subst, ℕ, environment_of, IfAnswered, schema_of, Status, TellsInfinite}
-use Rattle.zf_finite.specs.Finite.{IsFinite}
+use Rattle.zf_finite.specs.{IsFinite}
 use Rattle.zf_machines.proofs.Firsts.{all_passed, at_first, failed, mapped_ahead, mapped_end, passed}
-use Rattle.zf_machines.specs.Firsts.{FirstFails}
-use Rattle.zf_machines.specs.Machines.{Named}
-use Rattle.zf_machines.specs.SchemaViews.{named_of}
+use Rattle.zf_machines.specs.{FirstFails, Named, named_of}
 use Rattle.zf_engine.proofs.Refusing.{weaker, weaker_err}
 use Rattle.zf_engine.proofs.reach.check_finite_among.Goals as goal
 

@@ -3,8 +3,9 @@ use Rattle.zf_engine.proofs.Prelude.{List, map, take, ℕ, globals_of, Status, T
 use Rattle.std.proofs.Common.{drop}
 use Rattle.std.specs.List.{AllZip}
 use Rattle.zf_machines.proofs.Firsts.{IsAhead}
-use Rattle.zf_machines.specs.SchemaViews.{named_of}
-use Rattle.zf_engine.specs.Explorations.{IsOfSchema, IsSchemaOf}
+use Rattle.zf_machines.specs.{named_of}
+use Rattle.zf_engine.specs.{IsSchemaOf}
+use Rattle.zf_engine.specs.Explorations.{IsOfSchema}
 use Rattle.zf_engine.proofs.reach.operations_in.Given as goal
 
 abbrev pub invariant-loop-name : goal.invariant-loop-name

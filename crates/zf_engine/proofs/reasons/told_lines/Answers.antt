@@ -1,5 +1,5 @@
 use Rattle.zf_engine.proofs.Prelude.{◌++◌, ap, arith, List, ℕ}
-use Rattle.zf_engine.specs.Reasons.{told_line, told_lines}
+use Rattle.zf_engine.specs.{told_line, told_lines}
 use Rattle.zf_engine.proofs.ToldLines.{no_more, one_more}
 use Rattle.zf_engine.proofs.reasons.told_lines.Goals as goal
 

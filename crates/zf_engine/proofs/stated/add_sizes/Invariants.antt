@@ -1,6 +1,6 @@
 -- The sets up to the place have their size.
 use Rattle.std.proofs.Common.{◌++◌, ◌≡◌, Some, take}
-use Rattle.zf_engine.specs.Settings.{with_size}
+use Rattle.zf_engine.specs.{with_size}
 use Rattle.zf_engine.proofs.stated.add_sizes.Given as goal
 
 abbrev pub invariant-loop-set : goal.invariant-loop-set

@@ -1,7 +1,7 @@
 use Rattle.zf_enum.proofs.Prelude.{◌∙◌, ap, fold}
 use Rattle.std.specs.Hash.FoldHasher as folding
 use Rattle.zf_value.specs.contracts.plain.ValueHash.TheImpl as hashed
-use Rattle.zf_enum.specs.Keys.{number_of}
+use Rattle.zf_enum.specs.{number_of}
 use Rattle.zf_enum.proofs.keys.number_of.Goals as goal
 
 pub returns : goal.returns

@@ -1,4 +1,4 @@
-use Rattle.zf_term.specs.DefinitionViews.{globals_of}
+use Rattle.zf_term.specs.{globals_of}
 use Rattle.zf_extent.proofs.JoinedOffences.{batches_step, conjuncts_step, in_either, in_member, in_term}
 use Rattle.zf_extent.proofs.conjunct.+conjuncts.Goals as goal
 

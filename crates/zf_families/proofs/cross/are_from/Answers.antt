@@ -1,4 +1,4 @@
-use Rattle.zf_value.specs.Operations.{AreFrom}
+use Rattle.zf_value.specs.{AreFrom}
 use Rattle.zf_families.proofs.Tested.{never}
 use Rattle.zf_families.proofs.Tuples.{as_many}
 use Rattle.zf_families.proofs.cross.are_from.Goals as goal

@@ -1,4 +1,4 @@
-use Rattle.zf_value.specs.Sets.{members}
+use Rattle.zf_value.specs.{members}
 use Rattle.zf_families.proofs.Belonging.{function_second, function_first}
 use Rattle.zf_families.proofs.members.is_function.Goals as goal
 

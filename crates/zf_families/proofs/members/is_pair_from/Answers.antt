@@ -1,4 +1,4 @@
-use Rattle.zf_value.specs.Sets.{members}
+use Rattle.zf_value.specs.{members}
 use Rattle.zf_families.proofs.Tested.{pair_from_second, pair_from_first, pair_from_none}
 use Rattle.zf_families.proofs.members.is_pair_from.Goals as goal
 

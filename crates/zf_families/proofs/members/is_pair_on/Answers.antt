@@ -1,4 +1,4 @@
-use Rattle.zf_value.specs.Sets.{members}
+use Rattle.zf_value.specs.{members}
 use Rattle.zf_families.proofs.Tested.{pair_on_second, pair_on_first, pair_on_none}
 use Rattle.zf_families.proofs.members.is_pair_on.Goals as goal
 

@@ -1,4 +1,4 @@
-use Rattle.zf_value.specs.Sets.{members}
+use Rattle.zf_value.specs.{members}
 use Rattle.zf_families.proofs.Belonging.{subset_at, no_subset}
 use Rattle.zf_families.proofs.power.is_in_power.Goals as goal
 

@@ -1,4 +1,4 @@
-use Rattle.zf_families.specs.Selections.{second}
+use Rattle.zf_families.specs.{second}
 use Rattle.zf_families.proofs.Comparisons.{tied}
 use Rattle.zf_families.proofs.rows.have_one_second.Goals as goal
 

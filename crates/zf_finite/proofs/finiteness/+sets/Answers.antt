@@ -1,4 +1,4 @@
-use Rattle.zf_term.specs.DefinitionViews.{globals_of}
+use Rattle.zf_term.specs.{globals_of}
 use Rattle.zf_finite.proofs.FirstCauses.{sets_step}
 use Rattle.zf_finite.proofs.finiteness.+sets.Goals as goal
 

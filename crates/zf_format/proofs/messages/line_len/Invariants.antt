@@ -1,6 +1,6 @@
 use Rattle.std.proofs.Common.{◌+◌, ◌≡◌, drop}
 use Rattle.std.specs.List.{position_or_len}
-use Rattle.zf_format.specs.Messages.{is_newline}
+use Rattle.zf_format.specs.{is_newline}
 use Rattle.zf_format.proofs.messages.line_len.Given as goal
 
 abbrev pub invariant-loop-place : goal.invariant-loop-place

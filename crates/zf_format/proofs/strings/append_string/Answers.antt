@@ -1,7 +1,7 @@
 use Rattle.std.proofs.Common.{◌++◌, ◌∙◌, ◌∷◌, [], ap, arith}
 use Rattle.std.specs.List.{flat_map}
-unfoldable use Rattle.zf_format.specs.Strings.{string_text}
-use Rattle.zf_format.specs.Strings.{string_byte}
+unfoldable use Rattle.zf_format.specs.{string_text}
+use Rattle.zf_format.specs.{string_byte}
 use Rattle.zf_format.proofs.Reading.{none_more, told_utf8}
 use Rattle.zf_format.proofs.strings.append_string.Goals as goal
 

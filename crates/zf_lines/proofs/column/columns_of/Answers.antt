@@ -1,5 +1,4 @@
-use Rattle.zf_print.specs.BindingTexts.{name_in}
-use Rattle.zf_print.specs.LineTexts.{comma_before}
+use Rattle.zf_print.specs.{comma_before, name_in}
 use Rattle.zf_term.specs.declared.schema.Component.{Component}
 use Rattle.std.proofs.Common.{◌++◌, sym, ◌<◌, length, get_or, ap, ◌∙◌, subst, arith}
 use Rattle.zf_lines.proofs.Parts.{all_columns, more_columns}

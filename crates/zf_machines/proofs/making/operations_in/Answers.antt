@@ -1,12 +1,10 @@
 use Rattle.std.proofs.Common.{◌+◌, ◌∙◌, ◌≡◌, ap, map, subst, sym, take}
 use Rattle.std.proofs.lemmas.List.{take_all}
 use Rattle.zf_machines.specs.declared.schemas.Named.{Named}
-use Rattle.zf_machines.specs.SchemaViews.{named_of}
+use Rattle.zf_machines.specs.{named_of}
 use Rattle.zf_steps.proofs.Shapes.{mapped_push}
-use Rattle.zf_steps.specs.Shapes.{operation_in}
-use Rattle.zf_steps.specs.States.{before_of}
-use Rattle.zf_steps.specs.SystemViews.{operation_of}
-use Rattle.zf_term.specs.SchemaViews.{schema_of}
+use Rattle.zf_steps.specs.{before_of, operation_in, operation_of}
+use Rattle.zf_term.specs.{schema_of}
 use Rattle.zf_machines.proofs.making.operations_in.Goals as goal
 
 pub loop-operation-preserved : goal.loop-operation-preserved

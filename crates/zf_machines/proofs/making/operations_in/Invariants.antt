@@ -1,10 +1,8 @@
 -- The operations so far.
 use Rattle.std.proofs.Common.{◌≡◌, map, take}
-use Rattle.zf_machines.specs.SchemaViews.{named_of}
-use Rattle.zf_steps.specs.Shapes.{operation_in}
-use Rattle.zf_steps.specs.States.{before_of}
-use Rattle.zf_steps.specs.SystemViews.{operation_of}
-use Rattle.zf_term.specs.SchemaViews.{schema_of}
+use Rattle.zf_machines.specs.{named_of}
+use Rattle.zf_steps.specs.{before_of, operation_in, operation_of}
+use Rattle.zf_term.specs.{schema_of}
 use Rattle.zf_machines.proofs.making.operations_in.Given as goal
 
 abbrev pub invariant-loop-operation : goal.invariant-loop-operation

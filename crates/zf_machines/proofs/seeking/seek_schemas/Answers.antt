@@ -1,12 +1,12 @@
 -- The search of the machine that the schemas make.
-use Rattle.zf_meaning.specs.Envs.{environment_of}
+use Rattle.zf_meaning.specs.{environment_of}
 use Rattle.zf_machines.proofs.seeking.seek_schemas.Goals as goal
 use Rattle.zf_machines.proofs.Sole.{can_search_all}
-use Rattle.zf_machines.specs.SchemaViews.{schemas_of}
+use Rattle.zf_machines.specs.{schemas_of}
 use Rattle.zf_reach.proofs.Fronts.{always_on_err, weaker_on_err}
 use Rattle.zf_steps.proofs.Moving.{weaker_if_ok}
-use Rattle.zf_steps.specs.SystemViews.{system_of}
-use Rattle.zf_term.specs.SchemaViews.{schema_of}
+use Rattle.zf_steps.specs.{system_of}
+use Rattle.zf_term.specs.{schema_of}
 use Rattle.std.proofs.Common.{inl, inr}
 use Rattle.std.proofs.KnownBytes.{Appends-nil}
 

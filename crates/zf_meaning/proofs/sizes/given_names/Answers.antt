@@ -1,4 +1,4 @@
-use Rattle.zf_term.specs.DefinitionViews.{globals_of}
+use Rattle.zf_term.specs.{globals_of}
 use Rattle.zf_meaning.proofs.Counts.{given-more}
 use Rattle.zf_meaning.proofs.sizes.given_names.Goals as goal
 

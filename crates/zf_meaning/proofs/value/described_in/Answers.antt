@@ -1,4 +1,4 @@
-use Rattle.zf_term.specs.ResolvedViews.{resolved_of}
+use Rattle.zf_term.specs.{resolved_of}
 use Rattle.zf_meaning.proofs.InRow.{described-in-row}
 use Rattle.zf_meaning.proofs.value.described_in.Goals as goal
 

@@ -1,4 +1,4 @@
-use Rattle.zf_term.specs.DefinitionViews.{globals_of}
+use Rattle.zf_term.specs.{globals_of}
 use Rattle.zf_messages.proofs.Listing.{schemas-more}
 use Rattle.zf_messages.proofs.missing.schemas.Goals as goal
 

@@ -2,10 +2,9 @@
 use Rattle.zf_parts.proofs.Prelude.{◌≡◌, value_order}
 use Rattle.std.specs.Option.{option_copied}
 use Rattle.zf_lines.proofs.Fewer.{ahead_count}
-use Rattle.zf_lines.specs.LastLine.{IsPrinted}
-use Rattle.zf_lines.specs.Counts.{device_of, failures_of}
-use Rattle.zf_parts.specs.Written.{part_wording}
-use Rattle.zf_term.specs.SchemaViews.{schema_of}
+use Rattle.zf_lines.specs.{device_of, failures_of, IsPrinted}
+use Rattle.zf_parts.specs.{part_wording}
+use Rattle.zf_term.specs.{schema_of}
 use Rattle.zf_parts.proofs.Fronting.{Fronting}
 use Rattle.zf_parts.proofs.fronts.show_fronts.Given as goal
 

@@ -2,11 +2,9 @@
 use Rattle.zf_parts.proofs.Prelude.{◌≡◌}
 use Rattle.std.proofs.Common.{◌-◌, ◌≤◌}
 use Rattle.std.specs.Option.{option_copied}
-use Rattle.zf_lines.specs.LastLine.{IsPrinted}
-use Rattle.zf_lines.specs.Counts.{device_of, failures_of}
-use Rattle.zf_parts.specs.Numbers.{counted, ranges_at}
-use Rattle.zf_parts.specs.Written.{part_wording}
-use Rattle.zf_term.specs.SchemaViews.{schema_of}
+use Rattle.zf_lines.specs.{device_of, failures_of, IsPrinted}
+use Rattle.zf_parts.specs.{counted, part_wording, ranges_at}
+use Rattle.zf_term.specs.{schema_of}
 use Rattle.zf_parts.proofs.Unwritten.{Listing}
 use Rattle.zf_parts.proofs.listing.write_met.Given as goal
 

@@ -2,7 +2,7 @@ use Rattle.std.proofs.Common.{◌<◌, ◌≡◌, ◌∙◌, [], ap, get_or, len
 use Rattle.std.proofs.lemmas.List.{get_or_default}
 use Rattle.std.proofs.lemmas.Option.{slice_get_read}
 use Rattle.std.specs.Prelude.{slice_get}
-use Rattle.zf_parts.specs.Numbers.{ranges_at}
+use Rattle.zf_parts.specs.{ranges_at}
 use Rattle.zf_walk.proofs.Picks.{slice_get-picked}
 use Rattle.zf_parts.proofs.Numbering.{range_there}
 use Rattle.zf_parts.proofs.part_row.value_at.Goals as goal

@@ -1,10 +1,9 @@
 -- What is written so far, and then what is told of the parts ahead, is the whole.
 use Rattle.zf_parts.proofs.Prelude.{◌≡◌}
-use Rattle.zf_lines.specs.Counts.{device_of, failures_of}
-use Rattle.zf_lines.specs.Searches.{HasLimit}
-use Rattle.zf_parts.specs.Written.{part_wording}
+use Rattle.zf_lines.specs.{device_of, failures_of, HasLimit}
+use Rattle.zf_parts.specs.{part_wording}
 use Rattle.zf_parts.proofs.Writing.{SoFar}
-use Rattle.zf_term.specs.SchemaViews.{schema_of}
+use Rattle.zf_term.specs.{schema_of}
 use Rattle.zf_parts.proofs.showing.write_parts.Given as goal
 
 abbrev pub invariant-loop-values : goal.invariant-loop-values

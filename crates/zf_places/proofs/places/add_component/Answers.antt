@@ -1,6 +1,6 @@
 use Rattle.std.proofs.Common.{◌++◌, ◌∙◌, ◌∷◌, [], ap, append-nil, map, option_to_list, sym}
 use Rattle.std.proofs.lemmas.List.{map-append}
-use Rattle.zf_term.specs.SchemaViews.{comp_of}
+use Rattle.zf_term.specs.{comp_of}
 use Rattle.zf_places.proofs.Picked.{mapped_at, past_mapped}
 use Rattle.zf_places.proofs.places.add_component.Goals as goal
 

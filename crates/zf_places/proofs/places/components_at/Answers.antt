@@ -1,5 +1,5 @@
 use Rattle.std.proofs.Common.{map, refl, slice_get}
-use Rattle.zf_term.specs.SchemaViews.{comp_of}
+use Rattle.zf_term.specs.{comp_of}
 use Rattle.zf_places.proofs.Picked.{filter_push}
 use Rattle.zf_places.proofs.places.components_at.Goals as goal
 

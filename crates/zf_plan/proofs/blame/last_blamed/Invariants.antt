@@ -1,5 +1,5 @@
 use Rattle.zf_plan.proofs.Prelude.{◌<◌, ◌≤◌, ℕ}
-use Rattle.zf_walk.specs.Seen.{HasBit}
+use Rattle.zf_walk.specs.{HasBit}
 use Rattle.zf_plan.proofs.blame.last_blamed.Given as goal
 
 -- The word has no bit behind those that are left.

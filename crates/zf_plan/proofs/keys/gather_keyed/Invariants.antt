@@ -1,5 +1,5 @@
 use Rattle.zf_plan.proofs.Prelude.{◌≡◌, ◌<◌, ℕ, Contains, get_or}
-use Rattle.zf_plan.specs.Choices.{StaysIn}
+use Rattle.zf_plan.specs.{StaysIn}
 use Rattle.zf_plan.proofs.keys.gather_keyed.Given as goal
 
 -- What was there, and the places so far.

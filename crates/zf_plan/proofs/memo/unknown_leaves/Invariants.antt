@@ -1,4 +1,4 @@
-use Rattle.zf_plan.specs.Stamps.{AreUnknown}
+use Rattle.zf_plan.specs.{AreUnknown}
 use Rattle.zf_plan.proofs.memo.unknown_leaves.Given as goal
 
 -- Nothing is known of the leaves so far.

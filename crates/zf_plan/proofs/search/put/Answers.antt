@@ -1,7 +1,7 @@
 -- What is put stands there, and nothing else changes.
 use Rattle.std.proofs.Common.{◌∙◌, ◌∷◌, ◌++◌, ap, drop, refl, take}
 use Rattle.std.proofs.lemmas.List.{length-set}
-use Rattle.zf_plan.specs.Exchanges.{exchanged}
+use Rattle.zf_plan.specs.{exchanged}
 use Rattle.zf_plan.proofs.Exchanging.{passes, takes}
 use Rattle.zf_plan.proofs.search.put.Goals as goal
 

@@ -1,6 +1,6 @@
 use Rattle.zf_plan.proofs.Prelude.{◌<◌, ◌∙◌, ◌≡◌, ap, arith, get_or_default, length, subst, sym, trees_of, Place}
-use Rattle.zf_walk.specs.Seen.{HasBit}
-use Rattle.zf_plan.specs.Marks.{mark_at, unmarked}
+use Rattle.zf_walk.specs.{HasBit}
+use Rattle.zf_plan.specs.{mark_at, unmarked}
 use Rattle.zf_plan.specs.declared.marks.Mark.{Mark}
 use Rattle.zf_plan.proofs.Blaming.{blamed-choice}
 use Rattle.zf_plan.proofs.Moving.{length-bound}

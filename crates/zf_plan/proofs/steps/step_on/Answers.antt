@@ -1,16 +1,12 @@
 use Rattle.zf_plan.proofs.Prelude.{◌≢◌, ahead_of, Bool, Conjuncts, False, Ordering, Takes, Tree, true, Truth, AreWithin, Remembers, rules, set, Stands, Option, List, None, get_or_default, ◌<◌, ◌+◌, bound, ◌-◌, ◌≤◌, ◌∙◌, ◌≡◌, ap, arith, get_or, inl, inr, length, subst, sym, take, ℕ, option_copied, cases_eq, get_or-set_other, get_or-set_same, length-set, IsAt, IsTruthOf, picked, Out, True, IsSoFar, trees_of, path, planted, Place}
 use Rattle.zf_plan.proofs.Results.{on-err}
 use Rattle.zf_plan.proofs.Marking.{kept-chosen, landed-marked}
-use Rattle.zf_plan.specs.Counts.{all_of, below_it, Counts, CountsFound, IsCounted, IsPlain}
-use Rattle.zf_plan.specs.Knowing.{NeedsWithin}
+use Rattle.zf_plan.specs.{all_of, AreSeen, below_it, CountsFound, Finds, Forgets, IsBlamed, IsCounted, IsFound, IsKept, IsPlain, mark_at, Memory, NeedsWithin, PassesOpen}
+use Rattle.zf_plan.specs.Counts.{Counts}
 use Rattle.std.specs.Vec.{with_item}
-use Rattle.zf_plan.specs.Memories.{Forgets, Memory}
-use Rattle.zf_plan.specs.Marks.{mark_at}
-use Rattle.zf_plan.specs.Places.{AreSeen, Finds, IsFound, IsKept, PassesOpen}
 use Rattle.zf_plan.specs.declared.plan.Plan.{Plan}
 use Rattle.zf_plan.proofs.Seeing.{seen-all, unseen-all}
 use Rattle.zf_plan.proofs.Moving.{length-bound, length-path}
-use Rattle.zf_plan.specs.Blaming.{IsBlamed}
 use Rattle.zf_plan.proofs.Jumping.{jumps, jumps-counted, opened-is, passed-is, passes-open-stand, passes-stand}
 use Rattle.zf_plan.proofs.Stepping.{before-found, descends, descends-stand, stands-refused, finds-hopeless, finds-reached, finds-whole, gives-end, passes, retreats, retreats-stand, rests-still, Setting, setting-of, takes-whole}
 use Rattle.zf_plan.proofs.Counting.{basis-of, counted-descends, counted-here, counted-retreats, counted-still, counts-whole, found-false, found-other}

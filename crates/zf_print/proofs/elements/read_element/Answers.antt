@@ -1,4 +1,4 @@
-use Rattle.zf_meaning.specs.Envs.{environment_of}
+use Rattle.zf_meaning.specs.{environment_of}
 use Rattle.zf_print.proofs.ValuesAt.{untyped, element_at, no_element}
 use Rattle.zf_print.proofs.elements.read_element.Goals as goal
 

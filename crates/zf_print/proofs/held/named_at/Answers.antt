@@ -1,4 +1,4 @@
-use Rattle.zf_term.specs.SchemaViews.{comp_of}
+use Rattle.zf_term.specs.{comp_of}
 use Rattle.zf_print.proofs.HeldSoFar.{not_alone, not_separated}
 use Rattle.zf_print.proofs.held.named_at.Goals as goal
 

@@ -2,7 +2,7 @@ use Rattle.zf_print.proofs.Prelude.{◌++◌, ◌∙◌, ◌∷◌, ◌≡◌, [
 use Rattle.std.specs.Prelude.{OnOk}
 use Rattle.zf_print.proofs.Printing.{begun, map-drop, drop-end, ahead-more, closed}
 use Rattle.std.proofs.Common.{rules}
-use Rattle.zf_value.specs.Forms.{value_of}
+use Rattle.zf_value.specs.{value_of}
 use Rattle.zf_value.proofs.Measures.{tuple_falls, set_falls}
 use Rattle.zf_print.proofs.TextsSeen.{of-Int, of-Elem, of-Tuple, of-SetOf}
 use Rattle.zf_print.proofs.printed.+append.Goals as goal

@@ -1,5 +1,5 @@
 use Rattle.std.proofs.Common.{rules, ◌∷◌, ◌++◌, [], ◌∙◌, ap, inl, inr, refl}
-use Rattle.zf_ranges.specs.Parts.{Grows}
+use Rattle.zf_ranges.specs.{Grows}
 use Rattle.zf_ranges.proofs.kept.keep.Goals as goal
 
 pub returns-in_ok-push : goal.returns-in_ok-push

@@ -1,9 +1,7 @@
 use Rattle.std.proofs.Common.{◌↔◌, ◌∙◌, ap, subst, sym, IsTrue}
-use Rattle.zf_value.specs.Forms.{value_of}
+use Rattle.zf_value.specs.{value_of}
 use Rattle.zf_value.proofs.Measures.{no_element_seen}
-use Rattle.zf_meaning.specs.Environments.{type_number}
-use Rattle.zf_meaning.specs.Envs.{environment_of}
-use Rattle.zf_meaning.specs.Rows.{IsExistingElement}
+use Rattle.zf_meaning.specs.{environment_of, IsExistingElement, type_number}
 use Rattle.zf_ranges.proofs.Typed.{no_element}
 use Rattle.zf_ranges.proofs.of_type.is_element.Goals as goal
 

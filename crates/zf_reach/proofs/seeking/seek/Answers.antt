@@ -1,6 +1,6 @@
 use Rattle.zf_reach.proofs.Fronts.{always_on_err}
 use Rattle.zf_reach.proofs.Seeks.{search_first, stops_in_text, stops_unwritten}
-use Rattle.zf_reach.specs.Machines.{result_of}
+use Rattle.zf_reach.specs.{result_of}
 use Rattle.zf_reach.proofs.seeking.seek.Goals as goal
 
 pub returns-in_err-search-clause-err : goal.returns-in_err-search-clause-err

@@ -1,5 +1,5 @@
 use Rattle.zf_reach.proofs.Prelude.{◌+◌, ◌-◌}
-use Rattle.zf_reach.specs.Searches.{AtSearch}
+use Rattle.zf_reach.specs.{AtSearch}
 use Rattle.zf_reach.proofs.seeking.seek_turns.Given as goal
 
 abbrev pub invariant-turns : goal.invariant-turns

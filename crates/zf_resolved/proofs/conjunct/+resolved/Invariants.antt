@@ -1,7 +1,7 @@
 use Rattle.std.proofs.Common.{◌≡◌, drop, map, None}
-use Rattle.zf_data.specs.Chunks.{all_of}
-use Rattle.zf_term.specs.SchemaViews.{batch_of}
-use Rattle.zf_resolved.specs.Behind.{onto, tree_in}
+use Rattle.zf_data.specs.{all_of}
+use Rattle.zf_term.specs.{batch_of}
+use Rattle.zf_resolved.specs.{onto, tree_in}
 use Rattle.zf_resolved.proofs.Joining.{numbered_anew}
 use Rattle.zf_resolved.proofs.conjunct.+resolved.Given as goal
 

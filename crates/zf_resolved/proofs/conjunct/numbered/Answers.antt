@@ -1,5 +1,5 @@
 use Rattle.std.proofs.Common.{refl}
-use Rattle.zf_term.specs.ResolvedViews.{resolved_of}
+use Rattle.zf_term.specs.{resolved_of}
 use Rattle.zf_resolved.proofs.Joining.{kept}
 use Rattle.zf_resolved.proofs.conjunct.numbered.Goals as goal
 

@@ -1,9 +1,7 @@
 use Rattle.std.proofs.Common.{ap}
 use Rattle.std.proofs.lemmas.Result.{IfOk-weaker}
 use Rattle.std.proofs.Common.{◌≡◌}
-use Rattle.zf_term.specs.ResolvedViews.{resolved_of}
-use Rattle.zf_term.specs.Shapes.{moved}
-use Rattle.zf_term.specs.ShapeViews.{numbering}
+use Rattle.zf_term.specs.{moved, numbering, resolved_of}
 use Rattle.zf_resolved.proofs.Joining.{kept}
 use Rattle.zf_resolved.proofs.conjunct.placed.Goals as goal
 

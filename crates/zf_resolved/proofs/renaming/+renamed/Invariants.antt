@@ -1,6 +1,6 @@
 use Rattle.std.proofs.Common.{◌≡◌, map, take}
-use Rattle.zf_term.specs.ResolvedViews.{resolved_of, resolved_link_of, range_of}
-use Rattle.zf_resolved.specs.Renamed.{renamed, link_renamed, range_renamed}
+use Rattle.zf_term.specs.{range_of, resolved_link_of, resolved_of}
+use Rattle.zf_resolved.specs.{link_renamed, range_renamed, renamed}
 use Rattle.zf_resolved.proofs.renaming.+renamed.Given as goal
 
 abbrev pub invariant-renamed_terms-loop-term : goal.invariant-renamed_terms-loop-term

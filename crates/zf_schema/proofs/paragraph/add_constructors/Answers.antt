@@ -1,5 +1,5 @@
 use Rattle.zf_schema.proofs.Prelude.{inl, rules, ℕ, spelling, globals_of, Offence, OffendsConstructors}
-use Rattle.zf_schema.specs.Checking.{IsTaken}
+use Rattle.zf_schema.specs.{IsTaken}
 use Rattle.zf_schema.proofs.Texts.{at_step, if_fault}
 use Rattle.zf_schema.proofs.paragraph.add_constructors.Goals as goal
 

@@ -1,5 +1,5 @@
 use Rattle.zf_schema.proofs.Prelude.{inl, rules, ℕ, globals_of, Offence, OffendsGiven}
-use Rattle.zf_schema.specs.Checking.{IsTaken}
+use Rattle.zf_schema.specs.{IsTaken}
 use Rattle.zf_schema.proofs.Texts.{at_step, if_fault}
 use Rattle.zf_schema.proofs.paragraph.add_given.Goals as goal
 

@@ -1,6 +1,6 @@
 use Rattle.zf_schema.proofs.Prelude.{◌∷◌, [], schema_of, resolved_of, IsTooLarge, CantTake}
-use Rattle.zf_term.specs.SchemaViews.{conjunct_of}
-use Rattle.zf_calculus.specs.Growth.{constrained}
+use Rattle.zf_term.specs.{conjunct_of}
+use Rattle.zf_calculus.specs.{constrained}
 use Rattle.zf_schema.proofs.Stopping.{refused_by, cant_take}
 use Rattle.zf_schema.proofs.text.take.Goals as goal
 

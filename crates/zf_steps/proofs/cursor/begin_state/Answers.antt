@@ -5,8 +5,7 @@ use Rattle.zf_steps.proofs.Answering.{begins_seen}
 use Rattle.zf_steps.proofs.cursor.begin_state.Goals as goal
 use Rattle.zf_steps.specs.contracts.node.NodePartialEq.TheImpl as nodes
 use Rattle.zf_steps.specs.declared.node.Node.TheVariants.{State}
-use Rattle.zf_steps.specs.Machines.{BeginsState}
-use Rattle.zf_steps.specs.SystemViews.{system_of}
+use Rattle.zf_steps.specs.{BeginsState, system_of}
 
 pub returns-clause-begins : goal.returns-clause-begins
 returns-clause-begins g c =

@@ -3,8 +3,7 @@ use Rattle.zf_steps.proofs.Answering.{fewer_told, goes_told}
 use Rattle.zf_steps.proofs.Moving.{weaker_if_ok}
 use Rattle.zf_steps.proofs.cursor.go_on.Goals as goal
 use Rattle.zf_steps.specs.contracts.node.NodePartialEq.TheImpl as nodes
-use Rattle.zf_steps.specs.Finders.{stage_in}
-use Rattle.zf_steps.specs.SystemViews.{operation_of, system_of}
+use Rattle.zf_steps.specs.{operation_of, stage_in, system_of}
 
 pub returns-clause-answer : goal.returns-clause-answer
 returns-clause-answer g c =

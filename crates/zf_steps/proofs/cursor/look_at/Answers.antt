@@ -3,8 +3,7 @@ use Rattle.zf_steps.proofs.Answering.{seen_told}
 use Rattle.zf_steps.proofs.Moving.{weaker_if_ok}
 use Rattle.zf_steps.proofs.cursor.look_at.Goals as goal
 use Rattle.zf_steps.specs.contracts.node.NodePartialEq.TheImpl as nodes
-use Rattle.zf_steps.specs.Finders.{stage_in}
-use Rattle.zf_steps.specs.SystemViews.{system_of}
+use Rattle.zf_steps.specs.{stage_in, system_of}
 
 pub returns-clause-sees : goal.returns-clause-sees
 returns-clause-sees g c =

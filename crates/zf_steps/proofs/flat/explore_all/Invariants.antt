@@ -1,5 +1,5 @@
 -- The environment is that of the searches.
-use Rattle.zf_meaning.specs.Envs.{environment_of}
+use Rattle.zf_meaning.specs.{environment_of}
 use Rattle.zf_steps.proofs.flat.explore_all.Given as goal
 
 abbrev pub ghosts-explore_by : goal.ghosts-explore_by

@@ -1,5 +1,5 @@
 -- The environment is that of the searches.
-use Rattle.zf_meaning.specs.Envs.{environment_of}
+use Rattle.zf_meaning.specs.{environment_of}
 use Rattle.zf_steps.proofs.flat_seeking.seek_all.Given as goal
 
 abbrev pub ghosts-seek_by : goal.ghosts-seek_by

@@ -4,8 +4,7 @@ use Rattle.std.specs.Prelude.{slice_get}
 use Rattle.zf_graph.proofs.Places.{at_map}
 use Rattle.zf_steps.proofs.Fitting.{stands_at}
 use Rattle.zf_steps.proofs.lines.append_operation.Goals as goal
-use Rattle.zf_steps.specs.Lines.{operation_text}
-use Rattle.zf_steps.specs.SystemViews.{operation_of, system_of}
+use Rattle.zf_steps.specs.{operation_of, operation_text, system_of}
 
 pub returns-in-Some : goal.returns-in-Some
 returns-in-Some g c =

@@ -4,8 +4,7 @@ use Rattle.std.specs.Prelude.{slice_get}
 use Rattle.zf_graph.proofs.Places.{at_map}
 use Rattle.zf_steps.proofs.Fitting.{stands_at}
 use Rattle.zf_steps.proofs.objects.append_members.Goals as goal
-use Rattle.zf_steps.specs.Objects.{step_members}
-use Rattle.zf_steps.specs.SystemViews.{operation_of, system_of}
+use Rattle.zf_steps.specs.{operation_of, step_members, system_of}
 
 pub returns-in-Some : goal.returns-in-Some
 returns-in-Some g c =

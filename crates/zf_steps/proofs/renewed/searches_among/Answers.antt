@@ -2,11 +2,9 @@
 use Rattle.std.proofs.Common.{◌+◌, map, subst, sym, take}
 use Rattle.zf_steps.proofs.Fitting.{for_item}
 use Rattle.zf_steps.proofs.renewed.searches_among.Goals as goal
-use Rattle.zf_steps.specs.Fitting.{AreFor}
-use Rattle.zf_steps.specs.Renewing.{CanSearch, IsFor}
-use Rattle.zf_meaning.specs.Envs.{environment_of}
-use Rattle.zf_term.specs.SchemaViews.{schema_of}
-use Rattle.zf_steps.specs.SystemViews.{operation_of}
+use Rattle.zf_steps.specs.{AreFor, CanSearch, IsFor, operation_of}
+use Rattle.zf_meaning.specs.{environment_of}
+use Rattle.zf_term.specs.{schema_of}
 
 pub loop-operation-preserved : goal.loop-operation-preserved
 loop-operation-preserved c =

@@ -1,10 +1,8 @@
 -- The searches so far.
 use Rattle.std.proofs.Common.{map, take}
-use Rattle.zf_steps.specs.Fitting.{AreFor}
-use Rattle.zf_steps.specs.Renewing.{IsFor}
-use Rattle.zf_meaning.specs.Envs.{environment_of}
-use Rattle.zf_term.specs.SchemaViews.{schema_of}
-use Rattle.zf_steps.specs.SystemViews.{operation_of}
+use Rattle.zf_steps.specs.{AreFor, IsFor, operation_of}
+use Rattle.zf_meaning.specs.{environment_of}
+use Rattle.zf_term.specs.{schema_of}
 use Rattle.zf_steps.proofs.renewed.searches_among.Given as goal
 
 abbrev pub invariant-loop-operation : goal.invariant-loop-operation

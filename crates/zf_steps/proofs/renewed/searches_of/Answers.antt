@@ -3,12 +3,9 @@ use Rattle.std.proofs.Common.{◌∙◌, ap, map, subst, sym}
 use Rattle.std.specs.List.{AllByRecursion}
 use Rattle.zf_steps.proofs.Fitting.{all_mapped, map_map}
 use Rattle.zf_steps.proofs.renewed.searches_of.Goals as goal
-use Rattle.zf_steps.specs.Fitting.{AreFor}
-use Rattle.zf_steps.specs.Renewing.{CanSearch, IsFor}
-use Rattle.zf_meaning.specs.Envs.{environment_of}
-use Rattle.zf_term.specs.SchemaViews.{schema_of}
-use Rattle.zf_steps.specs.Systems.{Operation}
-use Rattle.zf_steps.specs.SystemViews.{operation_of, system_of}
+use Rattle.zf_steps.specs.{AreFor, CanSearch, IsFor, Operation, operation_of, system_of}
+use Rattle.zf_meaning.specs.{environment_of}
+use Rattle.zf_term.specs.{schema_of}
 
 pub searches_among-requires : goal.searches_among-requires
 searches_among-requires c =

@@ -1,6 +1,6 @@
 use Rattle.std.proofs.Common.{map}
-use Rattle.zf_term.specs.SchemaViews.{comp_of}
-use Rattle.zf_steps.specs.Shapes.{place_of}
+use Rattle.zf_term.specs.{comp_of}
+use Rattle.zf_steps.specs.{place_of}
 use Rattle.zf_places.proofs.Picked.{filter_push}
 use Rattle.zf_steps.proofs.shape.places_of.Goals as goal
 

@@ -2,7 +2,7 @@
 use Rattle.std.proofs.Common.{◌∙◌, ◌∷◌, ◌≡◌, [], ap, arith, drop, length, List, min, suc, sym, zero, ℕ}
 use Rattle.std.specs.Prelude.{nat_le}
 use Rattle.std.specs.Int.{abs_diff}
-use Rattle.zf_term.specs.Likeness.{differ_by_one}
+use Rattle.zf_term.specs.{differ_by_one}
 use Rattle.zf_term.proofs.likeness.differ_by_one.Goals as goal
 
 ended : (xs ys : List ℕ) (n k : ℕ) → n ≡ min (length xs) (length ys) → k ≡ abs_diff (length xs) (length ys) → nat_le k 1 ≡ differ_by_one (drop n xs) (drop n ys)

@@ -1,6 +1,6 @@
 -- The names are the same up to the place.
 use Rattle.std.proofs.Common.{◌≡◌, drop}
-use Rattle.zf_term.specs.Likeness.{differ_by_one}
+use Rattle.zf_term.specs.{differ_by_one}
 use Rattle.zf_term.proofs.likeness.differ_by_one.Given as goal
 
 abbrev pub invariant-loop-place : goal.invariant-loop-place

@@ -1,6 +1,5 @@
 use Rattle.zf_unfold.proofs.Prelude.{◌∙◌, None, Some, named, part_of, part_renamed, ranges_renamed, renamed, resolved_of, sym}
-use Rattle.zf_unfold.specs.Renaming.{others}
-use Rattle.zf_unfold.specs.RenamingViews.{ranges_of}
+use Rattle.zf_unfold.specs.{others, ranges_of}
 use Rattle.zf_unfold.proofs.Written.{instance_seen, some_there}
 use Rattle.zf_unfold.proofs.instance.instance.Goals as goal
 

@@ -1,7 +1,5 @@
 use Rattle.zf_why.proofs.Prelude.{◌++◌, ◌≡◌, drop, map, conjunct_of}
-use Rattle.zf_term.specs.SchemaViews.{batch_of}
-use Rattle.zf_term.specs.Shapes.{moved}
-use Rattle.zf_term.specs.ShapeViews.{numbering}
+use Rattle.zf_term.specs.{batch_of, moved, numbering}
 use Rattle.zf_why.proofs.Gathered.{all_placed}
 use Rattle.zf_why.proofs.side.push_batch.Given as goal
 

@@ -1,7 +1,7 @@
 use Rattle.zf_why.proofs.Prelude.{◌≡◌, drop, map}
 use Rattle.std.specs.Prelude.{max}
-use Rattle.zf_term.specs.ResolvedViews.{links, range_of, ranges, resolved_link_of, resolved_of, terms}
-use Rattle.zf_why.specs.Unheld.{all_lack, flag, links_lack, ranges_lack}
+use Rattle.zf_term.specs.{links, range_of, ranges, resolved_link_of, resolved_of, terms}
+use Rattle.zf_why.specs.{all_lack, flag, links_lack, ranges_lack}
 use Rattle.zf_why.proofs.unheld.+other.Given as goal
 
 abbrev pub invariant-one_names_other-loop-term : goal.invariant-one_names_other-loop-term

@@ -1,4 +1,4 @@
-use Rattle.zf_term.specs.ResolvedViews.{resolved_of}
+use Rattle.zf_term.specs.{resolved_of}
 use Rattle.zf_why.proofs.NamesHeld.{found_of}
 use Rattle.zf_why.proofs.unheld.names_held.Goals as goal
 

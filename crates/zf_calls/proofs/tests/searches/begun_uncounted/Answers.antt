@@ -1,7 +1,7 @@
 use Rattle.std.proofs.Common.{subst}
-use Rattle.zf_meaning.specs.Envs.{environment_of}
-use Rattle.zf_term.specs.SchemaViews.{schema_of}
-use Rattle.zf_engine.specs.Settings.{IsNamed}
+use Rattle.zf_meaning.specs.{environment_of}
+use Rattle.zf_term.specs.{schema_of}
+use Rattle.zf_engine.specs.{IsNamed}
 use Rattle.zf_engine.proofs.DueWithin.{due_within}
 use Rattle.zf_calls.proofs.tests.searches.begun_uncounted.Goals as goal
 

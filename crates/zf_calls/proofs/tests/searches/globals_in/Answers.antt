@@ -1,5 +1,5 @@
-use Rattle.zf_tree.specs.TreeViews.{boxes_of}
-use Rattle.zf_term.specs.DefinitionViews.{globals_of}
+use Rattle.zf_tree.specs.{boxes_of}
+use Rattle.zf_term.specs.{globals_of}
 use Rattle.zf_checker.proofs.WellTyped.{globals_well_typed}
 use Rattle.zf_calls.proofs.tests.searches.globals_in.Goals as goal
 

@@ -1,5 +1,5 @@
 use Rattle.zf_meaning.proofs.Prelude.{rules, subst, sym, w64, IfSome, FitsSigned, Is, Int, binary, resolved_of, environment_of, HasOutcome, InfixOutcome}
-use Rattle.zf_meaning.specs.InRow.{in_row}
+use Rattle.zf_meaning.specs.{in_row}
 use Rattle.zf_meaning.proofs.Numeric.{both-numbers}
 use Rattle.zf_meaning.proofs.Operands.{both-seen}
 use Rattle.zf_outcome.proofs.Comparisons.{written-both}

@@ -1,7 +1,7 @@
 use Rattle.std.proofs.Common.{◌∙◌, ◌≡◌, ap, arith, length, sym}
-use Rattle.zf_parts.specs.Numbers.{ranges_at}
+use Rattle.zf_parts.specs.{ranges_at}
 use Rattle.zf_walk.proofs.Picks.{length-picked}
-use Rattle.zf_walk.specs.Picked.{picked}
+use Rattle.zf_walk.specs.{picked}
 use Rattle.zf_parts.proofs.part_row.PartRowRow.len.Goals as goal
 
 pub returns : goal.returns

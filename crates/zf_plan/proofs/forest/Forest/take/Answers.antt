@@ -1,5 +1,5 @@
 use Rattle.std.proofs.Common.{◌<◌, length, refl, sym, subst}
-use Rattle.zf_plan.specs.Groves.{Grove, trees_made, Takes}
+use Rattle.zf_plan.specs.{Grove, Takes, trees_made}
 use Rattle.zf_plan.proofs.Groves.{taken, taken-still}
 use Rattle.zf_plan.proofs.forest.Forest.take.Goals as goal
 

@@ -1,4 +1,4 @@
-use Rattle.zf_plan.specs.Testing.{AreSeenOf}
+use Rattle.zf_plan.specs.{AreSeenOf}
 use Rattle.zf_plan.proofs.memo.Memo.seen.Given as goal
 
 -- What is known of the leaves so far.

@@ -1,5 +1,5 @@
 use Rattle.zf_plan.proofs.Prelude.{◌≡◌, trees_of, true}
-use Rattle.zf_plan.specs.Plans.{IsBare, IsLayer}
+use Rattle.zf_plan.specs.{IsBare, IsLayer}
 use Rattle.zf_plan.proofs.Numbers.{AreSoFar}
 use Rattle.zf_plan.proofs.plan.Plan.new.Given as goal
 

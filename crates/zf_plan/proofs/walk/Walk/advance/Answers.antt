@@ -1,7 +1,6 @@
 use Rattle.zf_plan.proofs.Prelude.{subst, sym, trees_of, Grove}
-use Rattle.zf_walk.specs.Progress.{AreTests}
-use Rattle.zf_plan.specs.Progress.{counted}
-use Rattle.zf_plan.specs.Walks.{IsWalk}
+use Rattle.zf_walk.specs.{AreTests}
+use Rattle.zf_plan.specs.{counted, IsWalk}
 use Rattle.zf_plan.proofs.Walking.{advances-ok, stays-err, under-ok}
 use Rattle.zf_plan.proofs.walk.Walk.advance.Goals as goal
 

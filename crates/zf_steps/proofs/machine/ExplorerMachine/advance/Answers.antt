@@ -4,8 +4,7 @@ use Rattle.zf_steps.proofs.Fitting.{stands_at}
 use Rattle.zf_steps.proofs.machine.ExplorerMachine.advance.Goals as goal
 use Rattle.zf_steps.proofs.Moving.{advances_initial, advances_operation, always_on_ok, as_many, fewer_operation, fits_operation, of_operation, operation_at, weaker_if_ok}
 use Rattle.zf_steps.specs.contracts.node.NodePartialEq.TheImpl as nodes
-use Rattle.zf_steps.specs.SystemViews.{operation_of, system_of}
-use Rattle.zf_steps.specs.Finders.{IsForIn, stage_in}
+use Rattle.zf_steps.specs.{IsForIn, operation_of, stage_in, system_of}
 
 pub index_mut-requires : goal.index_mut-requires
 index_mut-requires g c =

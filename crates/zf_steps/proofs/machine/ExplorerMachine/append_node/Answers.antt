@@ -2,8 +2,7 @@
 use Rattle.std.proofs.Common.{◌++◌, ◌≡◌, subst, sym}
 use Rattle.zf_steps.proofs.machine.ExplorerMachine.append_node.Goals as goal
 use Rattle.zf_steps.proofs.Wording.{nothing_of_root}
-use Rattle.zf_steps.specs.SystemViews.{system_of}
-use Rattle.zf_steps.specs.Words.{words}
+use Rattle.zf_steps.specs.{system_of, words}
 
 pub returns-in-Root : goal.returns-in-Root
 returns-in-Root g c =

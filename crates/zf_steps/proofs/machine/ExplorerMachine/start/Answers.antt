@@ -7,8 +7,7 @@ use Rattle.zf_steps.proofs.Moving.{always_on_ok, as_many, fits_operation, of_ope
 use Rattle.zf_steps.specs.contracts.node.NodePartialEq.TheImpl as nodes
 use Rattle.zf_steps.specs.declared.cursor.Part.TheVariants.{Operation}
 use Rattle.zf_steps.specs.declared.node.Node.TheVariants.{State}
-use Rattle.zf_steps.specs.SystemViews.{operation_of, system_of}
-use Rattle.zf_steps.specs.Finders.{IsForIn, stage_in}
+use Rattle.zf_steps.specs.{IsForIn, operation_of, stage_in, system_of}
 
 pub index_mut-requires : goal.index_mut-requires
 index_mut-requires g c =

@@ -1,5 +1,5 @@
 use Rattle.zf_typing.proofs.Prelude.{◌∙◌, ◌≡◌, ap, None, Some, subst, IfOk-weaker, IsPart, resolved_part}
-use Rattle.zf_term.specs.ResolvedViews.{part_of}
+use Rattle.zf_term.specs.{part_of}
 use Rattle.zf_typing.proofs.Parts.{none_kept, some_kept}
 use Rattle.zf_typing.proofs.judge.binders.in_box.Goals as goal
 

@@ -1,7 +1,6 @@
 use Rattle.zf_typing.proofs.Prelude.{◌∙◌, ◌≡◌, ap, inl, inr, map, refl, ℕ, tree_of, trees, Display, type_of, types, Offence, DiffersAt, Offends}
 use Rattle.zf_tree.specs.Trees as tree
-use Rattle.zf_term.specs.ResolvedViews.{resolved_of, terms}
-use Rattle.zf_term.specs.ResolvedTrees.{listed}
+use Rattle.zf_term.specs.{listed, resolved_of, terms}
 use Rattle.zf_term.proofs.ResolvedSeen as seen
 use Rattle.zf_typing.proofs.Judging.{from_memory, if_fault, from_fault}
 use Rattle.zf_typing.proofs.Members.{list_differs}

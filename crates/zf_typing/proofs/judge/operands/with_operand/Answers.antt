@@ -1,7 +1,6 @@
 use Rattle.zf_typing.proofs.Prelude.{◌∙◌, ap, inl, inr, refl, sort_of}
 use Rattle.zf_tree.specs.Trees as tree
-use Rattle.zf_term.specs.ResolvedViews.{resolved_of}
-use Rattle.zf_term.specs.ResolvedTrees.{unary}
+use Rattle.zf_term.specs.{resolved_of, unary}
 use Rattle.zf_term.proofs.ResolvedSeen as seen
 use Rattle.zf_typing.proofs.Judging.{from_memory, unary_taken, takes_one, takes_not_one}
 use Rattle.zf_typing.proofs.judge.operands.with_operand.Goals as goal

@@ -1,7 +1,6 @@
 use Rattle.zf_typing.proofs.Prelude.{◌∙◌, ◌≡◌, ap, inl, inr, refl, subst, rule_of, Disagreement, Offends, resolved, sort_of, IsMade}
 use Rattle.zf_tree.specs.Trees as tree
-use Rattle.zf_term.specs.ResolvedViews.{resolved_of}
-use Rattle.zf_term.specs.ResolvedTrees.{binary}
+use Rattle.zf_term.specs.{binary, resolved_of}
 use Rattle.zf_term.proofs.ResolvedSeen as seen
 use Rattle.zf_typing.proofs.Judging.{judges_err, from_memory, if_fault, takes_both, takes_not}
 use Rattle.zf_typing.proofs.judge.operands.with_operands.Goals as goal

@@ -1,5 +1,5 @@
 use Rattle.zf_walk.proofs.Prelude.{◌-◌, arith, subst}
-use Rattle.zf_walk.specs.Seen.{IsSeen}
+use Rattle.zf_walk.specs.{IsSeen}
 use Rattle.zf_walk.proofs.Marking.{seen-marked}
 use Rattle.zf_walk.proofs.table.Table.seen.Goals as goal
 

@@ -1,4 +1,4 @@
-use Rattle.zf_walk.specs.Tables.{AreTables}
+use Rattle.zf_walk.specs.{AreTables}
 use Rattle.zf_walk.proofs.tables.Tables.new.Given as goal
 
 -- The tables of the conjuncts so far.

@@ -1,5 +1,5 @@
 use Rattle.std.proofs.Common.{◌≡◌, take}
-use Rattle.zf_data.specs.Chunks.{all_of}
+use Rattle.zf_data.specs.{all_of}
 use Rattle.zf_data.proofs.arena.chunked.Chunked.pieces.Given as goal
 
 abbrev pub invariant-loop-chunk : goal.invariant-loop-chunk
