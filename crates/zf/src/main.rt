@@ -5,7 +5,7 @@ use std::io::IsTerminal;
 use std::process::ExitCode;
 use std::rt::Env;
 use std::{env, io};
-use zf_command::job::UsageFault;
+use zf_command::UsageFault;
 use zf_engine::program::{program, refuse};
 
 /// A person at a terminal reads why words are refused; a program that reads standard error has the first line alone.

@@ -14,9 +14,7 @@ use std::alloc::AllocError;
 use std::mem;
 use std::mem::ManuallyDrop;
 use zf_data::arena::{Chunked, Items, Shared};
-use zf_term::fault::{Clash, Limit};
-use zf_term::named::component_of;
-use zf_term::schema::{Component, Domain, Domains};
+use zf_term::{Clash, Component, Domain, Domains, Limit, component_of};
 
 /// That none of the others has another type than the component that has its name.
 pub fn agree<'a>(components: &[Component<'a>], others: &[Component<'a>]) -> Result<(), Stop<'a>>

@@ -15,10 +15,7 @@ use crate::stop::Stop;
 use bumpalo::Bump;
 use std::alloc::AllocError;
 use zf_data::arena::{Chunked, Items, Lasting, Piece, Shared};
-use zf_term::conjunct::{Batch, Batches, Conjunct, Places};
-use zf_term::fault::Limit;
-use zf_term::named::component_of;
-use zf_term::schema::{Component, Domain, Flat, Side};
+use zf_term::{Batch, Batches, Component, Conjunct, Domain, Flat, Limit, Places, Side, component_of};
 
 /// The component of a disjunction: its declared sets on either side.
 fn either<'a>(

@@ -15,14 +15,10 @@ use crate::stop::Stop;
 use bumpalo::Bump;
 use std::alloc::AllocError;
 use zf_data::arena::{Boxed, Chunked, Items, Lasting};
-use zf_reference::reference::Reference;
+use zf_reference::Reference;
 use zf_shape::conjunct::room_after;
-use zf_term::conjunct::Conjunct;
-use zf_term::fault::Limit;
-use zf_term::measured::{Left, Measured};
-use zf_term::resolved::{Resolved, ResolvedLink};
-use zf_term::schema::{Component, Flat};
-use zf_tree::symbol::Relation;
+use zf_term::{Component, Conjunct, Flat, Left, Limit, Measured, Resolved, ResolvedLink};
+use zf_tree::Relation;
 
 /// A schema, with what is left of the limits, so that each step costs only what it adds.
 #[derive(Drop)]

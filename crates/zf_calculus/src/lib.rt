@@ -2,10 +2,17 @@
 #![tactic(auto)]
 
 mod components;
-pub mod disjunction;
-pub mod growing;
-pub mod limits;
-pub mod marking;
+mod disjunction;
+mod growing;
+mod limits;
+mod marking;
 mod room;
-pub mod spare;
-pub mod stop;
+mod spare;
+mod stop;
+
+pub use disjunction::disjoin;
+pub use growing::Growing;
+pub use limits::{COMPONENTS_MAX, CONJUNCTS_MAX};
+pub use marking::{decorate_own, marked};
+pub use spare::Spare;
+pub use stop::Stop;

@@ -14,9 +14,8 @@ use std::alloc::AllocError;
 use std::mem;
 use std::mem::ManuallyDrop;
 use zf_data::arena::{Items, Lasting, Lent};
-use zf_term::measured::Measured;
-use zf_term::schema::{Component, Flat};
-use zf_tree::tree::RefMark;
+use zf_term::{Component, Flat, Measured};
+use zf_tree::RefMark;
 
 /// The schema as it is marked: itself, or it and its state after an operation, and then that no component changes.
 pub fn marked<'a>(

@@ -7,9 +7,8 @@ ghost use Rattle.zf_calculus.specs.{counted};
 use crate::limits::HEIGHT_MAX;
 use zf_data::arena::Chunked;
 use zf_shape::conjunct;
-use zf_shape::sets::{room_after_nodes, room_after_sets};
-use zf_term::conjunct::Conjunct;
-use zf_term::schema::{Component, Domain};
+use zf_shape::{room_after_nodes, room_after_sets};
+use zf_term::{Component, Conjunct, Domain};
 
 /// How much of the room for declared sets is left behind these, where there is enough.
 pub fn after_sets<'a>(domains: &Chunked<'a, Domain<'a>>, room: usize) -> Option<usize>

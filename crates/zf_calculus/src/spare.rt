@@ -1,5 +1,5 @@
 //! Room for what a schema is expected to gain.
-use zf_term::schema::Flat;
+use zf_term::Flat;
 
 /// How many further components and conjuncts are expected.
 #[derive(Clone, Copy)]

@@ -2,7 +2,7 @@
 ghost use Rattle.std.specs.Prelude.{◌≡◌};
 
 use std::alloc::{AllocError, AllocFailed};
-use zf_term::fault::{Clash, Limit};
+use zf_term::{Clash, Limit};
 
 /// Why there is no next schema.
 #[derive(Drop)]

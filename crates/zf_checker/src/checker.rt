@@ -11,10 +11,10 @@ use bumpalo::Bump;
 use std::alloc::{AllocError, Global};
 use zf_data::Items;
 use zf_data::arena::Boxed;
-use zf_schema::paragraph::{define, define_box};
-use zf_sorts::fault::{Refusal, TypeFault};
-use zf_term::globals::Globals;
-use zf_tree::tree::{Decl, Name, Paragraph, Spec, Term, ZBox};
+use zf_schema::{define, define_box};
+use zf_sorts::{Refusal, TypeFault};
+use zf_term::Globals;
+use zf_tree::{Decl, Name, Paragraph, Spec, Term, ZBox};
 
 /// What a text defines, and its faults in order.
 #[derive(Drop)]

@@ -2,12 +2,17 @@
 //! wrong with words that ask for none.
 #![tactic(auto)]
 
-pub mod asked;
+mod asked;
 mod clashes;
 mod command;
-pub mod job;
-pub mod limit;
+mod job;
+mod limit;
 mod matches;
 mod numerals;
-pub mod refused;
+mod refused;
 mod sizes;
+
+pub use asked::job_of;
+pub use job::{Asked, Exploration, Job, Request, Setting, Size, UsageFault};
+pub use limit::STATES_MAX;
+pub use refused::{UNREAD, why_refused};

@@ -12,16 +12,13 @@ use crate::numbers::greatest_number;
 use crate::stated::{sets_without_size, stated_sizes};
 use crate::stop::Stop;
 use std::alloc::{AllocError, Global};
-use zf_command::job::{Request, Setting};
+use zf_command::{Request, Setting};
 use zf_data::Word;
-use zf_finite::finite;
-use zf_finite::not_finite::NotFinite;
-use zf_lines::fault::Status;
-use zf_meaning::env::Env;
-use zf_meaning::sizes::{Size as StatedSize, SizeFault};
+use zf_finite::{NotFinite, finite};
+use zf_lines::Status;
+use zf_meaning::{Env, Size as StatedSize, SizeFault};
 use zf_messages::{Report, no_schema_lines, no_size_lines, not_finite_lines, side_without, texts};
-use zf_term::globals::Globals;
-use zf_term::schema::Flat;
+use zf_term::{Flat, Globals};
 
 /// A finite schema in an environment.
 #[derive(Drop)]

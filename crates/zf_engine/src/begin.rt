@@ -12,11 +12,11 @@ use crate::stop::Stop;
 use crate::subject::Subject;
 use std::alloc::Global;
 use zf_enum::{Bindings, Instances};
-use zf_lines::fault::Status;
+use zf_lines::Status;
 use zf_messages::texts;
 use zf_ranges::StartFault;
-use zf_term::schema::Flat;
-use zf_value::value::Value;
+use zf_term::Flat;
+use zf_value::Value;
 
 /// The search for the bindings of the schema that come after the named one and have the values that are held.
 pub fn begin<'s, 'e, 'g, 'a>(

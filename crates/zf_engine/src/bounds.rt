@@ -13,11 +13,11 @@ use crate::stop::Stop;
 use bumpalo::Bump;
 use std::alloc::Global;
 use zf_data::Word;
-use zf_meaning::env::Env;
+use zf_meaning::Env;
 use zf_places::schema_at;
-use zf_term::schema::Flat;
+use zf_term::Flat;
 use zf_print::Spelling;
-use zf_value::value::Value;
+use zf_value::Value;
 
 /// Components that alone are shown: their places, and a schema of them.
 #[derive(Drop)]

@@ -8,12 +8,12 @@ ghost use Rattle.zf_print.specs.{AreClear, HaveClearNames, spellings};
 use crate::stop::Stop;
 use std::alloc::Global;
 use zf_data::Word;
-use zf_lines::fault::Status;
-use zf_meaning::env::Env;
+use zf_lines::Status;
+use zf_meaning::Env;
 use zf_messages::texts;
-use zf_term::schema::Flat;
+use zf_term::Flat;
 use zf_print::{AfterFault, Spelling, read_held};
-use zf_value::value::Value;
+use zf_value::Value;
 
 /// The values that are held, by the components' places, if a line of some components is given. The answer where the
 /// text is no such line.

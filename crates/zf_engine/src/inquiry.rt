@@ -1,7 +1,7 @@
 //! What is asked of a schema.
 
 use std::alloc::Global;
-use zf_command::job::Request;
+use zf_command::Request;
 use zf_messages::Report;
 
 /// What is asked of a schema, and how faults of the source are reported.

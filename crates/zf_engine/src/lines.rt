@@ -2,7 +2,7 @@
 ghost use Rattle.std.specs.Prelude.{◌≡◌};
 ghost use Rattle.zf_engine.specs.SourceLines as spec;
 
-use zf_tree::ends::back;
+use zf_tree::back;
 
 /// The line of this number, from 1, without the blanks round it.
 pub fn trimmed_line(source: &[u8], number: u32) -> &[u8]

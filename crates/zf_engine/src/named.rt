@@ -8,12 +8,12 @@ ghost use Rattle.zf_print.specs.{AreClear, spellings};
 use crate::stop::Stop;
 use std::alloc::Global;
 use zf_data::Word;
-use zf_lines::fault::Status;
-use zf_meaning::env::Env;
+use zf_lines::Status;
+use zf_meaning::Env;
 use zf_messages::texts;
-use zf_term::schema::Flat;
+use zf_term::Flat;
 use zf_print::{AfterFault, Spelling, read_binding};
-use zf_value::value::Value;
+use zf_value::Value;
 
 /// The row that is named, if one is. The answer where the text is no line of a row.
 pub fn named_row(

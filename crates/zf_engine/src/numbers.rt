@@ -4,7 +4,7 @@ ghost use Rattle.zf_engine.specs.{AreSmall, IfAnswered, TellsNumbers};
 
 use crate::stop::Stop;
 use std::alloc::Global;
-use zf_lines::fault::Status;
+use zf_lines::Status;
 use zf_messages::texts;
 use zf_value::SET_MAX;
 

@@ -10,9 +10,9 @@ use std::alloc::AllocError;
 use zf_finite::first_plain;
 use zf_format::{Format, append_string};
 use zf_messages::Report;
-use zf_term::schema::Component;
+use zf_term::Component;
 use zf_print::{Spelling, append_value};
-use zf_value::value::Outcome;
+use zf_value::Outcome;
 use zf_why::{Operands, Sides, Told};
 
 /// Appends that a component is empty. A refusal leaves a part of it.

@@ -7,11 +7,10 @@ ghost use Rattle.zf_term.specs.{comp_of};
 
 use crate::stop::Stop;
 use std::alloc::Global;
-use zf_lines::fault::Status;
+use zf_lines::Status;
 use zf_messages::texts;
-use zf_term::named::component_of;
-use zf_term::schema::Component;
-use zf_tree::ends::back;
+use zf_term::{Component, component_of};
+use zf_tree::back;
 
 /// The places of the components that a text names, parted by commas. The answer where it names something else, or one of
 /// them twice.

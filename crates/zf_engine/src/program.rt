@@ -8,11 +8,8 @@ use std::fs::File;
 use std::io;
 use std::io::Read;
 use std::rt::Files;
-use zf_command::asked::job_of;
-use zf_command::job::{Asked, Job, UsageFault};
-use zf_command::refused::{UNREAD, why_refused};
-use zf_lines::counted::Counted;
-use zf_lines::fault::RunFault;
+use zf_command::{Asked, Job, UNREAD, UsageFault, job_of, why_refused};
+use zf_lines::{Counted, RunFault};
 
 const BAD_ARGUMENTS: &str = "zf: bad arguments";
 

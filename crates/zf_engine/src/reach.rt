@@ -21,20 +21,17 @@ use crate::typed::typed_in;
 use bumpalo::Bump;
 use std::alloc::Global;
 use std::io::Write;
-use zf_command::job::Exploration;
-use zf_command::limit::STATES_MAX;
+use zf_command::{Exploration, STATES_MAX};
 use zf_data::Word;
 use zf_format::Format;
-use zf_lines::counted::Counted;
-use zf_lines::fault::{RunFault, Status};
+use zf_lines::{Counted, RunFault, Status};
 use zf_machines::{Named, Schemas, Specification, explore_schemas, lack_of, seek_schemas};
-use zf_meaning::env::Env;
+use zf_meaning::Env;
 use zf_messages::{Report, texts};
 use zf_ranges::component::ranges;
 use zf_reach::{Ending, Finding};
 use zf_steps::Form;
-use zf_term::globals::Globals;
-use zf_term::schema::Flat;
+use zf_term::{Flat, Globals};
 use zf_print::spellings_of;
 
 /// What is explored, and how faults of the source are reported.

@@ -5,8 +5,7 @@ ghost use Rattle.zf_engine.specs.{Gave, GaveAtMost};
 
 use std::alloc::Global;
 use std::io::Read;
-use zf_lines::counted::Counted;
-use zf_lines::fault::RunFault;
+use zf_lines::{Counted, RunFault};
 use zf_scan::scan::SOURCE_MAX;
 
 const CHUNK: usize = 65_536;

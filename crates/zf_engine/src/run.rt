@@ -9,9 +9,8 @@ use crate::answer::answer;
 use crate::reading::read_source;
 use std::alloc::Global;
 use std::io::{Read, Write};
-use zf_command::job::Job;
-use zf_lines::counted::Counted;
-use zf_lines::fault::{RunFault, Status};
+use zf_command::Job;
+use zf_lines::{Counted, RunFault, Status};
 
 /// Reads a source, of which it reads no more than one byte past the greatest length, and writes the answer of a
 /// job. Each line is written before the next is looked for, and all is flushed once at the end. No call of a

@@ -7,10 +7,10 @@ ghost use Rattle.zf_meaning.specs.{given_sets};
 ghost use Rattle.zf_term.specs.{globals_of};
 
 use std::alloc::{AllocError, Global};
-use zf_command::job::{Setting, Size};
+use zf_command::{Setting, Size};
 use zf_data::Text;
-use zf_meaning::sizes::{Size as StatedSize, given_names};
-use zf_term::globals::Globals;
+use zf_meaning::{Size as StatedSize, given_names};
+use zf_term::Globals;
 
 /// The sizes of words, and then the one size of each given set that no word names.
 pub fn stated_sizes(

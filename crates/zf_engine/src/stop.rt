@@ -4,7 +4,7 @@ ghost use Rattle.zf_engine.specs.{IsWhole};
 ghost use Rattle.zf_engine.specs.declared.stop.Stop.TheVariants.{OutOfMemory};
 
 use std::alloc::{AllocError, AllocFailed};
-use zf_lines::fault::Status;
+use zf_lines::Status;
 
 /// Why no binding is looked for.
 #[derive(Drop)]

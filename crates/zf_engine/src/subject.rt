@@ -2,9 +2,9 @@
 
 use bumpalo::Bump;
 use zf_lines::Style;
-use zf_meaning::env::Env;
-use zf_term::schema::Flat;
-use zf_value::value::Value;
+use zf_meaning::Env;
+use zf_term::Flat;
+use zf_value::Value;
 
 /// A schema in an environment, of which some values are held, and in which style its rows are written.
 #[derive(Drop)]

@@ -7,9 +7,7 @@ use crate::stop::Stop;
 use std::alloc::Global;
 use std::io::Write;
 use zf_format::{Format, messages_in};
-use zf_lines::counted::Counted;
-use zf_lines::fault::{RunFault, Status};
-use zf_lines::writing::write_text;
+use zf_lines::{Counted, RunFault, Status, write_text};
 
 /// Writes the messages of what is told, in this format.
 pub fn tell<W: Write>(

@@ -7,9 +7,9 @@ use crate::check::{checked_in, fault_lines};
 use crate::stop::Stop;
 use bumpalo::Bump;
 use std::alloc::Global;
-use zf_lines::fault::Status;
+use zf_lines::Status;
 use zf_messages::Report;
-use zf_term::globals::Globals;
+use zf_term::Globals;
 
 /// What a source that is well typed defines.
 pub fn typed_in<'a>(

@@ -8,9 +8,9 @@ ghost use Rattle.zf_enum.specs.{judged};
 use crate::property::Property;
 use crate::search::{Located, Search};
 use std::alloc::{AllocError, Global};
-use zf_meaning::row::Row;
+use zf_meaning::Row;
 use zf_plan::Walk;
-use zf_value::value::Value;
+use zf_value::Value;
 use zf_walk::{Range, Step};
 
 /// The bindings of a schema that are not False, one after another in ascending order.

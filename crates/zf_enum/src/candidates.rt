@@ -14,11 +14,10 @@ ghost use Rattle.zf_enum.specs.Uses as named;
 use crate::due::{due, uses};
 use crate::shown::Shown;
 use std::alloc::AllocError;
-use zf_meaning::env::Env;
-use zf_meaning::value::value_of;
+use zf_meaning::{Env, value_of};
 use zf_ranges::rows_weight;
-use zf_term::resolved::Resolved;
-use zf_value::value::{Outcome, Value};
+use zf_term::Resolved;
+use zf_value::{Outcome, Value};
 use zf_walk::{Picked, Range};
 
 /// What of a range an expression leaves.

@@ -7,7 +7,7 @@ use crate::spread::{Spread, spread_at, spreads};
 use bumpalo::Bump;
 use std::alloc::{AllocError, Global};
 use std::marker::Model;
-use zf_term::resolved::Resolved;
+use zf_term::Resolved;
 
 /// Predicates one after another. Of those that ask for values of variables it may be kept what they leave.
 #[derive(Drop)]

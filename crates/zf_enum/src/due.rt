@@ -6,8 +6,8 @@ ghost use Rattle.zf_enum.specs.Uses as named;
 ghost use Rattle.zf_enum.specs.{all_need, links_need, need, part_need, place_after, place_up_to, ranges_need};
 
 use zf_data::arena::{Boxed, Items};
-use zf_reference::reference::Reference;
-use zf_term::resolved::{Links, Part, Range, Resolved, Terms};
+use zf_reference::Reference;
+use zf_term::{Links, Part, Range, Resolved, Terms};
 
 /// The greatest place, from 1, of a component that the term names.
 pub(crate) fn due(term: &Resolved<'_>) -> usize

@@ -6,9 +6,9 @@ ghost use Rattle.zf_term.specs.{chain, link, no_links, resolved_of};
 ghost use Rattle.zf_enum.specs.{Fixes, IsBeside, IsName};
 
 use crate::due::uses;
-use zf_reference::reference::Reference;
-use zf_term::resolved::Resolved;
-use zf_tree::symbol::Relation;
+use zf_reference::Reference;
+use zf_term::Resolved;
+use zf_tree::Relation;
 
 /// A relation between two terms.
 #[derive(Clone, Copy)]

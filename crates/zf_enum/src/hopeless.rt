@@ -5,12 +5,10 @@ use crate::keys::Repeated;
 use crate::spread::is_there;
 use crate::sums::compares;
 use std::alloc::AllocError;
-use zf_meaning::env::Env;
-use zf_meaning::value::truth_of;
-use zf_term::resolved::{Links, Resolved, Terms};
-use zf_tree::operator::{Listed, Operator, Sign, Unary};
-use zf_tree::symbol::{Infix, Prefix};
-use zf_value::value::{Truth, Value};
+use zf_meaning::{Env, truth_of};
+use zf_term::{Links, Resolved, Terms};
+use zf_tree::{Infix, Listed, Operator, Prefix, Sign, Unary};
+use zf_value::{Truth, Value};
 use zf_walk::Range;
 
 /// The most values that are tried of all components.

@@ -15,12 +15,11 @@ use crate::property::Property;
 use crate::search::{Located, Passing, Ranged, Search};
 use bumpalo::Bump;
 use std::alloc::{AllocError, Global};
-use zf_meaning::env::Env;
-use zf_meaning::row::Row;
+use zf_meaning::{Env, Row};
 use zf_ranges::StartFault;
 use zf_ranges::component::{held_ranges, ranges};
-use zf_term::schema::Flat;
-use zf_value::value::Value;
+use zf_term::Flat;
+use zf_value::Value;
 use zf_walk::{Range, Step};
 
 /// The bindings of a schema that are not False, one after another in ascending order. Rows that hold none are passed over, and no test is counted. Closed parts of the schema's conjuncts are worked out once, at the start.

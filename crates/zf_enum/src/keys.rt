@@ -12,11 +12,9 @@ use crate::fixing::{is_component, is_equality, relation_of};
 use crate::shown::Shown;
 use std::alloc::AllocError;
 use std::hash::{FoldHasher, Hash, Hasher};
-use zf_meaning::env::Env;
-use zf_meaning::row::Row;
-use zf_meaning::value::value_of;
-use zf_term::resolved::Resolved;
-use zf_value::value::{Outcome, Value};
+use zf_meaning::{Env, Row, value_of};
+use zf_term::Resolved;
+use zf_value::{Outcome, Value};
 use zf_walk::{Picked, Range};
 
 /// The sides of an equation: one that names a component, and the other.

@@ -11,9 +11,8 @@ use crate::start::resolved;
 use bumpalo::Bump;
 use std::alloc::{AllocError, Global};
 use zf_lift::{Lifted, lift};
-use zf_meaning::env::Env;
-use zf_term::resolved::Resolved;
-use zf_term::schema::Flat;
+use zf_meaning::Env;
+use zf_term::{Flat, Resolved};
 use zf_unfold::unfold;
 
 /// The conjuncts of a schema, with quantifiers over small closed sets written out where that is worth it.

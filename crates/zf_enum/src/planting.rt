@@ -7,10 +7,9 @@ ghost use Rattle.zf_enum.specs.{ArePlanted, Plants, PlantsNext};
 use bumpalo::Bump;
 use std::alloc::{AllocError, Global};
 use zf_plan::Forest;
-use zf_resolved::moving::copy;
-use zf_term::resolved::Resolved;
-use zf_tree::operator::{Operator, Unary};
-use zf_tree::symbol::Connective;
+use zf_resolved::copy;
+use zf_term::Resolved;
+use zf_tree::{Connective, Operator, Unary};
 
 /// The parts of predicates that are no connectives, and the trees over them that are the predicates.
 #[derive(Drop)]

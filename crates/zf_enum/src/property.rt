@@ -11,12 +11,11 @@ use crate::keys::{key_at, key_of_row, keyed};
 use crate::shown::Shown;
 use crate::sums::{balances, equates, gather_balanced};
 use std::alloc::{AllocError, Global};
-use zf_meaning::env::Env;
-use zf_meaning::value::truth_of;
+use zf_meaning::{Env, truth_of};
 use zf_plan::{Guide, Means};
-use zf_term::resolved::Resolved;
+use zf_term::Resolved;
 use zf_value::value;
-use zf_value::value::Value;
+use zf_value::Value;
 use zf_walk::{Judge, Range, Row, Truth};
 
 /// The conjuncts of a schema, in an environment.

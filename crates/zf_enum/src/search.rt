@@ -5,8 +5,8 @@ ghost use Rattle.zf_walk.specs.{Advances, AreAscending, ended, past, SameRanges,
 ghost use Rattle.zf_enum.specs.{conjuncts_of};
 
 use std::alloc::AllocError;
-use zf_meaning::row::Row;
-use zf_value::value::Value;
+use zf_meaning::Row;
+use zf_value::Value;
 use zf_walk::{Range, Step};
 
 /// A row whose values stand in ranges.

@@ -1,6 +1,6 @@
 //! Rows of a walk, as rows of values.
-use zf_meaning::row::Row;
-use zf_value::value::Value;
+use zf_meaning::Row;
+use zf_value::Value;
 
 /// The same row.
 #[derive(Drop)]

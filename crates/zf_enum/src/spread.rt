@@ -9,10 +9,9 @@ use crate::fixing::fixing;
 use bumpalo::Bump;
 use std::alloc::{AllocError, Global};
 use zf_data::arena::{Boxed, Items};
-use zf_resolved::moving::copy;
-use zf_term::resolved::{Part, Range, Resolved};
-use zf_tree::operator::Operator;
-use zf_tree::symbol::{Connective, Quantifier};
+use zf_resolved::copy;
+use zf_term::{Part, Range, Resolved};
+use zf_tree::{Connective, Operator, Quantifier};
 
 /// The set of what a conjunct that asks for values of variables equates a component with.
 #[derive(Drop)]

@@ -13,14 +13,12 @@ use crate::conjuncts::Conjuncts;
 use crate::property::{Property, dues};
 use bumpalo::Bump;
 use std::alloc::{AllocError, Global};
-use zf_meaning::env::Env;
+use zf_meaning::Env;
 use zf_ranges::StartFault;
 use zf_ranges::component::ranges;
 use zf_resolved::conjunct;
-use zf_term::conjunct::Conjunct;
-use zf_term::resolved::Resolved;
-use zf_term::schema::Flat;
-use zf_value::value::Value;
+use zf_term::{Conjunct, Flat, Resolved};
+use zf_value::Value;
 
 impl<'s, 'e, 'g, 'a> Bindings<'s, 'e, 'g, 'a> {
     /// Stands before the first event of the schema that has the values which are held, by the components' places. Neither they nor the named row need lie in the ranges.

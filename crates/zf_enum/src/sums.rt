@@ -22,13 +22,11 @@ use crate::fixing::{is_equality, is_named, relation_of};
 use crate::shown::Shown;
 use crate::span::{Span, Untold};
 use std::alloc::AllocError;
-use zf_meaning::env::Env;
-use zf_meaning::value::value_of;
-use zf_reference::reference::Reference;
-use zf_term::resolved::Resolved;
-use zf_tree::operator::{Operator, Sign, Unary};
-use zf_tree::symbol::{Infix, Relation};
-use zf_value::value::{Outcome, Value};
+use zf_meaning::{Env, value_of};
+use zf_reference::Reference;
+use zf_term::Resolved;
+use zf_tree::{Infix, Operator, Relation, Sign, Unary};
+use zf_value::{Outcome, Value};
 use zf_walk::{Picked, Range};
 
 // ---- which relations are asked

@@ -8,8 +8,7 @@ ghost use Rattle.zf_extent.specs.Extents as extents;
 use crate::infinite;
 use crate::offender::Offender;
 use zf_data::arena::Items;
-use zf_term::conjunct::{Batch, Conjunct};
-use zf_term::globals::Globals;
+use zf_term::{Batch, Conjunct, Globals};
 
 /// What was found before, or the first in the conjunct that offends.
 #[cycle(conjuncts)]

@@ -1,6 +1,10 @@
 //! Infinite sets in terms: which terms are one, and which names offend.
 #![tactic(auto)]
 
-pub mod conjunct;
-pub mod infinite;
-pub mod offender;
+mod conjunct;
+mod infinite;
+mod offender;
+
+pub use conjunct::offending_after;
+pub use infinite::{direct, extent_of, offending_within_after};
+pub use offender::Offender;

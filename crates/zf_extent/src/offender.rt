@@ -2,7 +2,7 @@
 ghost use Rattle.std.specs.Prelude.{◌≡◌};
 ghost use Rattle.zf_extent.specs.{offender_line};
 
-use zf_tree::symbol::Constant;
+use zf_tree::Constant;
 
 /// A name or a symbol that stands for an infinite set where none may stand, or for a term with one there.
 #[derive(Clone, Copy)]

@@ -10,9 +10,7 @@ use crate::rows::{
     Fits, one_row_of, pair, pair_layers, product, set_of_sets, single_layers, some_rows, whole_rows,
 };
 use std::alloc::{AllocError, Global};
-use zf_value::SET_MAX;
-use zf_value::items::Items;
-use zf_value::value::{Outcome, Value};
+use zf_value::{Items, Outcome, SET_MAX, Value};
 
 /// `a \rel b`.
 pub fn relations(alloc: Global, a: &Value, b: &Value) -> Result<Outcome, AllocError>

@@ -8,9 +8,7 @@ use crate::count;
 use crate::members::{are_seconds_apart, is_graph, is_injection};
 use crate::rows::{Fits, one_row_of, pair, pair_layers, set_of_sets, some_rows, whole_rows};
 use std::alloc::{AllocError, Global};
-use zf_value::SET_MAX;
-use zf_value::items::Items;
-use zf_value::value::{Outcome, Value};
+use zf_value::{Items, Outcome, SET_MAX, Value};
 
 /// `a \pinj b`.
 pub fn partial_injections(alloc: Global, a: &Value, b: &Value) -> Result<Outcome, AllocError>

@@ -6,7 +6,7 @@ ghost use Rattle.zf_families.specs.{firsts_rise, IsFunctionFrom, IsGraph, IsInje
 
 use crate::rows::is_apart;
 use zf_value::set::is_member;
-use zf_value::value::{Form, Value};
+use zf_value::{Form, Value};
 
 /// Whether the pairs go from the one set to the other.
 pub fn is_between(r: &[Value], a: &Value, b: &Value) -> bool

@@ -8,8 +8,7 @@ ghost use Rattle.zf_families.specs.Selections as rows;
 ghost use Rattle.zf_families.specs.{AreSets, extended, extensions, fitting, pairs, singles, some, whole};
 
 use std::alloc::{AllocError, Global};
-use zf_value::items::Items;
-use zf_value::value::{Form, Outcome, Value};
+use zf_value::{Form, Items, Outcome, Value};
 
 /// Which items may stand before a row.
 #[derive(Clone, Copy)]

@@ -9,12 +9,8 @@ ghost use Rattle.zf_finite.specs.{IsFinite};
 
 use crate::not_finite::NotFinite;
 use zf_data::arena::{Chunked, Items};
-use zf_extent::conjunct::offending_after;
-use zf_extent::infinite::{direct, offending_within_after};
-use zf_extent::offender::Offender;
-use zf_term::conjunct::Conjunct;
-use zf_term::globals::Globals;
-use zf_term::schema::{Component, Domain, Flat};
+use zf_extent::{Offender, direct, offending_after, offending_within_after};
+use zf_term::{Component, Conjunct, Domain, Flat, Globals};
 
 /// Whether the schema is finite, after the globals that it is made of, with this greatest number or without one.
 pub fn finite<'a>(

@@ -3,6 +3,7 @@
 
 mod finiteness;
 pub mod laws;
-pub mod not_finite;
+mod not_finite;
 
+pub use not_finite::NotFinite;
 pub use finiteness::{bounds, finite, first_plain, is_bounded};

@@ -3,7 +3,7 @@ ghost use Rattle.std.specs.Prelude.{◌≡◌};
 ghost use Rattle.zf_finite.specs.{cause_line};
 
 use zf_data::arena::Lent;
-use zf_extent::offender::Offender;
+use zf_extent::Offender;
 
 /// Why a schema is not finite: what would be searched without an end.
 #[derive(Drop)]

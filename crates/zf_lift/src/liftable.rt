@@ -5,13 +5,11 @@ ghost use Rattle.zf_term.specs.{binary, resolved_of, ResolvedTree, unary};
 ghost use Rattle.zf_meaning.specs.{environment_of};
 ghost use Rattle.zf_lift.specs.Lifts as spec;
 
-use zf_meaning::env::Env;
-use zf_meaning::value::value_of;
-use zf_reference::reference::Reference;
-use zf_term::resolved::{Range, Resolved};
-use zf_tree::operator::{Listed, Operator, Sign, Unary};
-use zf_tree::symbol::{Constant, Infix, Prefix, Relation};
-use zf_value::value::{Outcome, Value};
+use zf_meaning::{Env, value_of};
+use zf_reference::Reference;
+use zf_term::{Range, Resolved};
+use zf_tree::{Constant, Infix, Listed, Operator, Prefix, Relation, Sign, Unary};
+use zf_value::{Outcome, Value};
 
 /// Whether the term is of a form that builds a value in the environment.
 #[cycle(liftable)]

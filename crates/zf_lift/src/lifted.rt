@@ -9,8 +9,8 @@ use crate::unlifted::Unlifted;
 use bumpalo::Bump;
 use std::alloc::{AllocError, Global};
 use zf_data::arena::Lasting;
-use zf_meaning::env::Env;
-use zf_term::resolved::Resolved;
+use zf_meaning::Env;
+use zf_term::Resolved;
 
 /// Predicates in which closed parts are names, and the environment in which these have the parts' outcomes.
 #[derive(Drop)]

@@ -11,12 +11,11 @@ use crate::unlifted::Unlifted;
 use bumpalo::Bump;
 use std::alloc::AllocError;
 use zf_data::arena::{Boxed, Items};
-use zf_meaning::env::Env;
-use zf_meaning::value::value_behind;
-use zf_reference::reference::Reference;
-use zf_resolved::moving::copy;
-use zf_term::resolved::{Links, Part, Range, Resolved, ResolvedLink, Terms};
-use zf_value::value::{Outcome, Value};
+use zf_meaning::{Env, value_behind};
+use zf_reference::Reference;
+use zf_resolved::copy;
+use zf_term::{Links, Part, Range, Resolved, ResolvedLink, Terms};
+use zf_value::{Outcome, Value};
 
 /// The environment with the names that closed parts got, and whether what was gone through names no component.
 #[derive(Drop)]

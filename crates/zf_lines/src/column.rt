@@ -8,7 +8,7 @@ ghost use Rattle.zf_value.specs.declared.plain.Value as value;
 use crate::style::Style;
 use std::alloc::{AllocError, Global};
 use zf_data::Text;
-use zf_term::schema::Flat;
+use zf_term::Flat;
 use zf_print::append_name;
 
 /// How many bytes all that is kept of a search may take.

@@ -2,16 +2,20 @@
 #![tactic(auto)]
 
 mod column;
-pub mod counted;
+mod counted;
 mod ending;
-pub mod fault;
-pub mod limit;
+mod fault;
+mod limit;
 mod printed;
 pub mod show;
 mod style;
 mod texts;
-pub mod writing;
+mod writing;
 
+pub use counted::Counted;
+pub use fault::{RunFault, Status};
+pub use limit::{is_spent, one_less};
+pub use writing::write_text;
 pub use printed::Printed;
 pub use style::Style;
 pub use texts::{

@@ -17,7 +17,7 @@ use crate::writing::write_text;
 use std::alloc::AllocError;
 use std::io::Write;
 use zf_enum::{Bindings, Located, Search};
-use zf_term::schema::Flat;
+use zf_term::Flat;
 use zf_walk::Step;
 
 /// Writes the lines of the bindings that are ahead, and the last line.

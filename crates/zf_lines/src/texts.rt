@@ -6,8 +6,8 @@ ghost use Rattle.zf_term.specs.{schema_of};
 use itoa::Buffer;
 use std::alloc::AllocError;
 use zf_format::Format;
-use zf_meaning::row::Row;
-use zf_term::schema::Flat;
+use zf_meaning::Row;
+use zf_term::Flat;
 use zf_print::{Spelling, append_row};
 
 /// Appends the line of a row. A refusal leaves a part of it.

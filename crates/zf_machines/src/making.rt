@@ -10,7 +10,7 @@ use crate::schemas::{Named, Schemas};
 use bumpalo::Bump;
 use std::alloc::{AllocError, Global};
 use zf_steps::{Form, Operation, States, System, init_in, operation_in, test_in, with_strokes};
-use zf_term::schema::Flat;
+use zf_term::Flat;
 use zf_print::Spelling;
 
 /// The machine that these schemas make, in whatever environment.

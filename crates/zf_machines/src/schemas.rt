@@ -1,5 +1,5 @@
 //! The schemas of a machine.
-use zf_term::schema::Flat;
+use zf_term::Flat;
 
 /// A schema with its name.
 #[derive(Clone, Copy)]

@@ -12,8 +12,7 @@ ghost use Rattle.zf_steps.specs.{CanSearch, explored_in, sought_in, System, verd
 use crate::exploring::Specification;
 use crate::making::machine_of;
 use std::io::Write;
-use zf_lines::counted::Counted;
-use zf_lines::fault::RunFault;
+use zf_lines::{Counted, RunFault};
 use zf_reach::Finding;
 use zf_steps::seek_flat;
 

@@ -10,14 +10,10 @@ use crate::global_outcome::type_set;
 use crate::number_set::built_numbers;
 use std::alloc::{AllocError, Global};
 use zf_families::power::power;
-use zf_outcome::found::Found;
-use zf_outcome::gathered::Gathered;
-use zf_outcome::symbols::on_several;
-use zf_term::extent::Infinite;
-use zf_term::globals::{Entry, Globals};
-use zf_term::ztype::ZType;
-use zf_tree::operator::Listed;
-use zf_value::value::Outcome;
+use zf_outcome::{Found, Gathered, on_several};
+use zf_term::{Entry, Globals, Infinite, ZType};
+use zf_tree::Listed;
+use zf_value::Outcome;
 
 /// The set of all values of a type.
 #[cycle(carrier)]

@@ -6,8 +6,8 @@ ghost use Rattle.zf_meaning.specs.{AreComplete, AreWorkedOut, environment_of, gi
 use crate::global_outcome::outcome_at;
 use crate::sizes::{Size, SizeFault, check_sizes, given_names, sizes_of};
 use std::alloc::{AllocError, Global};
-use zf_term::globals::Globals;
-use zf_value::value::Outcome;
+use zf_term::Globals;
+use zf_value::Outcome;
 
 /// The globals of a text at stated sizes, with or without an end of the numbers. The outcome of each abbreviation is worked out once.
 #[derive(Drop)]

@@ -22,14 +22,12 @@ use binders::{builder, quantified};
 use chains::chain;
 use operands::{binary, connective, listed, not, unary};
 use std::alloc::{AllocError, Global};
-use zf_outcome::found::Found;
-use zf_reference::reference::Reference;
-use zf_term::extent::Infinite;
-use zf_term::resolved::Resolved;
-use zf_tree::symbol::Constant;
-use zf_value::lent::Lent;
+use zf_outcome::Found;
+use zf_reference::Reference;
+use zf_term::{Infinite, Resolved};
+use zf_tree::Constant;
+use zf_value::{Form, Lent, Outcome, Truth, Value};
 use zf_value::set;
-use zf_value::value::{Form, Outcome, Truth, Value};
 
 /// The outcome of an expression.
 #[cycle(meaning)]

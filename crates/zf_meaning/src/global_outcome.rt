@@ -7,9 +7,9 @@ ghost use Rattle.zf_meaning.specs.{AreElementsIf, environment_of, IsOutcomeOf, I
 use crate::env::Env;
 use crate::value::value_of;
 use std::alloc::AllocError;
-use zf_term::globals::Entry;
+use zf_term::Entry;
 use zf_value::set::elements;
-use zf_value::value::{Form, Outcome, Value};
+use zf_value::{Form, Outcome, Value};
 
 /// The outcome of the global at this place, by those that are worked out.
 pub(crate) fn outcome_at(env: &Env<'_, '_>, place: usize) -> Result<Outcome, AllocError>

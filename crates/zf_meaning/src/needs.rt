@@ -4,8 +4,8 @@ ghost use Rattle.zf_term.specs.{links, part_of, range_of, ranges, resolved_link_
 ghost use Rattle.zf_meaning.specs.{all_need, links_need, need, part_need, place_below, ranges_need};
 
 use zf_data::arena::{Boxed, Items};
-use zf_reference::reference::Reference;
-use zf_term::resolved::{Links, Part, Range, Resolved, Terms};
+use zf_reference::Reference;
+use zf_term::{Links, Part, Range, Resolved, Terms};
 
 /// The place after the last bound variable, of those before a bound, that the term names.
 pub(crate) fn last_local(term: &Resolved<'_>, bound: usize) -> usize

@@ -7,13 +7,10 @@ ghost use Rattle.zf_meaning.specs.NumberSets as spec;
 
 use crate::env::Env;
 use std::alloc::AllocError;
-use zf_extent::infinite::direct;
-use zf_outcome::described::Described;
-use zf_outcome::found::Found;
-use zf_term::extent::Infinite;
-use zf_term::resolved::Resolved;
-use zf_value::number::interval;
-use zf_value::value::Outcome;
+use zf_extent::direct;
+use zf_outcome::{Described, Found};
+use zf_term::{Infinite, Resolved};
+use zf_value::{Outcome, interval};
 
 /// The set of its numbers, built.
 pub(crate) fn built_numbers(env: &Env<'_, '_>, set: Infinite) -> Result<Outcome, AllocError>

@@ -1,7 +1,7 @@
 //! Rows of values that are lent.
 ghost use Rattle.std.specs.Prelude.{◌≡◌, ◌<◌, Some, length, slice_get};
 
-use zf_value::value::Value;
+use zf_value::Value;
 
 /// A list of values that are lent.
 pub trait Row {

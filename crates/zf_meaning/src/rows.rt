@@ -6,8 +6,7 @@ ghost use Rattle.zf_meaning.specs.{ahead, all_rows, AreOthers, ArePlaces, IsAt, 
 ghost use Rattle.zf_meaning.specs.declared.rows.Passing.TheVariants as passing;
 
 use std::alloc::{AllocError, Global};
-use zf_value::lent::Lent;
-use zf_value::value::Value;
+use zf_value::{Lent, Value};
 
 /// Which rows may be passed, as one row tells.
 #[derive(Drop)]

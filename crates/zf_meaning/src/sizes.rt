@@ -6,7 +6,7 @@ ghost use Rattle.zf_meaning.specs.{AreAccepted, AreComplete, AreSizes, CountsAt,
 use std::alloc::{AllocError, AllocFailed, Global};
 use thiserror::Error;
 use zf_data::Text;
-use zf_term::globals::{Entry, Globals};
+use zf_term::{Entry, Globals};
 use zf_value::SET_MAX;
 
 /// The size that is stated for a given set.

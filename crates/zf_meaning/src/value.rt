@@ -11,9 +11,9 @@ use crate::evaluate::{outcome, truth};
 use crate::needs::last_local;
 use crate::row::Row;
 use std::alloc::{AllocError, Global};
-use zf_outcome::described::Described;
-use zf_term::resolved::Resolved;
-use zf_value::value::{Form, Outcome, Truth, Value};
+use zf_outcome::Described;
+use zf_term::Resolved;
+use zf_value::{Form, Outcome, Truth, Value};
 
 /// The outcome of an expression in a row.
 pub fn value_of<'a, R: Row>(

@@ -10,18 +10,15 @@ use crate::report::Report;
 use crate::texts::{fault_line, not_finite_text, text_fault_line, type_fault_line};
 use itoa::Buffer;
 use std::alloc::{AllocError, Global};
-use zf_extent::offender::Offender;
-use zf_finite::not_finite::NotFinite;
-use zf_scan::fault::{TextFault, TextFaultKind};
+use zf_extent::Offender;
+use zf_finite::NotFinite;
+use zf_scan::{TextFault, TextFaultKind};
 use zf_scan::scan::SOURCE_MAX;
-use zf_sorts::fault::{Offence, TypeFault};
-use zf_sorts::sort::Sort;
-use zf_term::fault::{Clash, Limit};
-use zf_term::globals::Globals;
+use zf_sorts::{Offence, Sort, TypeFault};
+use zf_term::{Clash, Globals, Limit, ZType};
 use zf_term::type_text::append_type;
-use zf_term::ztype::ZType;
-use zf_parse::unread::About;
-use zf_tree::symbol::Constant;
+use zf_parse::About;
+use zf_tree::Constant;
 
 /// `    WORD: TEXT`. As for all that follow, a refusal leaves a part of it.
 fn append_detail(lines: &mut Vec<u8>, word: &[u8], text: &[u8]) -> Result<(), AllocError>

@@ -8,8 +8,7 @@ use crate::details::append_if_any;
 use crate::texts;
 use std::alloc::{AllocError, Global};
 use zf_data::Text;
-use zf_term::globals::{Entry, Globals};
-use zf_term::likeness::is_like;
+use zf_term::{Entry, Globals, is_like};
 
 /// The lines for a name that no schema has.
 pub fn no_schema_lines(

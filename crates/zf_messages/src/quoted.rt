@@ -6,9 +6,9 @@ use std::alloc::{AllocError, Global};
 use zf_data::Items;
 use zf_data::arena::Lent;
 use zf_scan::scan::scan;
-use zf_scan::token::{Kind, Token};
-use zf_sorts::fault::{Hint, QuotedTerm, TypeFault};
-use zf_tree::ends::{back, front};
+use zf_scan::{Kind, Token};
+use zf_sorts::{Hint, QuotedTerm, TypeFault};
+use zf_tree::{back, front};
 
 /// How many bytes of a term are quoted at most.
 const WIDTH: usize = 60;

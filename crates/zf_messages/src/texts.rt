@@ -5,9 +5,9 @@ ghost use Rattle.zf_sorts.specs.{fault_of};
 
 use itoa::Buffer;
 use std::alloc::{AllocError, Global};
-use zf_scan::fault::{TextFault, TextFaultKind};
-use zf_sorts::fault::TypeFault;
-use zf_term::fault::TypeFaultKind;
+use zf_scan::{TextFault, TextFaultKind};
+use zf_sorts::TypeFault;
+use zf_term::TypeFaultKind;
 
 /// The text of a fault of a text.
 pub fn text_fault_text(kind: TextFaultKind) -> &'static [u8]

@@ -4,8 +4,8 @@ ghost use Rattle.zf_value.specs.declared.value.Truth as value;
 ghost use Rattle.zf_outcome.specs.Truths as spec;
 ghost use Rattle.zf_outcome.specs.Connected as connected;
 
-use zf_tree::symbol::{Connective, Quantifier};
-use zf_value::value::Truth;
+use zf_tree::{Connective, Quantifier};
+use zf_value::Truth;
 
 pub fn opposite(p: Truth) -> Truth
     ensures { result ≡ spec.opposite p }

@@ -3,8 +3,7 @@ ghost use Rattle.std.specs.Prelude.{◌≡◌, IfOk};
 ghost use Rattle.zf_outcome.specs.{found_of, found_outcome};
 
 use std::alloc::{AllocError, Global};
-use zf_value::lent::Lent;
-use zf_value::value::{Outcome, Value};
+use zf_value::{Lent, Outcome, Value};
 
 /// An outcome whose value may stand elsewhere.
 #[derive(Drop)]

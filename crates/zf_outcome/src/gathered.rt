@@ -5,7 +5,7 @@ ghost use Rattle.zf_outcome.specs.Gathered as spec;
 
 use crate::found::Found;
 use std::alloc::{AllocError, Global};
-use zf_value::value::Value;
+use zf_value::Value;
 
 /// What stands in the way of several values.
 #[derive(Clone, Copy, Debug, PartialEq, Eq)]

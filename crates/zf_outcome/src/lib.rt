@@ -2,9 +2,15 @@
 #![tactic(auto)]
 
 pub mod connected;
-pub mod described;
-pub mod found;
-pub mod gathered;
+mod described;
+mod found;
+mod gathered;
 pub mod relation;
-pub mod symbols;
-pub mod tally;
+mod symbols;
+mod tally;
+
+pub use described::{Described, interval_between, membership, power_of, product_of};
+pub use found::Found;
+pub use gathered::{Gathered, Lack};
+pub use symbols::{on_both, on_one, on_several};
+pub use tally::Tally;

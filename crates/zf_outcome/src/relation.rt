@@ -6,11 +6,10 @@ ghost use Rattle.zf_value.specs.{AreAmong, members, pair};
 ghost use Rattle.zf_outcome.specs.{AreOrdered, Compares, found_outcome, Holds, HoldsOf, IsAtom, IsFrom, IsIn, IsLink, IsTest};
 
 use crate::found::Found;
-use zf_term::extent::Infinite;
-use zf_tree::symbol::Relation;
-use zf_value::relation::relates;
+use zf_term::Infinite;
+use zf_tree::Relation;
+use zf_value::{Form, Truth, Value, relates};
 use zf_value::set::{are_among, is_member};
-use zf_value::value::{Form, Truth, Value};
 
 /// The truth of a link between two outcomes, where the right one may be an infinite set instead.
 pub fn link(infinite: Option<Infinite>, relation: Relation, x: &Found<'_>, y: &Found<'_>) -> Truth

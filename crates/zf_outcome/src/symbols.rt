@@ -7,19 +7,11 @@ use crate::found::Found;
 use crate::gathered::{Gathered, Lack};
 use std::alloc::{AllocError, Global};
 use zf_families::cross::cross;
-use zf_families::function::{partial_functions, relations, total_functions};
-use zf_families::injection::{partial_injections, total_injections};
+use zf_families::{partial_functions, partial_injections, relations, total_functions, total_injections};
 use zf_families::power::power;
-use zf_tree::operator::{Listed, Operator, Sign, Unary};
-use zf_tree::symbol::{Arrow, Infix, Prefix};
-use zf_value::lent::Lent;
-use zf_value::number::{difference, interval, modulus, negation, product, quotient, sum};
-use zf_value::relation::{
-    applied, composition, domain, domain_restriction, domain_subtraction, image, inverse,
-    overriding, range, range_restriction, range_subtraction,
-};
+use zf_tree::{Arrow, Infix, Listed, Operator, Prefix, Sign, Unary};
+use zf_value::{Lent, Outcome, Value, applied, composition, difference, domain, domain_restriction, domain_subtraction, image, interval, inverse, modulus, negation, overriding, product, quotient, range, range_restriction, range_subtraction, sum};
 use zf_value::set::{display, intersection, pair, set_difference, size, tuple, union};
-use zf_value::value::{Outcome, Value};
 
 /// A symbol between two outcomes.
 pub fn on_both(

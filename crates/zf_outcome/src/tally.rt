@@ -2,8 +2,8 @@
 ghost use Rattle.std.specs.Prelude.{◌≡◌};
 ghost use Rattle.zf_outcome.specs.Tallies as spec;
 
-use zf_tree::symbol::Quantifier;
-use zf_value::value::Truth;
+use zf_tree::Quantifier;
+use zf_value::Truth;
 
 /// Which truths rows have: whether one is true, whether a second is, whether one is false, whether one is out.
 #[derive(Clone, Copy)]

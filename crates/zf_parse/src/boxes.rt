@@ -10,9 +10,8 @@ use crate::paragraphs::ParagraphRule;
 use bumpalo::Bump;
 use std::alloc::Global;
 use zf_data::Items;
-use zf_scan::fault::TextFault;
-use zf_scan::next::{Mark, Next};
-use zf_tree::tree::ZBox;
+use zf_scan::{Mark, Next, TextFault};
+use zf_tree::ZBox;
 
 /// A box has mostly more symbols. Where a text has many smaller ones, the list of its boxes grows as it goes.
 const SYMBOLS_OF_A_BOX: usize = 5;

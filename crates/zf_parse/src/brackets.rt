@@ -1,8 +1,7 @@
 //! The bracket that is not closed, where a symbol is unexpected.
 ghost use Rattle.std.specs.Prelude.{◌<◌, IfSome, length};
 
-use zf_scan::next::{Mark, Next};
-use zf_scan::placed::Placed;
+use zf_scan::{Mark, Next, Placed};
 
 /// What closes an opening bracket.
 fn closing(next: Next) -> Option<Mark> {

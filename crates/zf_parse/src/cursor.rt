@@ -9,12 +9,8 @@ ghost use Rattle.zf_scan.specs.declared.fault.TextFaultKind.TheVariants.{Unexpec
 
 use std::marker::Model;
 use zf_data::arena::Lent;
-use zf_scan::fault::{TextFault, TextFaultKind};
-use zf_scan::next::{Mark, Next};
-use zf_scan::placed::Placed;
-use zf_tree::operator::{Listed, Operator};
-use zf_tree::symbol::Connective;
-use zf_tree::tree::Name;
+use zf_scan::{Mark, Next, Placed, TextFault, TextFaultKind};
+use zf_tree::{Connective, Listed, Name, Operator};
 
 /// A place in the reduced list of the symbols of a text, which contracts see as the symbols from there on.
 #[derive(Drop)]

@@ -11,9 +11,8 @@ use crate::tall::{Tall, too_deep};
 use crate::terms::term;
 use bumpalo::Bump;
 use zf_data::arena::{Boxed, Items};
-use zf_scan::fault::TextFault;
-use zf_scan::next::{Mark, Next};
-use zf_tree::tree::{Decl, RefMark, SchemaRef, Term};
+use zf_scan::{Mark, Next, TextFault};
+use zf_tree::{Decl, RefMark, SchemaRef, Term};
 
 #[tactic(auto, unfolding(crate::specs::BoxReading::marked))]
 fn marked<'a>(tokens: &mut Cursor<'a, '_>, mark: RefMark) -> Result<SchemaRef<'a>, TextFault>

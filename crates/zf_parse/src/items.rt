@@ -7,8 +7,7 @@ use crate::cursor::Cursor;
 use crate::tall::Tall;
 use bumpalo::Bump;
 use zf_data::arena::Items;
-use zf_scan::fault::TextFault;
-use zf_scan::next::Mark;
+use zf_scan::{Mark, TextFault};
 
 /// A rule of the grammar, which reads items of one type up to a height.
 pub trait Rule<'a> {

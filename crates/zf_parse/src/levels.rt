@@ -4,10 +4,8 @@ ghost use Rattle.zf_parse.specs.Levels as levels;
 ghost use Rattle.zf_parse.specs.TermReading as spec;
 ghost use Rattle.zf_tree.specs.{tree_of};
 
-use zf_scan::next::{Mark, Next};
-use zf_tree::operator::{Listed, Operator, Sign, Unary};
-use zf_tree::symbol::{Connective, Infix, Prefix};
-use zf_tree::tree::Term;
+use zf_scan::{Mark, Next};
+use zf_tree::{Connective, Infix, Listed, Operator, Prefix, Sign, Term, Unary};
 
 /// A quantifier; the place of any term.
 pub const QUANTIFIER: u8 = 0;

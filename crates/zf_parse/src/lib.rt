@@ -9,8 +9,11 @@ mod items;
 mod levels;
 mod names;
 mod paragraphs;
-pub mod reading;
+mod reading;
 mod schemas;
 mod tall;
 mod terms;
-pub mod unread;
+mod unread;
+
+pub use reading::{parse, read_spec};
+pub use unread::{About, Unread};

@@ -5,9 +5,8 @@ ghost use Rattle.zf_parse.specs.{Gives, lift, read_names};
 use crate::cursor::Cursor;
 use bumpalo::Bump;
 use zf_data::arena::Items;
-use zf_scan::fault::TextFault;
-use zf_scan::next::Mark;
-use zf_tree::tree::Name;
+use zf_scan::{Mark, TextFault};
+use zf_tree::Name;
 
 /// One or more names, parted by a symbol.
 pub fn parted_names<'a>(

@@ -11,9 +11,8 @@ use crate::schemas::schema;
 use crate::tall::Tall;
 use crate::terms::term;
 use bumpalo::Bump;
-use zf_scan::fault::TextFault;
-use zf_scan::next::{Mark, Next};
-use zf_tree::tree::{Name, Paragraph};
+use zf_scan::{Mark, Next, TextFault};
+use zf_tree::{Name, Paragraph};
 
 /// Given sets, after the opening bracket.
 #[tactic(auto, unfolding(crate::specs::BoxReading::given))]

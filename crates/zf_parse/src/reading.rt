@@ -15,13 +15,9 @@ use bumpalo::Bump;
 use bumpalo::collections::into_bump_slice;
 use std::alloc::Global;
 use zf_data::Items;
-use zf_scan::fault::{TextFault, TextFaultKind};
-use zf_scan::laid::{Laid, lay_out};
-use zf_scan::placed::Placed;
-use zf_scan::refused::{refused_at, refused_place};
-use zf_scan::scan::{Border, cut_rest, next_box};
-use zf_scan::token::Token;
-use zf_tree::tree::{Spec, ZBox};
+use zf_scan::{Border, Laid, Placed, TextFault, TextFaultKind, Token, lay_out, refused_at, refused_place};
+use zf_scan::scan::{cut_rest, next_box};
+use zf_tree::{Spec, ZBox};
 
 /// Whether a separator before these symbols is dropped.
 fn starts_closed(symbols: &[Placed]) -> bool

@@ -8,9 +8,8 @@ use crate::decls::{decls, predicates, reference};
 use crate::tall::{Tall, too_deep};
 use bumpalo::Bump;
 use zf_data::arena::Boxed;
-use zf_scan::fault::TextFault;
-use zf_scan::next::{Mark, Next};
-use zf_tree::tree::SchemaExp;
+use zf_scan::{Mark, Next, TextFault};
+use zf_tree::SchemaExp;
 
 /// A schema text after its opening bracket, with parts up to the height `below`.
 #[tactic(auto, unfolding(crate::specs::BoxReading::schema_text))]

@@ -7,8 +7,8 @@ ghost use Rattle.zf_parse.specs.{Gives};
 
 use bumpalo::Bump;
 use zf_data::arena::Boxed;
-use zf_scan::fault::{TextFault, TextFaultKind};
-use zf_tree::tree::Term;
+use zf_scan::{TextFault, TextFaultKind};
+use zf_tree::Term;
 
 /// What was read, with the height of the highest term in it.
 #[derive(Drop)]

@@ -13,8 +13,8 @@ use crate::levels::{level, role_of};
 use crate::tall::{Tall, too_deep};
 use bumpalo::Bump;
 use zf_data::arena::Boxed;
-use zf_scan::fault::TextFault;
-use zf_tree::tree::Term;
+use zf_scan::TextFault;
+use zf_tree::Term;
 
 /// What the rules are given: how terms that stand one level deeper are read, up to the height `below`.
 #[derive(Clone, Copy)]

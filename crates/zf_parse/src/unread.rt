@@ -2,7 +2,7 @@
 ghost use Rattle.std.specs.Prelude.{◌≡◌};
 
 use std::alloc::AllocError;
-use zf_scan::fault::TextFault;
+use zf_scan::TextFault;
 
 /// What a fault of a text is about, as the source spells it.
 #[derive(Clone, Copy, Debug)]

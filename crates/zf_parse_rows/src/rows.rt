@@ -25,9 +25,9 @@ use bumpalo::Bump;
 use std::alloc::{AllocError, Global};
 use std::io;
 use std::io::ErrorKind;
-use zf_scan::fault::TextFault;
-use zf_parse::reading::read_spec;
-use zf_tree::tree::Spec;
+use zf_scan::TextFault;
+use zf_parse::read_spec;
+use zf_tree::Spec;
 
 /// What came of rows.
 #[derive(Drop)]

@@ -1,6 +1,6 @@
 //! Which parts of bindings are asked for.
-use zf_term::schema::Flat;
-use zf_value::value::Value;
+use zf_term::Flat;
+use zf_value::Value;
 
 /// A schema, and those of its components whose values are a part: their places, and the schema of them alone. Of the parts those are asked for that come after the named one, if one is named.
 #[derive(Clone, Copy)]

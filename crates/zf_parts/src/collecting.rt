@@ -14,8 +14,7 @@ use std::alloc::{AllocError, Global};
 use std::collections::BTreeMap;
 use zf_enum::Search;
 use zf_places::{values_at, values_of};
-use zf_value::items::Items;
-use zf_value::value::Value;
+use zf_value::{Items, Value};
 use zf_walk::Step;
 
 /// Parts, each with the row of its first binding if that one leaves the bounds.

@@ -8,12 +8,9 @@ ghost use Rattle.zf_term.specs.{schema_of};
 use std::alloc::AllocError;
 use std::io::Write;
 use zf_format::Format;
-use zf_lines::counted::Counted;
-use zf_lines::fault::{RunFault, Status};
-use zf_lines::writing::write_text;
-use zf_lines::{Style, append_end_line, append_more_line, append_out_line};
-use zf_meaning::row::Row;
-use zf_term::schema::Flat;
+use zf_lines::{Counted, RunFault, Status, Style, append_end_line, append_more_line, append_out_line, write_text};
+use zf_meaning::Row;
+use zf_term::Flat;
 
 /// Writes that a row is out of bounds.
 pub fn write_out<R: Row, W: Write>(

@@ -12,14 +12,10 @@ use crate::meeting::Met;
 use crate::part_row::PartRow;
 use std::io::Write;
 use zf_enum::Ranged;
-use zf_lines::counted::Counted;
-use zf_lines::fault::{RunFault, Status};
-use zf_lines::limit::{is_spent, one_less};
+use zf_lines::{Counted, Printed, RunFault, Status, Style, is_spent, one_less};
 use zf_lines::show::write_row;
-use zf_lines::{Printed, Style};
-use zf_term::schema::Flat;
-use zf_value::items::Items;
-use zf_value::value::Value;
+use zf_term::Flat;
+use zf_value::{Items, Value};
 
 /// Writes the lines of the parts that were met, and the last line.
 pub fn write_met<S: Ranged, W: Write>(

@@ -15,8 +15,7 @@ use crate::weights::Weights;
 use std::alloc::{AllocError, Global};
 use zf_enum::Search;
 use zf_places::values_of;
-use zf_value::items::Items;
-use zf_value::value::Value;
+use zf_value::{Items, Value};
 use zf_walk::Step;
 
 /// Which parts are met. From the end on none is looked at: its first binding leaves the bounds, and that is kept, or it is the end of all numbers.

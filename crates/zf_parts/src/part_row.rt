@@ -7,8 +7,8 @@ use crate::weights::count_at;
 use std::alloc::{AllocError, Global};
 use std::marker::Model;
 use zf_enum::Located;
-use zf_meaning::row::Row;
-use zf_value::value::Value;
+use zf_meaning::Row;
+use zf_value::Value;
 use zf_walk::Range;
 
 /// The values at these digits of the ranges at these places.

@@ -14,13 +14,9 @@ use crate::meeting::meet_all;
 use crate::weights::weights_of;
 use std::io::Write;
 use zf_enum::{Ranged, Search};
-use zf_lines::counted::Counted;
-use zf_lines::fault::{RunFault, Status};
-use zf_lines::limit::{is_spent, one_less};
-use zf_lines::writing::write_text;
-use zf_lines::{Style, append_row_line};
-use zf_term::schema::Flat;
-use zf_value::value::Value;
+use zf_lines::{Counted, RunFault, Status, Style, append_row_line, is_spent, one_less, write_text};
+use zf_term::Flat;
+use zf_value::Value;
 
 /// Writes the lines of the parts that the bindings ahead have, and the last line.
 pub fn show_parts<S: Ranged, W: Write>(

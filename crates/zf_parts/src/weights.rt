@@ -5,7 +5,7 @@ ghost use Rattle.zf_places.specs.{values_at};
 
 use std::alloc::{AllocError, Global};
 use zf_enum::Located;
-use zf_value::value::Value;
+use zf_value::Value;
 use zf_walk::Range;
 
 /// How many parts there may be at most for each to have a number.

@@ -7,10 +7,9 @@ ghost use Rattle.zf_term.specs.{comp_of, schema_of};
 use bumpalo::Bump;
 use std::alloc::{AllocError, Global};
 use zf_data::arena::{Chunked, Items as ArenaItems, Lasting};
-use zf_meaning::row::Row;
-use zf_term::schema::{Component, Flat};
-use zf_value::items::Items;
-use zf_value::value::Value;
+use zf_meaning::Row;
+use zf_term::{Component, Flat};
+use zf_value::{Items, Value};
 
 /// The values at these places of a row.
 pub fn values_at<R: Row>(

@@ -9,9 +9,8 @@ use crate::read::Line;
 use crate::spelling::Spelling;
 use crate::words::{behind, unsigned, word_at};
 use zf_data::Text;
-use zf_meaning::carrier::number_named;
-use zf_meaning::env::Env;
-use zf_value::value::{Form, Value};
+use zf_meaning::{Env, number_named};
+use zf_value::{Form, Value};
 
 /// The element of the type of this name at the place.
 pub(crate) fn read_element(

@@ -9,9 +9,9 @@ use crate::read::{Line, read_component};
 use crate::spelling::Spelling;
 use crate::words::{behind, is_in_word, stands};
 use std::alloc::Global;
-use zf_meaning::env::Env;
-use zf_term::schema::{Component, Flat};
-use zf_value::value::Value;
+use zf_meaning::Env;
+use zf_term::{Component, Flat};
+use zf_value::Value;
 
 /// The values that a line of some of the components holds, by the components' places.
 pub fn read_held(

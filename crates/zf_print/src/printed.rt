@@ -8,9 +8,9 @@ use crate::spelling::Spelling;
 use itoa::Buffer;
 use std::alloc::AllocError;
 use zf_format::{Format, append_string};
-use zf_meaning::row::Row;
-use zf_term::schema::{Component, Flat};
-use zf_value::value::{Form, Value};
+use zf_meaning::Row;
+use zf_term::{Component, Flat};
+use zf_value::{Form, Value};
 
 /// Appends a row, without the end of a line. A refusal leaves a part of it.
 pub fn append_row<R: Row>(

@@ -10,12 +10,9 @@ use crate::fault::AfterFault;
 use crate::spelling::Spelling;
 use crate::words::{is_in_word, item, separated, signed, stands, word_at};
 use std::alloc::Global;
-use zf_meaning::env::Env;
-use zf_term::schema::{Component, Flat};
-use zf_term::ztype::ZType;
-use zf_value::SET_MAX;
-use zf_value::items::Items;
-use zf_value::value::{Form, Value};
+use zf_meaning::Env;
+use zf_term::{Component, Flat, ZType};
+use zf_value::{Form, Items, SET_MAX, Value};
 
 /// A line that is read, the types that its elements are of, and how these are spelled.
 #[derive(Drop)]

@@ -7,7 +7,7 @@ ghost use Rattle.zf_print.specs.{spellings, with_spelling};
 use std::alloc::{AllocError, Global};
 use zf_data::arena::Lent;
 use zf_data::{Items, Text};
-use zf_term::globals::{Entry, Globals};
+use zf_term::{Entry, Globals};
 
 /// How the elements of a given set or free type are spelled.
 #[derive(Drop)]

@@ -8,9 +8,8 @@ ghost use Rattle.zf_ranges.specs.{BoundsAt};
 use crate::weight::weight;
 use std::alloc::AllocError;
 use zf_finite::bounds;
-use zf_meaning::env::Env;
-use zf_term::globals::Globals;
-use zf_term::schema::Domain;
+use zf_meaning::Env;
+use zf_term::{Domain, Globals};
 
 /// The place of the lightest declared set that bounds, or their number where none does. Which one it is makes a difference to time alone.
 pub(crate) fn lightest_bounding<'a>(

@@ -11,9 +11,9 @@ use crate::ranges::values_with;
 use crate::sharing::shared;
 use crate::start_fault::StartFault;
 use std::alloc::{AllocError, Global};
-use zf_meaning::env::Env;
-use zf_term::schema::Component;
-use zf_value::value::Value;
+use zf_meaning::Env;
+use zf_term::Component;
+use zf_value::Value;
 use zf_walk::Range;
 
 /// The range of each component, where these values are held.

@@ -3,8 +3,8 @@ ghost use Rattle.std.specs.Prelude.{◌↔◌, IsTrue};
 ghost use Rattle.zf_outcome.specs.{IsFrom};
 
 use crate::kept::Test;
-use zf_term::extent::Infinite;
-use zf_value::value::Value;
+use zf_term::Infinite;
+use zf_value::Value;
 
 /// Whether a value is in an infinite set.
 #[derive(Drop)]

@@ -5,7 +5,7 @@ ghost use Rattle.zf_value.specs.{IsAscending, IsMember};
 ghost use Rattle.zf_ranges.specs.{Grows, Lists};
 
 use std::alloc::{AllocError, Global};
-use zf_value::value::Value;
+use zf_value::Value;
 
 /// A test of values.
 pub(crate) trait Test {

@@ -13,14 +13,10 @@ use crate::lack::Lack;
 use crate::members::{members_among, members_of};
 use crate::of_type::OfType;
 use std::alloc::{AllocError, Global};
-use zf_meaning::carrier::carrier_of;
-use zf_meaning::env::Env;
-use zf_meaning::number_set::infinite_in;
-use zf_meaning::value::{described_in, value_of};
-use zf_outcome::described::Described;
-use zf_term::resolved::Resolved;
-use zf_term::ztype::ZType;
-use zf_value::value::{Outcome, Value};
+use zf_meaning::{Env, carrier_of, described_in, infinite_in, value_of};
+use zf_outcome::Described;
+use zf_term::{Resolved, ZType};
+use zf_value::{Outcome, Value};
 
 /// The members of a set that a declaration names, which is no infinite one.
 pub(crate) fn of_plain<'a>(

@@ -8,8 +8,8 @@ ghost use Rattle.zf_ranges.specs.{Filters, IsIn, IsListed, Lists, Tells};
 use crate::kept::{Test, kept};
 use crate::lack::Lack;
 use std::alloc::{AllocError, Global};
-use zf_outcome::described::Described;
-use zf_value::value::{Outcome, Value};
+use zf_outcome::Described;
+use zf_value::{Outcome, Value};
 
 /// Whether a value is a member of a set, which need not be there.
 #[derive(Drop)]

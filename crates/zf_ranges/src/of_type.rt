@@ -6,11 +6,9 @@ ghost use Rattle.zf_meaning.specs.{AreOfTypes, environment_of, IsExistingElement
 ghost use Rattle.zf_ranges.specs.{AreAllOf, IsNumberHere};
 
 use crate::kept::Test;
-use zf_meaning::carrier::number_named;
-use zf_meaning::env::Env;
-use zf_term::ztype::ZType;
-use zf_value::SET_MAX;
-use zf_value::value::{Form, Value};
+use zf_meaning::{Env, number_named};
+use zf_term::ZType;
+use zf_value::{Form, SET_MAX, Value};
 
 /// Whether a value is of a type.
 #[derive(Drop)]

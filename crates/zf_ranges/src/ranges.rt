@@ -11,9 +11,9 @@ use crate::lack::Lack;
 use crate::leaves::{among_carrier, among_plain, of_carrier, of_plain};
 use crate::members::{alone, copied, merged};
 use std::alloc::Global;
-use zf_meaning::env::Env;
-use zf_term::schema::Domain;
-use zf_value::value::Value;
+use zf_meaning::Env;
+use zf_term::Domain;
+use zf_value::Value;
 
 /// The values that lie in each of the declared sets, of which one bounds; the one that is held alone, if one is.
 pub(crate) fn values_with<'a>(

@@ -3,7 +3,7 @@ ghost use Rattle.std.specs.Prelude.{◌≡◌, IfSome, IsTrue};
 
 use crate::members::copied;
 use std::alloc::Global;
-use zf_value::value::Value;
+use zf_value::Value;
 use zf_walk::Range;
 
 /// How many values a range has at least that is worth to be shared.

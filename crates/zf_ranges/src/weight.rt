@@ -1,15 +1,10 @@
 //! How many values a declared set may have, as far as it can be told without listing them. It decides what is listed and tried, and nothing that is found.
 
 use std::alloc::AllocError;
-use zf_meaning::env::Env;
-use zf_meaning::row::Row;
-use zf_meaning::value::described_in;
-use zf_outcome::described::Described;
-use zf_outcome::found::Found;
-use zf_term::resolved::{Range, Resolved};
-use zf_term::schema::Domain;
-use zf_value::lent::Lent;
-use zf_value::value::Value;
+use zf_meaning::{Env, Row, described_in};
+use zf_outcome::{Described, Found};
+use zf_term::{Domain, Range, Resolved};
+use zf_value::{Lent, Value};
 
 /// The weight of a declared set; the greatest where it is not known.
 pub(crate) fn weight<'a>(domain: &Domain<'a>, env: &Env<'_, 'a>) -> Result<usize, AllocError> {

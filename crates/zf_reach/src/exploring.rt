@@ -11,9 +11,7 @@ use crate::machine::{Beginning, Found, Machine};
 use crate::run::{Run, append_last, begin_turn, begun, parts_of, pass, start_part};
 use std::alloc::Global;
 use std::io::Write;
-use zf_lines::counted::Counted;
-use zf_lines::fault::RunFault;
-use zf_lines::writing::write_text;
+use zf_lines::{Counted, RunFault, write_text};
 
 /// Writes the exploration of a machine by a search of it, up to so many nodes beside the root. Each part is written before anything further is searched for.
 pub fn explore<M: Machine, W: Write>(

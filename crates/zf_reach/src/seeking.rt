@@ -13,9 +13,7 @@ use crate::search::{Search, follow, prepared};
 use crate::trail::append_way;
 use std::alloc::{AllocError, Global};
 use std::io::Write;
-use zf_lines::counted::Counted;
-use zf_lines::fault::RunFault;
-use zf_lines::writing::write_text;
+use zf_lines::{Counted, RunFault, write_text};
 
 /// Searches a machine for a node that is sought, by a search of it, among so many nodes beside the root, and writes how that ends. Nothing is written before it ends.
 pub fn seek<M: Machine, W: Write>(

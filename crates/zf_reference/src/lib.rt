@@ -1,4 +1,6 @@
 //! What a name stands for, and how components are numbered anew.
 #![tactic(auto)]
 
-pub mod reference;
+mod reference;
+
+pub use reference::{Reference, place_in};

@@ -13,11 +13,9 @@ use crate::moving::{copy, moved};
 use bumpalo::Bump;
 use std::alloc::AllocError;
 use zf_data::arena::{Boxed, Items};
-use zf_reference::reference::Reference;
-use zf_term::conjunct::{Batch, Conjunct, Places};
-use zf_term::resolved::{Resolved, ResolvedLink};
-use zf_tree::operator::Operator;
-use zf_tree::symbol::{Connective, Constant, Relation};
+use zf_reference::Reference;
+use zf_term::{Batch, Conjunct, Places, Resolved, ResolvedLink};
+use zf_tree::{Connective, Constant, Operator, Relation};
 
 /// The term, by the places in the schema.
 #[cycle(resolved)]

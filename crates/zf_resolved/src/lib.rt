@@ -2,5 +2,8 @@
 #![tactic(auto)]
 
 pub mod conjunct;
-pub mod moving;
-pub mod renaming;
+mod moving;
+mod renaming;
+
+pub use moving::copy;
+pub use renaming::{Naming, renamed, renamed_part, renamed_range};

@@ -7,8 +7,8 @@ ghost use Rattle.zf_reference.specs.NumberingViews as numbers;
 use crate::renaming::{Naming, renamed};
 use bumpalo::Bump;
 use std::alloc::AllocError;
-use zf_reference::reference::Reference;
-use zf_term::resolved::Resolved;
+use zf_reference::Reference;
+use zf_term::Resolved;
 
 /// New numbers of components: that of the list at their place, where there is one.
 #[derive(Clone, Copy)]

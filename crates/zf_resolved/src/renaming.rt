@@ -7,8 +7,8 @@ ghost use Rattle.zf_resolved.specs.Renamed as spec;
 use bumpalo::Bump;
 use std::alloc::AllocError;
 use zf_data::arena::{Boxed, Items};
-use zf_reference::reference::Reference;
-use zf_term::resolved::{Links, Part, Range, Resolved, ResolvedLink, Terms};
+use zf_reference::Reference;
+use zf_term::{Links, Part, Range, Resolved, ResolvedLink, Terms};
 
 /// What names become.
 pub trait Naming {

@@ -22,11 +22,9 @@ use std::alloc::{AllocError, Global};
 use std::io::ErrorKind;
 use std::rt::Files;
 use std::{fs, io};
-use zf_command::asked::job_of;
-use zf_command::job::{Asked, UsageFault};
+use zf_command::{Asked, UsageFault, job_of};
 use zf_engine::run::run;
-use zf_lines::counted::Counted;
-use zf_lines::fault::Status;
+use zf_lines::{Counted, Status};
 
 /// What the lines so far say of the next row.
 #[derive(Drop)]

@@ -8,7 +8,7 @@ use crate::fault::TextFaultKind;
 use crate::next::Next;
 use crate::pieces::{Sight, same};
 use crate::token::Separator;
-use zf_tree::symbol::{Arrow, Connective, Constant, Infix, Prefix, Quantifier, Relation};
+use zf_tree::{Arrow, Connective, Constant, Infix, Prefix, Quantifier, Relation};
 
 /// `\a..`
 pub fn commands_in_a(rest: &[u8]) -> Option<Sight>

@@ -2,15 +2,23 @@
 #![tactic(auto)]
 
 mod commands;
-pub mod fault;
+mod fault;
 mod inside;
-pub mod laid;
-pub mod next;
+mod laid;
+mod next;
 mod outside;
 mod pieces;
-pub mod placed;
-pub mod refused;
+mod placed;
+mod refused;
 pub mod scan;
 mod signs;
 mod symbols;
-pub mod token;
+mod token;
+
+pub use fault::{TextFault, TextFaultKind};
+pub use laid::{Laid, lay_out};
+pub use next::{Mark, Next};
+pub use placed::Placed;
+pub use refused::{refused_at, refused_place};
+pub use scan::Border;
+pub use token::{Kind, Separator, Token};

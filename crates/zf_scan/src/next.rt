@@ -5,7 +5,7 @@ ghost use Rattle.zf_scan.specs.Choosing as spec;
 ghost use Rattle.zf_scan.specs.Separators as separators;
 
 use crate::token::{Kind, Separator};
-use zf_tree::symbol::{Arrow, Connective, Constant, Infix, Prefix, Quantifier, Relation};
+use zf_tree::{Arrow, Connective, Constant, Infix, Prefix, Quantifier, Relation};
 
 /// The next symbol, without its text.
 #[derive(Clone, Copy)]

@@ -9,7 +9,7 @@ use crate::next::Next;
 use crate::token::{Kind, Separator, Token};
 use std::alloc::{AllocError, Global};
 use zf_data::Text;
-use zf_tree::ends::{back, front};
+use zf_tree::{back, front};
 
 /// A symbol of a text. Its fields but `amount` are those of its token.
 #[derive(Clone, Copy)]

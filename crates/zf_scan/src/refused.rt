@@ -6,7 +6,7 @@ use crate::inside::base_len;
 use crate::pieces::{Run, begins, run_len};
 use crate::placed::between;
 use crate::symbols::fixed;
-use zf_tree::ends::{back, front};
+use zf_tree::{back, front};
 
 /// The piece that is refused at a place of a source: a command, with what it begins; a `\begin` or `\end` with its environment;
 /// the first word of a directive; a character; or a byte. Nothing at the end of the source.

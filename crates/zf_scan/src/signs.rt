@@ -7,7 +7,7 @@ use crate::fault::TextFaultKind;
 use crate::next::Next;
 use crate::pieces::{Found, Sight, begins, front};
 use crate::symbols::fixed;
-use zf_tree::symbol::{Infix, Relation};
+use zf_tree::{Infix, Relation};
 
 /// A symbol. The most frequent ones are told by their first bytes.
 #[tactic(auto, unfolding(crate::specs::Steps::symbol_found, crate::specs::Pieces::symbols))]

@@ -10,7 +10,7 @@ use crate::fault::TextFaultKind;
 use crate::next::Next;
 use crate::pieces::{Sight, same};
 use crate::token::Separator;
-use zf_tree::symbol::{Constant, Infix, Prefix, Relation};
+use zf_tree::{Constant, Infix, Prefix, Relation};
 
 /// The piece that a text spells, if it is of one spelling.
 pub fn fixed(text: &[u8]) -> Option<Sight>

@@ -1,6 +1,6 @@
 //! Tokens: the symbols of the markup, one value for each.
 use zf_data::Text;
-use zf_tree::symbol::{Arrow, Connective, Constant, Infix, Prefix, Quantifier, Relation};
+use zf_tree::{Arrow, Connective, Constant, Infix, Prefix, Quantifier, Relation};
 
 /// A run of one or more of these parts paragraphs, declarations or predicates.
 #[derive(Clone, Copy)]

@@ -12,14 +12,10 @@ use crate::reference::referred;
 use crate::stop::{either_line, refusal};
 use crate::text::growing_text;
 use bumpalo::Bump;
-use zf_calculus::disjunction::disjoin;
-use zf_calculus::growing::Growing;
-use zf_calculus::spare::Spare;
-use zf_sorts::fault::Refusal;
-use zf_term::globals::Globals;
-use zf_term::measured::Measured;
-use zf_term::schema::Flat;
-use zf_tree::tree::{Decl, Name, SchemaExp};
+use zf_calculus::{Growing, Spare, disjoin};
+use zf_sorts::Refusal;
+use zf_term::{Flat, Globals, Measured};
+use zf_tree::{Decl, Name, SchemaExp};
 
 /// The schema that the expression is.
 pub fn schema_of_expression<'a>(

@@ -2,10 +2,11 @@
 #![tactic(auto)]
 
 mod expression;
-pub mod paragraph;
+mod paragraph;
 mod reference;
 mod stop;
 mod text;
 
+pub use paragraph::{define, define_box};
 pub use expression::schema_of_expression;
 pub use text::text_of;

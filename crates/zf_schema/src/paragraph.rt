@@ -15,12 +15,12 @@ use crate::text::{scope_over, text_of};
 use bumpalo::Bump;
 use std::alloc::AllocError;
 use zf_data::arena::{Boxed, Items, Lent, Shared};
-use zf_extent::infinite::extent_of;
-use zf_sorts::fault::{Offence, Refusal, refused};
-use zf_term::globals::{Entry, Globals};
-use zf_tree::operator::Need;
-use zf_tree::tree::{Decl, Name, Paragraph, SchemaExp, Term};
-use zf_typing::judge::{Judged, judge};
+use zf_extent::extent_of;
+use zf_sorts::{Offence, Refusal, refused};
+use zf_term::{Entry, Globals};
+use zf_tree::{Decl, Name, Need, Paragraph, SchemaExp, Term};
+use zf_typing::judge::judge;
+use zf_typing::Judged;
 
 /// Defines what the paragraph does, or leaves the globals as they were. Keeps the number of the next given set or free type.
 pub fn define<'a>(

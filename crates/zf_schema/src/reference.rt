@@ -7,16 +7,11 @@ ghost use Rattle.zf_calculus.specs.{IsGrowing};
 
 use crate::stop::refusal;
 use bumpalo::Bump;
-use zf_calculus::growing::Growing;
-use zf_calculus::marking::{decorate_own, marked};
-use zf_calculus::spare::Spare;
-use zf_sorts::fault::{Offence, Refusal};
-use zf_sorts::hint::refused_name;
-use zf_term::globals::{Entry, Globals};
-use zf_term::measured::Measured;
-use zf_term::named::global_of;
-use zf_tree::tree::{Name, SchemaRef};
-use zf_typing::like::global_like;
+use zf_calculus::{Growing, Spare, decorate_own, marked};
+use zf_sorts::{Offence, Refusal, refused_name};
+use zf_term::{Entry, Globals, Measured, global_of};
+use zf_tree::{Name, SchemaRef};
+use zf_typing::global_like;
 
 /// The schema that is referred to, with room for what is expected of it.
 pub fn referred<'a>(

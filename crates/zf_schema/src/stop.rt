@@ -4,8 +4,8 @@ ghost use Rattle.zf_schema.specs.Refusing as spec;
 ghost use Rattle.zf_schema.specs.{Refuses};
 
 use bumpalo::Bump;
-use zf_calculus::stop::Stop;
-use zf_sorts::fault::{Offence, Refusal, refused};
+use zf_calculus::Stop;
+use zf_sorts::{Offence, Refusal, refused};
 
 /// The refusal at this line.
 #[inline(never)]

@@ -15,23 +15,13 @@ use crate::stop::refusal;
 use bumpalo::Bump;
 use bumpalo::collections::into_bump_slice;
 use std::alloc::AllocError;
-use zf_calculus::growing::Growing;
-use zf_calculus::limits::{COMPONENTS_MAX, CONJUNCTS_MAX};
-use zf_calculus::spare::Spare;
+use zf_calculus::{COMPONENTS_MAX, CONJUNCTS_MAX, Growing, Spare};
 use zf_data::arena::{Boxed, Chunked, Items, Lasting, Shared};
-use zf_sorts::fault::Refusal;
-use zf_term::conjunct::Conjunct;
-use zf_term::globals::Globals;
-use zf_term::measured::Measured;
-use zf_term::resolved::Resolved;
-use zf_term::schema::{Component, Domain};
-use zf_term::ztype::ZType;
-use zf_tree::operator::Need;
-use zf_tree::tree::{Decl, Name, SchemaRef, Term};
-use zf_typing::conjuncts::push_conjuncts;
-use zf_typing::judge::{Judged, judge};
-use zf_typing::locals::Locals;
-use zf_typing::scope::Scope;
+use zf_sorts::Refusal;
+use zf_term::{Component, Conjunct, Domain, Globals, Measured, Resolved, ZType};
+use zf_tree::{Decl, Name, Need, SchemaRef, Term};
+use zf_typing::{Judged, Locals, Scope, push_conjuncts};
+use zf_typing::judge::judge;
 
 /// The schema of these declarations, and then of these predicates over them.
 pub fn text_of<'a>(

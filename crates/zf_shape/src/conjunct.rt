@@ -7,7 +7,7 @@ ghost use Rattle.zf_term.specs.Shapes as spec;
 
 use crate::terms;
 use zf_data::arena::Items;
-use zf_term::conjunct::{Batch, Batches, Conjunct};
+use zf_term::{Batch, Batches, Conjunct};
 
 /// What is left of room for so many nodes, if the term has no more.
 #[cycle(room)]

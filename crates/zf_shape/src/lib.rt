@@ -2,5 +2,7 @@
 #![tactic(auto)]
 
 pub mod conjunct;
-pub mod sets;
+mod sets;
 pub mod terms;
+
+pub use sets::{room_after_nodes, room_after_sets};

@@ -4,7 +4,7 @@ ghost use Rattle.zf_term.specs.{all_set_counts, all_set_nodes, set_count, set_no
 
 use crate::terms;
 use zf_data::arena::Items;
-use zf_term::schema::Domain;
+use zf_term::Domain;
 
 /// What is left of room for so many declared sets, if there are no more in this.
 #[cycle(sets)]

@@ -4,7 +4,7 @@ ghost use Rattle.zf_term.specs.{all_nodes, link_nodes, links, part_height, part_
 ghost use Rattle.zf_term.specs.Shapes as spec;
 
 use zf_data::arena::{Boxed, Items};
-use zf_term::resolved::{Links, Part, Range, Resolved, ResolvedLink, Terms};
+use zf_term::{Links, Part, Range, Resolved, ResolvedLink, Terms};
 
 /// What is left of room for so many nodes, if the term has no more.
 #[cycle(room)]

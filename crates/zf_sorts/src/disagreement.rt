@@ -10,8 +10,8 @@ use crate::fault::{Offence, Refusal, refused};
 use crate::sort::Sort;
 use bumpalo::Bump;
 use std::alloc::AllocError;
-use zf_term::ztype::{ZType, set_type};
-use zf_tree::operator::Rule;
+use zf_term::{ZType, set_type};
+use zf_tree::Rule;
 
 /// The refusal of operands that are each what its place needs, and that the rule doesn't take together.
 #[inline(never)]

@@ -7,9 +7,8 @@ use crate::sort::Sort;
 use bumpalo::Bump;
 use std::alloc::{AllocError, AllocFailed};
 use zf_data::arena::{Lasting, Lent};
-use zf_term::fault::{Clash, Limit, TypeFaultKind};
-use zf_term::ztype::ZType;
-use zf_tree::operator::Need;
+use zf_term::{Clash, Limit, TypeFaultKind, ZType};
+use zf_tree::Need;
 
 /// What is wrong. Names are as spelled, with their strokes.
 #[derive(Drop)]

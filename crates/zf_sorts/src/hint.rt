@@ -7,8 +7,7 @@ use bumpalo::Bump;
 use std::alloc::AllocError;
 use zf_data::arena::{Lasting, Lent};
 use zf_spelled::spelled;
-use zf_tree::operator::{Need, Operator};
-use zf_tree::tree::Term;
+use zf_tree::{Need, Operator, Term};
 
 impl<'a> Refusal<'a> {
     /// The same, which quotes the term where the fault is one of a term and has no hint: of all terms that it passes out of, the

@@ -12,9 +12,8 @@ ghost use Rattle.zf_sorts.specs.{IsMade, IsMadeOfOne, Meets, predicate, relation
 use crate::sort::Sort;
 use bumpalo::Bump;
 use std::alloc::AllocError;
-use zf_term::ztype::{ZType, pair_type, set_type};
-use zf_tree::operator::{Need, Rule, Sign, Unary};
-use zf_tree::symbol::{Constant, Prefix};
+use zf_term::{ZType, pair_type, set_type};
+use zf_tree::{Constant, Need, Prefix, Rule, Sign, Unary};
 
 /// What two operands make by a rule, where it takes them together.
 pub fn combine<'a>(

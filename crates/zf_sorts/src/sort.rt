@@ -4,9 +4,8 @@ ghost use Rattle.zf_term.specs.{lack, lack_of, Ty, type_of, typed, untyped_lack}
 ghost use Rattle.zf_sorts.specs.{IsSmallSort, Meets, relation_sort, set_sort, sort_of};
 
 use std::alloc::AllocError;
-use zf_term::fault::TypeFaultKind;
-use zf_term::ztype::ZType;
-use zf_tree::operator::Need;
+use zf_term::{TypeFaultKind, ZType};
+use zf_tree::Need;
 
 /// What a term is.
 #[derive(Drop)]

@@ -5,7 +5,7 @@ use bumpalo::collections::into_bump_slice;
 use itoa::Buffer;
 use std::alloc::AllocError;
 use zf_data::arena::{Boxed, Lent};
-use zf_tree::tree::{Link, Name, Part, Term, VarDecl};
+use zf_tree::{Link, Name, Part, Term, VarDecl};
 
 /// The symbols of the term as the markup spells them, with a blank after each. A number has no leading zeros, and the separators
 /// between declarations are left out.

@@ -1,6 +1,5 @@
 //! How the symbols of terms are spelled in the markup.
-use zf_tree::operator::{Listed, Operator, Sign, Unary};
-use zf_tree::symbol::{Arrow, Connective, Constant, Infix, Prefix, Quantifier, Relation};
+use zf_tree::{Arrow, Connective, Constant, Infix, Listed, Operator, Prefix, Quantifier, Relation, Sign, Unary};
 
 fn infix(op: Infix) -> &'static [u8] {
     match op {

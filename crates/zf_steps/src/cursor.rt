@@ -16,7 +16,7 @@ use crate::system::{Operation, System};
 use std::alloc::{AllocError, Global};
 use zf_places::values_at;
 use zf_reach::{Beginning, Found, Sight};
-use zf_value::value::Value;
+use zf_value::Value;
 use zf_walk::Step;
 
 /// What is searched for in the turn of a node.

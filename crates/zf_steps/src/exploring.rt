@@ -13,8 +13,7 @@ use crate::machine::Explorer;
 use crate::system::System;
 use std::io::Write;
 use std::marker::PhantomData;
-use zf_lines::counted::Counted;
-use zf_lines::fault::RunFault;
+use zf_lines::{Counted, RunFault};
 use zf_reach::{Ending, explore};
 
 /// Writes the exploration of a specification by these searches, up to so many states. Each line is written before anything

@@ -4,7 +4,7 @@ ghost use Rattle.zf_steps.specs.{BeginsAgain, Goes, GoesAhead, IsSearch, MayGo};
 
 use crate::stepped::Stepped;
 use std::alloc::AllocError;
-use zf_value::value::Value;
+use zf_value::Value;
 
 /// A search for the bindings of a schema that are not False, one after another in ascending order. It has one method: at a
 /// type of many parts, each method of a bound costs the proof of a call seconds.

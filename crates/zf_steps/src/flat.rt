@@ -14,11 +14,10 @@ use crate::renewed::{Renewed, searches_of};
 use crate::system::System;
 use std::io::Write;
 use std::marker::Brand;
-use zf_lines::counted::Counted;
-use zf_lines::fault::RunFault;
-use zf_meaning::env::Env;
+use zf_lines::{Counted, RunFault};
+use zf_meaning::Env;
 use zf_reach::Ending;
-use zf_term::schema::Flat;
+use zf_term::Flat;
 
 /// Writes the exploration of a specification in an environment, up to so many states. Each line is written before anything
 /// further is searched for.

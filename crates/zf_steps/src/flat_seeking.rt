@@ -14,11 +14,10 @@ use crate::seeking::seek_by;
 use crate::system::System;
 use std::io::Write;
 use std::marker::Brand;
-use zf_lines::counted::Counted;
-use zf_lines::fault::RunFault;
-use zf_meaning::env::Env;
+use zf_lines::{Counted, RunFault};
+use zf_meaning::Env;
 use zf_reach::Finding;
-use zf_term::schema::Flat;
+use zf_term::Flat;
 
 /// Searches a specification for a state in an environment, and writes a shortest way to the first that is met. It looks at
 /// so many states, and at one more.

@@ -7,8 +7,8 @@ use crate::layout::Layout;
 use std::alloc::AllocError;
 use std::marker::Brand;
 use zf_format::Format;
-use zf_meaning::row::Row;
-use zf_term::schema::Flat;
+use zf_meaning::Row;
+use zf_term::Flat;
 use zf_print::{Spelling, append_row};
 
 /// What an environment means, in proofs alone: at `Brand` a caller picks it.

@@ -12,7 +12,7 @@ use crate::system::{Operation, System};
 use itoa::Buffer;
 use std::alloc::AllocError;
 use zf_reach::Ending;
-use zf_value::value::Value;
+use zf_value::Value;
 
 /// Appends `state 2: BINDING`. A refusal leaves a part of it.
 pub fn append_state<E: Surrounding, F: Schematic>(

@@ -1,6 +1,5 @@
 //! What an exploration of a specification meets, and what its steps are labelled by.
-use zf_value::items::Items;
-use zf_value::value::Value;
+use zf_value::{Items, Value};
 
 /// A node of the graph of a specification.
 #[derive(PartialEq, Eq, Hash, Drop)]

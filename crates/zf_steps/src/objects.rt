@@ -13,7 +13,7 @@ use crate::system::{Operation, System};
 use std::alloc::AllocError;
 use zf_format::append_string;
 use zf_reach::{Ending, Finding};
-use zf_value::value::Value;
+use zf_value::Value;
 
 /// Appends `{"state": 2, "binding": {..}}`. A refusal leaves a part of it.
 pub fn append_state_object<E: Surrounding, F: Schematic>(

@@ -16,11 +16,11 @@ use crate::stepped::Stepped;
 use crate::system::{Operation, System};
 use std::alloc::{AllocError, Global};
 use zf_enum::{Instances, Search};
-use zf_meaning::env::Env;
+use zf_meaning::Env;
 use zf_places::values_of;
 use zf_ranges::StartFault;
-use zf_term::schema::Flat;
-use zf_value::value::Value;
+use zf_term::Flat;
+use zf_value::Value;
 use zf_walk::Step;
 
 /// The search for the bindings of a schema, begun again whenever other values are held. What the first begins with stays in the schema's arena; so does what another does where values of other components are held.

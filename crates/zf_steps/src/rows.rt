@@ -8,9 +8,9 @@ use crate::layout::Layout;
 use crate::system::Operation;
 use std::alloc::{AllocError, Global};
 use zf_format::append_string;
-use zf_meaning::row::Row;
+use zf_meaning::Row;
 use zf_print::Spelling;
-use zf_value::value::Value;
+use zf_value::Value;
 
 /// The values that are held of a schema's components where the state before has these values.
 pub fn held_by(

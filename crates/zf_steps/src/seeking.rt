@@ -13,8 +13,7 @@ use crate::machine::Explorer;
 use crate::system::System;
 use std::io::Write;
 use std::marker::PhantomData;
-use zf_lines::counted::Counted;
-use zf_lines::fault::RunFault;
+use zf_lines::{Counted, RunFault};
 use zf_reach::{Finding, seek};
 
 /// Searches a specification for a state, by these searches, and writes a shortest way to the first that is met. It looks at

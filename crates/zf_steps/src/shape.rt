@@ -10,8 +10,7 @@ use bumpalo::Bump;
 use std::alloc::{AllocError, Global};
 use zf_data::arena::{Items, Lent};
 use zf_places::schema_at;
-use zf_term::named::component_of;
-use zf_term::schema::{Component, Flat};
+use zf_term::{Component, Flat, component_of};
 
 /// The components of the state: before a step, and after it.
 #[derive(Clone, Copy)]

@@ -13,7 +13,7 @@ use crate::results::append_result;
 use crate::system::{Operation, System};
 use std::alloc::AllocError;
 use zf_reach::{Ending, Finding};
-use zf_value::value::Value;
+use zf_value::Value;
 
 /// Appends what stands before the statements.
 pub fn append_graph_head(line: &mut Vec<u8>) -> Result<(), AllocError>

@@ -1,5 +1,5 @@
 //! What a step of a search gives.
-use zf_value::value::Value;
+use zf_value::Value;
 use zf_walk::Step;
 
 /// How a step of a search ended, and the binding that it gave; no values where it gave none.

@@ -10,7 +10,7 @@ use crate::resolved::Resolved;
 use bumpalo::Bump;
 use std::alloc::AllocError;
 use zf_data::arena::{Items, Lasting, Piece, Share, Shared};
-use zf_reference::reference::place_in;
+use zf_reference::place_in;
 
 /// The places of the components of a schema in another one, where they are others.
 pub type Places<'a> = Option<Lasting<'a, Items<'a, usize>>>;

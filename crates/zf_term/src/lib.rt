@@ -1,16 +1,28 @@
 //! Types, resolved terms, and what a text defines.
 #![tactic(auto)]
 
-pub mod conjunct;
-pub mod extent;
-pub mod fault;
-pub mod globals;
+mod conjunct;
+mod extent;
+mod fault;
+mod globals;
 pub mod laws;
-pub mod likeness;
-pub mod measured;
-pub mod named;
-pub mod resolved;
-pub mod schema;
-pub mod spelling;
+mod likeness;
+mod measured;
+mod named;
+mod resolved;
+mod schema;
+mod spelling;
 pub mod type_text;
-pub mod ztype;
+mod ztype;
+
+pub use conjunct::{Batch, Batches, Conjunct, Places};
+pub use extent::{Extent, Infinite};
+pub use fault::{Clash, Limit, TypeFaultKind};
+pub use globals::{Entry, Globals};
+pub use likeness::is_like;
+pub use measured::{Left, Measured};
+pub use named::{component_of, global_of};
+pub use resolved::{Links, Part, Range, Resolved, ResolvedLink, Terms};
+pub use schema::{Component, Domain, Domains, Flat, Side};
+pub use spelling::is_same;
+pub use ztype::{ZType, pair_type, product_type, set_type};

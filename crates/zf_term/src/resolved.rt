@@ -4,9 +4,8 @@ ghost use Rattle.zf_term.specs.{resolved_of};
 ghost use Rattle.zf_term.specs.Shapes as spec;
 
 use zf_data::arena::{Boxed, Items};
-use zf_reference::reference::Reference;
-use zf_tree::operator::{Listed, Operator, Unary};
-use zf_tree::symbol::{Constant, Quantifier, Relation};
+use zf_reference::Reference;
+use zf_tree::{Constant, Listed, Operator, Quantifier, Relation, Unary};
 
 /// A part of a term that may be left out, in a box of its own: most terms have none, and stay small.
 pub type Part<'a> = Boxed<'a, Option<Boxed<'a, Resolved<'a>>>>;

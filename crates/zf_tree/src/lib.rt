@@ -1,7 +1,12 @@
 //! The trees of a text: the symbols of terms, names, terms, schema expressions, paragraphs and boxes, and how they are seen.
 #![tactic(auto)]
 
-pub mod ends;
-pub mod operator;
-pub mod symbol;
-pub mod tree;
+mod ends;
+mod operator;
+mod symbol;
+mod tree;
+
+pub use ends::{back, front};
+pub use operator::{Listed, Need, Operator, Rule, Sign, Unary, relation_rule};
+pub use symbol::{Arrow, Connective, Constant, Infix, Prefix, Quantifier, Relation};
+pub use tree::{Decl, Ident, Link, Name, Paragraph, Part, RefMark, SchemaExp, SchemaRef, Spec, Term, Terms, VarDecl, ZBox};

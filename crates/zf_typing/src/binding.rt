@@ -16,10 +16,9 @@ use crate::variable::Variable;
 use bumpalo::Bump;
 use std::alloc::AllocError;
 use zf_data::arena::Items;
-use zf_sorts::fault::{Offence, Refusal, refused};
-use zf_sorts::sort::Sort;
-use zf_term::ztype::{ZType, product_type};
-use zf_tree::tree::Name;
+use zf_sorts::{Offence, Refusal, Sort, refused};
+use zf_term::{ZType, product_type};
+use zf_tree::Name;
 
 /// Adds variables of these names, which are members of a set of this sort.
 pub(crate) fn declare_names<'a>(

@@ -11,11 +11,9 @@ use crate::judge::judge;
 use crate::scope::Scope;
 use bumpalo::Bump;
 use zf_data::arena::Items;
-use zf_sorts::fault::Refusal;
-use zf_term::resolved::Resolved;
-use zf_tree::operator::{Need, Operator};
-use zf_tree::symbol::Connective;
-use zf_tree::tree::Term;
+use zf_sorts::Refusal;
+use zf_term::Resolved;
+use zf_tree::{Connective, Need, Operator, Term};
 
 /// Whether it is a conjunction, within brackets or without.
 #[tactic(auto, using(zf_tree::proofs::TermSeen::seen))]

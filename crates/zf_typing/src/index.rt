@@ -7,7 +7,7 @@ use crate::spelling::{BUCKETS, bucket_of};
 use crate::variable::Variable;
 use std::alloc::{AllocError, Global};
 use std::marker::Model;
-use zf_term::spelling::is_same;
+use zf_term::is_same;
 
 /// Variables, each with the way to those before it that have names of its bucket.
 #[derive(Drop)]

@@ -20,16 +20,9 @@ use chains::chain;
 use lists::listed;
 use operands::{binary, unary};
 use zf_data::arena::Boxed;
-use zf_sorts::fault::{Offence, Refusal, misplaced, refused};
-use zf_sorts::hint::refused_name;
-use zf_sorts::rules::constant_sort;
-use zf_sorts::sort::Sort;
-use zf_term::fault::Limit;
-use zf_term::resolved::Resolved;
-use zf_term::ztype::ZType;
-use zf_tree::operator::Need;
-use zf_tree::symbol::Constant;
-use zf_tree::tree::{Name, Term};
+use zf_sorts::{Offence, Refusal, Sort, constant_sort, misplaced, refused, refused_name};
+use zf_term::{Limit, Resolved, ZType};
+use zf_tree::{Constant, Name, Need, Term};
 
 /// A term in which each name says what it stands for, and what the term is.
 #[derive(Drop)]

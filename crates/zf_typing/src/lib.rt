@@ -2,12 +2,18 @@
 #![tactic(auto)]
 
 mod binding;
-pub mod conjuncts;
+mod conjuncts;
 mod index;
 pub mod judge;
 pub mod laws;
-pub mod like;
-pub mod locals;
-pub mod scope;
+mod like;
+mod locals;
+mod scope;
 mod spelling;
 pub mod variable;
+
+pub use conjuncts::push_conjuncts;
+pub use judge::Judged;
+pub use like::global_like;
+pub use locals::Locals;
+pub use scope::Scope;

@@ -1,9 +1,7 @@
 //! The first name in scope that is like one that is not. It helps where a fault is reported, and nothing is promised of it.
 use crate::locals::Locals;
 use crate::scope::Scope;
-use zf_term::globals::{Entry, Globals};
-use zf_term::likeness::is_like;
-use zf_term::schema::Component;
+use zf_term::{Component, Entry, Globals, is_like};
 
 /// That of a variable, a component, or a global that is no schema.
 #[inline(never)]

@@ -10,13 +10,10 @@ use crate::locals::Locals;
 use bumpalo::Bump;
 use std::alloc::AllocError;
 use zf_data::arena::{Lent, Shared};
-use zf_reference::reference::Reference;
-use zf_sorts::sort::Sort;
-use zf_term::globals::{Entry, Globals};
-use zf_term::named::{component_of, global_of};
-use zf_term::schema::Component;
-use zf_term::ztype::ZType;
-use zf_tree::tree::Name;
+use zf_reference::Reference;
+use zf_sorts::Sort;
+use zf_term::{Component, Entry, Globals, ZType, component_of, global_of};
+use zf_tree::Name;
 
 /// What is in scope; the variables that are bound last stand last.
 #[derive(Drop)]

@@ -4,8 +4,7 @@ ghost use Rattle.zf_typing.specs.{last_named, variable_of};
 ghost use Rattle.zf_term.specs.{found_as};
 
 use zf_data::arena::Lent;
-use zf_term::spelling::is_same;
-use zf_term::ztype::ZType;
+use zf_term::{ZType, is_same};
 
 /// A bound variable.
 #[derive(Drop)]

@@ -8,10 +8,9 @@ use crate::renaming::Renaming;
 use bumpalo::Bump;
 use std::alloc::AllocError;
 use zf_data::arena::{Boxed, Items};
-use zf_resolved::renaming::{renamed, renamed_part, renamed_range};
-use zf_term::resolved::{Part, Range, Resolved};
-use zf_tree::operator::Operator;
-use zf_tree::symbol::{Connective, Quantifier};
+use zf_resolved::{renamed, renamed_part, renamed_range};
+use zf_term::{Part, Range, Resolved};
+use zf_tree::{Connective, Operator, Quantifier};
 
 /// A universal quantifier: its first range and the others, the constraint and the body.
 #[derive(Clone, Copy)]

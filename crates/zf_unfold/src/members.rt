@@ -7,11 +7,10 @@ ghost use Rattle.zf_meaning.specs.{environment_of, longer};
 ghost use Rattle.zf_unfold.specs.{IsSetNamed};
 
 use std::alloc::{AllocError, Global};
-use zf_meaning::env::Env;
-use zf_meaning::value::value_of;
-use zf_reference::reference::Reference;
-use zf_term::resolved::Resolved;
-use zf_value::value::{Outcome, Value};
+use zf_meaning::{Env, value_of};
+use zf_reference::Reference;
+use zf_term::Resolved;
+use zf_value::{Outcome, Value};
 
 /// The value of a declared set that is one of the first names.
 pub(crate) fn set_named<'a>(

@@ -5,9 +5,8 @@ ghost use Rattle.zf_term.specs.{resolved_of};
 ghost use Rattle.zf_unfold.specs.RenamingViews as views;
 
 use crate::instance::Universal;
-use zf_term::resolved::Resolved;
-use zf_tree::operator::{Operator, Unary};
-use zf_tree::symbol::Quantifier;
+use zf_term::Resolved;
+use zf_tree::{Operator, Quantifier, Unary};
 
 /// The term as a universal quantifier over variables, if it is one.
 #[tactic(auto, using(zf_term::proofs::ResolvedSeen::seen))]

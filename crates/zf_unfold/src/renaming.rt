@@ -2,8 +2,8 @@
 ghost use Rattle.std.specs.Prelude.{◌≡◌};
 ghost use Rattle.zf_unfold.specs.Renaming as spec;
 
-use zf_reference::reference::Reference;
-use zf_resolved::renaming::Naming;
+use zf_reference::Reference;
+use zf_resolved::Naming;
 
 /// What names become: the outermost bound variable that of a member, if there is one, and a global without an outcome the first such one.
 #[derive(Clone, Copy)]

@@ -15,11 +15,11 @@ use bumpalo::Bump;
 use std::alloc::{AllocError, Global};
 use zf_data::arena::{Boxed, Lasting};
 use zf_lift::{Lifted, lift};
-use zf_meaning::env::Env;
-use zf_resolved::renaming::renamed;
-use zf_term::resolved::Resolved;
-use zf_tree::operator::{Operator, Unary};
-use zf_value::value::Outcome;
+use zf_meaning::Env;
+use zf_resolved::renamed;
+use zf_term::Resolved;
+use zf_tree::{Operator, Unary};
+use zf_value::Outcome;
 
 /// How often a predicate is gone through: each time the outermost quantifiers are written out, by their first variable.
 const PASSES: usize = 8;

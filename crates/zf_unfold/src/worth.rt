@@ -1,9 +1,9 @@
 //! Which quantifiers are worth writing out.
 use zf_data::arena::{Boxed, Items};
 use zf_lift::rows_of;
-use zf_meaning::env::Env;
-use zf_reference::reference::Reference;
-use zf_term::resolved::{Links, Part, Range, Resolved, Terms};
+use zf_meaning::Env;
+use zf_reference::Reference;
+use zf_term::{Links, Part, Range, Resolved, Terms};
 
 /// The most rows of a quantifier that is written out.
 const MOST_ROWS: usize = 256;

@@ -4,7 +4,7 @@ ghost use Rattle.std.specs.Prelude.{length};
 use crate::setting::Setting;
 use std::alloc::AllocError;
 use zf_cores::Trial;
-use zf_term::conjunct::Conjunct;
+use zf_term::Conjunct;
 
 /// Conjuncts of which some may hold together with the given ones.
 #[derive(Drop)]

@@ -17,9 +17,8 @@ use crate::telling::{told_alone, told_together};
 use bumpalo::Bump;
 use std::alloc::{AllocError, Global};
 use zf_cores::minimal;
-use zf_meaning::env::Env;
-use zf_term::conjunct::Conjunct;
-use zf_term::schema::Flat;
+use zf_meaning::Env;
+use zf_term::{Conjunct, Flat};
 
 /// Why a schema has no binding in which these values are held.
 pub fn why<'s, 'g, 'a>(

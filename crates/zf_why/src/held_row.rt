@@ -1,7 +1,7 @@
 //! Held values as a row.
 
-use zf_meaning::row::Row;
-use zf_value::value::Value;
+use zf_meaning::Row;
+use zf_value::Value;
 
 /// A row with the values that are held, and another one in the place of those that are not.
 #[derive(Drop)]

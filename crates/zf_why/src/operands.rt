@@ -9,11 +9,9 @@ use crate::held_row::HeldRow;
 use crate::told::Operands;
 use crate::unheld::names_held;
 use std::alloc::AllocError;
-use zf_meaning::env::Env;
-use zf_meaning::row::Row;
-use zf_meaning::value::value_of;
-use zf_term::resolved::{Resolved, ResolvedLink};
-use zf_value::value::{Form, Value};
+use zf_meaning::{Env, Row, value_of};
+use zf_term::{Resolved, ResolvedLink};
+use zf_value::{Form, Value};
 
 /// Of a relation that names held components alone what both operands come to.
 pub fn operands_told<'a>(

@@ -1,6 +1,6 @@
 //! What is asked of a schema that has no binding.
 
-use zf_value::value::Value;
+use zf_value::Value;
 
 /// The values that are held, and whether what the operands of relations come to is told.
 #[derive(Drop)]

@@ -12,11 +12,10 @@ use bumpalo::Bump;
 use std::alloc::{AllocError, Global};
 use zf_data::arena::{Chunked, Items};
 use zf_enum::{Instances, Search};
-use zf_meaning::env::Env;
+use zf_meaning::Env;
 use zf_ranges::StartFault;
-use zf_term::conjunct::Conjunct;
-use zf_term::schema::{Component, Flat};
-use zf_value::value::Value;
+use zf_term::{Component, Conjunct, Flat};
+use zf_value::Value;
 use zf_walk::Step;
 
 /// The components of a schema in an environment, of which some values are held, and whether details are told.

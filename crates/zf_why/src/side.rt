@@ -6,7 +6,7 @@ ghost use Rattle.zf_term.specs.{batch_of, conjunct_of, moved, numbering};
 use bumpalo::Bump;
 use std::alloc::AllocError;
 use zf_data::arena::Items;
-use zf_term::conjunct::{Batch, Conjunct, Places};
+use zf_term::{Batch, Conjunct, Places};
 
 /// The conjuncts of these batches, with their components at these places.
 pub fn side_of<'a>(

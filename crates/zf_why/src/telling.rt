@@ -13,7 +13,7 @@ use crate::told::{Operands, Sides, Told};
 use std::alloc::{AllocError, Global};
 use zf_data::arena::{Chunked, Items};
 use zf_resolved::conjunct::resolved;
-use zf_term::conjunct::Conjunct;
+use zf_term::Conjunct;
 
 /// What is told of the chosen conjuncts, which are those that rule out everything alone.
 pub fn told_alone<'a>(

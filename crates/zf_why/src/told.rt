@@ -1,6 +1,6 @@
 //! What is told of a conjunct that is to blame.
 
-use zf_value::value::Outcome;
+use zf_value::Outcome;
 
 /// A conjunct that is to blame.
 #[derive(Drop)]

@@ -4,9 +4,9 @@ ghost use Rattle.zf_term.specs.{links, part_of, range_of, ranges, references, re
 ghost use Rattle.zf_why.specs.{all_lack, are_held, flag, is_value, lacks, links_lack, name_lacks, part_lacks, ranges_lack};
 
 use zf_data::arena::{Boxed, Items};
-use zf_reference::reference::Reference;
-use zf_term::resolved::{Links, Part, Range, Resolved, Terms};
-use zf_value::value::Value;
+use zf_reference::Reference;
+use zf_term::{Links, Part, Range, Resolved, Terms};
+use zf_value::Value;
 
 /// Whether a value is held of each component that the term names.
 pub fn names_held(term: &Resolved<'_>, held: &[Option<Value>]) -> bool

@@ -1,12 +1,12 @@
 //! What the calls below `run` answer where there is memory.
 use bumpalo::Bump;
 use std::test::Fail;
-use zf_checker::checker::check_spec;
+use zf_checker::check_spec;
 use zf_checker::listing::listing;
 use zf_scan::scan::scan;
-use zf_term::globals::Entry;
+use zf_term::Entry;
 use zf_term::type_text::type_text;
-use zf_parse::reading::parse;
+use zf_parse::parse;
 
 const SOURCE: &str = r"\begin{zed}
 [NAME]; X == \num \cross NAME

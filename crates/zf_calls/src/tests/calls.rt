@@ -2,7 +2,7 @@
 use crate::devices::{Failing, Limited};
 use std::io::{ErrorKind, Read, Write};
 use std::test::Fail;
-use zf_lines::counted::Counted;
+use zf_lines::Counted;
 
 static ERRORS: [ErrorKind; 3] = [
     ErrorKind::Interrupted,

@@ -3,12 +3,11 @@ use crate::tests::holds::holds;
 use bumpalo::Bump;
 use std::alloc::Global;
 use std::test::Fail;
-use zf_checker::checker::check_spec;
-use zf_extent::infinite::direct;
+use zf_checker::check_spec;
+use zf_extent::direct;
 use zf_finite::finite;
-use zf_term::extent::Infinite;
-use zf_term::globals::{Entry, Globals};
-use zf_parse::reading::read_spec;
+use zf_term::{Entry, Globals, Infinite};
+use zf_parse::read_spec;
 
 /// What stands before the schema: direct infinite sets, an open name and two closed ones.
 const BEFORE: &str = r"\begin{zed}

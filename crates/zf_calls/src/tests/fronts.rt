@@ -2,7 +2,7 @@
 use crate::tests::runs::ended;
 use crate::tests::sources::BOOK;
 use std::test::Fail;
-use zf_lines::fault::Status;
+use zf_lines::Status;
 
 static FAULTS: [&str; 3] = [
     "byte not in the markup",

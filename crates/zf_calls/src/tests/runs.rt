@@ -2,11 +2,9 @@
 use std::alloc::Global;
 use std::io::{Read, Write};
 use std::test::Fail;
-use zf_command::asked::job_of;
-use zf_command::job::Asked;
+use zf_command::{Asked, job_of};
 use zf_engine::run::run;
-use zf_lines::counted::Counted;
-use zf_lines::fault::{RunFault, Status};
+use zf_lines::{Counted, RunFault, Status};
 
 /// How a run of the words ends.
 pub fn ended<R: Read + Drop, W: Write + Drop>(

@@ -9,15 +9,14 @@ use crate::tests::holds::holds;
 use bumpalo::Bump;
 use std::alloc::{AllocError, Global};
 use std::test::Fail;
-use zf_checker::checker::check_spec;
+use zf_checker::check_spec;
 use zf_data::Text;
 use zf_enum::{Bindings, Instances, Search};
 use zf_finite::finite;
-use zf_meaning::env::Env;
-use zf_meaning::sizes::Size;
+use zf_meaning::{Env, Size};
 use zf_ranges::StartFault;
-use zf_term::globals::Globals;
-use zf_parse::reading::read_spec;
+use zf_term::Globals;
+use zf_parse::read_spec;
 use zf_walk::Step;
 
 const SOURCE: &str = r"\begin{zed}

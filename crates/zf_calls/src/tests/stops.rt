@@ -4,7 +4,7 @@ use crate::tests::runs::ended;
 use crate::tests::sources::{BOOK, BOOK_ANSWER, ONE, WIDE};
 use std::io::ErrorKind;
 use std::test::Fail;
-use zf_lines::fault::{RunFault, Status};
+use zf_lines::{RunFault, Status};
 
 const WORDS: &[&str] = &["show", "s.tex", "BirthdayBook", "NAME=1", "DATE=2"];
 

@@ -3,18 +3,13 @@ use crate::tests::holds::holds;
 use bumpalo::Bump;
 use std::alloc::{AllocError, Global};
 use std::test::Fail;
-use zf_checker::checker::check_spec;
+use zf_checker::check_spec;
 use zf_data::Text;
-use zf_meaning::carrier::carrier_of;
-use zf_meaning::env::Env;
-use zf_meaning::sizes::Size;
-use zf_meaning::value::{truth_of, value_of};
+use zf_meaning::{Env, Size, carrier_of, truth_of, value_of};
 use zf_resolved::conjunct::resolved;
-use zf_term::conjunct::Conjunct;
-use zf_term::globals::{Entry, Globals};
-use zf_term::resolved::Resolved;
-use zf_parse::reading::read_spec;
-use zf_value::value::{Form, Outcome, Truth, Value};
+use zf_term::{Conjunct, Entry, Globals, Resolved};
+use zf_parse::read_spec;
+use zf_value::{Form, Outcome, Truth, Value};
 
 const SOURCE: &str = r"\begin{zed}
 [NAME]; Names == NAME; Pair == \{2, 1, 2\}

@@ -23,13 +23,10 @@ use crate::row::Row;
 use crate::rows::{Passing, Rows};
 use std::alloc::{AllocError, Global};
 use zf_outcome::connected::{connected, connective_of, decided};
-use zf_outcome::found::Found;
-use zf_outcome::gathered::Lack;
-use zf_outcome::tally::Tally;
-use zf_term::resolved::{Part, Resolved};
-use zf_value::items::Items;
+use zf_outcome::{Found, Lack, Tally};
+use zf_term::{Part, Resolved};
+use zf_value::{Form, Items, Outcome, Truth, Value};
 use zf_value::set;
-use zf_value::value::{Form, Outcome, Truth, Value};
 
 /// A quantified predicate.
 #[cycle(meaning)]

@@ -15,13 +15,11 @@ use crate::number_set::infinite_in;
 use crate::row::Row;
 use std::alloc::AllocError;
 use zf_outcome::connected::conjunction;
-use zf_outcome::described::membership;
-use zf_outcome::found::Found;
+use zf_outcome::{Found, membership};
 use zf_outcome::relation;
-use zf_term::extent::Infinite;
-use zf_term::resolved::{Resolved, ResolvedLink};
-use zf_tree::symbol::Relation;
-use zf_value::value::{Truth, Value};
+use zf_term::{Infinite, Resolved, ResolvedLink};
+use zf_tree::Relation;
+use zf_value::{Truth, Value};
 
 /// A chain of relations.
 #[cycle(meaning)]

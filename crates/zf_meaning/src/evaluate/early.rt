@@ -17,12 +17,11 @@ ghost use Rattle.zf_outcome.specs.{found_outcome};
 use crate::needs::{last_local, last_of_part};
 use crate::rows::{Passing, Rows};
 use std::alloc::{AllocError, Global};
-use zf_outcome::found::Found;
-use zf_reference::reference::Reference;
-use zf_term::resolved::{Part, Resolved, ResolvedLink};
-use zf_tree::operator::Operator;
-use zf_tree::symbol::{Connective, Quantifier, Relation};
-use zf_value::value::{Truth, Value};
+use zf_outcome::Found;
+use zf_reference::Reference;
+use zf_term::{Part, Resolved, ResolvedLink};
+use zf_tree::{Connective, Operator, Quantifier, Relation};
+use zf_value::{Truth, Value};
 
 /// A part of what has to hold for a row to count, and how many first variables it needs.
 #[derive(Drop)]

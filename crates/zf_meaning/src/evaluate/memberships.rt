@@ -18,14 +18,10 @@ use crate::env::Env;
 use crate::number_set::described_numbers;
 use crate::row::Row;
 use std::alloc::AllocError;
-use zf_outcome::described::{Described, interval_between, power_of, product_of};
-use zf_outcome::found::Found;
-use zf_outcome::symbols::{on_both, on_one, on_several};
-use zf_term::extent::Infinite;
-use zf_term::resolved::Resolved;
-use zf_tree::operator::{Listed, Operator, Sign, Unary};
-use zf_tree::symbol::{Constant, Infix, Prefix};
-use zf_value::value::Value;
+use zf_outcome::{Described, Found, interval_between, on_both, on_one, on_several, power_of, product_of};
+use zf_term::{Infinite, Resolved};
+use zf_tree::{Constant, Infix, Listed, Operator, Prefix, Sign, Unary};
+use zf_value::Value;
 
 /// What an expression comes to. A set of a family is told by the values that it is made of.
 #[cycle(meaning)]

@@ -16,13 +16,10 @@ use super::component;
 use crate::env::Env;
 use crate::row::Row;
 use zf_outcome::relation::between_numbers;
-use zf_reference::reference::Reference;
-use zf_term::resolved::{Resolved, ResolvedLink};
-use zf_tree::operator::Operator;
-use zf_tree::symbol::{Infix, Relation};
-use zf_value::number::{difference, modulus, product, quotient, sum};
-use zf_value::relation::applied;
-use zf_value::value::{Outcome, Truth, Value};
+use zf_reference::Reference;
+use zf_term::{Resolved, ResolvedLink};
+use zf_tree::{Infix, Operator, Relation};
+use zf_value::{Outcome, Truth, Value, applied, difference, modulus, product, quotient, sum};
 
 /// The truth of a predicate that compares two numbers, where these are told without values round them.
 #[tactic(auto, using(zf_term::proofs::ResolvedSeen::seen))]

@@ -11,12 +11,10 @@ use crate::env::Env;
 use crate::row::Row;
 use std::alloc::AllocError;
 use zf_outcome::connected::{connected, decided, opposite};
-use zf_outcome::found::Found;
-use zf_outcome::gathered::Gathered;
-use zf_outcome::symbols::{on_both, on_one, on_several};
-use zf_term::resolved::Resolved;
-use zf_tree::operator::{Listed, Operator, Unary};
-use zf_value::value::{Truth, Value};
+use zf_outcome::{Found, Gathered, on_both, on_one, on_several};
+use zf_term::Resolved;
+use zf_tree::{Listed, Operator, Unary};
+use zf_value::{Truth, Value};
 
 /// A symbol before or behind a term.
 #[cycle(meaning)]

@@ -12,11 +12,9 @@ use super::outcome;
 use crate::env::Env;
 use crate::row::Row;
 use std::alloc::{AllocError, Global};
-use zf_outcome::found::Found;
-use zf_outcome::gathered::Lack;
-use zf_term::resolved::Range;
-use zf_value::lent::Lent;
-use zf_value::value::Value;
+use zf_outcome::{Found, Lack};
+use zf_term::Range;
+use zf_value::{Lent, Value};
 
 /// The declared set of so many variables.
 #[derive(Drop)]

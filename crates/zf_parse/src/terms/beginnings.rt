@@ -11,11 +11,8 @@ use crate::levels::{EXPRESSION, QUANTIFIER, level, unary_level};
 use crate::tall::{Tall, boxed};
 use bumpalo::Bump;
 use zf_data::arena::Boxed;
-use zf_scan::fault::TextFault;
-use zf_scan::next::{Mark, Next};
-use zf_tree::operator::{Listed, Sign, Unary};
-use zf_tree::symbol::{Constant, Infix, Quantifier};
-use zf_tree::tree::Term;
+use zf_scan::{Mark, Next, TextFault};
+use zf_tree::{Constant, Infix, Listed, Quantifier, Sign, Term, Unary};
 
 impl<
     'a,

@@ -12,9 +12,8 @@ use crate::levels::{Role, right_place};
 use crate::tall::{Tall, boxed};
 use bumpalo::Bump;
 use zf_data::arena::Boxed;
-use zf_scan::fault::TextFault;
-use zf_tree::operator::{Listed, Operator, Unary};
-use zf_tree::tree::Term;
+use zf_scan::TextFault;
+use zf_tree::{Listed, Operator, Term, Unary};
 
 impl<
     'a,

@@ -11,10 +11,8 @@ use crate::names::names;
 use crate::tall::{Tall, boxed};
 use bumpalo::Bump;
 use zf_data::arena::{Boxed, Items};
-use zf_scan::fault::TextFault;
-use zf_scan::next::{Mark, Next};
-use zf_tree::operator::Listed;
-use zf_tree::tree::{Link, Part, Term, VarDecl};
+use zf_scan::{Mark, Next, TextFault};
+use zf_tree::{Link, Listed, Part, Term, VarDecl};
 
 impl<
     'a,

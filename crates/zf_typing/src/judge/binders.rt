@@ -18,13 +18,9 @@ use crate::scope::Scope;
 use bumpalo::Bump;
 use std::alloc::AllocError;
 use zf_data::arena::{Boxed, Items};
-use zf_sorts::fault::Refusal;
-use zf_sorts::sort::Sort;
-use zf_term::resolved::{Part as ResolvedPart, Range, Resolved};
-use zf_term::ztype::{ZType, set_type};
-use zf_tree::operator::Need;
-use zf_tree::symbol::Quantifier;
-use zf_tree::tree::{Part, Term, VarDecl};
+use zf_sorts::{Refusal, Sort};
+use zf_term::{Part as ResolvedPart, Range, Resolved, ZType, set_type};
+use zf_tree::{Need, Part, Quantifier, Term, VarDecl};
 
 /// The variables that are declared, and the ranges of those declared together.
 #[derive(Drop)]

@@ -14,13 +14,9 @@ use super::{Judged, Place, judge_boxed, judge_term, placed};
 use crate::scope::Scope;
 use bumpalo::Bump;
 use zf_data::arena::{Boxed, Items};
-use zf_sorts::disagreement::disagreeing;
-use zf_sorts::fault::{Refusal, misplaced};
-use zf_sorts::rules::combine;
-use zf_sorts::sort::Sort;
-use zf_term::resolved::{Resolved, ResolvedLink};
-use zf_tree::operator::{Need, Rule, relation_rule};
-use zf_tree::tree::{Link, Term};
+use zf_sorts::{Refusal, Sort, combine, disagreeing, misplaced};
+use zf_term::{Resolved, ResolvedLink};
+use zf_tree::{Link, Need, Rule, Term, relation_rule};
 
 /// The operand to the left of a link: what it is, and its line.
 #[derive(Drop)]

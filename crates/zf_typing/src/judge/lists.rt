@@ -15,12 +15,9 @@ use crate::scope::Scope;
 use bumpalo::Bump;
 use std::alloc::AllocError;
 use zf_data::arena::{Boxed, Items};
-use zf_sorts::fault::{Offence, Refusal, refused};
-use zf_sorts::sort::Sort;
-use zf_term::resolved::Resolved;
-use zf_term::ztype::{ZType, product_type, set_type};
-use zf_tree::operator::{Listed, Need};
-use zf_tree::tree::Term;
+use zf_sorts::{Offence, Refusal, Sort, refused};
+use zf_term::{Resolved, ZType, product_type, set_type};
+use zf_tree::{Listed, Need, Term};
 
 /// The members of one term, and the types that they are told by: of a set that of its members.
 #[derive(Drop)]

@@ -10,12 +10,9 @@ use super::{Judged, Place, judge_term, made};
 use crate::scope::Scope;
 use bumpalo::Bump;
 use zf_data::arena::Boxed;
-use zf_sorts::disagreement::disagreeing;
-use zf_sorts::fault::Refusal;
-use zf_sorts::rules::{apply, combine};
-use zf_term::resolved::Resolved;
-use zf_tree::operator::{Need, Operator, Unary};
-use zf_tree::tree::Term;
+use zf_sorts::{Refusal, apply, combine, disagreeing};
+use zf_term::Resolved;
+use zf_tree::{Need, Operator, Term, Unary};
 
 #[cycle(judging)]
 #[inline(never)]
