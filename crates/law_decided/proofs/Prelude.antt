@@ -1,6 +1,6 @@
 -- What the proofs of this crate take from elsewhere, passed on from one place.
 pub use Rattle.std.proofs.Common.{◌++◌, ◌+◌, ◌<◌, ◌∷◌, ◌≡◌, ◌≤◌, ◌⊎◌, [], arith, Bool, false, inl, inr, length, List, map, None, Option, refl, Some, subst, sym, true, ℕ}
-pub use Rattle.zf_tree.specs.{absent, binary, both, BoxTree, bracket, builder, chain, constant, DeclTree, definition, either, empty_set, free, given, include, left_need, line_of, link, Links, listed, named, need_of, no_decls, no_links, no_trees, numeral, ParagraphTree, Perhaps, prefix_need, present, quantified, relation_rule, right_need, rule_of, schema_bracket, schema_reference, schema_text, SchemaTree, sign_need, spelling, Tree, tree, unary, var_decl, VarDecls, vars}
+pub use Rattle.zf_tree.specs.{absent, binary, both, BoxTree, bracket, comprehension, chain, constant, DeclTree, definition, either, empty_set, free, given, include, left_need, line_of, link, Links, listed, named, need_of, no_decls, no_links, no_trees, numeral, ParagraphTree, Perhaps, prefix_need, present, quantified, relation_rule, right_need, rule_of, schema_bracket, schema_reference, schema_text, SchemaTree, sign_need, spelling, Tree, tree, unary, var_decl, VarDecls, vars}
 pub use Rattle.zf_tree.specs.Trees.{Trees}
 pub use Rattle.zf_tree.specs.declared.operator.Need.{Need}
 pub use Rattle.zf_tree.specs.declared.operator.Unary.{Unary}

@@ -1,5 +1,5 @@
 -- A term has a sort that its place takes, or an offence there: its parts are judged first.
-use Rattle.law_decided.proofs.Prelude.{◌++◌, ◌≡◌, ◌⊎◌, [], inl, inr, List, None, Option, refl, Some, subst, sym, ℕ, spelling, left_need, need_of, relation_rule, right_need, rule_of, absent, binary, bracket, builder, chain, constant, empty_set, line_of, link, Links, listed, named, no_decls, no_links, no_trees, numeral, Perhaps, present, quantified, Tree, tree, Trees, unary, var_decl, VarDecls, Need, Unary, Relation, Name, IsSmall, no_types, power, Ty, type, Tys, mismatch, no_members, not_declared, Offence, too_large, TypeNodes, Differ, LinksOffend, Misplaced, Offends, OneDiffers, OneOffends, PartOffends, Repeats, SetsOffend, a_schema, constant_sort, IsSmallSort, Meets, number_sort, predicate, set_sort, Sort, Takes, typed, UnaryTakes, AreAll, AreApart, LinksAreTyped, AreMembers, HasMemberType, PartIsPredicate, Declare, declared, IsOf, Makes, member_need, member_sort, row_type, variables, SomeOffence}
+use Rattle.law_decided.proofs.Prelude.{◌++◌, ◌≡◌, ◌⊎◌, [], inl, inr, List, None, Option, refl, Some, subst, sym, ℕ, spelling, left_need, need_of, relation_rule, right_need, rule_of, absent, binary, bracket, comprehension, chain, constant, empty_set, line_of, link, Links, listed, named, no_decls, no_links, no_trees, numeral, Perhaps, present, quantified, Tree, tree, Trees, unary, var_decl, VarDecls, Need, Unary, Relation, Name, IsSmall, no_types, power, Ty, type, Tys, mismatch, no_members, not_declared, Offence, too_large, TypeNodes, Differ, LinksOffend, Misplaced, Offends, OneDiffers, OneOffends, PartOffends, Repeats, SetsOffend, a_schema, constant_sort, IsSmallSort, Meets, number_sort, predicate, set_sort, Sort, Takes, typed, UnaryTakes, AreAll, AreApart, LinksAreTyped, AreMembers, HasMemberType, PartIsPredicate, Declare, declared, IsOf, Makes, member_need, member_sort, row_type, variables, SomeOffence}
 use Rattle.zf_tree.specs.declared.symbol.Quantifier.{Quantifier}
 use Rattle.zf_tree.specs.declared.operator.Need.TheVariants as need
 use Rattle.zf_tree.specs.declared.operator.Listed.{Listed}
@@ -146,24 +146,24 @@ of_chain s n l e ks (inl p) rest = let is = subst (IsOf s e) p.2.1 p.1 in by is 
     by is (inl links) = placed s n (chain l e ks) predicate (p.2.0, is, links, refl) (λ k m o. inr (inr o))
     by is (inr o) = inr (o.0, o.1, inr (inl o.2))
 
--- what binds variables: a builder
+-- what binds variables: a comprehension
 module _ (s : Scope) (n : Need) (l : ℕ) (ds : VarDecls) (p e : Perhaps) where
-  of_builder :
+  of_comprehension :
       AreApart (declared ds) ⊎ SomeOffence (Repeats (declared ds)) → ((vs : List Var) × Declare s ds vs) ⊎ SomeOffence (SetsOffend s ds)
       → ((w : Scope) → PartIsPredicate w p ⊎ SomeOffence (PartOffends w need.Predicate p))
       → ((w : Scope) (vs : List Var) → ((u : Ty) × HasMemberType w vs e u) ⊎ SomeOffence (PartOffends w need.Expression e))
-      → IsJudged s n (builder l ds p e)
-  of_builder (inr o) sets constraint term = inr (o.0, o.1, inl o.2)
-  of_builder (inl apart) (inr o) constraint term = inr (o.0, o.1, inr (inl o.2))
-  of_builder (inl apart) (inl d) constraint term = by (constraint (with_variables s d.0)) (term (with_variables s d.0) d.0)
+      → IsJudged s n (comprehension l ds p e)
+  of_comprehension (inr o) sets constraint term = inr (o.0, o.1, inl o.2)
+  of_comprehension (inl apart) (inr o) constraint term = inr (o.0, o.1, inr (inl o.2))
+  of_comprehension (inl apart) (inl d) constraint term = by (constraint (with_variables s d.0)) (term (with_variables s d.0) d.0)
     where
-      sized : PartIsPredicate (with_variables s d.0) p → (u : Ty) → HasMemberType (with_variables s d.0) d.0 e u → Decided (IsSmall (power u)) → IsJudged s n (builder l ds p e)
-      sized c u b (inl small) = placed s n (builder l ds p e) (set_sort u) (d.0, u, apart, d.1, c, b, small, refl) (λ k m o. inr (inr (inr o)))
+      sized : PartIsPredicate (with_variables s d.0) p → (u : Ty) → HasMemberType (with_variables s d.0) d.0 e u → Decided (IsSmall (power u)) → IsJudged s n (comprehension l ds p e)
+      sized c u b (inl small) = placed s n (comprehension l ds p e) (set_sort u) (d.0, u, apart, d.1, c, b, small, refl) (λ k m o. inr (inr (inr o)))
       sized c u b (inr large) = inr (too_large TypeNodes, l, inr (inr (inl (d.0, (apart, d.1), inr (inr (u, b, large, refl, refl))))))
 
       by : PartIsPredicate (with_variables s d.0) p ⊎ SomeOffence (PartOffends (with_variables s d.0) need.Predicate p)
           → ((u : Ty) × HasMemberType (with_variables s d.0) d.0 e u) ⊎ SomeOffence (PartOffends (with_variables s d.0) need.Expression e)
-          → IsJudged s n (builder l ds p e)
+          → IsJudged s n (comprehension l ds p e)
       by (inr o) term = inr (o.0, o.1, inr (inr (inl (d.0, (apart, d.1), inl o.2))))
       by (inl c) (inr o) = inr (o.0, o.1, inr (inr (inl (d.0, (apart, d.1), inr (inl o.2)))))
       by (inl c) (inl b) = sized c b.0 b.1 (is_small (power b.0))
@@ -219,7 +219,7 @@ mutual
   judged s n (empty_set l e) = of_empty_set s n l e (judged s need.Set e)
   judged s n (bracket l e) = of_bracket s n l e (judged s n e)
   judged s n (listed l form es) = of_listed s n l form es (members_judged form s es)
-  judged s n (builder l ds p e) = of_builder s n l ds p e (are_apart (declared ds)) (sets_judged s ds) (λ w. constraint_judged w p) (λ w vs. built_judged w vs e)
+  judged s n (comprehension l ds p e) = of_comprehension s n l ds p e (are_apart (declared ds)) (sets_judged s ds) (λ w. constraint_judged w p) (λ w vs. built_judged w vs e)
   judged s n (unary l op e) = of_unary s n l op e (judged s (need_of op) e)
   judged s n (binary l op a b) = of_binary s n l op a b (judged s (left_need (rule_of op)) a) (judged s (right_need (rule_of op)) b)
   judged s n (chain l e ks) = of_chain s n l e ks (judged s need.Expression e) (λ x p. links_judged s e x ks p)

@@ -66,7 +66,7 @@ module _ (g : List Defined) (well : AreWellTyped g) where
   tree_numbers n before h (text.numeral l v) u s begin is e = none_found s e
   tree_numbers n before h (text.empty_set l a) u s begin is e = none_found s e
   tree_numbers n before h (text.listed l form es) u s begin is e = none_found s e
-  tree_numbers n before h (text.builder l ds p a) u s begin is e = none_found s e
+  tree_numbers n before h (text.comprehension l ds p a) u s begin is e = none_found s e
   tree_numbers n before h (text.unary l op a) u s begin is e = none_found s e
   tree_numbers n before h (text.binary l op a b) u s begin is e = none_found s e
   tree_numbers n before h (text.chain l a ks) u s begin is e = none_found s e

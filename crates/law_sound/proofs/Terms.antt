@@ -107,7 +107,7 @@ is_value w u q = cc
 empty_typed : (e : Environment) (u : Ty) (v : Value) → Is v ≡ Is (SetOf []) → IsOfType e (power u) v
 empty_typed e u v h = ([], is_value v (SetOf []) h, tt, omega arith, tt)
 
--- ---- displays, products and builders
+-- ---- displays, products and comprehensions
 
 display_typed : (e : Environment) (u : Ty) (vs : List Value) (v : Value) → ((x : Value) → IsMember x vs → IsOfType e u x) → IsDisplay vs (Is v) → IsOfType e (power u) v
 unfolding IsDisplay
@@ -184,7 +184,7 @@ mutual
   term_typed e s c (text.listed l form es) z v f h p =
       let q = several p.0 (ListedOutcome form) v p.2 in
       sorted e (typed h.1) z v (sym h.5) (listed_typed e form h.0 h.1 q.0 v h.3 (members_typed e s c form es h.0 q.0 f h.2 (subst (HaveOutcomes c (resolved_all s es)) q.1 p.1)) q.2)
-  term_typed e s c (text.builder l ds b a) z v f h p =
+  term_typed e s c (text.comprehension l ds b a) z v f h p =
       sorted e (set_sort h.1) z v (sym h.7)
       (built_typed e h.1 h.0 p.0 (λ ws u. IsConstraint (within c ws) (resolved_part (bound s ds) b) u) (λ ws x. meaning.Builds (within c ws) ws (resolved_part (bound s ds) a) x) v
       (λ ss q. ranges_typed e s c ds h.0 ss f h.3 (subst (HaveRanges c (resolved_ranges s ds)) q p.1))

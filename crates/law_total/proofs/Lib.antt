@@ -8,7 +8,7 @@ pub mod Sets
 pub mod Numbers
 pub mod Operations
 pub mod Truths
-pub mod Builders
+pub mod Comprehensions
 pub mod Terms
 pub mod Tables
 pub mod Carriers

@@ -16,7 +16,7 @@ use Rattle.zf_tree.specs.declared.operator.Operator.{Operator}
 use Rattle.zf_tree.specs.declared.operator.Operator.TheVariants as operator
 use Rattle.zf_tree.specs.declared.operator.Unary.{Unary}
 use Rattle.zf_tree.specs.declared.operator.Unary.TheVariants as the_unary
-use Rattle.zf_term.specs.{absent, binary, bracket, builder, chain, constant, empty_set, link, listed, no_links, no_ranges, no_terms, number, present, quantified, range, Ranges, reference, ResolvedLinks, ResolvedPart, ResolvedTree, term, unary}
+use Rattle.zf_term.specs.{absent, binary, bracket, comprehension, chain, constant, empty_set, link, listed, no_links, no_ranges, no_terms, number, present, quantified, range, Ranges, reference, ResolvedLinks, ResolvedPart, ResolvedTree, term, unary}
 use Rattle.zf_term.specs.ResolvedTrees.{ResolvedTrees}
 use Rattle.zf_term.specs.declared.extent.Infinite.{Infinite}
 use Rattle.zf_term.specs.declared.extent.Infinite.TheVariants.{Num, Nat, Nat1}
@@ -28,7 +28,7 @@ use Rattle.law_total.proofs.Listed.{HasSome}
 use Rattle.law_total.proofs.Numbers as numbers
 use Rattle.law_total.proofs.Operations as operations
 use Rattle.law_total.proofs.Truths.{some_link, some_conjunction, some_opposite, some_connected, some_told_of, some_quantified}
-use Rattle.law_total.proofs.Builders.{some_built}
+use Rattle.law_total.proofs.Comprehensions.{some_built}
 
 -- ---- symbols
 
@@ -127,7 +127,7 @@ mutual
   some_outcome c (empty_set l t) = (Is (SetOf []), refl)
   some_outcome c (bracket l t) = some_outcome c t
   some_outcome c (listed l form ts) = let s = some_several c ts in let o = some_on_several s.0 (ListedOutcome form) (some_listed form) in (o.0, (s.0, s.1, o.1))
-  some_outcome c (builder l rs f t) =
+  some_outcome c (comprehension l rs f t) =
       let s = some_ranges c rs in
       let o = some_built (λ vs u. IsConstraint (within c vs) f u) (λ vs x. Builds (within c vs) vs t x) (λ vs. some_constraint (within c vs) f)
       (λ vs. some_build (within c vs) vs t) (λ vs u w. one_constraint (within c vs) f u w) (λ vs x y. one_build (within c vs) vs t x y) s.0 in
@@ -177,7 +177,7 @@ mutual
   some_truth c (number l n) = (truth.False, refl)
   some_truth c (empty_set l t) = (truth.False, refl)
   some_truth c (listed l form ts) = (truth.False, refl)
-  some_truth c (builder l rs f t) = (truth.False, refl)
+  some_truth c (comprehension l rs f t) = (truth.False, refl)
 
   some_linked : (c : Context) (x : Outcome) (ks : ResolvedLinks) → HasSome (AreLinked c x ks)
   some_linked c x no_links = (truth.True, refl)

@@ -63,7 +63,7 @@ mutual
   term_same s (text.empty_set l e) z more p = (refl, refl)
   term_same s (text.bracket l e) z more p = term_same s e z more p.0
   term_same s (text.listed l form es) z more p = (refl, members_same s form es p.0 more p.2)
-  term_same s (text.builder l ds c e) z more p =
+  term_same s (text.comprehension l ds c e) z more p =
       (refl, three _ _ _ _ _ _ (ranges_same s ds p.0 more p.3) (condition_same s ds p.0 c more p.3 p.4) (built_same s ds p.0 e p.1 more p.3 p.5))
   term_same s (text.unary l op e) z more p = (refl, (term_same s e p.0 more p.1).1)
   term_same s (text.binary l op a b) z more p = (refl, both _ _ _ _ (term_same s a p.0 more p.2).1 (term_same s b p.1 more p.3).1)

@@ -13,7 +13,7 @@ pub use Rattle.zf_value.specs.declared.plain.Value.{Value}
 pub use Rattle.zf_tree.specs.{both, DeclTree, either, include, Links, no_decls, no_trees, Perhaps, schema_bracket, schema_text, SchemaTree, spelling, Tree, tree, var_decl, VarDecls, vars}
 pub use Rattle.zf_tree.specs.Trees.{Trees}
 pub use Rattle.zf_term.proofs.Behind.{onto_behind}
-pub use Rattle.zf_term.specs.{binary, bracket, builder, carrier, chain, Comp, comp_of, conjuncts, constant, DeclaredSet, Defined, empty_set, first_named, globals_of, is_and, is_conjunction, later, listed, moved, number, plain, quantified, reference, references, ResolvedTree, Schema, schema, schema_of, sides, term_line, unary}
+pub use Rattle.zf_term.specs.{binary, bracket, comprehension, carrier, chain, Comp, comp_of, conjuncts, constant, DeclaredSet, Defined, empty_set, first_named, globals_of, is_and, is_conjunction, later, listed, moved, number, plain, quantified, reference, references, ResolvedTree, Schema, schema, schema_of, sides, term_line, unary}
 pub use Rattle.zf_sorts.specs.{fault_of}
 pub use Rattle.zf_typing.specs.{bound, referent, resolved, resolved_all, resolved_links, resolved_part, resolved_ranges}
 pub use Rattle.zf_checker.specs.{AreWellTyped}

@@ -1,5 +1,5 @@
 -- The conjuncts of a schema name its own components alone.
-use Rattle.zf_engine.proofs.Prelude.{if◌then◌else◌, ◌++◌, ◌+◌, ◌<◌, ◌∷◌, ◌≡◌, ◌≤◌, [], ap, arith, Bool, false, length, List, map, None, Option, refl, Some, subst, suc, sym, true, zero, ℕ, bytes_eq, Component, Global, Local, spelling, Links, no_decls, no_trees, Perhaps, Tree, tree, Trees, var_decl, VarDecls, onto_behind, Comp, Defined, first_named, later, binary, bracket, builder, chain, constant, empty_set, listed, number, quantified, reference, ResolvedTree, unary, conjuncts, is_and, is_conjunction, moved, references, bound, referent, resolved, resolved_all, resolved_links, resolved_part, resolved_ranges, due, greatest_place, place_named, option_or}
+use Rattle.zf_engine.proofs.Prelude.{if◌then◌else◌, ◌++◌, ◌+◌, ◌<◌, ◌∷◌, ◌≡◌, ◌≤◌, [], ap, arith, Bool, false, length, List, map, None, Option, refl, Some, subst, suc, sym, true, zero, ℕ, bytes_eq, Component, Global, Local, spelling, Links, no_decls, no_trees, Perhaps, Tree, tree, Trees, var_decl, VarDecls, onto_behind, Comp, Defined, first_named, later, binary, bracket, comprehension, chain, constant, empty_set, listed, number, quantified, reference, ResolvedTree, unary, conjuncts, is_and, is_conjunction, moved, references, bound, referent, resolved, resolved_all, resolved_links, resolved_part, resolved_ranges, due, greatest_place, place_named, option_or}
 use Rattle.zf_tree.specs.Trees as text
 use Rattle.zf_reference.specs.declared.reference.Reference.{Reference}
 use Rattle.zf_term.specs.{all_onto, links_onto, onto, part_onto, ranges_onto}
@@ -75,7 +75,7 @@ mutual
   term_within n s rs (text.empty_set l e) h k = term_within n s rs e h k
   term_within n s rs (text.bracket l e) h k = term_within n s rs e h k
   term_within n s rs (text.listed l form es) h k = all_within n s rs es h k
-  term_within n s rs (text.builder l ds p e) h k =
+  term_within n s rs (text.comprehension l ds p e) h k =
       part_within n (bound s ds) (part_onto (ranges_onto rs (resolved_ranges s ds)) (resolved_part (bound s ds) p)) e h
       (part_within n (bound s ds) (ranges_onto rs (resolved_ranges s ds)) p h (ranges_within n s rs ds h k))
   term_within n s rs (text.unary l op e) h k = term_within n s rs e h k
@@ -144,7 +144,7 @@ conjuncts_due n (number l v) h = (h, tt)
 conjuncts_due n (constant l c) h = (h, tt)
 conjuncts_due n (empty_set l t) h = (h, tt)
 conjuncts_due n (listed l f ts) h = (h, tt)
-conjuncts_due n (builder l rs p t) h = (h, tt)
+conjuncts_due n (comprehension l rs p t) h = (h, tt)
 conjuncts_due n (unary l op t) h = (h, tt)
 conjuncts_due n (chain l t ks) h = (h, tt)
 conjuncts_due n (quantified l q rs p t) h = (h, tt)

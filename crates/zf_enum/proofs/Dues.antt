@@ -1,5 +1,5 @@
 -- The last component up to a place that a term names tells what is due, and whether a component is used; and that of the further items of a list.
-use Rattle.zf_enum.proofs.Prelude.{◌++◌, ◌+◌, ◌<◌, ◌∙◌, ◌∷◌, ◌≡◌, ◌≤◌, ◌⊎◌, [], add-one, ap, arith, Bool, cond, drop, eqb, false, get_or, inl, inr, length, List, map, max, refl, suc, sym, true, zero, ℕ, ⊎_elim, eqb-true, false≢true, nat_le, Reference, Component, Global, Local, link-seen, range-seen, absent, binary, bracket, builder, chain, constant, empty_set, link, links, listed, no_links, no_ranges, no_terms, number, present, quantified, range, range_of, Ranges, ranges, reference, resolved_link_of, resolved_of, ResolvedLinks, ResolvedPart, ResolvedTree, ResolvedTrees, term, terms, unary, references, Resolved, ResolvedLink, all_need, links_need, need, part_need, place_up_to, ranges_need, due, greatest_place, is_among, is_component, place_named, uses}
+use Rattle.zf_enum.proofs.Prelude.{◌++◌, ◌+◌, ◌<◌, ◌∙◌, ◌∷◌, ◌≡◌, ◌≤◌, ◌⊎◌, [], add-one, ap, arith, Bool, cond, drop, eqb, false, get_or, inl, inr, length, List, map, max, refl, suc, sym, true, zero, ℕ, ⊎_elim, eqb-true, false≢true, nat_le, Reference, Component, Global, Local, link-seen, range-seen, absent, binary, bracket, comprehension, chain, constant, empty_set, link, links, listed, no_links, no_ranges, no_terms, number, present, quantified, range, range_of, Ranges, ranges, reference, resolved_link_of, resolved_of, ResolvedLinks, ResolvedPart, ResolvedTree, ResolvedTrees, term, terms, unary, references, Resolved, ResolvedLink, all_need, links_need, need, part_need, place_up_to, ranges_need, due, greatest_place, is_among, is_component, place_named, uses}
 use Rattle.std.proofs.lemmas.Bool.Decides.{nat_tests}
 use Rattle.zf_term.specs.declared.resolved.Range.{Range}
 use Rattle.zf_term.specs.{all_onto, links_onto, onto, part_onto, ranges_onto}
@@ -23,7 +23,7 @@ mutual
   of_term m rs (empty_set l t) = of_term m rs t
   of_term m rs (bracket l t) = of_term m rs t
   of_term m rs (listed l form ts) = of_terms m rs ts
-  of_term m rs (builder l ds p t) = omega (arith, of_part m (part_onto (ranges_onto rs ds) p) t, of_part m (ranges_onto rs ds) p, of_ranges m rs ds)
+  of_term m rs (comprehension l ds p t) = omega (arith, of_part m (part_onto (ranges_onto rs ds) p) t, of_part m (ranges_onto rs ds) p, of_ranges m rs ds)
   of_term m rs (unary l op t) = of_term m rs t
   of_term m rs (binary l op a b) = omega (arith, of_term m (onto rs a) b, of_term m rs a)
   of_term m rs (chain l t ks) = omega (arith, of_links m (onto rs t) ks, of_term m rs t)

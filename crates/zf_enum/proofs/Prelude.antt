@@ -25,7 +25,7 @@ pub use Rattle.zf_value.specs.declared.plain.Value.{Value, Int, out-Value}
 pub use Rattle.zf_tree.specs.declared.operator.Unary.TheVariants.{Not}
 pub use Rattle.zf_tree.specs.declared.symbol.Relation.TheVariants.{Equal}
 pub use Rattle.zf_term.proofs.ResolvedSeen.{link-seen, of-Binary, of-Chain, of-Name, of-Unary, range-seen}
-pub use Rattle.zf_term.specs.{absent, binary, bracket, builder, chain, Comp, comp_of, conjunct_of, constant, empty_set, link, links, listed, no_links, no_ranges, no_terms, number, present, quantified, range, range_of, Ranges, ranges, reference, references, resolved_link_of, resolved_of, ResolvedLinks, ResolvedPart, ResolvedTree, schema_of, term, terms, unary}
+pub use Rattle.zf_term.specs.{absent, binary, bracket, comprehension, chain, Comp, comp_of, conjunct_of, constant, empty_set, link, links, listed, no_links, no_ranges, no_terms, number, present, quantified, range, range_of, Ranges, ranges, reference, references, resolved_link_of, resolved_of, ResolvedLinks, ResolvedPart, ResolvedTree, schema_of, term, terms, unary}
 pub use Rattle.zf_term.specs.ResolvedTrees.{ResolvedTrees}
 pub use Rattle.zf_term.specs.declared.conjunct.Conjunct.{Conjunct}
 pub use Rattle.zf_term.specs.declared.resolved.Resolved.{Resolved}

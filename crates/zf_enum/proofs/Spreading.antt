@@ -1,5 +1,5 @@
 -- Where a component has none of the values that a quantifier equates it with, the quantifier is False.
-use Rattle.zf_enum.proofs.Prelude.{◌≡◌, ⊎_elim, inl, inr, ℕ, ◌+◌, ◌≤◌, List, [], ◌∷◌, ◌++◌, length, get_or, Some, sym, ap, ◌∙◌, subst, arith, Contains, slice_get, Component, ResolvedTree, ResolvedPart, reference, number, constant, empty_set, bracket, listed, builder, unary, binary, chain, quantified, absent, present, Value, Outcome, Is, Undefined, Out, IsMember, members, members-SetOf, picked, AreWithin, length-picked, Leaves, Environment, value_or, in_row, HasOutcome, IsTruth, need, IsKept, AreCandidates, due, property, Context, within, outcome_in, IsThere, Equates, IsSpread}
+use Rattle.zf_enum.proofs.Prelude.{◌≡◌, ⊎_elim, inl, inr, ℕ, ◌+◌, ◌≤◌, List, [], ◌∷◌, ◌++◌, length, get_or, Some, sym, ap, ◌∙◌, subst, arith, Contains, slice_get, Component, ResolvedTree, ResolvedPart, reference, number, constant, empty_set, bracket, listed, comprehension, unary, binary, chain, quantified, absent, present, Value, Outcome, Is, Undefined, Out, IsMember, members, members-SetOf, picked, AreWithin, length-picked, Leaves, Environment, value_or, in_row, HasOutcome, IsTruth, need, IsKept, AreCandidates, due, property, Context, within, outcome_in, IsThere, Equates, IsSpread}
 use Rattle.zf_tree.specs.declared.operator.Operator.TheVariants.{Function, Generic, Connective, Application, Image}
 use Rattle.zf_tree.specs.declared.symbol.Connective.TheVariants as connective
 use Rattle.zf_tree.specs.declared.symbol.Quantifier.{Quantifier}
@@ -32,7 +32,7 @@ equated_false c (number l n) k t v o h at is other = absurd h
 equated_false c (constant l n) k t v o h at is other = absurd h
 equated_false c (empty_set l p) k t v o h at is other = absurd h
 equated_false c (listed l f ts) k t v o h at is other = absurd h
-equated_false c (builder l rs p q) k t v o h at is other = absurd h
+equated_false c (comprehension l rs p q) k t v o h at is other = absurd h
 equated_false c (unary l op p) k t v o h at is other = absurd h
 equated_false c (quantified l q rs p b) k t v o h at is other = absurd h
 
@@ -72,7 +72,7 @@ spread_apart c (constant l n) set k v s is at apart has = absurd is.1
 spread_apart c (empty_set l p) set k v s is at apart has = absurd is.1
 spread_apart c (bracket l p) set k v s is at apart has = absurd is.1
 spread_apart c (listed l f ts) set k v s is at apart has = absurd is.1
-spread_apart c (builder l rs p q) set k v s is at apart has = absurd is.1
+spread_apart c (comprehension l rs p q) set k v s is at apart has = absurd is.1
 spread_apart c (unary l op p) set k v s is at apart has = absurd is.1
 spread_apart c (binary l op p q) set k v s is at apart has = absurd is.1
 spread_apart c (chain l p ks) set k v s is at apart has = absurd is.1
@@ -114,13 +114,13 @@ equated_need m k (number l n) t h = absurd h
 equated_need m k (constant l n) t h = absurd h
 equated_need m k (empty_set l p) t h = absurd h
 equated_need m k (listed l f ts) t h = absurd h
-equated_need m k (builder l rs p q) t h = absurd h
+equated_need m k (comprehension l rs p q) t h = absurd h
 equated_need m k (unary l op p) t h = absurd h
 equated_need m k (quantified l q rs p b) t h = absurd h
 
 spread_need : (m k : ℕ) (p set : ResolvedTree) → IsSpread p k set → need m set ≤ need m p
 spread_need m k (quantified l q rs part body) set (t, (there, equates), (n, over)) =
-    let inner : need m set ≡ need m (builder n rs absent (present t)) = ap (need m) over in
+    let inner : need m set ≡ need m (comprehension n rs absent (present t)) = ap (need m) over in
     omega (arith, inner, equated_need m k body t equates)
 spread_need m k (reference l r) set is = absurd is.1
 spread_need m k (number l n) set is = absurd is.1
@@ -128,7 +128,7 @@ spread_need m k (constant l n) set is = absurd is.1
 spread_need m k (empty_set l p) set is = absurd is.1
 spread_need m k (bracket l p) set is = absurd is.1
 spread_need m k (listed l f ts) set is = absurd is.1
-spread_need m k (builder l rs p q) set is = absurd is.1
+spread_need m k (comprehension l rs p q) set is = absurd is.1
 spread_need m k (unary l op p) set is = absurd is.1
 spread_need m k (binary l op p q) set is = absurd is.1
 spread_need m k (chain l p ks) set is = absurd is.1

@@ -2,7 +2,7 @@
 use Rattle.std.specs.Prelude.{ℕ, ◌+◌, max, nat_le, cond, Option, Some, None}
 use Rattle.zf_reference.specs.declared.reference.Reference.{Reference}
 use Rattle.zf_reference.specs.declared.reference.Reference.TheVariants.{Component, Local, Global}
-use Rattle.zf_term.specs.{absent, binary, bracket, builder, chain, constant, empty_set, link, listed, no_links, no_ranges, no_terms, number, present, quantified, range, Ranges, reference, ResolvedLinks, ResolvedPart, ResolvedTree, term, unary}
+use Rattle.zf_term.specs.{absent, binary, bracket, comprehension, chain, constant, empty_set, link, listed, no_links, no_ranges, no_terms, number, present, quantified, range, Ranges, reference, ResolvedLinks, ResolvedPart, ResolvedTree, term, unary}
 use Rattle.zf_term.specs.ResolvedTrees.{ResolvedTrees}
 
 -- the place after the last one, if there is one
@@ -24,7 +24,7 @@ abbrev mutual
   need m (empty_set l t) = need m t
   need m (bracket l t) = need m t
   need m (listed l form ts) = all_need m ts
-  need m (builder l rs p t) = max (max (ranges_need m rs) (part_need m p)) (part_need m t)
+  need m (comprehension l rs p t) = max (max (ranges_need m rs) (part_need m p)) (part_need m t)
   need m (unary l op t) = need m t
   need m (binary l op a b) = max (need m a) (need m b)
   need m (chain l t ks) = max (need m t) (links_need m ks)

@@ -4,7 +4,7 @@ use Rattle.zf_tree.specs.declared.operator.Operator.TheVariants.{Connective}
 use Rattle.zf_tree.specs.declared.symbol.Connective.TheVariants as connective
 use Rattle.zf_tree.specs.declared.symbol.Quantifier.{Quantifier}
 use Rattle.zf_tree.specs.declared.symbol.Quantifier.TheVariants.{ForAll, Exists, ExistsOne}
-use Rattle.zf_term.specs.{absent, binary, bracket, builder, chain, present, quantified, resolved_of, ResolvedTree}
+use Rattle.zf_term.specs.{absent, binary, bracket, comprehension, chain, present, quantified, resolved_of, ResolvedTree}
 use Rattle.zf_enum.specs.declared.spread.Spread.{Spread}
 use Rattle.zf_enum.specs.Fixing.{Fixes}
 
@@ -28,7 +28,7 @@ AsksFor _ k t = ⊥
 
 -- the set is that of what the term comes to with any values of the predicate's variables
 abbrev pub IsSetOver : ResolvedTree → ResolvedTree → ResolvedTree → Type 0
-IsSetOver (quantified l q rs c body) t set = (m : ℕ) × (set ≡ builder m rs absent (present t))
+IsSetOver (quantified l q rs c body) t set = (m : ℕ) × (set ≡ comprehension m rs absent (present t))
 IsSetOver _ t set = ⊥
 
 abbrev pub IsSpread : ResolvedTree → ℕ → ResolvedTree → Type 0

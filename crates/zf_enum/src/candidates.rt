@@ -86,7 +86,7 @@ fn has_few_rows<'a>(
     requires within { AreWithin ranges.now places.now }
     requires deeper { length places.now < length ranges.now }
 {
-    let Resolved::Builder(_, variables, _, _) = set else {
+    let Resolved::Comprehension(_, variables, _, _) = set else {
         return Ok(false);
     };
     let row = Picked::new(ranges, places);

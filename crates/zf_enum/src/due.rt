@@ -53,7 +53,7 @@ pub(crate) fn last_up_to(term: &Resolved<'_>, bound: usize, found: Option<usize>
         Resolved::EmptySet(_, of) => last_up_to(of.get(), bound, found),
         Resolved::Bracket(_, inner) => last_up_to(inner.get(), bound, found),
         Resolved::Listed(_, _, items) => last_of_terms(items, bound, found),
-        Resolved::Builder(_, variables, filter, term) => {
+        Resolved::Comprehension(_, variables, filter, term) => {
             let last = last_of_ranges(variables, bound, found);
             last_of_part(term, bound, last_of_part(filter, bound, last))
         }

@@ -118,7 +118,7 @@ fn may_narrow(term: &Resolved<'_>) -> bool {
 #[cycle(costly)]
 fn is_costly(term: &Resolved<'_>) -> bool {
     match term {
-        Resolved::Builder(_, _, _, _) => true,
+        Resolved::Comprehension(_, _, _, _) => true,
         Resolved::Quantified(_, _, _, _, _) => true,
         Resolved::Listed(_, Listed::Product, _) => true,
         Resolved::Listed(_, _, items) => has_costly(items),

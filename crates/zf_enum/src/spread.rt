@@ -1,6 +1,6 @@
 //! Expressions that a quantifier equates a component with, for some values of its variables.
 ghost use Rattle.std.specs.Prelude.{◌≡◌, ◌<◌, ◌^◌, ℕ, List, Some, IfOk, IfSome, OnOk, IsTrue, map, slice_get};
-ghost use Rattle.zf_term.specs.{absent, builder, present, range_of, ranges, resolved_of, ResolvedTree};
+ghost use Rattle.zf_term.specs.{absent, comprehension, present, range_of, ranges, resolved_of, ResolvedTree};
 ghost use Rattle.zf_enum.specs.Property as spec;
 ghost use Rattle.zf_enum.specs.{AddsSpreads, AreSpreads, AsksFor, Equates, IsSetOver, IsSpread, IsThere};
 
@@ -144,12 +144,12 @@ fn set_of_rows<'a>(
     variables: Boxed<'a, Items<'a, Range<'a>>>,
     term: Resolved<'a>,
 ) -> Result<Resolved<'a>, AllocError>
-    ensures { IfOk result (λ set. resolved_of set ≡ builder line (ranges (map range_of variables.entry)) absent (present (resolved_of term.entry))) }
+    ensures { IfOk result (λ set. resolved_of set ≡ comprehension line (ranges (map range_of variables.entry)) absent (present (resolved_of term.entry))) }
 {
     let filter: Part<'a> = Boxed::new(arena, None)?;
     let inner = Boxed::new(arena, term)?;
     let member: Part<'a> = Boxed::new(arena, Some(inner))?;
-    Ok(Resolved::Builder(line, variables, filter, member))
+    Ok(Resolved::Comprehension(line, variables, filter, member))
 }
 
 /// The same ranges.

@@ -12,7 +12,7 @@ use Rattle.zf_extent.specs.{all_offending, first, is_last, links_offending, offe
 use Rattle.std.specs.Option.{option_or}
 use Rattle.zf_term.proofs.Choices.{or_none, or_else_assoc}
 use Rattle.zf_term.proofs.Walk.{dropped}
-use Rattle.zf_term.proofs.ResolvedSeen.{of-Builder, link-seen, range-seen}
+use Rattle.zf_term.proofs.ResolvedSeen.{of-Comprehension, link-seen, range-seen}
 
 abbrev pub offending_terms : List Defined → List Resolved → List Offender
 offending_terms g ts = all_offending g (terms (map resolved_of ts))
@@ -94,19 +94,19 @@ pub first_end :
 first_end all xs i whole found none h before =
     sym (before ∙ ap (λ ys. option_or found (first (all ys))) (drop_all i xs h) ∙ ap (λ os. option_or found (first os)) none ∙ or_none found)
 
--- a builder: its ranges, the filter, and the term
-pub first_of_builder :
-    (g : List Defined) (l : ℕ) (rs : List Range) (p t : Option Resolved) (whole : Resolved) (a b c : Option Offender) → whole ≡ v.Builder l rs p t
+-- a comprehension: its ranges, the filter, and the term
+pub first_of_comprehension :
+    (g : List Defined) (l : ℕ) (rs : List Range) (p t : Option Resolved) (whole : Resolved) (a b c : Option Offender) → whole ≡ v.Comprehension l rs p t
     → a ≡ first (ranges_offending g (ranges (map range_of rs)))
     → b ≡ option_or a (first (part_offending g (part_of p)))
     → c ≡ option_or b (first (part_offending g (part_of t)))
     → c ≡ first (offending g (resolved_of whole))
-first_of_builder g l rs p t whole a b c is e f h =
+first_of_comprehension g l rs p t whole a b c is e f h =
     let here = ranges_offending g (ranges (map range_of rs)) in
     let filter = part_offending g (part_of p) in
     let last = part_offending g (part_of t) in
     h
     ∙ ap (λ o. option_or o (first last)) (f ∙ ap (λ o. option_or o (first filter)) e ∙ sym (first_of_both here filter))
     ∙ sym (first_of_both (here ++ filter) last)
-    ∙ sym (ap (λ w. first (offending g w)) (of-Builder l rs p t))
+    ∙ sym (ap (λ w. first (offending g w)) (of-Comprehension l rs p t))
     ∙ sym (ap (λ w. first (offending g (resolved_of w))) is)

@@ -3,7 +3,7 @@ use Rattle.std.proofs.Common.{◌≡◌, ℕ, List, None, ◌&&◌, if◌then◌
 use Rattle.zf_tree.specs.declared.symbol.Relation.{Relation}
 use Rattle.zf_reference.specs.declared.reference.Reference.{Reference}
 use Rattle.zf_reference.specs.declared.reference.Reference.TheVariants.{Component, Local, Global}
-use Rattle.zf_term.specs.{absent, all_moved, binary, bracket, builder, chain, constant, Defined, empty_set, link, links_moved, listed, moved, no_links, no_ranges, no_terms, number, part_moved, present, quantified, range, Ranges, ranges_moved, reference, ResolvedLinks, ResolvedPart, ResolvedTree, term, unary}
+use Rattle.zf_term.specs.{absent, all_moved, binary, bracket, comprehension, chain, constant, Defined, empty_set, link, links_moved, listed, moved, no_links, no_ranges, no_terms, number, part_moved, present, quantified, range, Ranges, ranges_moved, reference, ResolvedLinks, ResolvedPart, ResolvedTree, term, unary}
 use Rattle.zf_extent.specs.{all_offending, direct, extent_named, extent_set, is_last, is_membership, links_offending, name_offenders, offending, part_offending, ranges_offending, tested}
 use Rattle.zf_term.specs.ResolvedTrees.{ResolvedTrees}
 use Rattle.zf_reference.specs.{renumbered}
@@ -25,7 +25,7 @@ same_set g f (constant l c) = refl
 same_set g f (empty_set l t) = refl
 same_set g f (bracket l t) = same_set g f t
 same_set g f (listed l form ts) = refl
-same_set g f (builder l rs p t) = refl
+same_set g f (comprehension l rs p t) = refl
 same_set g f (unary l op t) = refl
 same_set g f (binary l op a b) = refl
 same_set g f (chain l t ks) = refl
@@ -46,7 +46,7 @@ mutual
   same_offences g f (empty_set l t) = refl
   same_offences g f (bracket l t) = same_offences g f t
   same_offences g f (listed l form ts) = all_same_offences g f ts
-  same_offences g f (builder l rs p t) = let a = ranges_same_offences g f rs in let b = part_same_offences g f p in let c = part_same_offences g f t in (cc)
+  same_offences g f (comprehension l rs p t) = let a = ranges_same_offences g f rs in let b = part_same_offences g f p in let c = part_same_offences g f t in (cc)
   same_offences g f (unary l op t) = same_offences g f t
   same_offences g f (binary l op a b) = let left = same_offences g f a in let right = same_offences g f b in (cc)
   same_offences g f (chain l t ks) = let a = same_offences g f t in let b = links_same_offences g f ks in (cc)

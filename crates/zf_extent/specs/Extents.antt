@@ -14,7 +14,7 @@ use Rattle.zf_reference.specs.declared.reference.Reference.{Reference}
 use Rattle.zf_reference.specs.declared.reference.Reference.TheVariants.{Global}
 use Rattle.zf_extent.specs.declared.offender.Offender.{Offender}
 use Rattle.zf_extent.specs.declared.offender.Offender.TheVariants.{Name, Symbol}
-use Rattle.zf_term.specs.{abbreviation, absent, binary, bracket, builder, chain, constant, Defined, Definition, link, listed, no_links, no_ranges, no_terms, present, quantified, range, Ranges, reference, ResolvedLinks, ResolvedPart, ResolvedTree, term, unary}
+use Rattle.zf_term.specs.{abbreviation, absent, binary, bracket, comprehension, chain, constant, Defined, Definition, link, listed, no_links, no_ranges, no_terms, present, quantified, range, Ranges, reference, ResolvedLinks, ResolvedPart, ResolvedTree, term, unary}
 use Rattle.zf_term.specs.ResolvedTrees.{ResolvedTrees}
 
 -- ---- the infinite set that a term is
@@ -91,7 +91,7 @@ abbrev mutual
   offending g (constant l c) = constant_offenders l c (constant_set c)
   offending g (bracket l t) = offending g t
   offending g (listed l form ts) = all_offending g ts
-  offending g (builder l rs p t) = ranges_offending g rs ++ part_offending g p ++ part_offending g t
+  offending g (comprehension l rs p t) = ranges_offending g rs ++ part_offending g p ++ part_offending g t
   offending g (unary l op t) = offending g t
   offending g (binary l op a b) = offending g a ++ offending g b
   offending g (chain l t ks) = offending g t ++ links_offending g ks

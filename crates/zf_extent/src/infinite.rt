@@ -22,7 +22,7 @@ pub fn direct<'a>(term: &Resolved<'a>, globals: &Globals<'a>) -> Option<Infinite
         Resolved::EmptySet(_, _) => None,
         Resolved::Bracket(_, inner) => direct(inner.get(), globals),
         Resolved::Listed(_, _, _) => None,
-        Resolved::Builder(_, _, _, _) => None,
+        Resolved::Comprehension(_, _, _, _) => None,
         Resolved::Unary(_, _, _) => None,
         Resolved::Binary(_, _, _, _) => None,
         Resolved::Chain(_, _, _) => None,
@@ -56,7 +56,7 @@ pub fn offending<'a>(term: &Resolved<'a>, globals: &Globals<'a>) -> Option<Offen
         Resolved::EmptySet(_, _) => None,
         Resolved::Bracket(_, inner) => offending(inner.get(), globals),
         Resolved::Listed(_, _, items) => terms_offending(items, globals),
-        Resolved::Builder(_, variables, filter, term) => {
+        Resolved::Comprehension(_, variables, filter, term) => {
             let found = ranges_offending(variables, globals);
             part_after(term, part_after(filter, found, globals), globals)
         }

@@ -1,5 +1,5 @@
 -- What is made of a term's parts is a lift of the term.
-use Rattle.zf_lift.proofs.Prelude.{◌++◌, ◌+◌, ◌<◌, ◌∙◌, ◌∷◌, ◌≡◌, ◌≤◌, [], ap, arith, Bool, get_or, length, List, map, None, Option, refl, Some, subst, sym, take, true, ℕ, Reference, Global, Listed, Operator, Unary, Constant, Quantifier, Relation, link-seen, new_link, new_range, of-Binary, of-Bracket, of-Builder, of-Chain, of-Constant, of-EmptySet, of-link, of-Listed, of-Name, of-Number, of-Quantified, of-range, of-Unary, range-seen, links, part_of, range_of, ranges, reference, resolved_link_of, resolved_of, ResolvedTree, terms, Environment, AreEach, IsLonger, is_liftable, IsNamed, Outcome, AreLifts, AreLinkLifts, AreRangeLifts, IsClosed, IsLift, IsPartLift, IsLinkLift, IsRangeLift, need}
+use Rattle.zf_lift.proofs.Prelude.{◌++◌, ◌+◌, ◌<◌, ◌∙◌, ◌∷◌, ◌≡◌, ◌≤◌, [], ap, arith, Bool, get_or, length, List, map, None, Option, refl, Some, subst, sym, take, true, ℕ, Reference, Global, Listed, Operator, Unary, Constant, Quantifier, Relation, link-seen, new_link, new_range, of-Binary, of-Bracket, of-Comprehension, of-Chain, of-Constant, of-EmptySet, of-link, of-Listed, of-Name, of-Number, of-Quantified, of-range, of-Unary, range-seen, links, part_of, range_of, ranges, reference, resolved_link_of, resolved_of, ResolvedTree, terms, Environment, AreEach, IsLonger, is_liftable, IsNamed, Outcome, AreLifts, AreLinkLifts, AreRangeLifts, IsClosed, IsLift, IsPartLift, IsLinkLift, IsRangeLift, need}
 use Rattle.zf_term.specs.declared.resolved.Range.{Range}
 use Rattle.zf_term.specs.declared.resolved.Resolved.{Resolved}
 use Rattle.zf_term.specs.declared.resolved.Resolved.TheVariants as v
@@ -72,13 +72,13 @@ chained b f e c l first part further parts whole is h k =
 within_ranges : (b m : ℕ) (got ss : List Range) → got ≡ ss → m ≡ b + variables_of (ranges (map range_of got)) → m ≡ b + variables_of (ranges (map range_of ss))
 within_ranges b m got ss seen h = subst (λ rs. m ≡ b + variables_of (ranges (map range_of rs))) seen h
 
-pub built : (b m : ℕ) (f e : Environment) (c : Bool) (l : ℕ) (rs ss got : List Range) (p q t u : Option Resolved) (whole : Resolved) → whole ≡ v.Builder l ss q u
+pub built : (b m : ℕ) (f e : Environment) (c : Bool) (l : ℕ) (rs ss got : List Range) (p q t u : Option Resolved) (whole : Resolved) → whole ≡ v.Comprehension l ss q u
     → got ≡ ss → m ≡ b + variables_of (ranges (map range_of got)) → AreRangeLifts b f e c (ranges (map range_of rs)) (ranges (map range_of ss))
     → IsPartLift m f e c (part_of p) (part_of q) → IsPartLift m f e c (part_of t) (part_of u)
-    → IsLift b f e c (resolved_of (v.Builder l rs p t)) (resolved_of whole)
+    → IsLift b f e c (resolved_of (v.Comprehension l rs p t)) (resolved_of whole)
 built b m f e c l rs ss got p q t u whole is seen bound g h k =
     let inside = within_ranges b m got ss seen bound in
-    across b f e c _ _ _ _ (of-Builder l rs p t) (ap resolved_of is ∙ of-Builder l ss q u) (made.builder_lift b f e c l _ _ _ _ _ _ g
+    across b f e c _ _ _ _ (of-Comprehension l rs p t) (ap resolved_of is ∙ of-Comprehension l ss q u) (made.comprehension_lift b f e c l _ _ _ _ _ _ g
     (subst (λ n. IsPartLift n f e c (part_of p) (part_of q)) inside h) (subst (λ n. IsPartLift n f e c (part_of t) (part_of u)) inside k))
 
 pub bound : (b m : ℕ) (f e : Environment) (c : Bool) (l : ℕ) (n : Quantifier) (rs ss got : List Range) (p q : Option Resolved) (body part whole : Resolved)

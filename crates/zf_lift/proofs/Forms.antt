@@ -1,5 +1,5 @@
 -- Terms of one form mean the same where their parts do.
-use Rattle.zf_lift.proofs.Prelude.{◌↔◌, ◌≡◌, ap, List, None, Option, refl, subst, sym, ℕ, if◌then◌else◌, Reference, Outcome, Truth, Value, Listed, Operator, Unary, Constant, Quantifier, Relation, absent, binary, bracket, builder, chain, constant, empty_set, link, listed, no_links, no_ranges, no_terms, number, present, quantified, range, Ranges, reference, ResolvedLinks, ResolvedPart, ResolvedTree, ResolvedTrees, term, unary, Infinite, direct, is_membership, Context, outcome_in, within, AreLinked, Builds, HasOutcome, infinite_right, IsConstraint, IsLink, IsTruth, IsTold, opposite, AreSame, AreSameLinks, AreSameRanges, IsSame, IsSamePart}
+use Rattle.zf_lift.proofs.Prelude.{◌↔◌, ◌≡◌, ap, List, None, Option, refl, subst, sym, ℕ, if◌then◌else◌, Reference, Outcome, Truth, Value, Listed, Operator, Unary, Constant, Quantifier, Relation, absent, binary, bracket, comprehension, chain, constant, empty_set, link, listed, no_links, no_ranges, no_terms, number, present, quantified, range, Ranges, reference, ResolvedLinks, ResolvedPart, ResolvedTree, ResolvedTrees, term, unary, Infinite, direct, is_membership, Context, outcome_in, within, AreLinked, Builds, HasOutcome, infinite_right, IsConstraint, IsLink, IsTruth, IsTold, opposite, AreSame, AreSameLinks, AreSameRanges, IsSame, IsSamePart}
 use Rattle.zf_tree.specs.declared.operator.Operator.TheVariants as operator
 use Rattle.zf_tree.specs.declared.operator.Unary.TheVariants as the_unary
 use Rattle.zf_extent.specs.{constant_set}
@@ -162,24 +162,24 @@ same_quantified c d l q rs ss p r t u g h k = record {
   infinite = refl;
 }
 
-builder_outcome : (c d : Context) (l n : ℕ) (rs ss : Ranges) (p r t u : ResolvedPart)
+comprehension_outcome : (c d : Context) (l n : ℕ) (rs ss : Ranges) (p r t u : ResolvedPart)
     → ((s : Several) → HaveRanges c rs s → (vs : List Value) → IsFrom s vs → length vs ≡ n) → AreSameRanges c rs d ss
     → Inside n c d (λ x y. IsSamePart x p y r) → Inside n c d (λ x y. IsSamePart x t y u)
-    → (o : Outcome) → HasOutcome c (builder l rs p t) o → HasOutcome d (builder l ss r u) o
-builder_outcome c d l n rs ss p r t u sized g h k o x = (
+    → (o : Outcome) → HasOutcome c (comprehension l rs p t) o → HasOutcome d (comprehension l ss r u) o
+comprehension_outcome c d l n rs ss p r t u sized g h k o x = (
   x.0,
   (g x.0).0 x.1,
   mapped.built x.0 (λ vs a. IsConstraint (within c vs) p a) (λ vs a. IsConstraint (within d vs) r a) (λ vs z. Builds (within c vs) vs t z) (λ vs z. Builds (within d vs) vs u z)
       (record { filter = λ vs f a. (h vs (sized x.0 x.1 vs f)).constraint a; term = λ vs f z. (k vs (sized x.0 x.1 vs f)).builds vs z }) o x.2,
 )
 
-pub same_builder : (c d : Context) (l : ℕ) (rs ss : Ranges) (p r t u : ResolvedPart) → AreSameRanges c rs d ss
+pub same_comprehension : (c d : Context) (l : ℕ) (rs ss : Ranges) (p r t u : ResolvedPart) → AreSameRanges c rs d ss
     → Inside (variables_of ss) c d (λ x y. IsSamePart x p y r) → Inside (variables_of ss) c d (λ x y. IsSamePart x t y u)
-    → IsSame c (builder l rs p t) d (builder l ss r u)
-same_builder c d l rs ss p r t u g h k = record {
+    → IsSame c (comprehension l rs p t) d (comprehension l ss r u)
+same_comprehension c d l rs ss p r t u g h k = record {
   outcome = λ o. (
-    builder_outcome c d l (variables_of ss) rs ss p r t u (λ s x. row_length d ss s ((g s).0 x)) g h k o,
-    builder_outcome d c l (variables_of ss) ss rs r p u t (row_length d ss) (λ s. ((g s).1, (g s).0))
+    comprehension_outcome c d l (variables_of ss) rs ss p r t u (λ s x. row_length d ss s ((g s).0 x)) g h k o,
+    comprehension_outcome d c l (variables_of ss) ss rs r p u t (row_length d ss) (λ s. ((g s).1, (g s).0))
         (λ vs o. other_part (within c vs) (within d vs) p r (h vs o)) (λ vs o. other_part (within c vs) (within d vs) t u (k vs o)) o,
   );
   truth = λ a. (λ x. x, λ x. x);

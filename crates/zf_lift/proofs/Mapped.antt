@@ -1,4 +1,4 @@
--- What connectives, quantifiers and builders say of parts, they say of parts that say as much.
+-- What connectives, quantifiers and comprehensions say of parts, they say of parts that say as much.
 use Rattle.zf_lift.proofs.Prelude.{◌↔◌, inl, inr, List, ⊎_elim, Outcome, Truth, Value, Quantifier, IsBuilt, IsBuiltBy, IsBuiltOver, IsOutOfBounds, IsWithinBounds, one_out, one_undefined, Several, values, HasTwo, IsConjunction, IsConnected, IsDisjunction, IsEquivalence, IsExists, IsExistsOne, IsForAll, IsOver, IsQuantified, IsTold, opposite}
 use Rattle.zf_tree.specs.declared.symbol.Connective.{Connective}
 use Rattle.zf_tree.specs.declared.symbol.Connective.TheVariants as connective
@@ -77,7 +77,7 @@ quantified q one_out P Q f g u h = h
 quantified q one_undefined P Q f g u h = over q (λ vs. ⊥) P Q f g u h
 quantified q (values ss) P Q f g u h = over q (λ vs. AreFrom vs ss) P Q f g u h
 
--- ---- builders
+-- ---- comprehensions
 
 pub record AreAsGood (R : List Value → Type 0) (F G : List Value → Truth → Type 0) (T U : List Value → Outcome → Type 0) : Type 0 where
   pub filter : (vs : List Value) → R vs → (u : Truth) → F vs u ↔ G vs u

@@ -1,5 +1,5 @@
 -- A term that needs no more components than another uses no more.
-use Rattle.zf_lift.proofs.Prelude.{◌++◌, ◌∷◌, ◌≡◌, ◌≤◌, [], arith, List, max, ℕ, Reference, Component, Global, Local, absent, binary, bracket, builder, chain, constant, empty_set, link, listed, no_links, no_ranges, no_terms, number, present, quantified, range, Ranges, reference, ResolvedLinks, ResolvedPart, ResolvedTree, ResolvedTrees, term, unary, all_need, links_need, need, part_need, place, ranges_need}
+use Rattle.zf_lift.proofs.Prelude.{◌++◌, ◌∷◌, ◌≡◌, ◌≤◌, [], arith, List, max, ℕ, Reference, Component, Global, Local, absent, binary, bracket, comprehension, chain, constant, empty_set, link, listed, no_links, no_ranges, no_terms, number, present, quantified, range, Ranges, reference, ResolvedLinks, ResolvedPart, ResolvedTree, ResolvedTrees, term, unary, all_need, links_need, need, part_need, place, ranges_need}
 use Rattle.zf_term.specs.{all_onto, links_onto, onto, part_onto, ranges_onto, references}
 use Rattle.zf_meaning.specs.{AreBelow, IsBelow, UsesFirst}
 
@@ -21,7 +21,7 @@ mutual
   of_term rs (empty_set l t) = of_term rs t
   of_term rs (bracket l t) = of_term rs t
   of_term rs (listed l form ts) = of_terms rs ts
-  of_term rs (builder l ds p t) = omega (arith, of_part (part_onto (ranges_onto rs ds) p) t, of_part (ranges_onto rs ds) p, of_ranges rs ds)
+  of_term rs (comprehension l ds p t) = omega (arith, of_part (part_onto (ranges_onto rs ds) p) t, of_part (ranges_onto rs ds) p, of_ranges rs ds)
   of_term rs (unary l op t) = of_term rs t
   of_term rs (binary l op a b) = omega (arith, of_term (onto rs a) b, of_term rs a)
   of_term rs (chain l t ks) = omega (arith, of_links (onto rs t) ks, of_term rs t)

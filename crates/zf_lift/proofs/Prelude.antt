@@ -12,8 +12,8 @@ pub use Rattle.zf_tree.specs.declared.operator.Unary.{Unary}
 pub use Rattle.zf_tree.specs.declared.symbol.Constant.{Constant}
 pub use Rattle.zf_tree.specs.declared.symbol.Quantifier.{Quantifier}
 pub use Rattle.zf_tree.specs.declared.symbol.Relation.{Relation}
-pub use Rattle.zf_term.proofs.ResolvedSeen.{link-seen, new_link, new_range, of-Binary, of-Bracket, of-Builder, of-Chain, of-Constant, of-EmptySet, of-link, of-Listed, of-Name, of-Number, of-Quantified, of-range, of-Unary, range-seen}
-pub use Rattle.zf_term.specs.{absent, binary, bracket, builder, chain, constant, Defined, empty_set, link, links, listed, no_links, no_ranges, no_terms, number, part_of, present, quantified, range, range_of, Ranges, ranges, reference, resolved_link_of, resolved_of, ResolvedLinks, ResolvedPart, ResolvedTree, term, terms, unary}
+pub use Rattle.zf_term.proofs.ResolvedSeen.{link-seen, new_link, new_range, of-Binary, of-Bracket, of-Comprehension, of-Chain, of-Constant, of-EmptySet, of-link, of-Listed, of-Name, of-Number, of-Quantified, of-range, of-Unary, range-seen}
+pub use Rattle.zf_term.specs.{absent, binary, bracket, comprehension, chain, constant, Defined, empty_set, link, links, listed, no_links, no_ranges, no_terms, number, part_of, present, quantified, range, range_of, Ranges, ranges, reference, resolved_link_of, resolved_of, ResolvedLinks, ResolvedPart, ResolvedTree, term, terms, unary}
 pub use Rattle.zf_term.specs.ResolvedTrees.{ResolvedTrees}
 pub use Rattle.zf_term.specs.declared.extent.Infinite.{Infinite}
 pub use Rattle.zf_extent.specs.{direct, extent_found, extent_set, is_membership}

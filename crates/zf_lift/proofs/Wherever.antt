@@ -1,5 +1,5 @@
 -- Terms of one form are lifts, or closed, where their parts are.
-use Rattle.zf_lift.proofs.Prelude.{◌++◌, ◌<◌, ◌↔◌, ◌∙◌, ◌∷◌, ◌≡◌, ◌≤◌, [], ap, arith, Bool, false, length, List, None, Option, refl, subst, sym, true, ℕ, Reference, Component, Global, Local, Outcome, Truth, Value, Listed, Operator, Unary, Constant, Quantifier, Relation, Defined, absent, binary, bracket, builder, chain, constant, empty_set, link, links, listed, number, present, quantified, range, Ranges, ranges, reference, ResolvedLinks, ResolvedPart, ResolvedTree, ResolvedTrees, terms, unary, extent_found, extent_set, Context, Environment, outcome_in, outcome_or, longer, HasOutcome, IsTruth, AreEach, IsLifted, IsLonger, at, is_liftable, AreLifts, AreLinkLifts, AreRangeLifts, IsClosed, IsLift, IsPartLift, AreAllLifts, IsLinkLift, IsRangeLift, IsLater, Lifts, Wherever, need, AreSameLinks, AreSameRanges, IsSame, IsSamePart}
+use Rattle.zf_lift.proofs.Prelude.{◌++◌, ◌<◌, ◌↔◌, ◌∙◌, ◌∷◌, ◌≡◌, ◌≤◌, [], ap, arith, Bool, false, length, List, None, Option, refl, subst, sym, true, ℕ, Reference, Component, Global, Local, Outcome, Truth, Value, Listed, Operator, Unary, Constant, Quantifier, Relation, Defined, absent, binary, bracket, comprehension, chain, constant, empty_set, link, links, listed, number, present, quantified, range, Ranges, ranges, reference, ResolvedLinks, ResolvedPart, ResolvedTree, ResolvedTrees, terms, unary, extent_found, extent_set, Context, Environment, outcome_in, outcome_or, longer, HasOutcome, IsTruth, AreEach, IsLifted, IsLonger, at, is_liftable, AreLifts, AreLinkLifts, AreRangeLifts, IsClosed, IsLift, IsPartLift, AreAllLifts, IsLinkLift, IsRangeLift, IsLater, Lifts, Wherever, need, AreSameLinks, AreSameRanges, IsSame, IsSamePart}
 use Rattle.std.specs.Prelude.{◌&&◌, is_some, Some}
 use Rattle.std.proofs.Common.{true≢false}
 use Rattle.zf_tree.specs.declared.symbol.Constant.TheVariants as constants
@@ -156,15 +156,15 @@ chain_lift b f e c l t u ks ls h k = record {
 inside : (locals vs : List Value) (b m : ℕ) → length locals ≡ b → length vs ≡ m → length (locals ++ vs) ≡ b + m
 inside locals vs b m h k = omega (arith, length-append locals vs, h, k)
 
-pub builder_lift : (b : ℕ) (f e : Environment) (c : Bool) (l : ℕ) (rs ss : Ranges) (p q t u : ResolvedPart) → AreRangeLifts b f e c rs ss
-    → IsPartLift (b + variables_of ss) f e c p q → IsPartLift (b + variables_of ss) f e c t u → IsLift b f e c (builder l rs p t) (builder l ss q u)
+pub comprehension_lift : (b : ℕ) (f e : Environment) (c : Bool) (l : ℕ) (rs ss : Ranges) (p q t u : ResolvedPart) → AreRangeLifts b f e c rs ss
+    → IsPartLift (b + variables_of ss) f e c p q → IsPartLift (b + variables_of ss) f e c t u → IsLift b f e c (comprehension l rs p t) (comprehension l ss q u)
 unfolding IsLift AreRangeLifts IsPartLift
-builder_lift b f e c l rs ss p q t u h k m = record {
+comprehension_lift b f e c l rs ss p q t u h k m = record {
   needs = omega (arith, h.needs, k.needs, m.needs);
-  same = λ g x row locals o. forms.same_builder (at g row locals) (at e row locals) l rs ss p q t u (h.same g x row locals o)
+  same = λ g x row locals o. forms.same_comprehension (at g row locals) (at e row locals) l rs ss p q t u (h.same g x row locals o)
       (λ vs w. k.same g x row (locals ++ vs) (inside locals vs b (variables_of ss) o w))
       (λ vs w. m.same g x row (locals ++ vs) (inside locals vs b (variables_of ss) o w));
-  closed = λ z row locals. forms.same_builder (at e [] locals) (at e row locals) l ss ss q q u u (h.closed z row locals)
+  closed = λ z row locals. forms.same_comprehension (at e [] locals) (at e row locals) l ss ss q q u u (h.closed z row locals)
       (λ vs w. k.closed z row (locals ++ vs)) (λ vs w. m.closed z row (locals ++ vs));
 }
 
@@ -271,7 +271,7 @@ no_predicate n c (constant l k) a h = let f = number_truth k (is_some n) h in (�
 no_predicate n c (empty_set l t) a h = (λ x. x, λ x. x)
 no_predicate n c (bracket l t) a h = no_predicate n c t a h
 no_predicate n c (listed l form ts) a h = (λ x. x, λ x. x)
-no_predicate n c (builder l rs p t) a h = (λ x. x, λ x. x)
+no_predicate n c (comprehension l rs p t) a h = (λ x. x, λ x. x)
 no_predicate n c (unary l the_unary.Not t) a h = absurd (cc)
 no_predicate n c (unary l (the_unary.Sign s) t) a h = (λ x. x, λ x. x)
 no_predicate n c (unary l the_unary.Inverse t) a h = (λ x. x, λ x. x)
@@ -295,7 +295,7 @@ no_infinite e (constant l k) h = ended (constant_set k) e.numbers h
 no_infinite e (empty_set l t) h = refl
 no_infinite e (bracket l t) h = no_infinite e t h
 no_infinite e (listed l form ts) h = refl
-no_infinite e (builder l rs p t) h = refl
+no_infinite e (comprehension l rs p t) h = refl
 no_infinite e (unary l op t) h = refl
 no_infinite e (binary l op u v) h = refl
 no_infinite e (chain l t ks) h = refl

@@ -3,7 +3,7 @@ use Rattle.std.specs.Prelude.{◌≡◌, ◌+◌, ◌≤◌, ℕ, Bool, true, fa
 use Rattle.zf_tree.specs.declared.operator.Operator.TheVariants as operator
 use Rattle.zf_tree.specs.declared.operator.Unary.TheVariants as the_unary
 use Rattle.zf_extent.specs.{constant_set}
-use Rattle.zf_term.specs.{binary, bracket, builder, chain, constant, empty_set, listed, no_ranges, number, quantified, range, Ranges, reference, ResolvedLinks, ResolvedPart, ResolvedTree, unary}
+use Rattle.zf_term.specs.{binary, bracket, comprehension, chain, constant, empty_set, listed, no_ranges, number, quantified, range, Ranges, reference, ResolvedLinks, ResolvedPart, ResolvedTree, unary}
 use Rattle.zf_term.specs.ResolvedTrees.{ResolvedTrees}
 use Rattle.zf_value.specs.declared.plain.Value.{Value}
 use Rattle.zf_meaning.specs.{Context, Environment}
@@ -64,7 +64,7 @@ is_liftable n (constant l k) = is_some n && is_some (constant_set k)
 is_liftable n (empty_set l t) = true
 is_liftable n (bracket l t) = is_liftable n t
 is_liftable n (listed l form ts) = true
-is_liftable n (builder l rs p t) = true
+is_liftable n (comprehension l rs p t) = true
 is_liftable n (unary l the_unary.Not t) = false
 is_liftable n (unary l (the_unary.Sign s) t) = true
 is_liftable n (unary l the_unary.Inverse t) = true

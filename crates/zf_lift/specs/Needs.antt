@@ -2,7 +2,7 @@
 use Rattle.std.specs.Prelude.{ℕ, ◌+◌, max}
 use Rattle.zf_reference.specs.declared.reference.Reference.{Reference}
 use Rattle.zf_reference.specs.declared.reference.Reference.TheVariants.{Component, Local, Global}
-use Rattle.zf_term.specs.{absent, binary, bracket, builder, chain, constant, empty_set, link, listed, no_links, no_ranges, no_terms, number, present, quantified, range, Ranges, reference, ResolvedLinks, ResolvedPart, ResolvedTree, term, unary}
+use Rattle.zf_term.specs.{absent, binary, bracket, comprehension, chain, constant, empty_set, link, listed, no_links, no_ranges, no_terms, number, present, quantified, range, Ranges, reference, ResolvedLinks, ResolvedPart, ResolvedTree, term, unary}
 use Rattle.zf_term.specs.ResolvedTrees.{ResolvedTrees}
 
 -- the place of a component, from 1
@@ -19,7 +19,7 @@ abbrev mutual
   need (empty_set l t) = need t
   need (bracket l t) = need t
   need (listed l form ts) = all_need ts
-  need (builder l rs p t) = max (max (ranges_need rs) (part_need p)) (part_need t)
+  need (comprehension l rs p t) = max (max (ranges_need rs) (part_need p)) (part_need t)
   need (unary l op t) = need t
   need (binary l op a b) = max (need a) (need b)
   need (chain l t ks) = max (need t) (links_need ks)

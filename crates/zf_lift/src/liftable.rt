@@ -24,7 +24,7 @@ pub fn is_liftable(term: &Resolved<'_>, env: &Env<'_, '_>) -> bool
         Resolved::EmptySet(_, _) => true,
         Resolved::Bracket(_, inner) => is_liftable(inner.get(), env),
         Resolved::Listed(_, _, _) => true,
-        Resolved::Builder(_, _, _, _) => true,
+        Resolved::Comprehension(_, _, _, _) => true,
         Resolved::Unary(_, operator, _) => builds(*operator),
         Resolved::Binary(_, operator, _, _) => combines(*operator),
         Resolved::Chain(_, _, _) => false,
@@ -108,7 +108,7 @@ const MOST_ROWS: usize = 4096;
 pub(crate) fn is_long<'a>(term: &Resolved<'a>, env: &Env<'_, 'a>) -> bool {
     match term {
         Resolved::Bracket(_, inner) => is_long(inner.get(), env),
-        Resolved::Builder(_, variables, _, _) => {
+        Resolved::Comprehension(_, variables, _, _) => {
             rows_of(variables.as_slice(), env, MOST_ROWS) > MOST_ROWS
         }
         _ => false,

@@ -119,12 +119,12 @@ fn rebuilt<'g, 'a>(
             let items = lifted_terms(items, arena, depth, base, own)?;
             Ok(Resolved::Listed(*line, *form, items))
         }
-        Resolved::Builder(line, variables, filter, term) => {
+        Resolved::Comprehension(line, variables, filter, term) => {
             let inside = bound_behind(depth, variables.as_slice())?;
             let variables = lifted_ranges(variables, arena, depth, base, own)?;
             let filter = lifted_part(filter, arena, inside, base, own)?;
             let term = lifted_part(term, arena, inside, base, own)?;
-            Ok(Resolved::Builder(*line, variables, filter, term))
+            Ok(Resolved::Comprehension(*line, variables, filter, term))
         }
         Resolved::Unary(line, operator, of) => {
             let of = lifted_box(of, arena, depth, base, own)?;

@@ -1,5 +1,5 @@
--- Quantified predicates and builders, by their parts.
-use Rattle.zf_meaning.proofs.Prelude.{◌∙◌, ◌≡◌, ap, List, map, Option, subst, sym, ℕ, Outcome, Truth, Quantifier, of-Builder, of-Quantified, part_of, range_of, ranges, resolved_of, Range, Resolved, Context, HasOutcome, HaveRanges, IsBuilt, IsTruth, Several, IsQuantified}
+-- Quantified predicates and comprehensions, by their parts.
+use Rattle.zf_meaning.proofs.Prelude.{◌∙◌, ◌≡◌, ap, List, map, Option, subst, sym, ℕ, Outcome, Truth, Quantifier, of-Comprehension, of-Quantified, part_of, range_of, ranges, resolved_of, Range, Resolved, Context, HasOutcome, HaveRanges, IsBuilt, IsTruth, Several, IsQuantified}
 use Rattle.zf_term.specs.declared.resolved.Resolved.TheViews.{out-Resolved}
 use Rattle.zf_term.specs.declared.resolved.Resolved.TheVariants as v
 use Rattle.zf_meaning.proofs.Walking.{FilterIn, TermIn, ToldIn}
@@ -19,7 +19,7 @@ pub quantified-told : (c : Context) (d : Resolved) (q : Quantifier) (l : ℕ) (r
 quantified-told c d q l rs sl p e s u i f h k =
     subst (λ t. IsTruth c t u) (sym (ap resolved_of i ∙ of-Quantified l q rs p e)) (s, subst (λ zs. HaveRanges c (ranges (map range_of zs)) s) f h, k)
 
-pub builder-has : (c : Context) (d : Resolved) (l : ℕ) (rs sl : List Range) (p e : Option Resolved) (s : Several) (o : Outcome) → d ≡ v.Builder l rs p e
+pub comprehension-has : (c : Context) (d : Resolved) (l : ℕ) (rs sl : List Range) (p e : Option Resolved) (s : Several) (o : Outcome) → d ≡ v.Comprehension l rs p e
     → sl ≡ rs → HaveRanges c (ranges (map range_of sl)) s → IsBuilt s (FilterIn c (part_of p)) (TermIn c (part_of e)) o → HasOutcome c (resolved_of d) o
-builder-has c d l rs sl p e s o i f h k =
-    subst (λ t. HasOutcome c t o) (sym (ap resolved_of i ∙ of-Builder l rs p e)) (s, subst (λ zs. HaveRanges c (ranges (map range_of zs)) s) f h, k)
+comprehension-has c d l rs sl p e s o i f h k =
+    subst (λ t. HasOutcome c t o) (sym (ap resolved_of i ∙ of-Comprehension l rs p e)) (s, subst (λ zs. HaveRanges c (ranges (map range_of zs)) s) f h, k)

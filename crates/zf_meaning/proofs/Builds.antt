@@ -1,4 +1,4 @@
--- What a builder has built of the rows that are done.
+-- What a comprehension has built of the rows that are done.
 use Rattle.zf_meaning.proofs.Prelude.{◌++◌, ◌↔◌, ◌∷◌, ◌≡◌, ◌⊎◌, [], false, inl, inr, List, refl, subst, sym, true, ⊎_elim, every_also, members-push, same_set, IsDisplay, IsMember, HaveSameMembers, Outcome, Is, Out, Undefined, Truth, Value, AddsRow, IsBuiltBy, IsBuiltOver, IsWithinBounds}
 use Rattle.zf_value.specs.declared.value.Truth.TheVariants as truth
 use Rattle.zf_meaning.proofs.AllRows.{IsAmong}

@@ -1,5 +1,5 @@
 -- Parts of a binder that tell that rows do not count.
-use Rattle.zf_meaning.proofs.Prelude.{◌++◌, ◌+◌, ◌<◌, ◌↔◌, ◌∙◌, ◌∷◌, ◌≡◌, ◌≤◌, ◌⊎◌, [], ap, arith, Bool, false, get_or, inl, inr, length, List, map, None, Option, refl, Some, slice_get, subst, suc, sym, take, true, zero, ℕ, ⊎_elim, take_all, false≢true, All-push, All, Bor, IfSome, AreFrom, Is, Out, Outcome, Undefined, Truth, False, Value, And, Quantifier, Exists, ExistsOne, ForAll, Local, Reference, link-seen, of-Binary, of-Bracket, of-Builder, of-Chain, of-Name, of-Quantified, chain, link, links, no_links, part_of, reference, resolved_link_of, resolved_of, ResolvedTree, Range, Resolved, ResolvedLink, size-Resolved, IsEarlier, seen, AreNeutral, AreNeutralIf, IsBound, IsEquation, IsOther, IsPart, IsPiece, IsVariable, IsWanted, neutral, PassesBy, ArePassed, Falsifies, IsNeutral, Refutes, Wants, Context, value_or, within, HasOutcome, IsConstraint, IsTruth, need, part_need, NeedsFront, Front, IsPassed, Passing, Holds, IsAtom, IsTold, Span, Wanted}
+use Rattle.zf_meaning.proofs.Prelude.{◌++◌, ◌+◌, ◌<◌, ◌↔◌, ◌∙◌, ◌∷◌, ◌≡◌, ◌≤◌, ◌⊎◌, [], ap, arith, Bool, false, get_or, inl, inr, length, List, map, None, Option, refl, Some, slice_get, subst, suc, sym, take, true, zero, ℕ, ⊎_elim, take_all, false≢true, All-push, All, Bor, IfSome, AreFrom, Is, Out, Outcome, Undefined, Truth, False, Value, And, Quantifier, Exists, ExistsOne, ForAll, Local, Reference, link-seen, of-Binary, of-Bracket, of-Comprehension, of-Chain, of-Name, of-Quantified, chain, link, links, no_links, part_of, reference, resolved_link_of, resolved_of, ResolvedTree, Range, Resolved, ResolvedLink, size-Resolved, IsEarlier, seen, AreNeutral, AreNeutralIf, IsBound, IsEquation, IsOther, IsPart, IsPiece, IsVariable, IsWanted, neutral, PassesBy, ArePassed, Falsifies, IsNeutral, Refutes, Wants, Context, value_or, within, HasOutcome, IsConstraint, IsTruth, need, part_need, NeedsFront, Front, IsPassed, Passing, Holds, IsAtom, IsTold, Span, Wanted}
 use Rattle.std.proofs.lemmas.Option.{same_Some}
 use Rattle.zf_tree.specs.declared.symbol.Relation.TheVariants.{Equal}
 use Rattle.zf_tree.specs.declared.operator.Operator.TheVariants.{Connective}
@@ -15,9 +15,9 @@ pub neutral-told : (d : Resolved) (q : Quantifier) (l : ℕ) (rs : List Range) (
 unfolding IsNeutral
 neutral-told d q l rs p e c i h = subst (λ t. IsNeutral t c) (ap resolved_of i ∙ of-Quantified l q rs p e) h
 
-pub neutral-built : (d : Resolved) (l : ℕ) (rs : List Range) (p e : Option Resolved) (c : Context) → d ≡ v.Builder l rs p e → IsNeutral (resolved_of d) c → IsConstraint c (part_of p) False
+pub neutral-built : (d : Resolved) (l : ℕ) (rs : List Range) (p e : Option Resolved) (c : Context) → d ≡ v.Comprehension l rs p e → IsNeutral (resolved_of d) c → IsConstraint c (part_of p) False
 unfolding IsNeutral
-neutral-built d l rs p e c i h = subst (λ t. IsNeutral t c) (ap resolved_of i ∙ of-Builder l rs p e) h
+neutral-built d l rs p e c i h = subst (λ t. IsNeutral t c) (ap resolved_of i ∙ of-Comprehension l rs p e) h
 
 -- ---- what a binder has as parts
 
@@ -33,9 +33,9 @@ constraint-refutes d q l rs p e x i h =
     λ c f. subst (λ t. IsNeutral t c) (sym (ap resolved_of (i ∙ ap (λ z. v.Quantified q l rs z e) h) ∙ of-Quantified l q rs (Some x) e))
     (constraint_false q (λ a. IsTruth c (resolved_of x) a) (λ b. IsTruth c (resolved_of e) b) f)
 
-pub filter-refutes : (d : Resolved) (l : ℕ) (rs : List Range) (p e : Option Resolved) (x : Resolved) → d ≡ v.Builder l rs p e → p ≡ Some x → Refutes (resolved_of x) (resolved_of d)
+pub filter-refutes : (d : Resolved) (l : ℕ) (rs : List Range) (p e : Option Resolved) (x : Resolved) → d ≡ v.Comprehension l rs p e → p ≡ Some x → Refutes (resolved_of x) (resolved_of d)
 unfolding Refutes IsNeutral
-filter-refutes d l rs p e x i h = λ c f. subst (λ t. IsNeutral t c) (sym (ap resolved_of (i ∙ ap (λ z. v.Builder l rs z e) h) ∙ of-Builder l rs (Some x) e)) f
+filter-refutes d l rs p e x i h = λ c f. subst (λ t. IsNeutral t c) (sym (ap resolved_of (i ∙ ap (λ z. v.Comprehension l rs z e) h) ∙ of-Comprehension l rs (Some x) e)) f
 
 pub exists-refutes : (d : Resolved) (l : ℕ) (rs : List Range) (p : Option Resolved) (e : Resolved) → d ≡ v.Quantified Exists l rs p e → Refutes (resolved_of e) (resolved_of d)
 unfolding Refutes IsNeutral

@@ -1,5 +1,5 @@
 -- No term needs a bound variable behind the bound.
-use Rattle.zf_meaning.proofs.Prelude.{◌+◌, ◌≤◌, arith, cond, ℕ, nat_tests, nat_lt, Reference, Component, Global, Local, absent, binary, bracket, builder, chain, constant, empty_set, link, listed, no_links, no_ranges, no_terms, number, present, quantified, range, Ranges, reference, ResolvedLinks, ResolvedPart, ResolvedTree, ResolvedTrees, term, unary, all_need, links_need, need, part_need, place_below, ranges_need}
+use Rattle.zf_meaning.proofs.Prelude.{◌+◌, ◌≤◌, arith, cond, ℕ, nat_tests, nat_lt, Reference, Component, Global, Local, absent, binary, bracket, comprehension, chain, constant, empty_set, link, listed, no_links, no_ranges, no_terms, number, present, quantified, range, Ranges, reference, ResolvedLinks, ResolvedPart, ResolvedTree, ResolvedTrees, term, unary, all_need, links_need, need, part_need, place_below, ranges_need}
 
 below : (m i : ℕ) → cond (nat_lt i m) (i + 1) 0 ≤ m
 below m i = grind (arith, nat_tests)
@@ -17,7 +17,7 @@ mutual
   need-below m (empty_set l t) = need-below m t
   need-below m (bracket l t) = need-below m t
   need-below m (listed l form ts) = all-below m ts
-  need-below m (builder l rs p t) = let a = ranges-below m rs in let b = part-below m p in let c = part-below m t in omega (arith, a, b, c)
+  need-below m (comprehension l rs p t) = let a = ranges-below m rs in let b = part-below m p in let c = part-below m t in omega (arith, a, b, c)
   need-below m (unary l op t) = need-below m t
   need-below m (binary l op a b) = let x = need-below m a in let y = need-below m b in omega (arith, x, y)
   need-below m (chain l t ks) = let x = need-below m t in let y = links-below m ks in omega (arith, x, y)

@@ -1,5 +1,5 @@
 -- What the further items of a list need.
-use Rattle.zf_meaning.proofs.Prelude.{◌+◌, ◌<◌, ◌∙◌, ◌∷◌, ◌≡◌, ◌≤◌, [], add-one, ap, arith, drop, get_or, length, List, map, max, Option, subst, suc, sym, zero, ℕ, Reference, Listed, Operator, Unary, Quantifier, link-seen, of-Binary, of-Bracket, of-Builder, of-Chain, of-Constant, of-EmptySet, of-Listed, of-Name, of-Number, of-Quantified, of-Unary, range-seen, link, links, part_of, range, range_of, Ranges, ranges, resolved_link_of, resolved_of, ResolvedLinks, terms, Range, Resolved, ResolvedLink, all_need, links_need, need, part_need, place_below, ranges_need}
+use Rattle.zf_meaning.proofs.Prelude.{◌+◌, ◌<◌, ◌∙◌, ◌∷◌, ◌≡◌, ◌≤◌, [], add-one, ap, arith, drop, get_or, length, List, map, max, Option, subst, suc, sym, zero, ℕ, Reference, Listed, Operator, Unary, Quantifier, link-seen, of-Binary, of-Bracket, of-Comprehension, of-Chain, of-Constant, of-EmptySet, of-Listed, of-Name, of-Number, of-Quantified, of-Unary, range-seen, link, links, part_of, range, range_of, Ranges, ranges, resolved_link_of, resolved_of, ResolvedLinks, terms, Range, Resolved, ResolvedLink, all_need, links_need, need, part_need, place_below, ranges_need}
 use Rattle.std.proofs.Math.ListN.{drop_of_length-le}
 use Rattle.zf_tree.specs.declared.symbol.Constant.{Constant}
 use Rattle.zf_term.specs.declared.resolved.Resolved.TheVariants as v
@@ -103,10 +103,10 @@ of_chain m found first last d l a x ks i e h k =
     let left : first ≡ max found (need m (resolved_of a)) = subst (λ z. first ≡ max found (need m (resolved_of z))) e h in
     subst (λ t. last ≡ max found (need m t)) (sym (ap resolved_of i ∙ of-Chain l a ks)) (omega (arith, left, k))
 
-pub of_builder : (m found first second last : ℕ) (d : Resolved) (l : ℕ) (rs : List Range) (p t : Option Resolved) → d ≡ v.Builder l rs p t
+pub of_comprehension : (m found first second last : ℕ) (d : Resolved) (l : ℕ) (rs : List Range) (p t : Option Resolved) → d ≡ v.Comprehension l rs p t
     → first ≡ max found (ranges_need m (ranges (map range_of rs))) → second ≡ max first (part_need m (part_of p)) → last ≡ max second (part_need m (part_of t))
     → last ≡ max found (need m (resolved_of d))
-of_builder m found first second last d l rs p t i h j k = subst (λ z. last ≡ max found (need m z)) (sym (ap resolved_of i ∙ of-Builder l rs p t)) (omega (arith, h, j, k))
+of_comprehension m found first second last d l rs p t i h j k = subst (λ z. last ≡ max found (need m z)) (sym (ap resolved_of i ∙ of-Comprehension l rs p t)) (omega (arith, h, j, k))
 
 pub of_quantified : (m found first second last : ℕ) (d : Resolved) (q : Quantifier) (l : ℕ) (rs : List Range) (p : Option Resolved) (b x : Resolved)
     → d ≡ v.Quantified q l rs p b → x ≡ b → first ≡ max found (ranges_need m (ranges (map range_of rs))) → second ≡ max first (part_need m (part_of p))

@@ -42,8 +42,8 @@ pub use Rattle.zf_tree.specs.declared.symbol.Infix.TheVariants.{Composition, Dif
 pub use Rattle.zf_tree.specs.declared.symbol.Quantifier.{Quantifier}
 pub use Rattle.zf_tree.specs.declared.symbol.Quantifier.TheVariants.{Exists, ExistsOne, ForAll}
 pub use Rattle.zf_tree.specs.declared.symbol.Relation.{Relation}
-pub use Rattle.zf_term.proofs.ResolvedSeen.{link-seen, of-Binary, of-Bracket, of-Builder, of-Chain, of-Constant, of-EmptySet, of-Listed, of-Name, of-Number, of-Quantified, of-Unary, range-seen}
-pub use Rattle.zf_term.specs.{abbreviation, absent, all_onto, basic, binary, bracket, builder, chain, constant, constructor, Defined, Definition, definition_of, empty_set, free_type, given_set, globals_of, int, link, links, links_onto, listed, no_links, no_ranges, no_terms, no_types, number, onto, part_of, part_onto, power, present, product, quantified, range, range_of, Ranges, ranges, ranges_onto, reference, resolved_link_of, resolved_of, ResolvedLinks, ResolvedPart, ResolvedTree, schema, term, terms, Ty, type, type_of, types, Tys, unary}
+pub use Rattle.zf_term.proofs.ResolvedSeen.{link-seen, of-Binary, of-Bracket, of-Comprehension, of-Chain, of-Constant, of-EmptySet, of-Listed, of-Name, of-Number, of-Quantified, of-Unary, range-seen}
+pub use Rattle.zf_term.specs.{abbreviation, absent, all_onto, basic, binary, bracket, comprehension, chain, constant, constructor, Defined, Definition, definition_of, empty_set, free_type, given_set, globals_of, int, link, links, links_onto, listed, no_links, no_ranges, no_terms, no_types, number, onto, part_of, part_onto, power, present, product, quantified, range, range_of, Ranges, ranges, ranges_onto, reference, resolved_link_of, resolved_of, ResolvedLinks, ResolvedPart, ResolvedTree, schema, term, terms, Ty, type, type_of, types, Tys, unary}
 pub use Rattle.zf_term.specs.ResolvedTrees.{ResolvedTrees}
 pub use Rattle.zf_term.specs.declared.extent.Infinite.{Infinite}
 pub use Rattle.zf_term.specs.declared.resolved.Range.{Range}

@@ -1,5 +1,5 @@
 -- A term means the same where the bound variables that it names have the same values.
-use Rattle.zf_meaning.proofs.Prelude.{◌++◌, ◌+◌, ◌<◌, ◌∷◌, ◌≡◌, ◌≤◌, ◌⊎◌, [], ap, arith, cond, inl, inr, length, List, refl, subst, suc, take, zero, ℕ, ⊎_elim, nat_tests, nat_lt, slice_get, Reference, Component, Global, Local, Outcome, Truth, Value, absent, binary, bracket, builder, chain, constant, empty_set, link, listed, no_links, no_ranges, no_terms, number, present, quantified, range, Ranges, reference, ResolvedLinks, ResolvedPart, ResolvedTree, ResolvedTrees, term, unary, Context, outcome_in, value_or, within, AreLinked, Builds, HasOutcome, HaveOutcomes, HaveRanges, infinite_right, IsBuilt, IsConstraint, IsLink, IsTruth, all_need, links_need, need, part_need, place_below, ranges_need, OnBoth, one_more, OnOne, OnSeveral, repeated, Several, BinaryOutcome, ListedOutcome, UnaryOutcome, IsConjunction, IsConnected, IsQuantified, IsTold, opposite, Quantifier}
+use Rattle.zf_meaning.proofs.Prelude.{◌++◌, ◌+◌, ◌<◌, ◌∷◌, ◌≡◌, ◌≤◌, ◌⊎◌, [], ap, arith, cond, inl, inr, length, List, refl, subst, suc, take, zero, ℕ, ⊎_elim, nat_tests, nat_lt, slice_get, Reference, Component, Global, Local, Outcome, Truth, Value, absent, binary, bracket, comprehension, chain, constant, empty_set, link, listed, no_links, no_ranges, no_terms, number, present, quantified, range, Ranges, reference, ResolvedLinks, ResolvedPart, ResolvedTree, ResolvedTrees, term, unary, Context, outcome_in, value_or, within, AreLinked, Builds, HasOutcome, HaveOutcomes, HaveRanges, infinite_right, IsBuilt, IsConstraint, IsLink, IsTruth, all_need, links_need, need, part_need, place_below, ranges_need, OnBoth, one_more, OnOne, OnSeveral, repeated, Several, BinaryOutcome, ListedOutcome, UnaryOutcome, IsConjunction, IsConnected, IsQuantified, IsTold, opposite, Quantifier}
 use Rattle.zf_tree.specs.declared.operator.Operator.TheVariants as operator
 use Rattle.zf_tree.specs.declared.operator.Unary.TheVariants as the_unary
 
@@ -50,7 +50,7 @@ mutual
   same_outcome c ls n m (empty_set l t) a h o = refl
   same_outcome c ls n m (bracket l t) a h o = same_outcome c ls n m t a h o
   same_outcome c ls n m (listed l form ts) a h o = λ i. (s : Several) × same_outcomes c ls n m ts a h s i × OnSeveral s (ListedOutcome form) o
-  same_outcome c ls n m (builder l ds f t) a h o =
+  same_outcome c ls n m (comprehension l ds f t) a h o =
       λ i. (s : Several) × same_ranges c ls n m ds a (omega (arith, h)) s i
       × IsBuilt s (λ ws u. same_constraint (within c ws) (ls ++ ws) n m f (inside n m c.locals ls ws a) (omega (arith, h)) u i)
       (λ ws x. same_build (within c ws) (ls ++ ws) ws n m t (inside n m c.locals ls ws a) (omega (arith, h)) x i) o
@@ -101,7 +101,7 @@ mutual
   same_truth c ls n m (number l x) a h u = refl
   same_truth c ls n m (empty_set l t) a h u = refl
   same_truth c ls n m (listed l form ts) a h u = refl
-  same_truth c ls n m (builder l ds f t) a h u = refl
+  same_truth c ls n m (comprehension l ds f t) a h u = refl
 
   same_links : (c : Context) (ls : List Value) (n m : ℕ) (x : Outcome) (ks : ResolvedLinks) → AreAlike n m c.locals ls → links_need m ks ≤ n → (u : Truth)
       → AreLinked c x ks u ≡ AreLinked (with_locals c ls) x ks u

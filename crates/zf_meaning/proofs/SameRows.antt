@@ -1,5 +1,5 @@
 -- A term means the same in rows that agree in the components that it names.
-use Rattle.zf_meaning.proofs.Prelude.{◌++◌, ◌∷◌, ◌≡◌, [], ap, List, refl, slice_get, Reference, Component, Global, Local, Outcome, Truth, Value, all_onto, links_onto, onto, part_onto, ranges_onto, absent, binary, bracket, builder, chain, constant, empty_set, link, listed, no_links, no_ranges, no_terms, number, present, quantified, range, Ranges, reference, ResolvedLinks, ResolvedPart, ResolvedTree, ResolvedTrees, term, unary, Context, outcome_in, value_or, within, AreLinked, Builds, HasOutcome, HaveOutcomes, HaveRanges, infinite_right, IsBuilt, IsConstraint, IsLink, IsTruth, OnBoth, one_more, OnOne, OnSeveral, repeated, Several, BinaryOutcome, ListedOutcome, UnaryOutcome, IsConjunction, IsConnected, IsQuantified, IsTold, opposite}
+use Rattle.zf_meaning.proofs.Prelude.{◌++◌, ◌∷◌, ◌≡◌, [], ap, List, refl, slice_get, Reference, Component, Global, Local, Outcome, Truth, Value, all_onto, links_onto, onto, part_onto, ranges_onto, absent, binary, bracket, comprehension, chain, constant, empty_set, link, listed, no_links, no_ranges, no_terms, number, present, quantified, range, Ranges, reference, ResolvedLinks, ResolvedPart, ResolvedTree, ResolvedTrees, term, unary, Context, outcome_in, value_or, within, AreLinked, Builds, HasOutcome, HaveOutcomes, HaveRanges, infinite_right, IsBuilt, IsConstraint, IsLink, IsTruth, OnBoth, one_more, OnOne, OnSeveral, repeated, Several, BinaryOutcome, ListedOutcome, UnaryOutcome, IsConjunction, IsConnected, IsQuantified, IsTold, opposite}
 use Rattle.zf_tree.specs.declared.operator.Operator.TheVariants as operator
 use Rattle.zf_tree.specs.declared.operator.Unary.TheVariants as the_unary
 
@@ -35,7 +35,7 @@ mutual
   before_term row vs rs (empty_set l t) h = before_term row vs rs t h
   before_term row vs rs (bracket l t) h = before_term row vs rs t h
   before_term row vs rs (listed l form ts) h = before_terms row vs rs ts h
-  before_term row vs rs (builder l ds f t) h = before_ranges row vs rs ds (before_part row vs (ranges_onto rs ds) f (before_part row vs (part_onto (ranges_onto rs ds) f) t h))
+  before_term row vs rs (comprehension l ds f t) h = before_ranges row vs rs ds (before_part row vs (ranges_onto rs ds) f (before_part row vs (part_onto (ranges_onto rs ds) f) t h))
   before_term row vs rs (unary l op t) h = before_term row vs rs t h
   before_term row vs rs (binary l op a b) h = before_term row vs rs a (before_term row vs (onto rs a) b h)
   before_term row vs rs (chain l t ks) h = before_term row vs rs t (before_links row vs (onto rs t) ks h)
@@ -74,7 +74,7 @@ mutual
   same_outcome c vs rs (empty_set l t) h o = refl
   same_outcome c vs rs (bracket l t) h o = same_outcome c vs rs t h o
   same_outcome c vs rs (listed l form ts) h o = λ i. (s : Several) × same_outcomes c vs rs ts h s i × OnSeveral s (ListedOutcome form) o
-  same_outcome c vs rs (builder l ds f t) h o =
+  same_outcome c vs rs (comprehension l ds f t) h o =
       let at_part = before_part c.row vs (part_onto (ranges_onto rs ds) f) t h in
       let at_ranges = before_part c.row vs (ranges_onto rs ds) f at_part in
       λ i. (s : Several) × same_ranges c vs rs ds at_ranges s i
@@ -126,7 +126,7 @@ mutual
   same_truth c vs rs (number l n) h u = refl
   same_truth c vs rs (empty_set l t) h u = refl
   same_truth c vs rs (listed l form ts) h u = refl
-  same_truth c vs rs (builder l ds f t) h u = refl
+  same_truth c vs rs (comprehension l ds f t) h u = refl
 
   same_links : (c : Context) (vs : List Value) (rs : List Reference) (x : Outcome) (ks : ResolvedLinks) → Agree c.row vs (links_onto rs ks) → (u : Truth)
       → AreLinked c x ks u ≡ AreLinked (with_row c vs) x ks u

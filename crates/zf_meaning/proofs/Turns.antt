@@ -1,4 +1,4 @@
--- One turn of a walk over rows, for a quantifier and for a builder.
+-- One turn of a walk over rows, for a quantifier and for a comprehension.
 use Rattle.zf_meaning.proofs.Prelude.{◌+◌, ◌<◌, ◌∙◌, ◌∷◌, ◌≡◌, [], ap, arith, Bool, inl, inr, length, length-append, List, map, Option, subst, sym, ℕ, ⊎_elim, length-map, Bor, AreFrom, IsDisplay, members, Outcome, Truth, Value, Quantifier, part_of, resolved_of, ResolvedPart, ResolvedTree, Range, Resolved, AddsRow, IsBound, ArePassed, Context, within, Builds, IsBuiltOver, IsConstraint, IsTruth, seen, ahead, IsFirst, IsNext, lists_of, Passing, row_of, Skips, scope_of, truth_by, IsOver, IsTold, Env, Span, Rows, Tally}
 use Rattle.zf_term.specs.declared.resolved.Resolved.TheVariants as v
 use Rattle.zf_meaning.proofs.Builds.{IsSingle, HasBuilt, built-all}
@@ -80,9 +80,9 @@ told-ended d q l rs p e c r outside ss done passing t i h a n k =
     (walk-row (NeutralIn d c) r outside ss done h) a) n vs f))
     (walk-done (NeutralIn d c) r outside ss done h) k
 
--- what a builder builds where no row is left
+-- what a comprehension builds where no row is left
 pub built-ended : (d : Resolved) (l : ℕ) (rs : List Range) (p e : Option Resolved) (c : Context) (r : Rows) (outside ss : List Value)
-    (done : List (List Value)) (passing : Passing) (built : List Value) (o : Outcome) → d ≡ v.Builder l rs p e → WalksOver (NeutralIn d c) r outside ss done
+    (done : List (List Value)) (passing : Passing) (built : List Value) (o : Outcome) → d ≡ v.Comprehension l rs p e → WalksOver (NeutralIn d c) r outside ss done
     → ArePassed (resolved_of d) c (row_of r) passing → Skips passing (row_of r) (ahead r) []
     → HasBuilt (FilterIn c (part_of p)) (TermIn c (part_of e)) (row_of r ∷ done) built → IsDisplay built o
     → IsBuiltOver (λ vs. AreFrom vs ss) (FilterIn c (part_of p)) (TermIn c (part_of e)) o

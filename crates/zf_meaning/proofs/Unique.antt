@@ -1,5 +1,5 @@
 -- A term has one outcome at most, and one truth.
-use Rattle.zf_meaning.proofs.Prelude.{◌∙◌, ◌≡◌, List, None, Option, refl, Some, subst, sym, ⊎_elim, pos, one_Modulus, one_Quotient, HasOne, one_number, one_on_number, one_on_numbers, one_set, IsDifference, IsModulus, IsNegation, IsProduct, IsSum, IsInterval, IsQuotient, AreFrom, Outcome, Is, Out, Undefined, Truth, Value, Listed, Operator, Unary, Arrow, Connective, Infix, Composition, Difference, Div, DomainRestriction, DomainSubtraction, Intersection, Maplet, Minus, Mod, Overriding, Plus, RangeRestriction, RangeSubtraction, Times, Union, UpTo, Quantifier, Relation, absent, binary, bracket, builder, chain, constant, empty_set, link, listed, no_links, no_ranges, no_terms, number, present, quantified, range, Ranges, reference, ResolvedLinks, ResolvedPart, ResolvedTree, ResolvedTrees, term, unary, Infinite, Context, within, AreLinked, Builds, HasOutcome, HaveOutcomes, HaveRanges, infinite_right, IsBuilt, IsBuiltBy, IsBuiltOver, IsConstraint, IsLink, IsOutOfBounds, IsTruth, IsWithinBounds, OnBoth, one_out, one_undefined, OnOne, OnSeveral, Several, values, ArrowOutcome, BinaryOutcome, Holds, HoldsOf, InfixOutcome, ListedOutcome, PrefixOutcome, SignOutcome, UnaryOutcome, IsAtom, IsConjunction, IsConnected, IsDisjunction, IsEquivalence, IsExists, IsExistsOne, IsForAll, IsOver, IsQuantified, IsTest, IsTold, opposite, Tells, ℕ}
+use Rattle.zf_meaning.proofs.Prelude.{◌∙◌, ◌≡◌, List, None, Option, refl, Some, subst, sym, ⊎_elim, pos, one_Modulus, one_Quotient, HasOne, one_number, one_on_number, one_on_numbers, one_set, IsDifference, IsModulus, IsNegation, IsProduct, IsSum, IsInterval, IsQuotient, AreFrom, Outcome, Is, Out, Undefined, Truth, Value, Listed, Operator, Unary, Arrow, Connective, Infix, Composition, Difference, Div, DomainRestriction, DomainSubtraction, Intersection, Maplet, Minus, Mod, Overriding, Plus, RangeRestriction, RangeSubtraction, Times, Union, UpTo, Quantifier, Relation, absent, binary, bracket, comprehension, chain, constant, empty_set, link, listed, no_links, no_ranges, no_terms, number, present, quantified, range, Ranges, reference, ResolvedLinks, ResolvedPart, ResolvedTree, ResolvedTrees, term, unary, Infinite, Context, within, AreLinked, Builds, HasOutcome, HaveOutcomes, HaveRanges, infinite_right, IsBuilt, IsBuiltBy, IsBuiltOver, IsConstraint, IsLink, IsOutOfBounds, IsTruth, IsWithinBounds, OnBoth, one_out, one_undefined, OnOne, OnSeveral, Several, values, ArrowOutcome, BinaryOutcome, Holds, HoldsOf, InfixOutcome, ListedOutcome, PrefixOutcome, SignOutcome, UnaryOutcome, IsAtom, IsConjunction, IsConnected, IsDisjunction, IsEquivalence, IsExists, IsExistsOne, IsForAll, IsOver, IsQuantified, IsTest, IsTold, opposite, Tells, ℕ}
 use Rattle.zf_tree.specs.declared.symbol.Arrow.TheVariants as arrow
 use Rattle.zf_tree.specs.declared.symbol.Connective.TheVariants as connective
 use Rattle.zf_tree.specs.declared.symbol.Constant.{Constant}
@@ -286,7 +286,7 @@ one_quantified q one_out P f t u h k = h ∙ sym k
 one_quantified q one_undefined P f t u h k = one_over q (λ vs. ⊥) P f t u h k
 one_quantified q (values ss) P f t u h k = one_over q (λ vs. AreFrom vs ss) P f t u h k
 
--- ---- builders
+-- ---- comprehensions
 
 not_both : (F : List Value → Truth → Type 0) (T : List Value → Outcome → Type 0) → EachOne F → ((vs : List Value) → HasOne (T vs)) → (vs : List Value)
     → IsWithinBounds F T vs → IsOutOfBounds F T vs → ⊥
@@ -319,7 +319,7 @@ mutual
   one_outcome c (listed l form ts) o p h k =
       let s = one_several c ts h.0 k.0 h.1 k.1 in
       one_on_several k.0 (ListedOutcome form) (one_listed form) o p (subst (λ u. OnSeveral u (ListedOutcome form) o) s h.2) k.2
-  one_outcome c (builder l rs f t) o p h k =
+  one_outcome c (comprehension l rs f t) o p h k =
       let s = one_ranges c rs h.0 k.0 h.1 k.1 in
       one_built k.0 (λ vs u. IsConstraint (within c vs) f u) (λ vs x. Builds (within c vs) vs t x) (λ vs u w. one_constraint (within c vs) f u w) (λ vs x y. one_build (within c vs) vs t x y) o p
       (subst (λ z. IsBuilt z (λ vs u. IsConstraint (within c vs) f u) (λ vs x. Builds (within c vs) vs t x) o) s h.2) k.2
@@ -380,7 +380,7 @@ mutual
   one_truth c (number l n) u w h k = h ∙ sym k
   one_truth c (empty_set l t) u w h k = h ∙ sym k
   one_truth c (listed l form ts) u w h k = h ∙ sym k
-  one_truth c (builder l rs f t) u w h k = h ∙ sym k
+  one_truth c (comprehension l rs f t) u w h k = h ∙ sym k
 
   one_linked : (c : Context) (x : Outcome) (ks : ResolvedLinks) (u w : Truth) → AreLinked c x ks u → AreLinked c x ks w → u ≡ w
   one_linked c x no_links u w h k = h ∙ sym k

@@ -5,7 +5,7 @@ use Rattle.zf_tree.specs.declared.symbol.Quantifier.{Quantifier}
 use Rattle.zf_tree.specs.declared.symbol.Quantifier.TheVariants.{ForAll, Exists, ExistsOne}
 use Rattle.zf_tree.specs.declared.symbol.Relation.TheVariants.{Equal}
 use Rattle.zf_term.specs.declared.resolved.Resolved.{Resolved, size-Resolved}
-use Rattle.zf_term.specs.{binary, bracket, builder, chain, constant, empty_set, link, listed, no_links, number, quantified, reference, resolved_of, ResolvedPart, ResolvedTree, unary}
+use Rattle.zf_term.specs.{binary, bracket, comprehension, chain, constant, empty_set, link, listed, no_links, number, quantified, reference, resolved_of, ResolvedPart, ResolvedTree, unary}
 use Rattle.zf_value.specs.declared.plain.Value.{Value}
 use Rattle.zf_value.specs.declared.value.Outcome.{Outcome}
 use Rattle.zf_value.specs.declared.value.Outcome.TheVariants as outcome
@@ -36,7 +36,7 @@ IsNeutral (constant l k) c = ⊥
 IsNeutral (empty_set l t) c = ⊥
 IsNeutral (bracket l t) c = ⊥
 IsNeutral (listed l form ts) c = ⊥
-IsNeutral (builder l rs p t) c = IsConstraint c p False
+IsNeutral (comprehension l rs p t) c = IsConstraint c p False
 IsNeutral (unary l op t) c = ⊥
 IsNeutral (binary l op a b) c = ⊥
 IsNeutral (chain l t ks) c = ⊥

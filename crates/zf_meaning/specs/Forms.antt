@@ -16,5 +16,5 @@ IsChain t = (l : ℕ) × (a : Resolved) × (ks : List ResolvedLink) × (t ≡ fo
 abbrev pub IsQuantified : Resolved → Type 0
 IsQuantified t = (q : Quantifier) × (l : ℕ) × (rs : List Range) × (p : Option Resolved) × (e : Resolved) × (t ≡ form.Quantified q l rs p e)
 
-abbrev pub IsBuilder : Resolved → Type 0
-IsBuilder t = (l : ℕ) × (rs : List Range) × (p e : Option Resolved) × (t ≡ form.Builder l rs p e)
+abbrev pub IsComprehension : Resolved → Type 0
+IsComprehension t = (l : ℕ) × (rs : List Range) × (p e : Option Resolved) × (t ≡ form.Comprehension l rs p e)

@@ -37,7 +37,7 @@ pub use Rattle.zf_meaning.specs.Places.{headed, headed_from, IsAmong, seen, with
 pub use Rattle.zf_meaning.specs.Rowed.{ahead, AreOthers, IsAt, IsFirst, IsNext, IsPassed, lists_of, row_of, Skips}
 unfoldable pub use Rattle.zf_meaning.specs.Linked.{IsLastLink}
 pub use Rattle.zf_meaning.specs.Scopes.{scope_of}
-pub use Rattle.zf_meaning.specs.Forms.{IsBinary, IsBuilder, IsChain, IsQuantified}
+pub use Rattle.zf_meaning.specs.Forms.{IsBinary, IsComprehension, IsChain, IsQuantified}
 pub use Rattle.zf_meaning.specs.RangeSets.{declared_of, sets_with, spread}
 pub use Rattle.zf_meaning.specs.Building.{AddsRow, AddsValue}
 pub use Rattle.zf_meaning.specs.Needs.{all_need, links_need, need, part_need, place_below, ranges_need}

@@ -8,7 +8,7 @@ use Rattle.zf_term.specs.declared.extent.Infinite.TheVariants.{Num, Nat, Nat1}
 use Rattle.zf_tree.specs.declared.operator.Operator.TheVariants.{Connective}
 use Rattle.zf_tree.specs.declared.operator.Unary.TheVariants.{Not}
 use Rattle.zf_extent.specs.{is_membership}
-use Rattle.zf_term.specs.{absent, binary, bracket, builder, chain, constant, empty_set, link, listed, no_links, no_ranges, no_terms, number, present, quantified, range, Ranges, reference, ResolvedLinks, ResolvedPart, ResolvedTree, term, unary}
+use Rattle.zf_term.specs.{absent, binary, bracket, comprehension, chain, constant, empty_set, link, listed, no_links, no_ranges, no_terms, number, present, quantified, range, Ranges, reference, ResolvedLinks, ResolvedPart, ResolvedTree, term, unary}
 use Rattle.zf_term.specs.ResolvedTrees.{ResolvedTrees}
 use Rattle.zf_value.specs.declared.plain.Value.{Value, Tuple}
 use Rattle.zf_value.specs.declared.value.Outcome.{Outcome}
@@ -37,9 +37,9 @@ constant_truth _ = truth.False
 abbrev pub infinite_right : Context → Relation → ResolvedTree → Option Infinite
 infinite_right c r t = if is_membership r then infinite_in c.environment t else None
 
--- ---- builders, over the rows that `rows` admits, where `filter` and `outcome` say the truth of a row's filter and the outcome of its term
+-- ---- comprehensions, over the rows that `rows` admits, where `filter` and `outcome` say the truth of a row's filter and the outcome of its term
 
--- what a builder without a term builds: the one variable, or the tuple of all
+-- what a comprehension without a term builds: the one variable, or the tuple of all
 abbrev pub row_value : List Value → Value
 row_value (v ∷ []) = v
 row_value vs = Tuple vs
@@ -77,7 +77,7 @@ abbrev mutual
   HasOutcome c (empty_set l t) o = IsEmptySet o
   HasOutcome c (bracket l t) o = HasOutcome c t o
   HasOutcome c (listed l form ts) o = (s : Several) × HaveOutcomes c ts s × OnSeveral s (ListedOutcome form) o
-  HasOutcome c (builder l rs p t) o = (s : Several) × HaveRanges c rs s × IsBuilt s (λ vs u. IsConstraint (within c vs) p u) (λ vs x. Builds (within c vs) vs t x) o
+  HasOutcome c (comprehension l rs p t) o = (s : Several) × HaveRanges c rs s × IsBuilt s (λ vs u. IsConstraint (within c vs) p u) (λ vs x. Builds (within c vs) vs t x) o
   HasOutcome c (unary l op t) o = (x : Outcome) × HasOutcome c t x × OnOne x (UnaryOutcome op) o
   HasOutcome c (binary l op a b) o = (x y : Outcome) × HasOutcome c a x × HasOutcome c b y × OnBoth x y (BinaryOutcome op) o
   HasOutcome c _ o = o ≡ Undefined
@@ -91,7 +91,7 @@ abbrev mutual
   HaveRanges c no_ranges s = s ≡ values []
   HaveRanges c (range n t rs) s = (x : Outcome) × (r : Several) × HasOutcome c t x × HaveRanges c rs r × (s ≡ repeated n x r)
 
-  -- the outcome of the term of a builder, in the row of its variables
+  -- the outcome of the term of a comprehension, in the row of its variables
   pub Builds : Context → List Value → ResolvedPart → Outcome → Type 0
   Builds c vs absent o = o ≡ Is (row_value vs)
   Builds c vs (present t) o = HasOutcome c t o

@@ -18,7 +18,7 @@ mod ranges;
 use crate::env::Env;
 use crate::number_set::built_numbers;
 use crate::row::Row;
-use binders::{builder, quantified};
+use binders::{comprehension, quantified};
 use chains::chain;
 use operands::{binary, connective, listed, not, unary};
 use std::alloc::{AllocError, Global};
@@ -47,7 +47,7 @@ pub(crate) fn outcome<'v, 'a, R: Row>(
         Resolved::EmptySet(_, _) => empty_set(env.allocator()),
         Resolved::Bracket(_, inner) => outcome(inner.get(), row, locals, env),
         Resolved::Listed(_, form, terms) => listed(terms.as_slice(), *form, row, locals, env),
-        Resolved::Builder(_, _, _, _) => builder(term, row, locals, env),
+        Resolved::Comprehension(_, _, _, _) => comprehension(term, row, locals, env),
         Resolved::Unary(_, op, of) => unary(of.get(), *op, row, locals, env),
         Resolved::Binary(_, _, _, _) => binary(term, row, locals, env),
         Resolved::Chain(_, _, _) => Ok(Found::Undefined),
@@ -77,7 +77,7 @@ pub(crate) fn truth<'v, 'a, R: Row>(
         Resolved::Number(_, _) => Ok(Truth::False),
         Resolved::EmptySet(_, _) => Ok(Truth::False),
         Resolved::Listed(_, _, _) => Ok(Truth::False),
-        Resolved::Builder(_, _, _, _) => Ok(Truth::False),
+        Resolved::Comprehension(_, _, _, _) => Ok(Truth::False),
     }
 }
 

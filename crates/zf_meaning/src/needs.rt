@@ -30,7 +30,7 @@ fn last_below(term: &Resolved<'_>, bound: usize, found: usize) -> usize
         Resolved::EmptySet(_, of) => last_below(of.get(), bound, found),
         Resolved::Bracket(_, inner) => last_below(inner.get(), bound, found),
         Resolved::Listed(_, _, items) => last_of_terms(items, bound, found),
-        Resolved::Builder(_, variables, filter, term) => {
+        Resolved::Comprehension(_, variables, filter, term) => {
             let last = last_of_ranges(variables, bound, found);
             last_of_part(term, bound, last_of_part(filter, bound, last))
         }

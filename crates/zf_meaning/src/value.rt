@@ -102,7 +102,7 @@ pub fn truth_of<'a, R: Row>(
     truth(term, &*row, none, &*env)
 }
 
-/// The bound variables outside of all quantifiers and builders.
+/// The bound variables outside of all quantifiers and comprehensions.
 fn no_variables<'v>() -> &'v [&'v Value]
     ensures { result.now ≡ [] }
 {

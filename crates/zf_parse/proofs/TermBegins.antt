@@ -6,7 +6,7 @@ use Rattle.zf_tree.specs.declared.operator.Listed.TheVariants as list
 use Rattle.zf_tree.specs.declared.operator.Sign.TheVariants as sign
 use Rattle.zf_tree.specs.declared.operator.Unary.TheVariants as one
 use Rattle.zf_tree.specs.declared.tree.Term.TheVariants as term
-use Rattle.zf_parse.specs.{beginning, beginning_by, begins_decl, braced, builder, closed_by, decls, display, empty_set, further, listed, part, parted_by, prefixed, quantified, round, round_by, tall}
+use Rattle.zf_parse.specs.{beginning, beginning_by, begins_decl, braced, comprehension, closed_by, decls, display, empty_set, further, listed, part, parted_by, prefixed, quantified, round, round_by, tall}
 use Rattle.zf_parse.specs.TermReading.{expect}
 use Rattle.zf_tree.specs.Trees as shape
 use Rattle.zf_parse.proofs.Marks.{kind_of}
@@ -134,9 +134,9 @@ module _ (below : Reader) (n : ℕ) (ok : IsSound n below) where
       listed_sound n line least list.Display x.0 y _ ts x.1 us (record { fits = fits; place = s.fits; enough = λ vs two. tt; opens = λ vs l. refl; low = λ h low e. low s.low })
       (record { fits = omega arith; levelled = s.levelled; high = s.high; low = s.low; spelled = s.spelled }) x.3)
 
-  builder_sound : (line least : ℕ) (y : Tall Term) (ts us : List Symbol) → least ≤ atom_level → builder below line ts ≡ Ok (y, us) → Whole least y (symbol k.OpenBrace line ∷ ts) us
-  unfolding builder
-  builder_sound line least y ts us fits e =
+  comprehension_sound : (line least : ℕ) (y : Tall Term) (ts us : List Symbol) → least ≤ atom_level → comprehension below line ts ≡ Ok (y, us) → Whole least y (symbol k.OpenBrace line ∷ ts) us
+  unfolding comprehension
+  comprehension_sound line least y ts us fits e =
       let ds = bind_ok (decls below ts) _ (y, us) e in
       let p = bind_ok (part below mark.Bar quantifier_level ds.1) _ (y, us) ds.3 in
       let q = bind_ok (part below mark.At expression_level p.1) _ (y, us) p.3 in
@@ -150,9 +150,9 @@ module _ (below : Reader) (n : ℕ) (ok : IsSound n below) where
       let low = s.low in
       let low_p = sp.low in
       let low_q = sq.low in
-      made (n + 1) least (shape.builder line (decls_of ds.0.part) (part_of p.0.part) (part_of q.0.part)) (term.Builder line ds.0.part p.0.part q.0.part)
+      made (n + 1) least (shape.comprehension line (decls_of ds.0.part) (part_of p.0.part) (part_of q.0.part)) (term.Comprehension line ds.0.part p.0.part q.0.part)
       (max (max ds.0.height p.0.height) q.0.height + 1) _ end.1 us y
-      (of.of-Builder line ds.0.part p.0.part q.0.part) end.3
+      (of.of-Comprehension line ds.0.part p.0.part q.0.part) end.3
       (record {
         fits = fits;
         levelled = (s.levelled, sp.levelled, sq.levelled);
@@ -164,7 +164,7 @@ module _ (below : Reader) (n : ℕ) (ok : IsSound n below) where
   braced_sound : (line least : ℕ) (y : Tall Term) (ts us : List Symbol) → least ≤ atom_level → braced below line ts ≡ Ok (y, us) → Whole least y (symbol k.OpenBrace line ∷ ts) us
   unfolding braced
   braced_sound line least y ts us fits e =
-      if_cases (begins_decl true ts) _ _ (y, us) e (λ is e. builder_sound line least y ts us fits e) (λ is e. display_sound line least y ts us fits e)
+      if_cases (begins_decl true ts) _ _ (y, us) e (λ is e. comprehension_sound line least y ts us fits e) (λ is e. display_sound line least y ts us fits e)
 
   quantified_sound : (line least : ℕ) (q : Quantifier) (y : Tall Term) (ts us : List Symbol) → least ≤ quantifier_level
       → quantified below line q ts ≡ Ok (y, us) → Whole least y (symbol (k.Quantifier q) line ∷ ts) us

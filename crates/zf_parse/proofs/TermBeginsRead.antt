@@ -8,7 +8,7 @@ use Rattle.zf_tree.specs.declared.operator.Sign.TheVariants as sign
 use Rattle.zf_tree.specs.declared.operator.Unary.TheVariants as one
 use Rattle.zf_parse.specs.Reading as basic
 use Rattle.zf_tree.specs.declared.tree.Term.TheVariants as term
-use Rattle.zf_parse.specs.{beginning, begins_decl, binds, braced, builder, closed_by, display, empty_set, listed, parted_by, prefixed, quantified, round, tall}
+use Rattle.zf_parse.specs.{beginning, begins_decl, binds, braced, comprehension, closed_by, display, empty_set, listed, parted_by, prefixed, quantified, round, tall}
 use Rattle.zf_parse.specs.TermReading.{Outcome}
 use Rattle.zf_tree.specs.{bracket, constant, named, numeral, part_of, Perhaps, Tree, tree, tree_of, VarDecls}
 use Rattle.zf_tree.specs.Trees.{Trees}
@@ -116,11 +116,11 @@ module _ (below : Reader) (n : ℕ) (ok : IsComplete n below) where
       let is : begins_decl true a ≡ false = from_false (begins_decl true a) (items_do_not t vs a c b us lev.1 lev.2 s more close) in
       moved _ _ _ us (ap (beginning below least) starts ∙ rw (is, not_closed t a c s, x.read) refl) (listed_complete list.Display l x.term t vs c b us x.is lev.2 (omega arith) more end)
 
-  pub builder_begins : (least l : ℕ) (ds : VarDecls) (p t : Perhaps) (ts us : List Symbol) → IsLevelled (shape.builder l ds p t)
-      → tree_height (shape.builder l ds p t) ≤ n + 1 → Spells (shape.builder l ds p t) ts us
-      → IsRead (beginning below least ts) (shape.builder l ds p t) us
-  unfolding beginning braced builder
-  builder_begins least l ds p t ts us lev low h =
+  pub comprehension_begins : (least l : ℕ) (ds : VarDecls) (p t : Perhaps) (ts us : List Symbol) → IsLevelled (shape.comprehension l ds p t)
+      → tree_height (shape.comprehension l ds p t) ≤ n + 1 → Spells (shape.comprehension l ds p t) ts us
+      → IsRead (beginning below least ts) (shape.comprehension l ds p t) us
+  unfolding beginning braced comprehension
+  comprehension_begins least l ds p t ts us lev low h =
       let (a, b, c, d, starts, decls_h, p_h, t_h, close) = h in
       let no_at = first_is (λ x. is_mark mark.At x ≡ false) d us close refl in
       let stop_d = first_is (λ x. binds x ≤ expression_level) d us close (omega arith) in
@@ -135,10 +135,10 @@ module _ (below : Reader) (n : ℕ) (ok : IsComplete n below) where
       let are = xs.are in
       let is_p = q.is in
       let is_t = r.is in
-      let same : shape.builder l (decls_of xs.all) (part_of q.term) (part_of r.term) ≡ shape.builder l ds p t = cc in
+      let same : shape.comprehension l (decls_of xs.all) (part_of q.term) (part_of r.term) ≡ shape.comprehension l ds p t = cc in
       record {
-        term = term.Builder l xs.all q.term r.term;
-        is = of.of-Builder l xs.all q.term r.term ∙ same;
+        term = term.Comprehension l xs.all q.term r.term;
+        is = of.of-Comprehension l xs.all q.term r.term ∙ same;
         read = ap (beginning below least) starts ∙ rw (decls_begin ds a b decls_h, xs.read, q.read, r.read, ok_expect mark.CloseBrace d us close) refl;
       }
 

@@ -17,7 +17,7 @@ use Rattle.zf_tree.proofs.TermSeen as of
 use Rattle.zf_parse.proofs.TermSteps.{ok_expect}
 use Rattle.zf_parse.proofs.TermTurns.{goes_on}
 use Rattle.zf_parse.proofs.TermParts.{links_of}
-use Rattle.zf_parse.proofs.TermBeginsRead.{Closing, name_begins, numeral_begins, constant_begins, empty_set_begins, bracket_begins, listed_complete, tuple_begins, display_begins, builder_begins, quantified_begins, sign_begins, not_begins}
+use Rattle.zf_parse.proofs.TermBeginsRead.{Closing, name_begins, numeral_begins, constant_begins, empty_set_begins, bracket_begins, listed_complete, tuple_begins, display_begins, comprehension_begins, quantified_begins, sign_begins, not_begins}
 use Rattle.zf_parse.proofs.TermPartsRead.{IsRead, Reader, IsComplete, first_is, some_height, split_links, links_complete}
 use Rattle.zf_parse.proofs.TermTables.{operator_closing, closing, level_closes, closes, chain_gap, cross_gap, postfix_gap, stands}
 
@@ -128,7 +128,7 @@ module _ (below : Reader) (n : ℕ) (ok : IsComplete n below) where
       turn least t _ ts at us role.Cross refl left (omega arith) low (omega arith) lev.1.0 (λ x is.
       subst (λ l. IsRead (longer_by below (tall x (tree_height t)) role.Cross at) (shape.listed l list.Product (tree t (tree u vs))) us) (ap line_of is ∙ sym line)
       (listed_complete below n ok list.Product (line_of (tree_of x)) x t (tree u vs) at b us is lev.1.2 (omega arith) (d, e, (cross.0, refl), s_u, further_u) (closes_product b us stop close)))
-  spine (shape.builder l ds p t) least ts us fits lev low h stop = begun least _ ts us (builder_begins below n ok least l ds p t ts us lev low h)
+  spine (shape.comprehension l ds p t) least ts us fits lev low h stop = begun least _ ts us (comprehension_begins below n ok least l ds p t ts us lev low h)
   spine (shape.unary l (one.Sign s) t) least ts us fits lev low h stop = begun least _ ts us (sign_begins below n ok s least l t ts us fits lev (omega arith) h stop)
   spine (shape.unary l one.Not t) least ts us fits lev low h stop = begun least _ ts us (not_begins below n ok least l t ts us fits lev (omega arith) h stop)
   spine (shape.quantified l w ds p t) least ts us fits lev low h stop = begun least _ ts us (quantified_begins below n ok least l w ds p t ts us fits lev low h stop)

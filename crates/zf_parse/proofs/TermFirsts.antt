@@ -7,7 +7,7 @@ use Rattle.zf_tree.specs.declared.operator.Listed.TheVariants as list
 use Rattle.zf_tree.specs.declared.operator.Operator.TheVariants as operator
 use Rattle.zf_tree.specs.declared.operator.Sign.TheVariants as sign
 use Rattle.zf_tree.specs.declared.operator.Unary.TheVariants as one
-use Rattle.zf_tree.specs.{absent, binary, bracket, builder, chain, constant, empty_set, link, Links, listed, named, no_decls, no_links, no_trees, numeral, Perhaps, present, quantified, Tree, tree, unary, var_decl, VarDecls}
+use Rattle.zf_tree.specs.{absent, binary, bracket, comprehension, chain, constant, empty_set, link, Links, listed, named, no_decls, no_links, no_trees, numeral, Perhaps, present, quantified, Tree, tree, unary, var_decl, VarDecls}
 use Rattle.zf_tree.specs.Trees.{Trees}
 use Rattle.zf_parse.proofs.Marks.{next_shorter}
 use Rattle.zf_parse.proofs.NamesRead.{name_shorter, names_shorter}
@@ -54,7 +54,7 @@ mutual
   term_shorter (empty_set l t) ts us h = omega (arith, starts_shorter ts h.0 h.3, next_shorter h.0 h.1 h.4, term_shorter t h.1 h.2 h.5, next_shorter h.2 us h.6)
   term_shorter (bracket l t) ts us h = omega (arith, starts_shorter ts h.0 h.2, term_shorter t h.0 h.1 h.3, next_shorter h.1 us h.4)
   term_shorter (listed l form vs) ts us h = omega (arith, opens_shorter form l vs ts h.0 h.2, items_shorter (parting form) vs h.0 h.1 h.3, closes_shorter form h.1 us h.4)
-  term_shorter (builder l ds p t) ts us h =
+  term_shorter (comprehension l ds p t) ts us h =
       omega (arith, starts_shorter ts h.0 h.4, decls_shorter ds h.0 h.1 h.5, part_shorter k.Bar p h.1 h.2 h.6, part_shorter k.At t h.2 h.3 h.7, next_shorter h.3 us h.8)
   term_shorter (unary l op t) ts us h = omega (arith, before_shorter op l t ts h.0 h.2, term_shorter t h.0 h.1 h.3, after_shorter op h.1 us h.4)
   term_shorter (binary l op x y) ts us h =
@@ -104,7 +104,7 @@ atom_begins (bracket l t) ts us a lev h = begins k.OpenRound l ts h.0 (record { 
 atom_begins (listed l list.Tuple vs) ts us a lev h = begins k.OpenRound l ts h.0 (record { role = refl; other = refl }) h.2
 atom_begins (listed l list.Display vs) ts us a lev h = begins k.OpenBrace l ts h.0 (record { role = refl; other = refl }) h.2
 atom_begins (listed l list.Product vs) ts us a lev h = absurd (omega arith)
-atom_begins (builder l ds p t) ts us a lev h = begins k.OpenBrace l ts h.0 (record { role = refl; other = refl }) h.4
+atom_begins (comprehension l ds p t) ts us a lev h = begins k.OpenBrace l ts h.0 (record { role = refl; other = refl }) h.4
 atom_begins (unary l one.Inverse t) ts us a lev h = subst BeginsAtom (sym h.2.1) (atom_begins t h.0 h.1 lev.0 lev.1 h.3)
 atom_begins (unary l (one.Sign s) t) ts us a lev h = absurd (omega (arith, sign_level_le s))
 atom_begins (unary l one.Not t) ts us a lev h = absurd (omega arith)
@@ -151,7 +151,7 @@ only_name (listed l list.Product (tree t no_trees)) ts us lev h is = absurd lev.
 only_name (listed l list.Product (tree t (tree u vs))) ts us lev h is =
     let more = only_name t h.0 h.3.0 lev.1.1 h.3.1 (sym (ap (begins_decl true) h.2.1) ∙ is) in
     absurd (other false k.Cross h.3.0 h.3.2.0 (λ line. refl) h.3.2.2 more)
-only_name (builder l ds p t) ts us lev h is = absurd (other true k.OpenBrace ts h.0 (λ line. refl) (l, h.4) is)
+only_name (comprehension l ds p t) ts us lev h is = absurd (other true k.OpenBrace ts h.0 (λ line. refl) (l, h.4) is)
 only_name (unary l (one.Sign sign.Minus) t) ts us lev h is = absurd (other true (k.Infix _) ts h.0 (λ line. refl) (l, h.2) is)
 only_name (unary l (one.Sign (sign.Symbol s)) t) ts us lev h is = absurd (other true (k.Prefix s) ts h.0 (λ line. refl) (l, h.2) is)
 only_name (unary l one.Not t) ts us lev h is = absurd (other true k.Not ts h.0 (λ line. refl) (l, h.2) is)
@@ -180,7 +180,7 @@ not_closed (listed l list.Tuple vs) ts us h = open_by ts h.0 (l, h.2) refl
 not_closed (listed l list.Display vs) ts us h = open_by ts h.0 (l, h.2) refl
 not_closed (listed l list.Product no_trees) ts us h = absurd h.3
 not_closed (listed l list.Product (tree t vs)) ts us h = ap (λ ts. is_mark mark.CloseBrace (first ts)) h.2.1 ∙ not_closed t h.0 h.3.0 h.3.1
-not_closed (builder l ds p t) ts us h = open_by ts h.0 (l, h.4) refl
+not_closed (comprehension l ds p t) ts us h = open_by ts h.0 (l, h.4) refl
 not_closed (unary l (one.Sign sign.Minus) t) ts us h = open_by ts h.0 (l, h.2) refl
 not_closed (unary l (one.Sign (sign.Symbol s)) t) ts us h = open_by ts h.0 (l, h.2) refl
 not_closed (unary l one.Not t) ts us h = open_by ts h.0 (l, h.2) refl

@@ -7,7 +7,7 @@ use Rattle.zf_parse.specs.declared.levels.Role.TheVariants as role
 use Rattle.zf_tree.specs.declared.operator.Listed.TheVariants as list
 use Rattle.zf_tree.specs.declared.operator.Sign.TheVariants as sign
 use Rattle.zf_tree.specs.declared.operator.Unary.TheVariants as one
-use Rattle.zf_parse.specs.{beginning, beginning_by, begins_decl, beyond, binary, binds, braced, builder, chain_links, chained, climb, decls, decls_from, display, empty_set, further, further_from, here, links_by, links_from, listed, longer_by, part, parted_by, place_before, prefixed, quantified, read_names, read_term, Refused, role_of, round, round_by, tall, TooDeep, whole, with_decl, with_link, with_term}
+use Rattle.zf_parse.specs.{beginning, beginning_by, begins_decl, beyond, binary, binds, braced, comprehension, chain_links, chained, climb, decls, decls_from, display, empty_set, further, further_from, here, links_by, links_from, listed, longer_by, part, parted_by, place_before, prefixed, quantified, read_names, read_term, Refused, role_of, round, round_by, tall, TooDeep, whole, with_decl, with_link, with_term}
 use Rattle.zf_parse.specs.TermReading.{Outcome, Parser, and_then, expect, read_decl}
 
 abbrev pub Under : {A : Type 0} → Outcome A → Outcome A → Type 0
@@ -95,14 +95,14 @@ module _ (below above : Reader) (up : IsUnder below above) where
       if_under (is_mark mark.CloseBrace (first ts)) _ _ _ _ (same _)
       (and_under _ _ _ _ (up expression_level ts) (λ x us. listed_under line list.Display x us))
 
-  builder_under : (line : ℕ) (ts : List Symbol) → Under (builder below line ts) (builder above line ts)
-  unfolding builder
-  builder_under line ts =
+  comprehension_under : (line : ℕ) (ts : List Symbol) → Under (comprehension below line ts) (comprehension above line ts)
+  unfolding comprehension
+  comprehension_under line ts =
       and_under _ _ _ _ (decls_under ts) (λ ds us. and_under _ _ _ _ (part_under mark.Bar quantifier_level us) (λ p vs. and_under _ _ _ _ (part_under mark.At expression_level vs) (λ q ws. same _)))
 
   braced_under : (line : ℕ) (ts : List Symbol) → Under (braced below line ts) (braced above line ts)
   unfolding braced
-  braced_under line ts = if_under (begins_decl true ts) _ _ _ _ (builder_under line ts) (display_under line ts)
+  braced_under line ts = if_under (begins_decl true ts) _ _ _ _ (comprehension_under line ts) (display_under line ts)
 
   prefixed_under : (least line : ℕ) (op : Unary) (ts : List Symbol) → Under (prefixed below least line op ts) (prefixed above least line op ts)
   unfolding prefixed

@@ -5,7 +5,7 @@ use Rattle.zf_tree.specs.declared.operator.Listed.TheVariants as list
 use Rattle.zf_tree.specs.declared.operator.Operator.TheVariants as operator
 use Rattle.zf_tree.specs.declared.operator.Sign.TheVariants as sign
 use Rattle.zf_tree.specs.declared.operator.Unary.TheVariants as one
-use Rattle.zf_tree.specs.{absent, binary, bracket, builder, chain, constant, empty_set, link, Links, listed, named, no_decls, no_links, no_trees, numeral, Perhaps, present, quantified, Tree, tree, unary, var_decl, VarDecls}
+use Rattle.zf_tree.specs.{absent, binary, bracket, comprehension, chain, constant, empty_set, link, Links, listed, named, no_decls, no_links, no_trees, numeral, Perhaps, present, quantified, Tree, tree, unary, var_decl, VarDecls}
 use Rattle.zf_tree.specs.Trees.{Trees}
 
 -- what stands behind the first symbol that ends a box
@@ -138,7 +138,7 @@ mutual
   term_own (bracket l t) ts us h = three (starts_own k.OpenRound l ts h.0 refl h.2) (term_own t h.0 h.1 h.3) (next_own k.CloseRound h.1 us refl h.4) (λ x a b y p q r. (a, b, p, q, r))
   term_own (listed l form vs) ts us h = three (opens_own form l vs ts h.0 h.2) (items_own (parting form) (parting_kept form) vs h.0 h.1 h.3)
       (closes_own form h.1 us h.4) (λ x a b y p q r. (a, b, p, q, r))
-  term_own (builder l ds p t) ts us h =
+  term_own (comprehension l ds p t) ts us h =
       five (starts_own k.OpenBrace l ts h.0 refl h.4) (decls_own ds h.0 h.1 h.5) (part_own k.Bar refl p h.1 h.2 h.6) (part_own k.At refl t h.2 h.3 h.7) (next_own k.CloseBrace h.3 us refl h.8)
       (λ x a b c d y p q r s t. (a, b, c, d, p, q, r, s, t))
   term_own (unary l op t) ts us h = three (before_own op l t ts h.0 h.2) (term_own t h.0 h.1 h.3) (after_own op h.1 us h.4) (λ x a b y p q r. (a, b, p, q, r))

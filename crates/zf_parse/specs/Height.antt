@@ -1,6 +1,6 @@
 -- The height of a term or schema expression: 1, or one more than the highest term, declared set or schema expression directly in it.
 use Rattle.std.specs.Prelude.{ℕ, ◌+◌, max, List, [], ◌∷◌}
-use Rattle.zf_tree.specs.{abbreviation, absent, binary, both, BoxTree, bracket, builder, chain, DeclTree, definition, either, empty_set, include, link, Links, listed, no_decls, no_links, no_trees, ParagraphTree, Perhaps, present, quantified, schema_box, schema_bracket, schema_reference, schema_text, SchemaTree, Tree, tree, unary, var_decl, VarDecls, vars, zed}
+use Rattle.zf_tree.specs.{abbreviation, absent, binary, both, BoxTree, bracket, comprehension, chain, DeclTree, definition, either, empty_set, include, link, Links, listed, no_decls, no_links, no_trees, ParagraphTree, Perhaps, present, quantified, schema_box, schema_bracket, schema_reference, schema_text, SchemaTree, Tree, tree, unary, var_decl, VarDecls, vars, zed}
 use Rattle.zf_tree.specs.Trees.{Trees}
 
 abbrev mutual
@@ -8,7 +8,7 @@ abbrev mutual
   tree_height (empty_set l t) = tree_height t + 1
   tree_height (bracket l t) = tree_height t + 1
   tree_height (listed l form ts) = trees_height ts + 1
-  tree_height (builder l ds p t) = max (max (decls_height ds) (perhaps_height p)) (perhaps_height t) + 1
+  tree_height (comprehension l ds p t) = max (max (decls_height ds) (perhaps_height p)) (perhaps_height t) + 1
   tree_height (unary l op t) = tree_height t + 1
   tree_height (binary l op a b) = max (tree_height a) (tree_height b) + 1
   tree_height (chain l t ks) = max (tree_height t) (links_height ks) + 1

@@ -14,7 +14,7 @@ use Rattle.zf_tree.specs.declared.operator.Sign.{Sign}
 use Rattle.zf_tree.specs.declared.operator.Sign.TheVariants as sign
 use Rattle.zf_tree.specs.declared.operator.Unary.{Unary}
 use Rattle.zf_tree.specs.declared.operator.Unary.TheVariants as one
-use Rattle.zf_tree.specs.{abbreviation, absent, binary, both, BoxTree, bracket, builder, chain, DeclTree, definition, either, empty_set, include, link, Links, listed, no_decls, no_links, no_trees, ParagraphTree, Perhaps, present, quantified, schema_box, schema_bracket, schema_reference, schema_text, SchemaTree, Tree, tree, unary, var_decl, VarDecls, vars, zed}
+use Rattle.zf_tree.specs.{abbreviation, absent, binary, both, BoxTree, bracket, comprehension, chain, DeclTree, definition, either, empty_set, include, link, Links, listed, no_decls, no_links, no_trees, ParagraphTree, Perhaps, present, quantified, schema_box, schema_bracket, schema_reference, schema_text, SchemaTree, Tree, tree, unary, var_decl, VarDecls, vars, zed}
 use Rattle.zf_tree.specs.Trees.{Trees}
 
 -- a quantifier; the place of any term
@@ -144,7 +144,7 @@ abbrev mutual
   IsLevelled (empty_set l t) = (expression_level ≤ level t) × IsLevelled t
   IsLevelled (bracket l t) = IsLevelled t
   IsLevelled (listed l form ts) = AreEnough form ts × AreAt (member_place form) ts
-  IsLevelled (builder l ds p t) = DeclsAreLevelled ds × PartIsAt quantifier_level p × PartIsAt expression_level t
+  IsLevelled (comprehension l ds p t) = DeclsAreLevelled ds × PartIsAt quantifier_level p × PartIsAt expression_level t
   IsLevelled (unary l op t) = (unary_level op ≤ level t) × IsLevelled t
   IsLevelled (binary l op a b) = (left_place op ≤ level a) × IsLevelled a × (right_place op ≤ level b) × IsLevelled b
   IsLevelled (chain l t ks) = (expression_level ≤ level t) × IsLevelled t × LinksAreLevelled ks

@@ -17,7 +17,7 @@ pub use Rattle.zf_parse.specs.Parsing.{IsGrammarFault, ReadsLow, ReadsSource, Re
 pub use Rattle.zf_parse.specs.ParsingViews.{Parses, ReadsSpec}
 pub use Rattle.zf_parse.specs.Reading.{first, is_end, name_by, opening_by, parted, parted_from, read_name, read_opening, rest}
 unfoldable pub use Rattle.zf_parse.specs.TermReading.{read_term}
-pub use Rattle.zf_parse.specs.TermReading.{beginning, beginning_by, begins_decl, beyond, binary, binds, bound_by, braced, builder, chain_links, chained, climb, closed_by, decls, decls_from, display, empty_set, ended_by, Fails, Fault, further, further_from, Gives, here, lift, links_by, links_from, listed, longer_by, over, over_both, part, parted_by, past, place_before, prefixed, quantified, read_names, Refused, role_of, round, round_by, tall, TooDeep, whole, with_decl, with_link, with_term}
+pub use Rattle.zf_parse.specs.TermReading.{beginning, beginning_by, begins_decl, beyond, binary, binds, bound_by, braced, comprehension, chain_links, chained, climb, closed_by, decls, decls_from, display, empty_set, ended_by, Fails, Fault, further, further_from, Gives, here, lift, links_by, links_from, listed, longer_by, over, over_both, part, parted_by, past, place_before, prefixed, quantified, read_names, Refused, role_of, round, round_by, tall, TooDeep, whole, with_decl, with_link, with_term}
 unfoldable pub use Rattle.zf_parse.specs.BoxReading.{abbreviation, boxes_from, definition, free_type, given, inclusion, marked, named, predicates, read_all, read_box, read_boxes, read_only, read_paragraph, read_ref, read_schema, read_schema_box, read_zed, schema_text, variables}
 pub use Rattle.zf_parse.specs.BoxReading.{box_by, conjunction, disjunction, is_and, is_declared, is_or, items, items_from, joined, named_by, new_ref, read_decls, ref_by, schema_bracket, schema_part, schema_part_by, with_item}
 pub use Rattle.zf_parse.specs.BoxByBox.{AreSoFar, Later, ReadsBox, ReadsOneBox, ReadsUpTo, RefusesBox, SpellsUpTo}

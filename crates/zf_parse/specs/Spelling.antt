@@ -17,7 +17,7 @@ use Rattle.zf_tree.specs.declared.operator.Sign.TheVariants as sign
 use Rattle.zf_tree.specs.declared.operator.Unary.{Unary}
 use Rattle.zf_tree.specs.declared.operator.Unary.TheVariants as one
 use Rattle.zf_scan.specs.{separator, Symbol, symbol}
-use Rattle.zf_tree.specs.{abbreviation, absent, binary, both, BoxTree, bracket, builder, chain, constant, DeclTree, definition, either, empty_set, free, given, include, line_of, link, Links, listed, named, no_decls, no_links, no_trees, numeral, ParagraphTree, Perhaps, present, quantified, schema_box, schema_bracket, schema_reference, schema_text, SchemaTree, Tree, tree, unary, var_decl, VarDecls, vars, zed}
+use Rattle.zf_tree.specs.{abbreviation, absent, binary, both, BoxTree, bracket, comprehension, chain, constant, DeclTree, definition, either, empty_set, free, given, include, line_of, link, Links, listed, named, no_decls, no_links, no_trees, numeral, ParagraphTree, Perhaps, present, quantified, schema_box, schema_bracket, schema_reference, schema_text, SchemaTree, Tree, tree, unary, var_decl, VarDecls, vars, zed}
 use Rattle.zf_tree.specs.Trees.{Trees}
 
 -- the first symbol, with its line, and the rest
@@ -93,7 +93,7 @@ abbrev mutual
   Spells (empty_set l t) ts rest = (a b c : List Symbol) × Starts k.EmptySet l ts a × Next k.OpenSquare a b × Spells t b c × Next k.CloseSquare c rest
   Spells (bracket l t) ts rest = (a b : List Symbol) × Starts k.OpenRound l ts a × Spells t a b × Next k.CloseRound b rest
   Spells (listed l form us) ts rest = (a b : List Symbol) × Opens form l us ts a × SpellsItems (parting form) us a b × Closes form b rest
-  Spells (builder l ds p t) ts rest =
+  Spells (comprehension l ds p t) ts rest =
       (a b c d : List Symbol) × Starts k.OpenBrace l ts a × SpellsDecls ds a b × SpellsPart k.Bar p b c × SpellsPart k.At t c d × Next k.CloseBrace d rest
   Spells (unary l op t) ts rest = (a b : List Symbol) × Before op l t ts a × Spells t a b × After op b rest
   Spells (binary l op x y) ts rest = (a b c : List Symbol) × (l ≡ line_of x) × Spells x ts a × Between op a b × Spells y b c × Behind op c rest

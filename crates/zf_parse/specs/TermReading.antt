@@ -274,16 +274,16 @@ module _ (below : ℕ → Parser (Tall Term)) where
       then Err Refused
       else and_then (below expression_level ts) (listed line list.Display)
 
-  unfoldable pub builder : ℕ → Parser (Tall Term)
-  builder line = do
+  unfoldable pub comprehension : ℕ → Parser (Tall Term)
+  comprehension line = do
     ds ← decls
     p ← part mark.Bar quantifier_level
     t ← part mark.At expression_level
     expect mark.CloseBrace
-    pure (tall (term.Builder line ds.part p.part t.part) (max (max ds.height p.height) t.height + 1))
+    pure (tall (term.Comprehension line ds.part p.part t.part) (max (max ds.height p.height) t.height + 1))
 
   unfoldable pub braced : ℕ → Parser (Tall Term)
-  braced line = λ ts. if begins_decl true ts then builder line ts else display line ts
+  braced line = λ ts. if begins_decl true ts then comprehension line ts else display line ts
 
   -- a term over the operand behind the next symbol
   unfoldable pub prefixed : ℕ → ℕ → Unary → Parser (Tall Term)

@@ -169,7 +169,7 @@ pub fn level(term: &Term<'_>) -> u8
         Term::Constant(_, _) => ATOM,
         Term::EmptySet(_, _) => ATOM,
         Term::Bracket(_, _) => ATOM,
-        Term::Builder(_, _, _, _) => ATOM,
+        Term::Comprehension(_, _, _, _) => ATOM,
     }
 }
 

@@ -103,7 +103,7 @@ impl Printer {
                 self.listed(*line, *form)?;
                 self.all(terms.as_slice())
             }
-            Term::Builder(_, _, _, _) => self.builder(term),
+            Term::Comprehension(_, _, _, _) => self.comprehension(term),
             Term::Unary(line, op, operand) => {
                 self.unary(*line, *op)?;
                 self.last(operand.get())
@@ -129,8 +129,8 @@ impl Printer {
     }
 
     #[cycle(terms)]
-    fn builder(&mut self, term: &Term<'_>) -> fmt::Result {
-        let Term::Builder(line, decls, filter, term) = term else {
+    fn comprehension(&mut self, term: &Term<'_>) -> fmt::Result {
+        let Term::Comprehension(line, decls, filter, term) = term else {
             return Ok(());
         };
         self.word("(Builder", *line)?;

@@ -1,7 +1,7 @@
 -- To number components anew is to rename them.
 use Rattle.std.proofs.Common.{◌≡◌, ℕ, ap, refl}
 use Rattle.zf_reference.specs.{renumbered}
-use Rattle.zf_term.specs.{absent, all_moved, binary, bracket, builder, chain, constant, empty_set, link, links_moved, listed, moved, no_links, no_ranges, no_terms, number, part_moved, present, quantified, range, Ranges, ranges_moved, reference, ResolvedLinks, ResolvedPart, ResolvedTree, term, unary}
+use Rattle.zf_term.specs.{absent, all_moved, binary, bracket, comprehension, chain, constant, empty_set, link, links_moved, listed, moved, no_links, no_ranges, no_terms, number, part_moved, present, quantified, range, Ranges, ranges_moved, reference, ResolvedLinks, ResolvedPart, ResolvedTree, term, unary}
 use Rattle.zf_term.specs.ResolvedTrees.{ResolvedTrees}
 use Rattle.zf_resolved.specs.{all_renamed, links_renamed, part_renamed, ranges_renamed, renamed}
 
@@ -13,7 +13,7 @@ mutual
   of_term f (empty_set l t) = ap (empty_set l) (of_term f t)
   of_term f (bracket l t) = ap (bracket l) (of_term f t)
   of_term f (listed l form ts) = ap (listed l form) (of_terms f ts)
-  of_term f (builder l rs p t) = let a = of_ranges f rs in let b = of_part f p in let c = of_part f t in (cc)
+  of_term f (comprehension l rs p t) = let a = of_ranges f rs in let b = of_part f p in let c = of_part f t in (cc)
   of_term f (unary l op t) = ap (unary l op) (of_term f t)
   of_term f (binary l op a b) = let c = of_term f a in let d = of_term f b in (cc)
   of_term f (chain l t ks) = let a = of_term f t in let b = of_links f ks in (cc)

@@ -11,9 +11,9 @@ use Rattle.zf_term.specs.declared.resolved.Range.{Range}
 use Rattle.zf_term.specs.declared.resolved.Resolved.{Resolved}
 use Rattle.zf_term.specs.declared.resolved.Resolved.TheVariants as v
 use Rattle.zf_term.specs.declared.resolved.ResolvedLink.{ResolvedLink}
-use Rattle.zf_term.specs.{binary, bracket, builder, chain, empty_set, links, listed, part_of, quantified, range_of, ranges, reference, resolved_link_of, resolved_of, ResolvedTree, terms, unary}
+use Rattle.zf_term.specs.{binary, bracket, comprehension, chain, empty_set, links, listed, part_of, quantified, range_of, ranges, reference, resolved_link_of, resolved_of, ResolvedTree, terms, unary}
 use Rattle.zf_resolved.specs.{all_renamed, link_renamed, links_renamed, part_renamed, range_renamed, ranges_renamed, renamed}
-use Rattle.zf_term.proofs.ResolvedSeen.{of-Binary, of-Bracket, of-Builder, of-Chain, of-Constant, of-EmptySet, of-Listed, of-Name, of-Number, of-Quantified, of-Unary}
+use Rattle.zf_term.proofs.ResolvedSeen.{of-Binary, of-Bracket, of-Comprehension, of-Chain, of-Constant, of-EmptySet, of-Listed, of-Name, of-Number, of-Quantified, of-Unary}
 
 pub all-terms : (f : Reference → Reference) (ts : List ResolvedTree) → all_renamed f (terms ts) ≡ terms (map (renamed f) ts)
 all-terms f [] = refl
@@ -81,14 +81,14 @@ seen_ranges : (f : Reference → Reference) (rs ss : List Range) → map range_o
     → ranges (map range_of ss) ≡ ranges_renamed f (ranges (map range_of rs))
 seen_ranges f rs ss h = ap ranges h ∙ sym (all-ranges f (map range_of rs))
 
-pub renamed_builder : (f : Reference → Reference) (l : ℕ) (rs ss : List Range) (p q t u : Option Resolved) (whole : Resolved) → whole ≡ v.Builder l rs p t
+pub renamed_comprehension : (f : Reference → Reference) (l : ℕ) (rs ss : List Range) (p q t u : Option Resolved) (whole : Resolved) → whole ≡ v.Comprehension l rs p t
     → map range_of ss ≡ map (range_renamed f) (map range_of rs) → part_of q ≡ part_renamed f (part_of p) → part_of u ≡ part_renamed f (part_of t)
-    → resolved_of (v.Builder l ss q u) ≡ renamed f (resolved_of whole)
-renamed_builder f l rs ss p q t u whole is variables filter term =
-    of-Builder l ss q u ∙ ap (λ ds. builder l ds (part_of q) (part_of u)) (seen_ranges f rs ss variables)
-    ∙ ap (λ w. builder l (ranges_renamed f (ranges (map range_of rs))) w (part_of u)) filter
-    ∙ ap (builder l (ranges_renamed f (ranges (map range_of rs))) (part_renamed f (part_of p))) term
-    ∙ whole_as f whole (v.Builder l rs p t) _ is (of-Builder l rs p t)
+    → resolved_of (v.Comprehension l ss q u) ≡ renamed f (resolved_of whole)
+renamed_comprehension f l rs ss p q t u whole is variables filter term =
+    of-Comprehension l ss q u ∙ ap (λ ds. comprehension l ds (part_of q) (part_of u)) (seen_ranges f rs ss variables)
+    ∙ ap (λ w. comprehension l (ranges_renamed f (ranges (map range_of rs))) w (part_of u)) filter
+    ∙ ap (comprehension l (ranges_renamed f (ranges (map range_of rs))) (part_renamed f (part_of p))) term
+    ∙ whole_as f whole (v.Comprehension l rs p t) _ is (of-Comprehension l rs p t)
 
 pub renamed_quantified : (f : Reference → Reference) (l : ℕ) (n : Quantifier) (rs ss : List Range) (p q : Option Resolved) (t u whole : Resolved)
     → whole ≡ v.Quantified n l rs p t → map range_of ss ≡ map (range_renamed f) (map range_of rs) → part_of q ≡ part_renamed f (part_of p)

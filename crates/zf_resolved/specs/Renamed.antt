@@ -2,7 +2,7 @@
 use Rattle.std.specs.Prelude.{ℕ}
 use Rattle.zf_tree.specs.declared.symbol.Relation.{Relation}
 use Rattle.zf_reference.specs.declared.reference.Reference.{Reference}
-use Rattle.zf_term.specs.{absent, binary, bracket, builder, chain, constant, empty_set, link, listed, no_links, no_ranges, no_terms, number, present, quantified, range, Ranges, reference, ResolvedLinks, ResolvedPart, ResolvedTree, term, unary}
+use Rattle.zf_term.specs.{absent, binary, bracket, comprehension, chain, constant, empty_set, link, listed, no_links, no_ranges, no_terms, number, present, quantified, range, Ranges, reference, ResolvedLinks, ResolvedPart, ResolvedTree, term, unary}
 use Rattle.zf_term.specs.ResolvedTrees.{ResolvedTrees}
 
 abbrev mutual
@@ -13,7 +13,7 @@ abbrev mutual
   renamed f (empty_set l t) = empty_set l (renamed f t)
   renamed f (bracket l t) = bracket l (renamed f t)
   renamed f (listed l form ts) = listed l form (all_renamed f ts)
-  renamed f (builder l rs p t) = builder l (ranges_renamed f rs) (part_renamed f p) (part_renamed f t)
+  renamed f (comprehension l rs p t) = comprehension l (ranges_renamed f rs) (part_renamed f p) (part_renamed f t)
   renamed f (unary l op t) = unary l op (renamed f t)
   renamed f (binary l op a b) = binary l op (renamed f a) (renamed f b)
   renamed f (chain l t ks) = chain l (renamed f t) (links_renamed f ks)

@@ -41,11 +41,11 @@ pub fn renamed<'a, N: Naming>(
         Resolved::Listed(line, form, items) => {
             Ok(Resolved::Listed(*line, *form, renamed_terms(items, arena, naming)?))
         }
-        Resolved::Builder(line, variables, filter, term) => {
+        Resolved::Comprehension(line, variables, filter, term) => {
             let variables = renamed_ranges(variables, arena, naming)?;
             let filter = renamed_part(filter, arena, naming)?;
             let term = renamed_part(term, arena, naming)?;
-            Ok(Resolved::Builder(*line, variables, filter, term))
+            Ok(Resolved::Comprehension(*line, variables, filter, term))
         }
         Resolved::Unary(line, op, of) => {
             Ok(Resolved::Unary(*line, *op, renamed_box(of, arena, naming)?))

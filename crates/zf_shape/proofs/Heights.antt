@@ -1,5 +1,5 @@
 -- The height of terms, and of each of several.
-use Rattle.zf_shape.proofs.Prelude.{◌+◌, ◌-◌, ◌<◌, ◌∙◌, ◌∷◌, ◌≡◌, ◌≤◌, [], add-one, ap, arith, Bool, false, get_or, IsTrue, length, List, map, max, Option, suc, sym, take, true, true≢false, zero, ℕ, Quantifier, link-seen, of-Builder, of-Quantified, range-seen, absent, binary, bracket, builder, chain, constant, empty_set, link, links, listed, no_links, no_ranges, no_terms, number, part_of, present, quantified, range, range_of, Ranges, ranges, reference, resolved_link_of, resolved_of, ResolvedLinks, ResolvedPart, ResolvedTree, ResolvedTrees, term, terms, unary, all_nodes, height, link_nodes, nodes, part_height, part_nodes, range_nodes, tallest, tallest_link, tallest_range, Range, Resolved, ResolvedLink}
+use Rattle.zf_shape.proofs.Prelude.{◌+◌, ◌-◌, ◌<◌, ◌∙◌, ◌∷◌, ◌≡◌, ◌≤◌, [], add-one, ap, arith, Bool, false, get_or, IsTrue, length, List, map, max, Option, suc, sym, take, true, true≢false, zero, ℕ, Quantifier, link-seen, of-Comprehension, of-Quantified, range-seen, absent, binary, bracket, comprehension, chain, constant, empty_set, link, links, listed, no_links, no_ranges, no_terms, number, part_of, present, quantified, range, range_of, Ranges, ranges, reference, resolved_link_of, resolved_of, ResolvedLinks, ResolvedPart, ResolvedTree, ResolvedTrees, term, terms, unary, all_nodes, height, link_nodes, nodes, part_height, part_nodes, range_nodes, tallest, tallest_link, tallest_range, Range, Resolved, ResolvedLink}
 use Rattle.zf_term.specs.declared.resolved.Resolved.TheVariants as v
 
 -- none is without height
@@ -10,7 +10,7 @@ some_height (constant l c) = omega arith
 some_height (empty_set l t) = omega arith
 some_height (bracket l t) = some_height t
 some_height (listed l form ts) = omega arith
-some_height (builder l rs p t) = omega arith
+some_height (comprehension l rs p t) = omega arith
 some_height (unary l op t) = omega arith
 some_height (binary l op a b) = omega arith
 some_height (chain l t ks) = omega arith
@@ -25,7 +25,7 @@ mutual
   below_nodes (empty_set l t) = omega (arith, below_nodes t)
   below_nodes (bracket l t) = below_nodes t
   below_nodes (listed l form ts) = omega (arith, below_all_nodes ts)
-  below_nodes (builder l rs p t) = omega (arith, below_range_nodes rs, below_part_nodes p, below_part_nodes t)
+  below_nodes (comprehension l rs p t) = omega (arith, below_range_nodes rs, below_part_nodes p, below_part_nodes t)
   below_nodes (unary l op t) = omega (arith, below_nodes t)
   below_nodes (binary l op a b) = omega (arith, below_nodes a, below_nodes b)
   below_nodes (chain l t ks) = omega (arith, below_nodes t, below_link_nodes ks)
@@ -47,16 +47,16 @@ mutual
   below_part_nodes absent = omega arith
   below_part_nodes (present t) = below_nodes t
 
-pub of_builder : (l : ℕ) (rs : List Range) (p t : Option Resolved) → height (resolved_of (v.Builder l rs p t))
+pub of_comprehension : (l : ℕ) (rs : List Range) (p t : Option Resolved) → height (resolved_of (v.Comprehension l rs p t))
     ≡ max (max (tallest_range (ranges (map range_of rs))) (part_height (part_of p))) (part_height (part_of t)) + 1
-of_builder l rs p t = ap height (of-Builder l rs p t)
+of_comprehension l rs p t = ap height (of-Comprehension l rs p t)
 
 pub of_quantified : (l : ℕ) (q : Quantifier) (rs : List Range) (p : Option Resolved) (t : Resolved)
     → height (resolved_of (v.Quantified q l rs p t)) ≡ max (max (tallest_range (ranges (map range_of rs))) (part_height (part_of p)))
     (height (resolved_of t)) + 1
 of_quantified l q rs p t = ap height (of-Quantified l q rs p t)
 
-pub ruleset heights = (some_height, of_builder, of_quantified)
+pub ruleset heights = (some_height, of_comprehension, of_quantified)
 
 term_at : (xs : List Resolved) (i : ℕ) (x : Resolved) (h : ℕ) → x ≡ get_or xs i x → i < length xs → tallest (terms (map resolved_of xs)) ≤ h → height (resolved_of x) ≤ h
 term_at [] i x h at l e = absurd (omega arith)
@@ -135,9 +135,9 @@ last_decides x y z whole lower highest r s b is step first has_first second has_
     let two = second.0 has_second in
     (λ t. let three = third.0 t in omega (arith, is, step.0, step.1, one, two, three), λ h. third.1 (omega (arith, is, step.0, step.1, h)))
 
-pub is_builder : (l : ℕ) (rs : List Range) (p t : Option Resolved) (whole : Resolved) → whole ≡ v.Builder l rs p t
+pub is_comprehension : (l : ℕ) (rs : List Range) (p t : Option Resolved) (whole : Resolved) → whole ≡ v.Comprehension l rs p t
     → height (resolved_of whole) ≡ max (max (tallest_range (ranges (map range_of rs))) (part_height (part_of p))) (part_height (part_of t)) + 1
-is_builder l rs p t whole is = ap (λ w. height (resolved_of w)) is ∙ of_builder l rs p t
+is_comprehension l rs p t whole is = ap (λ w. height (resolved_of w)) is ∙ of_comprehension l rs p t
 
 pub is_quantified : (l : ℕ) (q : Quantifier) (rs : List Range) (p : Option Resolved) (t u whole : Resolved) → whole ≡ v.Quantified q l rs p t → u ≡ t
     → height (resolved_of whole) ≡ max (max (tallest_range (ranges (map range_of rs))) (part_height (part_of p))) (height (resolved_of u)) + 1

@@ -1,5 +1,5 @@
 -- The nodes of terms, and of the first of several.
-use Rattle.zf_shape.proofs.Prelude.{◌+◌, ◌<◌, ◌∙◌, ◌∷◌, ◌≡◌, ◌≤◌, [], add-one, ap, arith, get_or, length, List, map, None, Option, Some, suc, sym, take, zero, ℕ, Quantifier, link-seen, of-Builder, of-Quantified, range-seen, binary, bracket, builder, chain, constant, empty_set, links, listed, number, part_of, quantified, range_of, ranges, reference, resolved_link_of, resolved_of, ResolvedTree, terms, unary, all_nodes, link_nodes, nodes, part_nodes, range_nodes, Range, Resolved, ResolvedLink}
+use Rattle.zf_shape.proofs.Prelude.{◌+◌, ◌<◌, ◌∙◌, ◌∷◌, ◌≡◌, ◌≤◌, [], add-one, ap, arith, get_or, length, List, map, None, Option, Some, suc, sym, take, zero, ℕ, Quantifier, link-seen, of-Comprehension, of-Quantified, range-seen, binary, bracket, comprehension, chain, constant, empty_set, links, listed, number, part_of, quantified, range_of, ranges, reference, resolved_link_of, resolved_of, ResolvedTree, terms, unary, all_nodes, link_nodes, nodes, part_nodes, range_nodes, Range, Resolved, ResolvedLink}
 use Rattle.std.specs.Prelude.{MatchOption}
 use Rattle.zf_term.specs.declared.resolved.Resolved.TheVariants as v
 
@@ -10,7 +10,7 @@ some_node (constant l c) = omega arith
 some_node (empty_set l t) = omega arith
 some_node (bracket l t) = some_node t
 some_node (listed l form ts) = omega arith
-some_node (builder l rs p t) = omega arith
+some_node (comprehension l rs p t) = omega arith
 some_node (unary l op t) = omega arith
 some_node (binary l op a b) = omega arith
 some_node (chain l t ks) = omega arith
@@ -64,9 +64,9 @@ pub ranges_more : (xs : List Range) (i : ℕ) (x : Range) → x ≡ get_or xs i 
     → range_nodes (ranges (map range_of (take (i + 1) xs))) ≡ range_nodes (ranges (map range_of (take i xs))) + nodes (resolved_of x.set)
 ranges_more xs i x at l = rw add-one (ranges_next xs i x at l)
 
-pub of_builder : (l : ℕ) (rs : List Range) (p t : Option Resolved) (whole : Resolved) → whole ≡ v.Builder l rs p t
+pub of_comprehension : (l : ℕ) (rs : List Range) (p t : Option Resolved) (whole : Resolved) → whole ≡ v.Comprehension l rs p t
     → nodes (resolved_of whole) ≡ range_nodes (ranges (map range_of rs)) + part_nodes (part_of p) + part_nodes (part_of t) + 1
-of_builder l rs p t whole is = ap (λ w. nodes (resolved_of w)) is ∙ ap nodes (of-Builder l rs p t)
+of_comprehension l rs p t whole is = ap (λ w. nodes (resolved_of w)) is ∙ ap nodes (of-Comprehension l rs p t)
 
 pub of_quantified : (l : ℕ) (q : Quantifier) (rs : List Range) (p : Option Resolved) (t u whole : Resolved) → whole ≡ v.Quantified q l rs p t → u ≡ t
     → nodes (resolved_of whole) ≡ range_nodes (ranges (map range_of rs)) + part_nodes (part_of p) + nodes (resolved_of u) + 1

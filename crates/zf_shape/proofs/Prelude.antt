@@ -3,9 +3,9 @@ pub use Rattle.std.proofs.Common.{◌++◌, ◌+◌, ◌-◌, ◌<◌, ◌↔◌
 pub use Rattle.zf_tree.specs.declared.symbol.Quantifier.{Quantifier}
 pub use Rattle.std.proofs.lemmas.List.{length-map}
 pub use Rattle.zf_term.proofs.ConjunctsSeen.{batch-seen}
-pub use Rattle.zf_term.proofs.ResolvedSeen.{link-seen, of-Builder, of-Quantified, range-seen}
+pub use Rattle.zf_term.proofs.ResolvedSeen.{link-seen, of-Comprehension, of-Quantified, range-seen}
 pub use Rattle.zf_data.specs.{all_of}
-pub use Rattle.zf_term.specs.{absent, all_joined, all_nodes, all_set_counts, all_set_nodes, binary, both_hold, bracket, builder, chain, constant, empty_set, height, is_member, joined, link, link_nodes, links, listed, moved, no_links, no_ranges, no_terms, nodes, number, numbering, one_holds, part_height, part_nodes, part_of, present, quantified, range, range_nodes, range_of, Ranges, ranges, reference, resolved_link_of, resolved_of, ResolvedLinks, ResolvedPart, ResolvedTree, set_count, set_nodes, set_of, tallest, tallest_link, tallest_range, term, terms, unary}
+pub use Rattle.zf_term.specs.{absent, all_joined, all_nodes, all_set_counts, all_set_nodes, binary, both_hold, bracket, comprehension, chain, constant, empty_set, height, is_member, joined, link, link_nodes, links, listed, moved, no_links, no_ranges, no_terms, nodes, number, numbering, one_holds, part_height, part_nodes, part_of, present, quantified, range, range_nodes, range_of, Ranges, ranges, reference, resolved_link_of, resolved_of, ResolvedLinks, ResolvedPart, ResolvedTree, set_count, set_nodes, set_of, tallest, tallest_link, tallest_range, term, terms, unary}
 unfoldable pub use Rattle.zf_term.specs.{batch_of, conjunct_of}
 pub use Rattle.zf_term.specs.ResolvedTrees.{ResolvedTrees}
 pub use Rattle.zf_term.specs.declared.conjunct.Batch.{Batch}

@@ -22,7 +22,7 @@ pub fn room_after<'a>(term: &Resolved<'a>, room: usize) -> Option<usize>
         Resolved::EmptySet(_, of) => room_after(of.get(), rest),
         Resolved::Bracket(_, inner) => room_after(inner.get(), room),
         Resolved::Listed(_, _, items) => room_after_terms(items, rest),
-        Resolved::Builder(_, variables, filter, term) => {
+        Resolved::Comprehension(_, variables, filter, term) => {
             let left = room_after_ranges(variables, rest)?;
             room_after_part(term, room_after_part(filter, left)?)
         }
@@ -58,7 +58,7 @@ pub fn is_within<'a>(term: &Resolved<'a>, highest: usize) -> bool
         Resolved::EmptySet(_, of) => is_within(of.get(), lower),
         Resolved::Bracket(_, inner) => is_within(inner.get(), highest),
         Resolved::Listed(_, _, items) => are_terms_within(items, lower),
-        Resolved::Builder(_, variables, filter, term) => {
+        Resolved::Comprehension(_, variables, filter, term) => {
             if !are_ranges_within(variables, lower) {
                 return false;
             }

@@ -55,7 +55,7 @@ fn spell(text: &mut Vec<u8, &Bump>, term: &Term<'_>) -> Result<(), AllocError> {
             spell_all(text, texts::parting(*form), terms.as_slice())?;
             push(text, texts::closing(*form))
         }
-        Term::Builder(_, decls, filter, member) => {
+        Term::Comprehension(_, decls, filter, member) => {
             push(text, b"\\{")?;
             spell_decls(text, decls.as_slice())?;
             spell_part(text, b"|", filter)?;

@@ -1,5 +1,5 @@
 -- The references of a term behind others are the others and then its own.
-use Rattle.zf_term.proofs.Prelude.{◌++◌, ◌∙◌, ◌≡◌, [], ap, append_assoc, List, refl, sym, Reference, all_onto, links_onto, onto, part_onto, ranges_onto, absent, binary, bracket, builder, chain, constant, empty_set, link, listed, no_links, no_ranges, no_terms, number, present, quantified, range, Ranges, reference, ResolvedLinks, ResolvedPart, ResolvedTree, ResolvedTrees, term, unary}
+use Rattle.zf_term.proofs.Prelude.{◌++◌, ◌∙◌, ◌≡◌, [], ap, append_assoc, List, refl, sym, Reference, all_onto, links_onto, onto, part_onto, ranges_onto, absent, binary, bracket, comprehension, chain, constant, empty_set, link, listed, no_links, no_ranges, no_terms, number, present, quantified, range, Ranges, reference, ResolvedLinks, ResolvedPart, ResolvedTree, ResolvedTrees, term, unary}
 use Rattle.std.proofs.lemmas.List.{append-nil}
 
 seam : (rs xs zs : List Reference) {xs' ys ys' : List Reference} → xs' ≡ rs ++ xs → ys' ≡ xs' ++ zs → ys ≡ xs ++ zs → ys' ≡ rs ++ ys
@@ -13,7 +13,7 @@ mutual
   onto_behind rs (empty_set l t) = onto_behind rs t
   onto_behind rs (bracket l t) = onto_behind rs t
   onto_behind rs (listed l form ts) = all_onto_behind rs ts
-  onto_behind rs (builder l ds p t) =
+  onto_behind rs (comprehension l ds p t) =
       seam _ _ _ (seam _ _ _ (ranges_onto_behind rs ds) (part_onto_behind (ranges_onto rs ds) p) (part_onto_behind (ranges_onto [] ds) p))
       (part_onto_behind (part_onto (ranges_onto rs ds) p) t) (part_onto_behind (part_onto (ranges_onto [] ds) p) t)
   onto_behind rs (unary l op t) = onto_behind rs t

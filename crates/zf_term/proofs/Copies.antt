@@ -1,5 +1,5 @@
 -- A term is known by how it is seen.
-use Rattle.zf_term.proofs.Prelude.{◌∙◌, ◌∷◌, ◌≡◌, [], ap, List, map, None, Option, refl, Some, subst, sym, ℕ, place_in, Component, Global, Local, Relation, absent, binary, bracket, builder, chain, constant, empty_set, link, links, listed, no_links, no_ranges, no_terms, number, present, quantified, range, Ranges, ranges, reference, ResolvedLinks, ResolvedPart, ResolvedTree, ResolvedTrees, term, terms, unary, range_of, resolved_link_of, resolved_of, all_moved, links_moved, moved, part_moved, ranges_moved, Range, Resolved, ind-Resolved, map-Resolved, Resolved-F, roll-Range, roll-Resolved, roll-ResolvedLink, ResolvedLink}
+use Rattle.zf_term.proofs.Prelude.{◌∙◌, ◌∷◌, ◌≡◌, [], ap, List, map, None, Option, refl, Some, subst, sym, ℕ, place_in, Component, Global, Local, Relation, absent, binary, bracket, comprehension, chain, constant, empty_set, link, links, listed, no_links, no_ranges, no_terms, number, present, quantified, range, Ranges, ranges, reference, ResolvedLinks, ResolvedPart, ResolvedTree, ResolvedTrees, term, terms, unary, range_of, resolved_link_of, resolved_of, all_moved, links_moved, moved, part_moved, ranges_moved, Range, Resolved, ind-Resolved, map-Resolved, Resolved-F, roll-Range, roll-Resolved, roll-ResolvedLink, ResolvedLink}
 use Rattle.zf_term.specs.declared.resolved.Resolved.TheVariants as v
 use Rattle.zf_term.proofs.ResolvedSeen.{form_of, rolled, new_link, new_range, of-link, of-range}
 
@@ -14,7 +14,7 @@ mutual
   stays (empty_set l t) = ap (empty_set l) (stays t)
   stays (bracket l t) = ap (bracket l) (stays t)
   stays (listed l form ts) = ap (listed l form) (all_stay ts)
-  stays (builder l rs p t) = let a = ranges_stay rs in let b = part_stays p in let c = part_stays t in (cc)
+  stays (comprehension l rs p t) = let a = ranges_stay rs in let b = part_stays p in let c = part_stays t in (cc)
   stays (unary l op t) = ap (unary l op) (stays t)
   stays (binary l op a b) = let l' = stays a in let r' = stays b in (cc)
   stays (chain l t ks) = let a = stays t in let b = links_stay ks in (cc)
@@ -45,7 +45,7 @@ abbrev mutual
   back (empty_set l t) = v.EmptySet l (back t)
   back (bracket l t) = v.Bracket l (back t)
   back (listed l form ts) = v.Listed l form (all_back ts)
-  back (builder l rs p t) = v.Builder l (ranges_back rs) (part_back p) (part_back t)
+  back (comprehension l rs p t) = v.Comprehension l (ranges_back rs) (part_back p) (part_back t)
   back (unary l op t) = v.Unary l op (back t)
   back (binary l op a b) = v.Binary l op (back a) (back b)
   back (chain l t ks) = v.Chain l (back t) (links_back ks)
@@ -107,17 +107,17 @@ form_again (Resolved-F.Constant l c) = sym (v.rolls-Constant l c)
 form_again (Resolved-F.EmptySet l e) = ap (v.EmptySet l) e.1 ∙ sym (v.rolls-EmptySet l e.0)
 form_again (Resolved-F.Bracket l e) = ap (v.Bracket l) e.1 ∙ sym (v.rolls-Bracket l e.0)
 form_again (Resolved-F.Listed l form es) = ap (v.Listed l form) (all_again es) ∙ sym (v.rolls-Listed l form (map (λ e. e.0) es))
-form_again (Resolved-F.Builder l rs None None) = ap (λ z. v.Builder l z None None) (ranges_again rs) ∙ sym (v.rolls-Builder l (map (λ e. e.0) rs) None None)
-form_again (Resolved-F.Builder l rs None (Some t)) =
-    ap (λ z. v.Builder l z None (Some (back (resolved_of t.0)))) (ranges_again rs) ∙ ap (λ u. v.Builder l (map (λ e. e.0) rs) None (Some u)) t.1
-    ∙ sym (v.rolls-Builder l (map (λ e. e.0) rs) None (Some t.0))
-form_again (Resolved-F.Builder l rs (Some p) None) =
-    ap (λ z. v.Builder l z (Some (back (resolved_of p.0))) None) (ranges_again rs) ∙ ap (λ u. v.Builder l (map (λ e. e.0) rs) (Some u) None) p.1
-    ∙ sym (v.rolls-Builder l (map (λ e. e.0) rs) (Some p.0) None)
-form_again (Resolved-F.Builder l rs (Some p) (Some t)) =
-    ap (λ z. v.Builder l z (Some (back (resolved_of p.0))) (Some (back (resolved_of t.0)))) (ranges_again rs)
-    ∙ ap (λ u. v.Builder l (map (λ e. e.0) rs) (Some u) (Some (back (resolved_of t.0)))) p.1
-    ∙ ap (λ u. v.Builder l (map (λ e. e.0) rs) (Some p.0) (Some u)) t.1 ∙ sym (v.rolls-Builder l (map (λ e. e.0) rs) (Some p.0) (Some t.0))
+form_again (Resolved-F.Comprehension l rs None None) = ap (λ z. v.Comprehension l z None None) (ranges_again rs) ∙ sym (v.rolls-Comprehension l (map (λ e. e.0) rs) None None)
+form_again (Resolved-F.Comprehension l rs None (Some t)) =
+    ap (λ z. v.Comprehension l z None (Some (back (resolved_of t.0)))) (ranges_again rs) ∙ ap (λ u. v.Comprehension l (map (λ e. e.0) rs) None (Some u)) t.1
+    ∙ sym (v.rolls-Comprehension l (map (λ e. e.0) rs) None (Some t.0))
+form_again (Resolved-F.Comprehension l rs (Some p) None) =
+    ap (λ z. v.Comprehension l z (Some (back (resolved_of p.0))) None) (ranges_again rs) ∙ ap (λ u. v.Comprehension l (map (λ e. e.0) rs) (Some u) None) p.1
+    ∙ sym (v.rolls-Comprehension l (map (λ e. e.0) rs) (Some p.0) None)
+form_again (Resolved-F.Comprehension l rs (Some p) (Some t)) =
+    ap (λ z. v.Comprehension l z (Some (back (resolved_of p.0))) (Some (back (resolved_of t.0)))) (ranges_again rs)
+    ∙ ap (λ u. v.Comprehension l (map (λ e. e.0) rs) (Some u) (Some (back (resolved_of t.0)))) p.1
+    ∙ ap (λ u. v.Comprehension l (map (λ e. e.0) rs) (Some p.0) (Some u)) t.1 ∙ sym (v.rolls-Comprehension l (map (λ e. e.0) rs) (Some p.0) (Some t.0))
 form_again (Resolved-F.Unary l op e) = ap (v.Unary l op) e.1 ∙ sym (v.rolls-Unary l op e.0)
 form_again (Resolved-F.Binary l op a b) = ap (λ z. v.Binary l op z (back (resolved_of b.0))) a.1 ∙ ap (v.Binary l op a.0) b.1 ∙ sym (v.rolls-Binary l op a.0 b.0)
 form_again (Resolved-F.Chain l e ks) = ap (λ z. v.Chain l z (links_back (links (map resolved_link_of (map (λ e. e.0) ks))))) e.1

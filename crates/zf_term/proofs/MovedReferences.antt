@@ -1,5 +1,5 @@
 -- What the references of a term are when its components are numbered anew.
-use Rattle.zf_term.proofs.Prelude.{◌∙◌, ◌∷◌, ◌≡◌, [], ap, List, map, refl, sym, ℕ, map-append, renumbered, Reference, all_onto, links_onto, onto, part_onto, ranges_onto, absent, binary, bracket, builder, chain, constant, empty_set, link, listed, no_links, no_ranges, no_terms, number, present, quantified, range, Ranges, reference, ResolvedLinks, ResolvedPart, ResolvedTree, ResolvedTrees, term, unary, all_moved, links_moved, moved, part_moved, ranges_moved}
+use Rattle.zf_term.proofs.Prelude.{◌∙◌, ◌∷◌, ◌≡◌, [], ap, List, map, refl, sym, ℕ, map-append, renumbered, Reference, all_onto, links_onto, onto, part_onto, ranges_onto, absent, binary, bracket, comprehension, chain, constant, empty_set, link, listed, no_links, no_ranges, no_terms, number, present, quantified, range, Ranges, reference, ResolvedLinks, ResolvedPart, ResolvedTree, ResolvedTrees, term, unary, all_moved, links_moved, moved, part_moved, ranges_moved}
 use Rattle.zf_term.specs.{ComponentsAloneNumbered, MovedKeepsVariables}
 
 -- behind others, numbered anew with them
@@ -11,7 +11,7 @@ mutual
   moved_onto f rs (empty_set l t) = moved_onto f rs t
   moved_onto f rs (bracket l t) = moved_onto f rs t
   moved_onto f rs (listed l form ts) = all_moved_onto f rs ts
-  moved_onto f rs (builder l ds p t) =
+  moved_onto f rs (comprehension l ds p t) =
       ap (λ xs. part_onto (part_onto xs (part_moved f p)) (part_moved f t)) (ranges_moved_onto f rs ds)
       ∙ ap (λ xs. part_onto xs (part_moved f t)) (part_moved_onto f (ranges_onto rs ds) p)
       ∙ part_moved_onto f (part_onto (ranges_onto rs ds) p) t

@@ -1,5 +1,5 @@
 -- What a term keeps when its components are numbered anew, and that it can be done at once.
-use Rattle.zf_term.proofs.Prelude.{◌+◌, ◌≡◌, ap, refl, ℕ, Component, Global, Local, absent, binary, bracket, builder, chain, constant, empty_set, link, listed, no_links, no_ranges, no_terms, number, present, quantified, range, Ranges, reference, ResolvedLinks, ResolvedPart, ResolvedTree, ResolvedTrees, term, unary}
+use Rattle.zf_term.proofs.Prelude.{◌+◌, ◌≡◌, ap, refl, ℕ, Component, Global, Local, absent, binary, bracket, comprehension, chain, constant, empty_set, link, listed, no_links, no_ranges, no_terms, number, present, quantified, range, Ranges, reference, ResolvedLinks, ResolvedPart, ResolvedTree, ResolvedTrees, term, unary}
 use Rattle.zf_term.specs.{all_moved, all_nodes, height, link_nodes, links_moved, moved, nodes, part_height, part_moved, part_nodes, range_nodes, ranges_moved, tallest, tallest_link, tallest_range, term_line}
 
 -- ---- one after the other
@@ -14,7 +14,7 @@ mutual
   at_once f g (empty_set l t) = ap (empty_set l) (at_once f g t)
   at_once f g (bracket l t) = ap (bracket l) (at_once f g t)
   at_once f g (listed l form ts) = ap (listed l form) (all_at_once f g ts)
-  at_once f g (builder l rs p t) = let a = ranges_at_once f g rs in let b = part_at_once f g p in let c = part_at_once f g t in (cc)
+  at_once f g (comprehension l rs p t) = let a = ranges_at_once f g rs in let b = part_at_once f g p in let c = part_at_once f g t in (cc)
   at_once f g (unary l op t) = ap (unary l op) (at_once f g t)
   at_once f g (binary l op a b) = let left = at_once f g a in let right = at_once f g b in (cc)
   at_once f g (chain l t ks) = let a = at_once f g t in let b = links_at_once f g ks in (cc)
@@ -45,7 +45,7 @@ same_line f (constant l c) = refl
 same_line f (empty_set l t) = refl
 same_line f (bracket l t) = refl
 same_line f (listed l form ts) = refl
-same_line f (builder l rs p t) = refl
+same_line f (comprehension l rs p t) = refl
 same_line f (unary l op t) = refl
 same_line f (binary l op a b) = refl
 same_line f (chain l t ks) = refl
@@ -59,7 +59,7 @@ mutual
   same_nodes f (empty_set l t) = ap (λ n. n + 1) (same_nodes f t)
   same_nodes f (bracket l t) = same_nodes f t
   same_nodes f (listed l form ts) = ap (λ n. n + 1) (all_same_nodes f ts)
-  same_nodes f (builder l rs p t) = let a = ranges_same_nodes f rs in let b = part_same_nodes f p in let c = part_same_nodes f t in (cc)
+  same_nodes f (comprehension l rs p t) = let a = ranges_same_nodes f rs in let b = part_same_nodes f p in let c = part_same_nodes f t in (cc)
   same_nodes f (unary l op t) = ap (λ n. n + 1) (same_nodes f t)
   same_nodes f (binary l op a b) = let left = same_nodes f a in let right = same_nodes f b in (cc)
   same_nodes f (chain l t ks) = let a = same_nodes f t in let b = links_same_nodes f ks in (cc)
@@ -89,7 +89,7 @@ mutual
   same_height f (empty_set l t) = ap (λ n. n + 1) (same_height f t)
   same_height f (bracket l t) = same_height f t
   same_height f (listed l form ts) = ap (λ n. n + 1) (all_same_height f ts)
-  same_height f (builder l rs p t) = let a = ranges_same_height f rs in let b = part_same_height f p in let c = part_same_height f t in (cc)
+  same_height f (comprehension l rs p t) = let a = ranges_same_height f rs in let b = part_same_height f p in let c = part_same_height f t in (cc)
   same_height f (unary l op t) = ap (λ n. n + 1) (same_height f t)
   same_height f (binary l op a b) = let left = same_height f a in let right = same_height f b in (cc)
   same_height f (chain l t ks) = let a = same_height f t in let b = links_same_height f ks in (cc)

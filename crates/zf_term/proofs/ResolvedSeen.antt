@@ -1,5 +1,5 @@
 -- What each form of resolved term is seen as.
-use Rattle.zf_term.proofs.Prelude.{◌∙◌, ◌≡◌, ap, List, map, None, Option, Some, sym, ℕ, Reference, Relation, binary, bracket, builder, chain, constant, empty_set, links, listed, number, part_of, quantified, range_step, ranges, reference, resolved_link_step, resolved_step, ResolvedTree, terms, unary, range_of, resolved_link_of, resolved_of, Range, Resolved, fold-roll-Range, fold-roll-Resolved, fold-roll-ResolvedLink, map-Resolved, Resolved-F, out-Resolved, roll-out-Resolved, roll-Range, roll-Resolved, roll-ResolvedLink, ResolvedLink}
+use Rattle.zf_term.proofs.Prelude.{◌∙◌, ◌≡◌, ap, List, map, None, Option, Some, sym, ℕ, Reference, Relation, binary, bracket, comprehension, chain, constant, empty_set, links, listed, number, part_of, quantified, range_step, ranges, reference, resolved_link_step, resolved_step, ResolvedTree, terms, unary, range_of, resolved_link_of, resolved_of, Range, Resolved, fold-roll-Range, fold-roll-Resolved, fold-roll-ResolvedLink, map-Resolved, Resolved-F, out-Resolved, roll-out-Resolved, roll-Range, roll-Resolved, roll-ResolvedLink, ResolvedLink}
 use Rattle.zf_tree.specs.declared.symbol.Constant.{Constant}
 use Rattle.zf_tree.specs.declared.symbol.Quantifier.{Quantifier}
 use Rattle.zf_tree.specs.declared.operator.Listed.{Listed}
@@ -39,11 +39,11 @@ of-Bracket l t = ap resolved_of (sym (v.rolls-Bracket l t)) ∙ rolled (Resolved
 pub of-Listed : (l : ℕ) (form : Listed) (ts : List Resolved) → resolved_of (v.Listed l form ts) ≡ listed l form (terms (map resolved_of ts))
 of-Listed l form ts = ap resolved_of (sym (v.rolls-Listed l form ts)) ∙ rolled (Resolved-F.Listed l form ts)
 
-pub of-Builder : (l : ℕ) (rs : List Range) (p t : Option Resolved) → resolved_of (v.Builder l rs p t) ≡ builder l (ranges (map range_of rs)) (part_of p) (part_of t)
-of-Builder l rs None None = ap resolved_of (sym (v.rolls-Builder l rs None None)) ∙ rolled (Resolved-F.Builder l rs None None)
-of-Builder l rs None (Some t) = ap resolved_of (sym (v.rolls-Builder l rs None (Some t))) ∙ rolled (Resolved-F.Builder l rs None (Some t))
-of-Builder l rs (Some p) None = ap resolved_of (sym (v.rolls-Builder l rs (Some p) None)) ∙ rolled (Resolved-F.Builder l rs (Some p) None)
-of-Builder l rs (Some p) (Some t) = ap resolved_of (sym (v.rolls-Builder l rs (Some p) (Some t))) ∙ rolled (Resolved-F.Builder l rs (Some p) (Some t))
+pub of-Comprehension : (l : ℕ) (rs : List Range) (p t : Option Resolved) → resolved_of (v.Comprehension l rs p t) ≡ comprehension l (ranges (map range_of rs)) (part_of p) (part_of t)
+of-Comprehension l rs None None = ap resolved_of (sym (v.rolls-Comprehension l rs None None)) ∙ rolled (Resolved-F.Comprehension l rs None None)
+of-Comprehension l rs None (Some t) = ap resolved_of (sym (v.rolls-Comprehension l rs None (Some t))) ∙ rolled (Resolved-F.Comprehension l rs None (Some t))
+of-Comprehension l rs (Some p) None = ap resolved_of (sym (v.rolls-Comprehension l rs (Some p) None)) ∙ rolled (Resolved-F.Comprehension l rs (Some p) None)
+of-Comprehension l rs (Some p) (Some t) = ap resolved_of (sym (v.rolls-Comprehension l rs (Some p) (Some t))) ∙ rolled (Resolved-F.Comprehension l rs (Some p) (Some t))
 
 pub of-Unary : (l : ℕ) (op : Unary) (t : Resolved) → resolved_of (v.Unary l op t) ≡ unary l op (resolved_of t)
 of-Unary l op t = ap resolved_of (sym (v.rolls-Unary l op t)) ∙ rolled (Resolved-F.Unary l op t)
@@ -67,7 +67,7 @@ pub of-range : (n : ℕ) (t : Resolved) → range_of (new_range n t) ≡ (n, res
 unfolding resolved_of range_of
 of-range n t = fold-roll-Range ResolvedTree (ℕ × ResolvedTree) (Relation × ResolvedTree) resolved_step range_step resolved_link_step (record { variables = n; set = t })
 
-pub ruleset seen = (of-Name, of-Number, of-Constant, of-EmptySet, of-Bracket, of-Listed, of-Builder, of-Unary, of-Binary, of-Chain, of-Quantified)
+pub ruleset seen = (of-Name, of-Number, of-Constant, of-EmptySet, of-Bracket, of-Listed, of-Comprehension, of-Unary, of-Binary, of-Chain, of-Quantified)
 
 pub link-seen : (k : ResolvedLink) → resolved_link_of k ≡ (k.relation, resolved_of k.right)
 link-seen k = of-link k.relation k.right

@@ -26,7 +26,7 @@ unfoldable pub use Rattle.zf_term.specs.TypeViews.{type_of}
 pub use Rattle.zf_term.specs.TypeViews.{type_step}
 pub use Rattle.zf_term.specs.TypeTexts.{later_parts_text, parts_text, type_text}
 pub use Rattle.zf_term.specs.Faults.{a_schema, already_defined, clash, Fault, kind_of, lack, lack_of, local_twice, mismatch, misplaced, no_members, not_a_schema, not_declared, Offence, predicate, Sort, too_large, typed, unfit, untyped_lack}
-pub use Rattle.zf_term.specs.ResolvedTrees.{absent, binary, bracket, builder, chain, constant, empty_set, link, listed, no_links, no_ranges, no_terms, number, present, quantified, range, Ranges, reference, ResolvedLinks, ResolvedPart, ResolvedTree, term, unary}
+pub use Rattle.zf_term.specs.ResolvedTrees.{absent, binary, bracket, comprehension, chain, constant, empty_set, link, listed, no_links, no_ranges, no_terms, number, present, quantified, range, Ranges, reference, ResolvedLinks, ResolvedPart, ResolvedTree, term, unary}
 unfoldable pub use Rattle.zf_term.specs.ResolvedViews.{range_of, resolved_link_of, resolved_of}
 pub use Rattle.zf_term.specs.ResolvedViews.{links, part_of, range_step, ranges, resolved_link_step, resolved_step, terms}
 pub use Rattle.zf_term.specs.Shapes.{all_moved, conjuncts, height, is_and, is_conjunction, links_moved, moved, nodes, part_moved, ranges_moved, term_line}

@@ -1,7 +1,7 @@
 -- What the names of a resolved term stand for, from left to right, behind others.
 use Rattle.std.specs.Prelude.{List, [], ◌∷◌, ◌++◌}
 use Rattle.zf_reference.specs.declared.reference.Reference.{Reference}
-use Rattle.zf_term.specs.ResolvedTrees.{ResolvedTree, reference, empty_set, bracket, listed, builder, unary, binary, chain, quantified, ResolvedTrees, no_terms, term, ResolvedLinks, no_links, link, Ranges, no_ranges, range, ResolvedPart, absent, present}
+use Rattle.zf_term.specs.ResolvedTrees.{ResolvedTree, reference, empty_set, bracket, listed, comprehension, unary, binary, chain, quantified, ResolvedTrees, no_terms, term, ResolvedLinks, no_links, link, Ranges, no_ranges, range, ResolvedPart, absent, present}
 
 abbrev mutual
   pub onto : List Reference → ResolvedTree → List Reference
@@ -9,7 +9,7 @@ abbrev mutual
   onto rs (empty_set l t) = onto rs t
   onto rs (bracket l t) = onto rs t
   onto rs (listed l form ts) = all_onto rs ts
-  onto rs (builder l ds p t) = part_onto (part_onto (ranges_onto rs ds) p) t
+  onto rs (comprehension l ds p t) = part_onto (part_onto (ranges_onto rs ds) p) t
   onto rs (unary l op t) = onto rs t
   onto rs (binary l op a b) = onto (onto rs a) b
   onto rs (chain l t ks) = links_onto (onto rs t) ks

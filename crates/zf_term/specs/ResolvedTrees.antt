@@ -16,7 +16,7 @@ mutual
     empty_set : (line : ℕ) → ResolvedTree → ResolvedTree
     bracket : (line : ℕ) → ResolvedTree → ResolvedTree
     listed : (line : ℕ) → Listed → ResolvedTrees → ResolvedTree
-    builder : (line : ℕ) → Ranges → ResolvedPart → ResolvedPart → ResolvedTree
+    comprehension : (line : ℕ) → Ranges → ResolvedPart → ResolvedPart → ResolvedTree
     unary : (line : ℕ) → Unary → ResolvedTree → ResolvedTree
     binary : (line : ℕ) → Operator → ResolvedTree → ResolvedTree → ResolvedTree
     chain : (line : ℕ) → ResolvedTree → ResolvedLinks → ResolvedTree

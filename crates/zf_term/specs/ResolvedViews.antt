@@ -6,7 +6,7 @@ use Rattle.zf_term.specs.declared.resolved.ResolvedLink.{ResolvedLink}
 use Rattle.zf_term.specs.declared.resolved.Range.{Range}
 use Rattle.zf_term.specs.declared.resolved.Resolved.TheOpen.{Resolved-F, ResolvedLink-F, Range-F}
 use Rattle.zf_term.specs.declared.resolved.Resolved.TheFolds.{fold-Resolved, fold-ResolvedLink, fold-Range}
-use Rattle.zf_term.specs.ResolvedTrees.{ResolvedTree, ResolvedTrees, ResolvedLinks, Ranges, ResolvedPart, reference, number, constant, empty_set, bracket, listed, builder, unary, binary, chain, quantified, no_terms, term, no_links, link, no_ranges, range, absent, present}
+use Rattle.zf_term.specs.ResolvedTrees.{ResolvedTree, ResolvedTrees, ResolvedLinks, Ranges, ResolvedPart, reference, number, constant, empty_set, bracket, listed, comprehension, unary, binary, chain, quantified, no_terms, term, no_links, link, no_ranges, range, absent, present}
 
 abbrev pub terms : List ResolvedTree → ResolvedTrees
 terms [] = no_terms
@@ -32,7 +32,7 @@ resolved_step (Resolved-F.Constant l c) = constant l c
 resolved_step (Resolved-F.EmptySet l t) = empty_set l t
 resolved_step (Resolved-F.Bracket l t) = bracket l t
 resolved_step (Resolved-F.Listed l form ts) = listed l form (terms ts)
-resolved_step (Resolved-F.Builder l rs p t) = builder l (ranges rs) (part p) (part t)
+resolved_step (Resolved-F.Comprehension l rs p t) = comprehension l (ranges rs) (part p) (part t)
 resolved_step (Resolved-F.Unary l op t) = unary l op t
 resolved_step (Resolved-F.Binary l op a b) = binary l op a b
 resolved_step (Resolved-F.Chain l t ks) = chain l t (links ks)

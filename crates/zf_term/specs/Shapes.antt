@@ -4,7 +4,7 @@ use Rattle.zf_tree.specs.declared.symbol.Connective.TheVariants.{And}
 use Rattle.zf_tree.specs.declared.operator.Operator.{Operator}
 use Rattle.zf_tree.specs.declared.operator.Operator.TheVariants as operator
 use Rattle.zf_reference.specs.{renumbered}
-use Rattle.zf_term.specs.ResolvedTrees.{ResolvedTree, reference, number, constant, empty_set, bracket, listed, builder, unary, binary, chain, quantified, ResolvedTrees, no_terms, term, ResolvedLinks, no_links, link, Ranges, no_ranges, range, ResolvedPart, absent, present}
+use Rattle.zf_term.specs.ResolvedTrees.{ResolvedTree, reference, number, constant, empty_set, bracket, listed, comprehension, unary, binary, chain, quantified, ResolvedTrees, no_terms, term, ResolvedLinks, no_links, link, Ranges, no_ranges, range, ResolvedPart, absent, present}
 
 -- the line of the first token
 abbrev pub term_line : ResolvedTree → ℕ
@@ -14,7 +14,7 @@ term_line (constant l c) = l
 term_line (empty_set l t) = l
 term_line (bracket l t) = l
 term_line (listed l form ts) = l
-term_line (builder l rs p t) = l
+term_line (comprehension l rs p t) = l
 term_line (unary l op t) = l
 term_line (binary l op a b) = l
 term_line (chain l t ks) = l
@@ -28,7 +28,7 @@ abbrev mutual
   measure join (empty_set l t) = measure join t + 1
   measure join (bracket l t) = measure join t
   measure join (listed l form ts) = terms_measure join ts + 1
-  measure join (builder l rs p t) = join (join (ranges_measure join rs) (part_measure join p)) (part_measure join t) + 1
+  measure join (comprehension l rs p t) = join (join (ranges_measure join rs) (part_measure join p)) (part_measure join t) + 1
   measure join (unary l op t) = measure join t + 1
   measure join (binary l op a b) = join (measure join a) (measure join b) + 1
   measure join (chain l t ks) = join (measure join t) (links_measure join ks) + 1
@@ -68,7 +68,7 @@ abbrev mutual
   moved f (empty_set l t) = empty_set l (moved f t)
   moved f (bracket l t) = bracket l (moved f t)
   moved f (listed l form ts) = listed l form (all_moved f ts)
-  moved f (builder l rs p t) = builder l (ranges_moved f rs) (part_moved f p) (part_moved f t)
+  moved f (comprehension l rs p t) = comprehension l (ranges_moved f rs) (part_moved f p) (part_moved f t)
   moved f (unary l op t) = unary l op (moved f t)
   moved f (binary l op a b) = binary l op (moved f a) (moved f b)
   moved f (chain l t ks) = chain l (moved f t) (links_moved f ks)

@@ -27,8 +27,8 @@ pub enum Resolved<'a> {
     EmptySet(u32, Boxed<'a, Resolved<'a>>),
     Bracket(u32, Boxed<'a, Resolved<'a>>),
     Listed(u32, Listed, Terms<'a>),
-    /// A builder: the ranges of its variables, the filter, and the term.
-    Builder(u32, Boxed<'a, Items<'a, Range<'a>>>, Part<'a>, Part<'a>),
+    /// A comprehension: the ranges of its variables, the filter, and the term.
+    Comprehension(u32, Boxed<'a, Items<'a, Range<'a>>>, Part<'a>, Part<'a>),
     Unary(u32, Unary, Boxed<'a, Resolved<'a>>),
     Binary(u32, Operator, Boxed<'a, Resolved<'a>>, Boxed<'a, Resolved<'a>>),
     /// A chain of relations: the first operand, and the further ones.
@@ -66,7 +66,7 @@ impl<'a> Resolved<'a> {
             Resolved::EmptySet(line, _) => *line,
             Resolved::Bracket(line, _) => *line,
             Resolved::Listed(line, _, _) => *line,
-            Resolved::Builder(line, _, _, _) => *line,
+            Resolved::Comprehension(line, _, _, _) => *line,
             Resolved::Unary(line, _, _) => *line,
             Resolved::Binary(line, _, _, _) => *line,
             Resolved::Chain(line, _, _) => *line,

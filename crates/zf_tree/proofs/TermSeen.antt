@@ -3,7 +3,7 @@ use Rattle.std.proofs.Common.{◌≡◌, ℕ, List, map, Option, Some, None, sym
 use Rattle.zf_tree.specs.declared.symbol.Constant.{Constant}
 use Rattle.zf_tree.specs.declared.symbol.Quantifier.{Quantifier}
 use Rattle.zf_tree.specs.declared.symbol.Relation.{Relation}
-use Rattle.zf_tree.specs.{binary, bracket, builder, chain, constant, decl_step, empty_set, Ident, link_of, link_step, links, listed, name_at, named, new_decl, new_link, numeral, part_of, quantified, Tree, tree_of, tree_step, trees, unary, var_decl_of, var_decls}
+use Rattle.zf_tree.specs.{binary, bracket, comprehension, chain, constant, decl_step, empty_set, Ident, link_of, link_step, links, listed, name_at, named, new_decl, new_link, numeral, part_of, quantified, Tree, tree_of, tree_step, trees, unary, var_decl_of, var_decls}
 use Rattle.zf_tree.specs.declared.tree.Name.{Name}
 use Rattle.zf_tree.specs.declared.operator.Listed.{Listed}
 use Rattle.zf_tree.specs.declared.operator.Operator.{Operator}
@@ -38,11 +38,11 @@ of-Bracket l t = ap tree_of (sym (v.rolls-Bracket l t)) ∙ rolled (Term-F.Brack
 pub of-Listed : (l : ℕ) (form : Listed) (ts : List Term) → tree_of (v.Listed l form ts) ≡ listed l form (trees (map tree_of ts))
 of-Listed l form ts = ap tree_of (sym (v.rolls-Listed l form ts)) ∙ rolled (Term-F.Listed l form ts)
 
-pub of-Builder : (l : ℕ) (ds : List VarDecl) (p t : Option Term) → tree_of (v.Builder l ds p t) ≡ builder l (var_decls (map var_decl_of ds)) (part_of p) (part_of t)
-of-Builder l ds None None = ap tree_of (sym (v.rolls-Builder l ds None None)) ∙ rolled (Term-F.Builder l ds None None)
-of-Builder l ds None (Some t) = ap tree_of (sym (v.rolls-Builder l ds None (Some t))) ∙ rolled (Term-F.Builder l ds None (Some t))
-of-Builder l ds (Some p) None = ap tree_of (sym (v.rolls-Builder l ds (Some p) None)) ∙ rolled (Term-F.Builder l ds (Some p) None)
-of-Builder l ds (Some p) (Some t) = ap tree_of (sym (v.rolls-Builder l ds (Some p) (Some t))) ∙ rolled (Term-F.Builder l ds (Some p) (Some t))
+pub of-Comprehension : (l : ℕ) (ds : List VarDecl) (p t : Option Term) → tree_of (v.Comprehension l ds p t) ≡ comprehension l (var_decls (map var_decl_of ds)) (part_of p) (part_of t)
+of-Comprehension l ds None None = ap tree_of (sym (v.rolls-Comprehension l ds None None)) ∙ rolled (Term-F.Comprehension l ds None None)
+of-Comprehension l ds None (Some t) = ap tree_of (sym (v.rolls-Comprehension l ds None (Some t))) ∙ rolled (Term-F.Comprehension l ds None (Some t))
+of-Comprehension l ds (Some p) None = ap tree_of (sym (v.rolls-Comprehension l ds (Some p) None)) ∙ rolled (Term-F.Comprehension l ds (Some p) None)
+of-Comprehension l ds (Some p) (Some t) = ap tree_of (sym (v.rolls-Comprehension l ds (Some p) (Some t))) ∙ rolled (Term-F.Comprehension l ds (Some p) (Some t))
 
 pub of-Unary : (l : ℕ) (op : Unary) (t : Term) → tree_of (v.Unary l op t) ≡ unary l op (tree_of t)
 of-Unary l op t = ap tree_of (sym (v.rolls-Unary l op t)) ∙ rolled (Term-F.Unary l op t)
@@ -66,4 +66,4 @@ pub of-decl : (ns : List Name) (t : Term) → var_decl_of (new_decl ns t) ≡ (n
 unfolding tree_of var_decl_of
 of-decl ns t = fold-roll-VarDecl Tree (Relation × Tree) (List Name × Tree) tree_step link_step decl_step (record { names = ns; set = t })
 
-pub ruleset seen = (of-Name, of-Number, of-Constant, of-EmptySet, of-Bracket, of-Listed, of-Builder, of-Unary, of-Binary, of-Chain, of-Quantified)
+pub ruleset seen = (of-Name, of-Number, of-Constant, of-EmptySet, of-Bracket, of-Listed, of-Comprehension, of-Unary, of-Binary, of-Chain, of-Quantified)

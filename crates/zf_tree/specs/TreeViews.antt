@@ -18,7 +18,7 @@ use Rattle.zf_tree.specs.declared.tree.Paragraph.TheVariants as paragraph
 use Rattle.zf_tree.specs.declared.tree.ZBox.{ZBox}
 use Rattle.zf_tree.specs.declared.tree.ZBox.TheVariants as zbox
 use Rattle.zf_tree.specs.declared.tree.Spec.{Spec}
-use Rattle.zf_tree.specs.Trees.{Tree, Trees, Links, VarDecls, Perhaps, DeclTree, SchemaTree, ParagraphTree, BoxTree, named, numeral, constant, empty_set, bracket, listed, builder, unary, binary, chain, quantified, no_trees, tree, no_links, link, no_decls, var_decl, absent, present, vars, include, schema_text, schema_reference, both, either, schema_bracket, given, free, abbreviation, definition, zed, schema_box}
+use Rattle.zf_tree.specs.Trees.{Tree, Trees, Links, VarDecls, Perhaps, DeclTree, SchemaTree, ParagraphTree, BoxTree, named, numeral, constant, empty_set, bracket, listed, comprehension, unary, binary, chain, quantified, no_trees, tree, no_links, link, no_decls, var_decl, absent, present, vars, include, schema_text, schema_reference, both, either, schema_bracket, given, free, abbreviation, definition, zed, schema_box}
 
 abbrev pub trees : List Tree → Trees
 trees [] = no_trees
@@ -44,7 +44,7 @@ tree_step (Term-F.Constant l c) = constant l c
 tree_step (Term-F.EmptySet l t) = empty_set l t
 tree_step (Term-F.Bracket l t) = bracket l t
 tree_step (Term-F.Listed l form ts) = listed l form (trees ts)
-tree_step (Term-F.Builder l ds p t) = builder l (var_decls ds) (perhaps p) (perhaps t)
+tree_step (Term-F.Comprehension l ds p t) = comprehension l (var_decls ds) (perhaps p) (perhaps t)
 tree_step (Term-F.Unary l op t) = unary l op t
 tree_step (Term-F.Binary l op a b) = binary l op a b
 tree_step (Term-F.Chain l t ks) = chain l t (links ks)

@@ -19,7 +19,7 @@ mutual
     empty_set : (line : ℕ) → Tree → Tree
     bracket : (line : ℕ) → Tree → Tree
     listed : (line : ℕ) → Listed → Trees → Tree
-    builder : (line : ℕ) → VarDecls → Perhaps → Perhaps → Tree
+    comprehension : (line : ℕ) → VarDecls → Perhaps → Perhaps → Tree
     unary : (line : ℕ) → Unary → Tree → Tree
     binary : (line : ℕ) → Operator → Tree → Tree → Tree
     chain : (line : ℕ) → Tree → Links → Tree
@@ -53,7 +53,7 @@ line_of (constant l c) = l
 line_of (empty_set l t) = l
 line_of (bracket l t) = l
 line_of (listed l form ts) = l
-line_of (builder l ds p t) = l
+line_of (comprehension l ds p t) = l
 line_of (unary l op t) = l
 line_of (binary l op a b) = l
 line_of (chain l t ks) = l

@@ -119,8 +119,8 @@ pub enum Term<'a> {
     EmptySet(u32, Boxed<'a, Term<'a>>),
     Bracket(u32, Boxed<'a, Term<'a>>),
     Listed(u32, Listed, Terms<'a>),
-    /// A builder: the declarations, the filter, and the term.
-    Builder(u32, Boxed<'a, Items<'a, VarDecl<'a>>>, Part<'a>, Part<'a>),
+    /// A comprehension: the declarations, the filter, and the term.
+    Comprehension(u32, Boxed<'a, Items<'a, VarDecl<'a>>>, Part<'a>, Part<'a>),
     Unary(u32, Unary, Boxed<'a, Term<'a>>),
     Binary(u32, Operator, Boxed<'a, Term<'a>>, Boxed<'a, Term<'a>>),
     /// A chain of relations: the first operand, and the links.
@@ -142,7 +142,7 @@ impl<'a> Term<'a> {
             Term::EmptySet(line, _) => *line,
             Term::Bracket(line, _) => *line,
             Term::Listed(line, _, _) => *line,
-            Term::Builder(line, _, _, _) => *line,
+            Term::Comprehension(line, _, _, _) => *line,
             Term::Unary(line, _, _) => *line,
             Term::Binary(line, _, _, _) => *line,
             Term::Chain(line, _, _) => *line,

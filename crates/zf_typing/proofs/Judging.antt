@@ -1,5 +1,5 @@
 -- From the answers about the parts of a term to the answer about the term.
-use Rattle.zf_typing.proofs.Prelude.{◌∙◌, ◌≡◌, ap, Err, inr, None, Ok, Option, refl, Some, subst, sym, true≢false, ℕ, IfErr, IfOk, IsErr, IsErrAnd, Result, need_of, binary, bracket, builder, chain, constant, empty_set, listed, named, numeral, quantified, Tree, tree_of, unary, Need, Rule, Unary, Domain, Finset, Power, Range, Size, Term, resolved_of, pair_type, power, Offence, IsJudged, Judges, Misplaced, Offends, IfFault, IsRefusal, IsStill, offence_of, resolved, a_schema, Meets, number_sort, predicate, set_sort, Sort, sort_of, Takes, UnaryTakes, IsMade, IsMadeOfOne, Scope, IsOf, Refusal, Fault, OutOfMemory, Judged}
+use Rattle.zf_typing.proofs.Prelude.{◌∙◌, ◌≡◌, ap, Err, inr, None, Ok, Option, refl, Some, subst, sym, true≢false, ℕ, IfErr, IfOk, IsErr, IsErrAnd, Result, need_of, binary, bracket, comprehension, chain, constant, empty_set, listed, named, numeral, quantified, Tree, tree_of, unary, Need, Rule, Unary, Domain, Finset, Power, Range, Size, Term, resolved_of, pair_type, power, Offence, IsJudged, Judges, Misplaced, Offends, IfFault, IsRefusal, IsStill, offence_of, resolved, a_schema, Meets, number_sort, predicate, set_sort, Sort, sort_of, Takes, UnaryTakes, IsMade, IsMadeOfOne, Scope, IsOf, Refusal, Fault, OutOfMemory, Judged}
 use Rattle.zf_tree.specs.declared.operator.Operator.{Operator}
 use Rattle.zf_tree.specs.declared.operator.Sign.TheVariants as sign
 use Rattle.zf_tree.specs.declared.tree.Term.TheVariants as form
@@ -79,7 +79,7 @@ misplaced s n (constant l c) k m h = h
 misplaced s n (empty_set l e) k m h = inr h
 misplaced s n (bracket l e) k m h = inr h
 misplaced s n (listed l form es) k m h = inr (inr (inr h))
-misplaced s n (builder l ds p e) k m h = inr (inr (inr h))
+misplaced s n (comprehension l ds p e) k m h = inr (inr (inr h))
 misplaced s n (unary l op e) k m h = inr (inr h)
 misplaced s n (binary l op a b) k m h = inr (inr (inr h))
 misplaced s n (chain l e ks) k m h = inr (inr h)

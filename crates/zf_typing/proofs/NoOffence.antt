@@ -1,5 +1,5 @@
 -- A term that is well typed for its place has no offence there.
-use Rattle.zf_typing.proofs.Prelude.{◌∙◌, ◌∷◌, ◌⊎◌, [], inl, inr, List, refl, subst, sym, ℕ, ⊎_elim, none-some, left_need, need_of, prefix_need, relation_rule, right_need, rule_of, sign_need, absent, binary, bracket, builder, chain, constant, empty_set, link, Links, listed, named, no_decls, no_links, no_trees, numeral, Perhaps, present, quantified, Tree, tree, Trees, unary, var_decl, VarDecls, Listed, Display, Product, Tuple, Need, Rule, Sign, Unary, Prefix, Domain, Finset, Power, Range, Size, Name, IsSmall, power, Ty, type, Tys, Offence, BuildsTooLarge, Clash, Differ, Disagree, IsRepeated, LinksOffend, ListedTooLarge, MakesTooLarge, MakeTooLarge, Misplaced, Offends, OneDiffers, OneOffends, PartOffends, Repeats, SetsOffend, IsSmallSort, Meets, predicate, PrefixTakes, set_sort, SignTakes, Sort, Takes, typed, UnaryTakes, Scope, Var, with_variables, AreAll, AreApart, LinksAreTyped, AreMembers, HasMemberType, PartIsPredicate, Declare, declared, IsApart, IsOf, Makes, member_need, member_sort}
+use Rattle.zf_typing.proofs.Prelude.{◌∙◌, ◌∷◌, ◌⊎◌, [], inl, inr, List, refl, subst, sym, ℕ, ⊎_elim, none-some, left_need, need_of, prefix_need, relation_rule, right_need, rule_of, sign_need, absent, binary, bracket, comprehension, chain, constant, empty_set, link, Links, listed, named, no_decls, no_links, no_trees, numeral, Perhaps, present, quantified, Tree, tree, Trees, unary, var_decl, VarDecls, Listed, Display, Product, Tuple, Need, Rule, Sign, Unary, Prefix, Domain, Finset, Power, Range, Size, Name, IsSmall, power, Ty, type, Tys, Offence, BuildsTooLarge, Clash, Differ, Disagree, IsRepeated, LinksOffend, ListedTooLarge, MakesTooLarge, MakeTooLarge, Misplaced, Offends, OneDiffers, OneOffends, PartOffends, Repeats, SetsOffend, IsSmallSort, Meets, predicate, PrefixTakes, set_sort, SignTakes, Sort, Takes, typed, UnaryTakes, Scope, Var, with_variables, AreAll, AreApart, LinksAreTyped, AreMembers, HasMemberType, PartIsPredicate, Declare, declared, IsApart, IsOf, Makes, member_need, member_sort}
 use Rattle.zf_tree.specs.declared.operator.Sign.TheVariants as sign
 use Rattle.zf_tree.specs.declared.operator.Need.TheVariants as need
 use Rattle.zf_tree.specs.declared.operator.Rule.TheVariants as rule
@@ -141,15 +141,15 @@ mutual
   no_offence s n (listed l form es) z k m p meets (inr (inl o)) = no_difference form s l es p.0 p.1 k m p.2 p.3 o
   no_offence s n (listed l form es) z k m p meets (inr (inr (inl o))) = listed_not_too_large form s l es p.0 p.1 k m p.2 p.3 p.4 o
   no_offence s n (listed l form es) z k m p meets (inr (inr (inr o))) = not_misplaced s n (listed l form es) z k m p meets o
-  no_offence s n (builder l ds c e) z k m p meets (inl o) = no_repetition (declared ds) k m p.2 o
-  no_offence s n (builder l ds c e) z k m p meets (inr (inl o)) = no_set_offends s ds p.0 k m p.3 o
-  no_offence s n (builder l ds c e) z k m p meets (inr (inr (inl o))) =
+  no_offence s n (comprehension l ds c e) z k m p meets (inl o) = no_repetition (declared ds) k m p.2 o
+  no_offence s n (comprehension l ds c e) z k m p meets (inr (inl o)) = no_set_offends s ds p.0 k m p.3 o
+  no_offence s n (comprehension l ds c e) z k m p meets (inr (inr (inl o))) =
       let vs = one_declared s ds p.0 o.0 p.3 o.1.1 in
       let condition = subst (λ v. PartIsPredicate (with_variables s v) c) vs p.4 in
       let built = subst (λ v. HasMemberType (with_variables s v) v e p.1) vs p.5 in
       ⊎_elim (no_condition_offends (with_variables s o.0) c k m condition)
       (⊎_elim (no_built_offends (with_variables s o.0) o.0 e p.1 k m built) (built_not_too_large (with_variables s o.0) o.0 l e p.1 k m built p.6)) o.2
-  no_offence s n (builder l ds c e) z k m p meets (inr (inr (inr o))) = not_misplaced s n (builder l ds c e) z k m p meets o
+  no_offence s n (comprehension l ds c e) z k m p meets (inr (inr (inr o))) = not_misplaced s n (comprehension l ds c e) z k m p meets o
   no_offence s n (unary l op e) z k m p meets (inl o) = no_offence s (need_of op) e p.0 k m p.1 (operand_meets op p.0 z p.2) o
   no_offence s n (unary l op e) z k m p meets (inr (inl o)) = unary_not_too_large s op l e p.0 z k m p.1 p.2 p.3 o
   no_offence s n (unary l op e) z k m p meets (inr (inr o)) = not_misplaced s n (unary l op e) z k m p meets o

@@ -1,5 +1,5 @@
 -- A term is of one sort at most, and what it declares or builds is one thing.
-use Rattle.zf_typing.proofs.Prelude.{◌++◌, ◌∙◌, ◌≡◌, ap, List, subst, sym, same_Some, rule_of, absent, binary, bracket, builder, chain, constant, empty_set, listed, named, no_decls, no_trees, numeral, Perhaps, present, quantified, Tree, tree, Trees, unary, var_decl, VarDecls, Listed, Display, Product, Tuple, Rule, Sign, Unary, Prefix, Domain, Finset, Power, Range, Size, no_types, power, product, Ty, type, Tys, PrefixTakes, set_sort, SignTakes, Sort, Takes, typed, UnaryTakes, Scope, Var, with_variables, AreAll, AreMembers, HasMemberType, Declare, IsOf, Makes, member_sort, variables}
+use Rattle.zf_typing.proofs.Prelude.{◌++◌, ◌∙◌, ◌≡◌, ap, List, subst, sym, same_Some, rule_of, absent, binary, bracket, comprehension, chain, constant, empty_set, listed, named, no_decls, no_trees, numeral, Perhaps, present, quantified, Tree, tree, Trees, unary, var_decl, VarDecls, Listed, Display, Product, Tuple, Rule, Sign, Unary, Prefix, Domain, Finset, Power, Range, Size, no_types, power, product, Ty, type, Tys, PrefixTakes, set_sort, SignTakes, Sort, Takes, typed, UnaryTakes, Scope, Var, with_variables, AreAll, AreMembers, HasMemberType, Declare, IsOf, Makes, member_sort, variables}
 use Rattle.zf_tree.specs.declared.operator.Sign.TheVariants as sign
 use Rattle.zf_tree.specs.declared.operator.Rule.TheVariants as rule
 use Rattle.zf_tree.specs.declared.operator.Unary.TheVariants as symbol
@@ -83,7 +83,7 @@ mutual
   one_sort s (empty_set l e) x y p q = p.2 ∙ one_sort s e (set_sort p.0) (set_sort q.0) p.1 q.1 ∙ sym q.2
   one_sort s (bracket l e) x y p q = one_sort s e x y p.0 q.0
   one_sort s (listed l form es) x y p q = p.5 ∙ ap typed (one_made form p.0 q.0 p.1 q.1 (one_row form s es p.0 q.0 p.2 q.2) p.3 q.3) ∙ sym q.5
-  one_sort s (builder l ds c e) x y p q =
+  one_sort s (comprehension l ds c e) x y p q =
       let vs = one_declared s ds p.0 q.0 p.3 q.3 in
       let built = subst (λ v. HasMemberType (with_variables s v) v e p.1) vs p.5 in
       p.7 ∙ ap set_sort (one_built (with_variables s q.0) q.0 e p.1 q.1 built q.5) ∙ sym q.7

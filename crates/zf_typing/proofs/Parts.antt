@@ -1,5 +1,5 @@
 -- What stands within declarations, from what its parts are.
-use Rattle.zf_typing.proofs.Prelude.{◌∙◌, ◌≡◌, ap, Err, length, List, map, None, Ok, Option, refl, Some, subst, sym, true≢false, ℕ, IfOk, IsErr, IsErrAnd, Result, absent, builder, Perhaps, present, quantified, Tree, VarDecls, Need, type_of, ZType, IsPart, Judges, JudgesPart, PartOffends, IfFault, resolved, resolved_part, resolved_ranges, Scope, Var, with_variables, PartIsPredicate, Declare, IsOf, row_type, Refusal, Judged}
+use Rattle.zf_typing.proofs.Prelude.{◌∙◌, ◌≡◌, ap, Err, length, List, map, None, Ok, Option, refl, Some, subst, sym, true≢false, ℕ, IfOk, IsErr, IsErrAnd, Result, absent, comprehension, Perhaps, present, quantified, Tree, VarDecls, Need, type_of, ZType, IsPart, Judges, JudgesPart, PartOffends, IfFault, resolved, resolved_part, resolved_ranges, Scope, Var, with_variables, PartIsPredicate, Declare, IsOf, row_type, Refusal, Judged}
 use Rattle.zf_tree.specs.declared.symbol.Quantifier.{Quantifier}
 use Rattle.zf_tree.specs.declared.operator.Need.TheVariants as need
 use Rattle.zf_term.specs.declared.resolved.Range.{Range}
@@ -69,9 +69,9 @@ module _ (s : Scope) (ds : VarDecls) (vs : List Var) (declares : Declare s ds vs
       let two = body ∙ sym (resolved_within s ds vs e declares) in
       seen.of-Quantified l q rs o t ∙ (cc)
 
-  pub builder_kept : (l : ℕ) (p e : Perhaps) (o t : Option Resolved) → kept_views.part_of o ≡ resolved_part (with_variables s vs) p
-      → kept_views.part_of t ≡ resolved_part (with_variables s vs) e → kept_views.resolved_of (v.Builder l rs o t) ≡ resolved s (builder l ds p e)
-  builder_kept l p e o t condition term =
+  pub comprehension_kept : (l : ℕ) (p e : Perhaps) (o t : Option Resolved) → kept_views.part_of o ≡ resolved_part (with_variables s vs) p
+      → kept_views.part_of t ≡ resolved_part (with_variables s vs) e → kept_views.resolved_of (v.Comprehension l rs o t) ≡ resolved s (comprehension l ds p e)
+  comprehension_kept l p e o t condition term =
       let one = condition ∙ sym (part_within s ds vs p declares) in
       let two = term ∙ sym (part_within s ds vs e declares) in
-      seen.of-Builder l rs o t ∙ (cc)
+      seen.of-Comprehension l rs o t ∙ (cc)

@@ -87,7 +87,7 @@ mutual
   resolved_alike s r (text.empty_set l e) alike = ap (empty_set l) (resolved_alike s r e alike)
   resolved_alike s r (text.bracket l e) alike = ap (bracket l) (resolved_alike s r e alike)
   resolved_alike s r (text.listed l form es) alike = ap (listed l form) (all_alike s r es alike)
-  resolved_alike s r (text.builder l ds p e) alike =
+  resolved_alike s r (text.comprehension l ds p e) alike =
       let ranges = ranges_alike s r ds alike in
       let inner = alike_within s r (variables (declared ds) int) (variables (declared ds) int) alike refl in
       let condition = part_alike (bound s ds) (bound r ds) p inner in

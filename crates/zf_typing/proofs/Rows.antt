@@ -1,4 +1,4 @@
--- What a builder without a term builds: the types of the variables within.
+-- What a comprehension without a term builds: the types of the variables within.
 use Rattle.zf_typing.proofs.Prelude.{◌++◌, ◌+◌, ◌<◌, ◌∙◌, ◌∷◌, ◌≡◌, ◌≤◌, [], ap, drop, get_or, length, List, map, refl, sym, ℕ, drop-append_seam, drop-map, drop_all, length-map, dropped, product, type, type_of, types, ZType, var_type, Scope, Var, variable_of, with_variables, scope_of, row_type, types_of, Variable}
 use Rattle.zf_typing.specs.declared.scope.Scope as program
 

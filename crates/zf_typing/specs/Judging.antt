@@ -45,8 +45,8 @@ IsChain t = (l : ℕ) × (a : Term) × (ks : List Link) × (t ≡ form.Chain l a
 abbrev pub IsQuantified : Term → Type 0
 IsQuantified t = (l : ℕ) × (q : Quantifier) × (ds : List VarDecl) × (p : Option Term) × (e : Term) × (t ≡ form.Quantified q l ds p e)
 
-abbrev pub IsBuilder : Term → Type 0
-IsBuilder t = (l : ℕ) × (ds : List VarDecl) × (p e : Option Term) × (t ≡ form.Builder l ds p e)
+abbrev pub IsComprehension : Term → Type 0
+IsComprehension t = (l : ℕ) × (ds : List VarDecl) × (p e : Option Term) × (t ≡ form.Comprehension l ds p e)
 
 -- ---- members of tuples, displays and products
 

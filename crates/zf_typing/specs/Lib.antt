@@ -17,4 +17,4 @@ pub use Rattle.zf_typing.specs.Resolving.{bound, referent, resolved, resolved_al
 pub use Rattle.zf_typing.specs.Offences.{BuildsTooLarge, Clash, Differ, Disagree, IsRepeated, LinksOffend, ListedTooLarge, MakesTooLarge, MakeTooLarge, Misplaced, Offends, OneDiffers, OneOffends, PartOffends, Repeats, SetsOffend}
 pub use Rattle.zf_typing.specs.Laws.{NoOffence, OneSort}
 unfoldable pub use Rattle.zf_typing.specs.Judging.{Judges, JudgesPart}
-pub use Rattle.zf_typing.specs.Judging.{AreNew, AreRepeated, DeclarationsOffend, DiffersAt, is_conjunction, IsBinary, IsBound, IsBuilder, IsChain, IsJudged, IsOther, IsPart, IsQuantified, var_type}
+pub use Rattle.zf_typing.specs.Judging.{AreNew, AreRepeated, DeclarationsOffend, DiffersAt, is_conjunction, IsBinary, IsBound, IsComprehension, IsChain, IsJudged, IsOther, IsPart, IsQuantified, var_type}

@@ -1,7 +1,7 @@
 -- What is wrong with a term that has no sort, or not one that its place takes. It is told apart from the checker, and has no order.
 use Rattle.std.specs.Prelude.{◌≡◌, ◌⊎◌, ℕ, List, [], ◌∷◌, None}
 use Rattle.zf_tree.specs.declared.tree.Name.{Name}
-use Rattle.zf_tree.specs.{absent, binary, bracket, builder, chain, empty_set, left_need, line_of, link, Links, listed, named, need_of, no_decls, no_links, no_trees, Perhaps, present, quantified, relation_rule, right_need, rule_of, spelling, Tree, tree, unary, var_decl, VarDecls}
+use Rattle.zf_tree.specs.{absent, binary, bracket, comprehension, chain, empty_set, left_need, line_of, link, Links, listed, named, need_of, no_decls, no_links, no_trees, Perhaps, present, quantified, relation_rule, right_need, rule_of, spelling, Tree, tree, unary, var_decl, VarDecls}
 use Rattle.zf_tree.specs.Trees.{Trees}
 use Rattle.zf_term.specs.{IsSmall, local_twice, mismatch, no_members, not_declared, Offence, power, too_large, Ty, Tys}
 use Rattle.zf_tree.specs.declared.operator.Need.{Need}
@@ -73,11 +73,11 @@ abbrev mutual
   Offends s n (bracket l e) o m = Offends s n e o m ⊎ Misplaced s n (bracket l e) o m
   Offends s n (listed l form es) o m =
       OneOffends s (member_need form) es o m ⊎ (Differ form s l es o m ⊎ (ListedTooLarge form s l es o m ⊎ Misplaced s n (listed l form es) o m))
-  Offends s n (builder l ds p e) o m =
+  Offends s n (comprehension l ds p e) o m =
       Repeats (declared ds) o m
       ⊎ (SetsOffend s ds o m
       ⊎ (((vs : List Var) × Binds s ds vs × (PartOffends (with_variables s vs) need.Predicate p o m ⊎ (PartOffends (with_variables s vs) need.Expression e o m ⊎ BuildsTooLarge (with_variables s vs) vs l e o m)))
-      ⊎ Misplaced s n (builder l ds p e) o m))
+      ⊎ Misplaced s n (comprehension l ds p e) o m))
   Offends s n (unary l op e) o m = Offends s (need_of op) e o m ⊎ (MakesTooLarge s op l e o m ⊎ Misplaced s n (unary l op e) o m)
   Offends s n (binary l op a b) o m =
       Offends s (left_need (rule_of op)) a o m

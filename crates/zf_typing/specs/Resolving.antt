@@ -5,7 +5,7 @@ use Rattle.zf_tree.specs.{Links, no_decls, no_trees, Perhaps, spelling, Tree, tr
 use Rattle.zf_tree.specs.Trees.{Trees}
 use Rattle.zf_reference.specs.declared.reference.Reference.{Reference}
 use Rattle.zf_reference.specs.declared.reference.Reference.TheVariants.{Global}
-use Rattle.zf_term.specs.{absent, binary, bracket, builder, chain, constant, empty_set, int, link, listed, no_links, no_ranges, no_terms, number, present, quantified, range, Ranges, reference, ResolvedLinks, ResolvedPart, ResolvedTree, term, unary}
+use Rattle.zf_term.specs.{absent, binary, bracket, comprehension, chain, constant, empty_set, int, link, listed, no_links, no_ranges, no_terms, number, present, quantified, range, Ranges, reference, ResolvedLinks, ResolvedPart, ResolvedTree, term, unary}
 use Rattle.zf_term.specs.ResolvedTrees.{ResolvedTrees}
 use Rattle.zf_sorts.specs.{Sort}
 use Rattle.zf_typing.specs.Scopes.{Scope, with_variables, meaning}
@@ -28,7 +28,7 @@ abbrev mutual
   resolved s (text.empty_set l e) = empty_set l (resolved s e)
   resolved s (text.bracket l e) = bracket l (resolved s e)
   resolved s (text.listed l form es) = listed l form (resolved_all s es)
-  resolved s (text.builder l ds p e) = builder l (resolved_ranges s ds) (resolved_part (bound s ds) p) (resolved_part (bound s ds) e)
+  resolved s (text.comprehension l ds p e) = comprehension l (resolved_ranges s ds) (resolved_part (bound s ds) p) (resolved_part (bound s ds) e)
   resolved s (text.unary l op e) = unary l op (resolved s e)
   resolved s (text.binary l op a b) = binary l op (resolved s a) (resolved s b)
   resolved s (text.chain l e ks) = chain l (resolved s e) (resolved_links s ks)

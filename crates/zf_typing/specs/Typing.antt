@@ -2,7 +2,7 @@
 use Rattle.std.specs.Prelude.{◌≡◌, List, [], ◌∷◌, ◌++◌, Some, map}
 use Rattle.std.specs.List.{AllByRecursion}
 use Rattle.zf_tree.specs.declared.tree.Name.{Name}
-use Rattle.zf_tree.specs.{absent, binary, bracket, builder, chain, constant, empty_set, link, Links, listed, named, no_decls, no_links, no_trees, numeral, Perhaps, present, quantified, relation_rule, rule_of, spelling, Tree, tree, unary, var_decl, VarDecls}
+use Rattle.zf_tree.specs.{absent, binary, bracket, comprehension, chain, constant, empty_set, link, Links, listed, named, no_decls, no_links, no_trees, numeral, Perhaps, present, quantified, relation_rule, rule_of, spelling, Tree, tree, unary, var_decl, VarDecls}
 use Rattle.zf_tree.specs.Trees.{Trees}
 use Rattle.zf_term.specs.{IsSmall, no_types, power, Ty, type, types, Tys}
 use Rattle.zf_tree.specs.declared.operator.Listed.{Listed}
@@ -34,7 +34,7 @@ AreApart (n ∷ ns) = IsApart n ns × AreApart ns
 abbrev pub types_of : List Var → Tys
 types_of vs = types (map (λ v. v.type) vs)
 
--- what a builder without a term builds: the one variable, or the tuple of all
+-- what a comprehension without a term builds: the one variable, or the tuple of all
 abbrev pub row_type : List Var → Ty
 row_type (v ∷ []) = v.type
 row_type vs = t.product (types_of vs)
@@ -73,7 +73,7 @@ abbrev mutual
   IsOf s (empty_set l e) z = (u : Ty) × IsOf s e (set_sort u) × (z ≡ set_sort u)
   IsOf s (bracket l e) z = IsOf s e z × (z ≡ a_schema → ⊥)
   IsOf s (listed l form es) z = (us : Tys) × (u : Ty) × AreMembers form s es us × Makes form us u × IsSmall u × (z ≡ typed u)
-  IsOf s (builder l ds p e) z = (vs : List Var) × (u : Ty) × AreApart (declared ds) × Declare s ds vs × PartIsPredicate (with_variables s vs) p × HasMemberType (with_variables s vs) vs e u × IsSmall (power u) × (z ≡ set_sort u)
+  IsOf s (comprehension l ds p e) z = (vs : List Var) × (u : Ty) × AreApart (declared ds) × Declare s ds vs × PartIsPredicate (with_variables s vs) p × HasMemberType (with_variables s vs) vs e u × IsSmall (power u) × (z ≡ set_sort u)
   IsOf s (unary l op e) z = (x : Sort) × IsOf s e x × UnaryTakes op x z × IsSmallSort z
   IsOf s (binary l op a b) z = (x y : Sort) × IsOf s a x × IsOf s b y × Takes (rule_of op) x y z × IsSmallSort z
   IsOf s (chain l e ks) z = (u : Ty) × IsOf s e (typed u) × LinksAreTyped s (typed u) ks × (z ≡ predicate)
@@ -98,7 +98,7 @@ abbrev mutual
   PartIsPredicate s absent = Unit {0}
   PartIsPredicate s (present e) = IsOf s e predicate
 
-  -- the type of what a builder builds out of these variables
+  -- the type of what a comprehension builds out of these variables
   pub HasMemberType : Scope → List Var → Perhaps → Ty → Type 0
   HasMemberType s vs absent u = u ≡ row_type vs
   HasMemberType s vs (present e) u = IsOf s e (typed u)

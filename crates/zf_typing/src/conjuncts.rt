@@ -28,7 +28,7 @@ fn is_conjunction(term: &Term<'_>) -> bool
         | Term::Constant(_, _)
         | Term::EmptySet(_, _)
         | Term::Listed(_, _, _)
-        | Term::Builder(_, _, _, _)
+        | Term::Comprehension(_, _, _, _)
         | Term::Unary(_, _, _)
         | Term::Chain(_, _, _)
         | Term::Quantified(_, _, _, _, _) => false,
@@ -80,7 +80,7 @@ pub fn push_conjuncts<'a>(
         | Term::Constant(_, _)
         | Term::EmptySet(_, _)
         | Term::Listed(_, _, _)
-        | Term::Builder(_, _, _, _)
+        | Term::Comprehension(_, _, _, _)
         | Term::Unary(_, _, _)
         | Term::Chain(_, _, _)
         | Term::Quantified(_, _, _, _, _) => push_whole(term, arena, scope, conjuncts),

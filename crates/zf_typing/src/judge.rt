@@ -14,7 +14,7 @@ mod operands;
 
 use crate::like::name_like;
 use crate::scope::Scope;
-use binders::{builder, quantified};
+use binders::{comprehension, quantified};
 use bumpalo::Bump;
 use chains::chain;
 use lists::listed;
@@ -119,7 +119,7 @@ fn judge_form<'a>(
             let line = *line;
             listed(terms.as_slice(), arena, Place { need, line }, *form, scope)
         }
-        Term::Builder(_, _, _, _) => builder(term, arena, need, scope),
+        Term::Comprehension(_, _, _, _) => comprehension(term, arena, need, scope),
         Term::Unary(line, op, operand) => {
             let line = *line;
             unary(operand.get(), arena, Place { need, line }, *op, scope)

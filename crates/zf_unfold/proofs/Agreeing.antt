@@ -1,5 +1,5 @@
 -- A term with other names means in one context what it means in another, if each name does.
-use Rattle.zf_unfold.proofs.Prelude.{◌++◌, ◌+◌, ◌≡◌, ap, List, refl, subst, sym, ℕ, Reference, Value, absent, binary, bracket, builder, chain, constant, empty_set, link, listed, no_links, no_ranges, no_terms, number, present, quantified, range, Ranges, reference, ResolvedLinks, ResolvedPart, ResolvedTree, ResolvedTrees, term, unary, Environment, at, AreSame, AreSameLinks, AreSameRanges, IsSame, IsSamePart, renamed, all_renamed, links_renamed, ranges_renamed, part_renamed}
+use Rattle.zf_unfold.proofs.Prelude.{◌++◌, ◌+◌, ◌≡◌, ap, List, refl, subst, sym, ℕ, Reference, Value, absent, binary, bracket, comprehension, chain, constant, empty_set, link, listed, no_links, no_ranges, no_terms, number, present, quantified, range, Ranges, reference, ResolvedLinks, ResolvedPart, ResolvedTree, ResolvedTrees, term, unary, Environment, at, AreSame, AreSameLinks, AreSameRanges, IsSame, IsSamePart, renamed, all_renamed, links_renamed, ranges_renamed, part_renamed}
 use Rattle.std.proofs.lemmas.List.{append_assoc}
 use Rattle.zf_lift.specs.{variables_of}
 use Rattle.zf_lift.proofs.Forms as forms
@@ -26,8 +26,8 @@ module _ (f : Reference → Reference) (g e : Environment) (row front : List Val
     same_renamed ls (empty_set l t) = forms.same_empty_set (at g row ls) (at e row (front ++ ls)) l (renamed f t) t
     same_renamed ls (bracket l t) = forms.same_bracket (at g row ls) (at e row (front ++ ls)) l (renamed f t) t (same_renamed ls t)
     same_renamed ls (listed l form ts) = forms.same_listed (at g row ls) (at e row (front ++ ls)) l form (all_renamed f ts) ts (all_same ls ts)
-    same_renamed ls (builder l rs p t) =
-        forms.same_builder (at g row ls) (at e row (front ++ ls)) l (ranges_renamed f rs) rs (part_renamed f p) p (part_renamed f t) t (ranges_same ls rs)
+    same_renamed ls (comprehension l rs p t) =
+        forms.same_comprehension (at g row ls) (at e row (front ++ ls)) l (ranges_renamed f rs) rs (part_renamed f p) p (part_renamed f t) t (ranges_same ls rs)
         (λ vs w. further (λ ws. IsSamePart (at g row (ls ++ vs)) (part_renamed f p) (at e row ws) p) ls vs (part_same (ls ++ vs) p))
         (λ vs w. further (λ ws. IsSamePart (at g row (ls ++ vs)) (part_renamed f t) (at e row ws) t) ls vs (part_same (ls ++ vs) t))
     same_renamed ls (unary l op t) = forms.same_unary (at g row ls) (at e row (front ++ ls)) l op (renamed f t) t (same_renamed ls t)

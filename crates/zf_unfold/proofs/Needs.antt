@@ -1,5 +1,5 @@
 -- A term with other names needs no more components, nor does what a quantifier says of its members.
-use Rattle.zf_unfold.proofs.Prelude.{◌≤◌, arith, max, None, Option, Some, suc, zero, ℕ, Reference, Component, Global, Local, absent, binary, bracket, builder, chain, constant, empty_set, link, listed, no_links, no_ranges, no_terms, number, present, quantified, range, Ranges, reference, ResolvedLinks, ResolvedPart, ResolvedTree, ResolvedTrees, term, unary, all_need, links_need, need, part_need, place, ranges_need, named, renamed, all_renamed, links_renamed, ranges_renamed, part_renamed}
+use Rattle.zf_unfold.proofs.Prelude.{◌≤◌, arith, max, None, Option, Some, suc, zero, ℕ, Reference, Component, Global, Local, absent, binary, bracket, comprehension, chain, constant, empty_set, link, listed, no_links, no_ranges, no_terms, number, present, quantified, range, Ranges, reference, ResolvedLinks, ResolvedPart, ResolvedTree, ResolvedTrees, term, unary, all_need, links_need, need, part_need, place, ranges_need, named, renamed, all_renamed, links_renamed, ranges_renamed, part_renamed}
 use Rattle.zf_tree.specs.declared.symbol.Quantifier.TheVariants.{ForAll}
 use Rattle.zf_unfold.specs.{implied, inside, instance, instances, others, over}
 
@@ -12,7 +12,7 @@ module _ (f : Reference → Reference) (h : (r : Reference) → place (f r) ≤ 
     need_renamed (empty_set l t) = need_renamed t
     need_renamed (bracket l t) = need_renamed t
     need_renamed (listed l form ts) = all_needed ts
-    need_renamed (builder l rs p t) = omega (arith, ranges_needed rs, part_needed p, part_needed t)
+    need_renamed (comprehension l rs p t) = omega (arith, ranges_needed rs, part_needed p, part_needed t)
     need_renamed (unary l op t) = need_renamed t
     need_renamed (binary l op a b) = omega (arith, need_renamed a, need_renamed b)
     need_renamed (chain l t ks) = omega (arith, need_renamed t, links_needed ks)

@@ -6,7 +6,7 @@ pub use Rattle.zf_reference.specs.declared.reference.Reference.TheVariants.{Comp
 pub use Rattle.zf_value.specs.declared.value.Outcome.{Outcome}
 pub use Rattle.zf_value.specs.declared.value.Truth.{Truth}
 pub use Rattle.zf_value.specs.declared.plain.Value.{Value}
-pub use Rattle.zf_term.specs.{absent, binary, bracket, builder, chain, constant, Defined, empty_set, link, listed, no_links, no_ranges, no_terms, number, part_of, present, quantified, range, range_of, Ranges, ranges, reference, resolved_of, ResolvedLinks, ResolvedPart, ResolvedTree, term, unary}
+pub use Rattle.zf_term.specs.{absent, binary, bracket, comprehension, chain, constant, Defined, empty_set, link, listed, no_links, no_ranges, no_terms, number, part_of, present, quantified, range, range_of, Ranges, ranges, reference, resolved_of, ResolvedLinks, ResolvedPart, ResolvedTree, term, unary}
 pub use Rattle.zf_term.specs.ResolvedTrees.{ResolvedTrees}
 pub use Rattle.zf_meaning.specs.{Context, Environment, environment_of, HasOutcome, HaveRanges, in_row, IsConstraint, IsTruth, longer, outcome_in, outcome_or, within}
 pub use Rattle.zf_outcome.specs.{IsConjunction, IsForAll, IsQuantified, IsTold, one_out, one_undefined, repeated, Several, values}

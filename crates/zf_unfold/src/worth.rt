@@ -65,7 +65,7 @@ fn weighed<'a>(term: &Resolved<'a>, copies: usize, env: &Env<'_, 'a>, found: Wei
         Resolved::EmptySet(_, of) => weighed(of.get(), copies, env, found),
         Resolved::Bracket(_, inner) => weighed(inner.get(), copies, env, found),
         Resolved::Listed(_, _, items) => weighed_terms(items, copies, env, found),
-        Resolved::Builder(_, variables, filter, term) => {
+        Resolved::Comprehension(_, variables, filter, term) => {
             let found = weighed_ranges(variables, copies, env, found);
             let found = weighed_part(filter, copies, env, found);
             weighed_part(term, copies, env, found)

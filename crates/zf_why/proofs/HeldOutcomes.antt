@@ -5,7 +5,7 @@ use Rattle.zf_reference.specs.declared.reference.Reference.{Reference}
 use Rattle.zf_reference.specs.declared.reference.Reference.TheVariants.{Component, Local, Global}
 use Rattle.zf_tree.specs.declared.symbol.Relation.{Relation}
 use Rattle.zf_term.proofs.ResolvedSeen.{link-seen}
-use Rattle.zf_term.specs.{binary, bracket, builder, chain, constant, empty_set, link, links, listed, no_links, number, onto, quantified, reference, references, resolved_link_of, resolved_of, unary}
+use Rattle.zf_term.specs.{binary, bracket, comprehension, chain, constant, empty_set, link, links, listed, no_links, number, onto, quantified, reference, references, resolved_link_of, resolved_of, unary}
 use Rattle.zf_term.specs.declared.resolved.ResolvedLink.{ResolvedLink}
 use Rattle.zf_value.specs.declared.value.Outcome.{Outcome}
 use Rattle.zf_meaning.specs.{HasOutcome, in_row}
@@ -66,7 +66,7 @@ module _ (e : Environment) (held : List (Option Value)) (other : Value) where
   of_held (constant l k) o is h = h
   of_held (empty_set l t) o is h = h
   of_held (listed l form ts) o is h = h
-  of_held (builder l rs q t) o is h = h
+  of_held (comprehension l rs q t) o is h = h
   of_held (unary l op t) o is h = h
   of_held (binary l op a b) o is h = h
   of_held (quantified l q rs c t) o is h = h

@@ -3,7 +3,7 @@ use Rattle.zf_why.proofs.Prelude.{◌++◌, ◌+◌, ◌<◌, ◌∙◌, ◌∷�
 use Rattle.std.specs.Prelude.{cond, max}
 use Rattle.zf_reference.specs.declared.reference.Reference.{Reference}
 use Rattle.zf_term.proofs.ResolvedSeen.{link-seen, range-seen}
-use Rattle.zf_term.specs.{absent, all_onto, binary, bracket, builder, chain, constant, empty_set, link, links, links_onto, listed, no_links, no_ranges, no_terms, number, onto, part_onto, present, quantified, range, range_of, Ranges, ranges, ranges_onto, reference, references, resolved_link_of, resolved_of, ResolvedLinks, ResolvedPart, term, unary}
+use Rattle.zf_term.specs.{absent, all_onto, binary, bracket, comprehension, chain, constant, empty_set, link, links, links_onto, listed, no_links, no_ranges, no_terms, number, onto, part_onto, present, quantified, range, range_of, Ranges, ranges, ranges_onto, reference, references, resolved_link_of, resolved_of, ResolvedLinks, ResolvedPart, term, unary}
 use Rattle.zf_term.specs.ResolvedTrees.{ResolvedTrees}
 use Rattle.zf_term.specs.declared.resolved.Range.{Range}
 use Rattle.zf_term.specs.declared.resolved.ResolvedLink.{ResolvedLink}
@@ -29,7 +29,7 @@ module _ (held : List (Option Value)) where
     of_term rs (empty_set l t) = of_term rs t
     of_term rs (bracket l t) = of_term rs t
     of_term rs (listed l form ts) = of_terms rs ts
-    of_term rs (builder l ds p t) = omega (arith, of_part (part_onto (ranges_onto rs ds) p) t, of_part (ranges_onto rs ds) p, of_ranges rs ds)
+    of_term rs (comprehension l ds p t) = omega (arith, of_part (part_onto (ranges_onto rs ds) p) t, of_part (ranges_onto rs ds) p, of_ranges rs ds)
     of_term rs (unary l op t) = of_term rs t
     of_term rs (binary l op a b) = omega (arith, of_term (onto rs a) b, of_term rs a)
     of_term rs (chain l t ks) = omega (arith, of_links (onto rs t) ks, of_term rs t)

@@ -1,7 +1,7 @@
 -- Whether a term names a component that is not held, form by form: 1 where it does, else 0. No public clause rests on this.
 use Rattle.std.specs.Prelude.{ℕ, max, Bool, cond, List, Option}
 use Rattle.zf_reference.specs.declared.reference.Reference.{Reference}
-use Rattle.zf_term.specs.{absent, binary, bracket, builder, chain, constant, empty_set, link, listed, no_links, no_ranges, no_terms, number, present, quantified, range, Ranges, reference, ResolvedLinks, ResolvedPart, ResolvedTree, term, unary}
+use Rattle.zf_term.specs.{absent, binary, bracket, comprehension, chain, constant, empty_set, link, listed, no_links, no_ranges, no_terms, number, present, quantified, range, Ranges, reference, ResolvedLinks, ResolvedPart, ResolvedTree, term, unary}
 use Rattle.zf_term.specs.ResolvedTrees.{ResolvedTrees}
 use Rattle.zf_value.specs.declared.plain.Value.{Value}
 use Rattle.zf_why.specs.Operands.{is_held}
@@ -21,7 +21,7 @@ abbrev mutual
   lacks held (empty_set l t) = lacks held t
   lacks held (bracket l t) = lacks held t
   lacks held (listed l form ts) = all_lack held ts
-  lacks held (builder l rs p t) = max (max (ranges_lack held rs) (part_lacks held p)) (part_lacks held t)
+  lacks held (comprehension l rs p t) = max (max (ranges_lack held rs) (part_lacks held p)) (part_lacks held t)
   lacks held (unary l op t) = lacks held t
   lacks held (binary l op a b) = max (lacks held a) (lacks held b)
   lacks held (chain l t ks) = max (lacks held t) (links_lack held ks)

@@ -50,7 +50,7 @@ fn relation_in<'a, R: Row>(
         Resolved::Constant(_, _) => Ok(None),
         Resolved::EmptySet(_, _) => Ok(None),
         Resolved::Listed(_, _, _) => Ok(None),
-        Resolved::Builder(_, _, _, _) => Ok(None),
+        Resolved::Comprehension(_, _, _, _) => Ok(None),
         Resolved::Unary(_, _, _) => Ok(None),
         Resolved::Binary(_, _, _, _) => Ok(None),
         Resolved::Quantified(_, _, _, _, _) => Ok(None),

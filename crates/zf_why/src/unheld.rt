@@ -28,7 +28,7 @@ fn names_other(term: &Resolved<'_>, held: &[Option<Value>], found: bool) -> bool
         Resolved::EmptySet(_, of) => names_other(of.get(), held, found),
         Resolved::Bracket(_, inner) => names_other(inner.get(), held, found),
         Resolved::Listed(_, _, items) => one_names_other(items, held, found),
-        Resolved::Builder(_, variables, filter, term) => {
+        Resolved::Comprehension(_, variables, filter, term) => {
             let before = range_names_other(variables, held, found);
             part_names_other(term, held, part_names_other(filter, held, before))
         }

@@ -1,4 +1,4 @@
-//! What binds variables: quantified predicates and builders.
+//! What binds variables: quantified predicates and comprehensions.
 ghost use Rattle.std.specs.Prelude.{◌≡◌, ◌≤◌, ℕ, List, Option, IfOk, length, drop, map};
 ghost use Rattle.std.specs.Bool.{MatchBool};
 ghost use Rattle.std.specs.List.{All};
@@ -11,7 +11,7 @@ ghost use Rattle.zf_term.specs.{part_of, resolved_of};
 ghost use Rattle.zf_value.specs.declared.value.Truth.TheVariants as truths;
 ghost use Rattle.zf_value.specs.declared.plain.Value as value;
 ghost use Rattle.zf_value.specs.{AreFrom};
-ghost use Rattle.zf_meaning.specs.{AddsRow, AddsValue, AreNeutralIf, ArePassed, ArePassedIf, Builds, Context, HasOutcome, IsBound, IsBuilder, IsBuiltOver, IsConstraint, IsPiece, IsQuantified, IsTruth, NeedsFront, row_value, scope_of, seen, spread, within};
+ghost use Rattle.zf_meaning.specs.{AddsRow, AddsValue, AreNeutralIf, ArePassed, ArePassedIf, Builds, Context, HasOutcome, IsBound, IsComprehension, IsBuiltOver, IsConstraint, IsPiece, IsQuantified, IsTruth, NeedsFront, row_value, scope_of, seen, spread, within};
 ghost use Rattle.zf_outcome.specs.{found_outcome, IsOver, IsTold};
 
 use super::chains::is_false;
@@ -224,19 +224,19 @@ fn constraint_truth<'v, 'a, R: Row>(
     }
 }
 
-/// A builder.
+/// A comprehension.
 #[cycle(meaning)]
 #[inline(never)]
-pub(super) fn builder<'v, 'a, R: Row>(
+pub(super) fn comprehension<'v, 'a, R: Row>(
     term: &Resolved<'a>,
     row: &'v R,
     locals: &[&'v Value],
     env: &'v Env<'_, 'a>,
 ) -> Result<Found<'v>, AllocError>
-    requires { IsBuilder term.now }
+    requires { IsComprehension term.now }
     ensures { IfOk result (λ o. HasOutcome (scope_of env.now (R.values row.now) locals.now) (resolved_of term.now) (found_outcome o)) }
 {
-    let Resolved::Builder(_, ranges, _, _) = term else {
+    let Resolved::Comprehension(_, ranges, _, _) = term else {
         unreachable!();
     };
     let declared = declared_sets(ranges.as_slice(), row, locals, env)?;
@@ -247,7 +247,7 @@ pub(super) fn builder<'v, 'a, R: Row>(
     }
 }
 
-/// What a builder builds of all rows of its ranges.
+/// What a comprehension builds of all rows of its ranges.
 #[cycle(meaning)]
 fn built_over<'v, 'a, R: Row>(
     term: &Resolved<'a>,
@@ -256,8 +256,8 @@ fn built_over<'v, 'a, R: Row>(
     locals: &[&'v Value],
     env: &'v Env<'_, 'a>,
 ) -> Result<Outcome, AllocError>
-    requires { IsBuilder term.now }
-    ensures { (l : ℕ) (rs : List range.Range) (p e : Option resolved.Resolved) → term.now ≡ form.Builder l rs p e
+    requires { IsComprehension term.now }
+    ensures { (l : ℕ) (rs : List range.Range) (p e : Option resolved.Resolved) → term.now ≡ form.Comprehension l rs p e
         → IfOk result (IsBuiltOver (λ vs. AreFrom vs (spread sets.now)) (λ vs u. IsConstraint (within (scope_of env.now (R.values row.now) locals.now) vs) (part_of p) u) (λ vs x. Builds (within (scope_of env.now (R.values row.now) locals.now) vs) vs (part_of e) x)) }
 {
     let alloc = env.allocator();
@@ -304,11 +304,11 @@ fn built_at<'v, 'a, R: Row>(
     bound: &[&'v Value],
     env: &'v Env<'_, 'a>,
 ) -> Result<Option<Passing<'v>>, AllocError>
-    requires form { IsBuilder term.now }
+    requires form { IsComprehension term.now }
     requires pieces { All (IsPiece term.now span) pieces.now }
     requires outside { span.outside ≤ length bound.now }
     ensures is { (c : Context) (vs : List value.Value) → IsBound span (scope_of env.now (R.values row.now) bound.now) c vs → drop span.outside (seen bound.now) ≡ vs
-        → (l : ℕ) (rs : List range.Range) (p e : Option resolved.Resolved) → term.now ≡ form.Builder l rs p e
+        → (l : ℕ) (rs : List range.Range) (p e : Option resolved.Resolved) → term.now ≡ form.Comprehension l rs p e
         → IfOk result (λ passing. AddsRow (λ u. IsConstraint (within c vs) (part_of p) u) (λ x. Builds (within c vs) vs (part_of e) x) built.old.items built.new.items (is_some passing)) }
     ensures passed { (c : Context) (vs : List value.Value) → IsBound span (scope_of env.now (R.values row.now) bound.now) c vs
         → IfOk result (ArePassedIf (resolved_of term.now) c vs) }
@@ -333,12 +333,12 @@ fn add_row<'v, 'a, R: Row>(
     bound: &[&'v Value],
     env: &'v Env<'_, 'a>,
 ) -> Result<bool, AllocError>
-    requires form { IsBuilder term.now }
+    requires form { IsComprehension term.now }
     requires outside { outside ≤ length bound.now }
-    ensures { (l : ℕ) (rs : List range.Range) (p e : Option resolved.Resolved) → term.now ≡ form.Builder l rs p e
+    ensures { (l : ℕ) (rs : List range.Range) (p e : Option resolved.Resolved) → term.now ≡ form.Comprehension l rs p e
         → IfOk result (AddsRow (λ u. IsConstraint (scope_of env.now (R.values row.now) bound.now) (part_of p) u) (λ x. Builds (scope_of env.now (R.values row.now) bound.now) (drop outside (seen bound.now)) (part_of e) x) built.old.items built.new.items) }
 {
-    let Resolved::Builder(_, _, filter, member) = term else {
+    let Resolved::Comprehension(_, _, filter, member) = term else {
         unreachable!();
     };
     match constraint_truth(filter, row, bound, env)? {
@@ -348,7 +348,7 @@ fn add_row<'v, 'a, R: Row>(
     }
 }
 
-/// Adds the value of a builder's term, where it has one. False where that is out.
+/// Adds the value of a comprehension's term, where it has one. False where that is out.
 #[cycle(meaning)]
 fn add_member<'v, 'a, R: Row>(
     member: &Part<'a>,
@@ -371,7 +371,7 @@ fn add_member<'v, 'a, R: Row>(
     }
 }
 
-/// The outcome of a builder's term.
+/// The outcome of a comprehension's term.
 #[cycle(meaning)]
 fn member_outcome<'v, 'a, R: Row>(
     member: &Part<'a>,
@@ -390,7 +390,7 @@ fn member_outcome<'v, 'a, R: Row>(
     }
 }
 
-/// What a builder without a term builds: the one variable, or the tuple of all.
+/// What a comprehension without a term builds: the one variable, or the tuple of all.
 fn value_of_row(alloc: Global, values: &[&Value]) -> Result<Value, AllocError>
     ensures { IfOk result (λ v. v ≡ row_value (seen values.now)) }
 {

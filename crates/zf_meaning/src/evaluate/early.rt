@@ -122,12 +122,12 @@ fn add_part<'t, 'a>(
     }
 }
 
-/// A builder's filter.
+/// A comprehension's filter.
 fn filter_of<'t, 'a>(term: &'t Resolved<'a>) -> Option<&'t Resolved<'a>>
     ensures refutes { IfSome result (λ x. Refutes (resolved_of x.now) (resolved_of term.now)) }
     ensures smaller { IfSome result (λ x. size-Resolved x.now < size-Resolved term.now) }
 {
-    let Resolved::Builder(_, _, filter, _) = term else {
+    let Resolved::Comprehension(_, _, filter, _) = term else {
         return None;
     };
     match filter.get() {

@@ -134,14 +134,14 @@ impl<
     }
 
     /// After `\{`, where a declaration begins.
-    #[tactic(auto, unfolding(crate::specs::TermReading::builder))]
-    fn builder(
+    #[tactic(auto, unfolding(crate::specs::TermReading::comprehension))]
+    fn comprehension(
         &self,
         tokens: &mut Cursor<'a, '_>,
         line: u32,
     ) -> Result<Tall<Boxed<'a, Term<'a>>>, TextFault>
         requires nests { Nests self.now.below (F.pre self.now.read) (F.post self.now.read) }
-        ensures value { Gives (spec.builder (read_term self.now.below) line tokens.old) result tokens.new }
+        ensures value { Gives (spec.comprehension (read_term self.now.below) line tokens.old) result tokens.new }
         ensures low { IfOk result (λ x. x.height ≤ self.now.below + 1) }
     {
         let decls = self.decls(tokens)?;
@@ -151,7 +151,7 @@ impl<
         tokens.expect(Mark::CloseBrace)?;
         boxed(
             self.arena,
-            Term::Builder(line, bound, filter.part, value.part),
+            Term::Comprehension(line, bound, filter.part, value.part),
             decls.height.max(filter.height).max(value.height) + 1,
         )
     }
@@ -168,7 +168,7 @@ impl<
         ensures low { IfOk result (λ x. x.height ≤ self.now.below + 1) }
     {
         if tokens.begins_decl() {
-            self.builder(tokens, line)
+            self.comprehension(tokens, line)
         } else {
             self.display(tokens, line)
         }

@@ -1,4 +1,4 @@
-//! What binds variables: declarations, quantified predicates and builders.
+//! What binds variables: declarations, quantified predicates and comprehensions.
 ghost use Rattle.std.specs.Prelude.{◌≡◌, IfOk, IfErr, OnErr, OnOk, List, map};
 ghost use Rattle.zf_tree.specs.Trees as tree;
 ghost use Rattle.zf_tree.specs.TreeViews as tree_views;
@@ -7,7 +7,7 @@ ghost use Rattle.zf_term.specs.ResolvedViews as kept;
 ghost use Rattle.zf_term.specs.{range_of, type_of};
 ghost use Rattle.zf_tree.specs.declared.operator.Need.TheVariants as needs;
 ghost use Rattle.zf_tree.specs.declared.operator.Need as need;
-ghost use Rattle.zf_typing.specs.{Binds, DeclarationsOffend, HasMemberType, IsBuilder, IsPart, IsQuantified, Judges, JudgesPart, resolved_part, resolved_ranges, row_type, scope_of, Var, variable_of, with_variables};
+ghost use Rattle.zf_typing.specs.{Binds, DeclarationsOffend, HasMemberType, IsComprehension, IsPart, IsQuantified, Judges, JudgesPart, resolved_part, resolved_ranges, row_type, scope_of, Var, variable_of, with_variables};
 ghost use Rattle.zf_sorts.specs.{IfFault};
 ghost use Rattle.zf_typing.specs.Scopes as spec;
 
@@ -61,20 +61,20 @@ pub(super) fn quantified<'a>(
     )
 }
 
-/// A builder.
+/// A comprehension.
 #[cycle(judging)]
 #[inline(never)]
-pub(super) fn builder<'a>(
+pub(super) fn comprehension<'a>(
     term: &Term<'a>,
     arena: &'a Bump,
     need: Need,
     scope: &mut Scope<'a, '_>,
 ) -> Result<Judged<'a>, Refusal<'a>>
-    requires { IsBuilder term.now }
+    requires { IsComprehension term.now }
     ensures judged { Judges (scope_of scope.old) need (tree_of term.now) result }
     ensures scope { scope_of scope.new ≡ scope_of scope.old }
 {
-    let Term::Builder(line, decls, filter, member) = term else {
+    let Term::Comprehension(line, decls, filter, member) = term else {
         unreachable!();
     };
     let line = *line;
@@ -172,7 +172,7 @@ fn with_body<'a>(
     )
 }
 
-/// A builder, of which the parts are judged within its variables. Where it has no term it builds
+/// A comprehension, of which the parts are judged within its variables. Where it has no term it builds
 /// rows of the variables.
 fn built<'a>(
     arena: &'a Bump,
@@ -182,7 +182,7 @@ fn built<'a>(
     member: Result<Option<Judged<'a>>, Refusal<'a>>,
     row: Result<ZType<'a>, AllocError>,
 ) -> Result<Judged<'a>, Refusal<'a>>
-    ensures { (s : spec.Scope) (ds : tree.VarDecls) (vs : List Var) (p e : tree.Perhaps) → Binds s ds vs → kept.ranges (map range_of ranges.entry) ≡ resolved_ranges s ds → JudgesPart (with_variables s vs) needs.Predicate p filter.entry → JudgesPart (with_variables s vs) needs.Expression e member.entry → IfOk row.entry (λ t. type_of t ≡ row_type vs) → Judges s place.need (tree.builder place.line ds p e) result }
+    ensures { (s : spec.Scope) (ds : tree.VarDecls) (vs : List Var) (p e : tree.Perhaps) → Binds s ds vs → kept.ranges (map range_of ranges.entry) ≡ resolved_ranges s ds → JudgesPart (with_variables s vs) needs.Predicate p filter.entry → JudgesPart (with_variables s vs) needs.Expression e member.entry → IfOk row.entry (λ t. type_of t ≡ row_type vs) → Judges s place.need (tree.comprehension place.line ds p e) result }
 {
     let filter = filter?;
     let member = member?;
@@ -196,7 +196,7 @@ fn built<'a>(
         arena,
         place,
         Sort::Typed(set),
-        Resolved::Builder(place.line, ranges, condition, term),
+        Resolved::Comprehension(place.line, ranges, condition, term),
     )
 }
 
@@ -211,7 +211,7 @@ fn in_box<'a>(arena: &'a Bump, part: Option<Judged<'a>>) -> Result<ResolvedPart<
     Boxed::new(arena, Some(term))
 }
 
-/// The type of what a builder builds: that of its term, where it has one.
+/// The type of what a comprehension builds: that of its term, where it has one.
 fn member_type<'a>(member: &Option<Judged<'a>>, row: ZType<'a>) -> Result<ZType<'a>, AllocError>
     ensures { (s : spec.Scope) (vs : List Var) (p : tree.Perhaps) → IsPart s needs.Expression p member.now → type_of row.entry ≡ row_type vs → IfOk result (λ t. HasMemberType s vs p (type_of t)) }
 {

@@ -1,10 +1,10 @@
 use Rattle.std.proofs.Common.{◌+◌, ◌∙◌}
-use Rattle.zf_extent.proofs.FirstOffenders.{terms_step, ranges_step, links_step, ends_at, first_of_builder}
+use Rattle.zf_extent.proofs.FirstOffenders.{terms_step, ranges_step, links_step, ends_at, first_of_comprehension}
 use Rattle.zf_extent.proofs.infinite.+offending.Goals as goal
 
-pub offending-returns-in-Builder : goal.offending-returns-in-Builder
-offending-returns-in-Builder t c =
-    first_of_builder _ _ _ _ _ _ _ _ _ c.in-Builder.is c.ranges_offending-found.ensures c.part_after.ensures c.part_after-in-Builder.ensures
+pub offending-returns-in-Comprehension : goal.offending-returns-in-Comprehension
+offending-returns-in-Comprehension t c =
+    first_of_comprehension _ _ _ _ _ _ _ _ _ c.in-Comprehension.is c.ranges_offending-found.ensures c.part_after.ensures c.part_after-in-Comprehension.ensures
 
 pub terms_offending-loop-term-preserved : goal.terms_offending-loop-term-preserved
 terms_offending-loop-term-preserved t c = terms_step _ _ _ _ _ _ _ c.term-item.is c.loop-term-test.true c.loop-term.invariant c.offending_after-offender.ensures

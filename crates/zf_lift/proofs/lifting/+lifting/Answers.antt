@@ -51,12 +51,12 @@ rebuilt-returns-in_ok-further-in-Chain-clause-same t c =
 
 -- ---- forms that bind
 
-pub rebuilt-returns-in_ok-term-in-Builder-clause-same : goal.rebuilt-returns-in_ok-term-in-Builder-clause-same
-rebuilt-returns-in_ok-term-in-Builder-clause-same t c =
-    let i = c.in-Builder in let x = c.in_ok-variables-in-Builder in let y = c.in_ok-filter-in-Builder in let z = c.in_ok-term-in-Builder in
+pub rebuilt-returns-in_ok-term-in-Comprehension-clause-same : goal.rebuilt-returns-in_ok-term-in-Comprehension-clause-same
+rebuilt-returns-in_ok-term-in-Comprehension-clause-same t c =
+    let i = c.in-Comprehension in let x = c.in_ok-variables-in-Comprehension in let y = c.in_ok-filter-in-Comprehension in let z = c.in_ok-term-in-Comprehension in
     λ h. let first = further _ _ _ h x.ensures.grows.0 in
     arms.built _ _ _ _ _ i.line x.variables i.variables c.as_slice.result.now y.filter i.filter z.term i.term c.args.term.now i.is
-    c.as_slice.ensures c.in_ok-inside-in-Builder.ensures
+    c.as_slice.ensures c.in_ok-inside-in-Comprehension.ensures
     (ranges_later _ _ _ _ _ _ _ _ (still_later _ _ _ _ _ _ y.ensures.grows z.ensures.grows) (x.ensures.same h))
     (part_later _ _ _ _ _ _ _ _ z.ensures.grows (y.ensures.same first))
     (z.ensures.same (further _ _ _ first y.ensures.grows.0))

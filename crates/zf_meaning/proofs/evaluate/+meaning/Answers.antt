@@ -4,7 +4,7 @@ use Rattle.zf_term.specs.ResolvedViews as tree_views
 use Rattle.zf_value.specs.declared.value.Outcome.TheVariants as outcome
 use Rattle.zf_value.specs.declared.value.Truth.TheVariants.{False, Out}
 use Rattle.zf_term.specs.declared.resolved.Resolved.TheVariants as v
-use Rattle.zf_meaning.proofs.Binding.{same-quantifier, same-constraint, same-body, quantified-told, builder-has}
+use Rattle.zf_meaning.proofs.Binding.{same-quantifier, same-constraint, same-body, quantified-told, comprehension-has}
 use Rattle.zf_meaning.proofs.Builds.{nothing, built-same, built-more, built-too-many, built-out, built-all}
 use Rattle.zf_meaning.proofs.Connecting.{connected-told, decided-told, told-by}
 use Rattle.zf_meaning.proofs.Early.{neutral-told, neutral-built, neutral-by, neutral-other-if, itself-passed, passed-after}
@@ -181,14 +181,14 @@ memberships::of_one-returns g t c =
     (subst (HasOutcome (scope_of c.args.env.now (g.R.Row.values c.args.row.now) c.args.locals.now) (tree.unary line c.args.op (resolved_of c.args.of.now)))
     (sym c.own.ensures) (found_outcome c.in_ok-operand.operand, c.in_ok-operand.ensures, c.in_ok-on_one.ensures))
 
-pub binders::builder-returns : goal.binders::builder-returns
-binders::builder-returns g t c =
-    let i = c.in-Builder in
+pub binders::comprehension-returns : goal.binders::comprehension-returns
+binders::comprehension-returns g t c =
+    let i = c.in-Comprehension in
     let d = c.in_ok-declared.declared in
     let built = subst (λ xs. IsBuilt (several_by Nothing (spread xs)) (FilterIn (scope_of c.args.env.now (g.R.Row.values c.args.row.now) c.args.locals.now)
     (part_of i.field-2)) (TermIn (scope_of c.args.env.now (g.R.Row.values c.args.row.now) c.args.locals.now) (part_of i.field-3))
     c.in_ok-built_over-in-Nothing.field-0) c.deref.ensures.value (c.in_ok-built_over-in-Nothing.ensures i.field-0 i.ranges i.field-2 i.field-3 i.is) in
-    builder-has (scope_of c.args.env.now (g.R.Row.values c.args.row.now) c.args.locals.now) c.args.term.now i.field-0 i.ranges c.as_slice.result.now i.field-2
+    comprehension-has (scope_of c.args.env.now (g.R.Row.values c.args.row.now) c.args.locals.now) c.args.term.now i.field-0 i.ranges c.as_slice.result.now i.field-2
     i.field-3 (declared_of d) (found_outcome c.own.result) i.is c.as_slice.ensures c.in_ok-declared.ensures
     (subst (λ o. IsBuilt (declared_of d) (FilterIn (scope_of c.args.env.now (g.R.Row.values c.args.row.now) c.args.locals.now) (part_of i.field-2))
     (TermIn (scope_of c.args.env.now (g.R.Row.values c.args.row.now) c.args.locals.now) (part_of i.field-3)) o) (sym c.own.ensures)
@@ -196,23 +196,23 @@ binders::builder-returns g t c =
     (part_of i.field-2)) (TermIn (scope_of c.args.env.now (g.R.Row.values c.args.row.now) c.args.locals.now) (part_of i.field-3))
     c.in_ok-built_over-in-Nothing.field-0) (sym c.in-Nothing.is) built))
 
-pub binders::builder-returns-in-Out : goal.binders::builder-returns-in-Out
-binders::builder-returns-in-Out g t c =
-    let i = c.in-Builder in
+pub binders::comprehension-returns-in-Out : goal.binders::comprehension-returns-in-Out
+binders::comprehension-returns-in-Out g t c =
+    let i = c.in-Comprehension in
     let d = c.in_ok-declared.declared in
-    builder-has (scope_of c.args.env.now (g.R.Row.values c.args.row.now) c.args.locals.now) c.args.term.now i.field-0 i.ranges c.as_slice.result.now i.field-2
+    comprehension-has (scope_of c.args.env.now (g.R.Row.values c.args.row.now) c.args.locals.now) c.args.term.now i.field-0 i.ranges c.as_slice.result.now i.field-2
     i.field-3 (declared_of d) _ i.is c.as_slice.ensures c.in_ok-declared.ensures
     (subst (λ k. IsBuilt (several_by k (spread d.sets.items)) (FilterIn (scope_of c.args.env.now (g.R.Row.values c.args.row.now) c.args.locals.now)
     (part_of i.field-2)) (TermIn (scope_of c.args.env.now (g.R.Row.values c.args.row.now) c.args.locals.now) (part_of i.field-3)) outcome.Out)
     (sym c.in-Out.is) refl)
 
-pub binders::builder-returns-in-Undefined : goal.binders::builder-returns-in-Undefined
-binders::builder-returns-in-Undefined g t c =
-    let i = c.in-Builder in
+pub binders::comprehension-returns-in-Undefined : goal.binders::comprehension-returns-in-Undefined
+binders::comprehension-returns-in-Undefined g t c =
+    let i = c.in-Comprehension in
     let d = c.in_ok-declared.declared in
     IfOk-weaker c.empty_set.result (λ o. IsEmptySet (found_outcome o)) (λ o. HasOutcome
     (scope_of c.args.env.now (g.R.Row.values c.args.row.now) c.args.locals.now) (resolved_of c.args.term.now) (found_outcome o))
-    (λ o h. builder-has (scope_of c.args.env.now (g.R.Row.values c.args.row.now) c.args.locals.now) c.args.term.now i.field-0 i.ranges c.as_slice.result.now
+    (λ o h. comprehension-has (scope_of c.args.env.now (g.R.Row.values c.args.row.now) c.args.locals.now) c.args.term.now i.field-0 i.ranges c.as_slice.result.now
     i.field-2 i.field-3 (declared_of d) (found_outcome o) i.is c.as_slice.ensures c.in_ok-declared.ensures
     (subst (λ k. IsBuilt (several_by k (spread d.sets.items)) (FilterIn (scope_of c.args.env.now (g.R.Row.values c.args.row.now) c.args.locals.now)
     (part_of i.field-2)) (TermIn (scope_of c.args.env.now (g.R.Row.values c.args.row.now) c.args.locals.now) (part_of i.field-3)) (found_outcome o))

@@ -9,7 +9,7 @@ use Rattle.zf_meaning.proofs.evaluate.+meaning.Given as goal
 abbrev pub invariant-binders::built_over-walk : goal.invariant-binders::built_over-walk
 invariant-binders::built_over-walk g l =
     (done : List (List Value)) × WalksOver (NeutralIn l.term (scope_of l.env (g.R.Row.values l.row) l.locals)) l.rows (seen l.locals) (spread l.sets) done
-    × ((n : ℕ) (rs : List Range) (p e : Option Resolved) → l.term ≡ form.Builder n rs p e
+    × ((n : ℕ) (rs : List Range) (p e : Option Resolved) → l.term ≡ form.Comprehension n rs p e
     → HasBuilt (FilterIn (scope_of l.env (g.R.Row.values l.row) l.locals) (part_of p))
     (TermIn (scope_of l.env (g.R.Row.values l.row) l.locals) (part_of e)) done l.built.items)
 

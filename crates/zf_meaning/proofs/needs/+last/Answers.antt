@@ -1,5 +1,5 @@
 use Rattle.zf_meaning.proofs.Prelude.{◌∙◌, ◌≡◌, ap, arith, map, max, subst, sym, links, part_of, range_of, ranges, resolved_link_of, resolved_of, terms, all_need, links_need, need, part_need, ranges_need}
-use Rattle.zf_meaning.proofs.NeedsFound.{terms_step, links_step, ranges_step, terms_end, links_end, ranges_end, of_name, of_number, of_constant, of_empty_set, of_bracket, of_listed, of_builder, of_unary, of_binary, of_chain, of_quantified}
+use Rattle.zf_meaning.proofs.NeedsFound.{terms_step, links_step, ranges_step, terms_end, links_end, ranges_end, of_name, of_number, of_constant, of_empty_set, of_bracket, of_listed, of_comprehension, of_unary, of_binary, of_chain, of_quantified}
 use Rattle.zf_meaning.proofs.NeedsBelow.{need-below}
 use Rattle.zf_meaning.proofs.needs.+last.Goals as goal
 
@@ -43,11 +43,11 @@ last_below-returns-in-Listed t c =
     let i = c.in-Listed in
     of_listed c.args.bound c.args.found c.last_of_terms.result c.args.term.now i.field-0 i.field-1 i.items i.is c.last_of_terms.ensures
 
-pub last_below-returns-in-Builder : goal.last_below-returns-in-Builder
-last_below-returns-in-Builder t c =
-    let i = c.in-Builder in
-    of_builder c.args.bound c.args.found c.last_of_ranges-last.result c.last_of_part.result c.last_of_part-in-Builder.result c.args.term.now i.field-0
-    i.variables i.filter i.term i.is c.last_of_ranges-last.ensures c.last_of_part.ensures c.last_of_part-in-Builder.ensures
+pub last_below-returns-in-Comprehension : goal.last_below-returns-in-Comprehension
+last_below-returns-in-Comprehension t c =
+    let i = c.in-Comprehension in
+    of_comprehension c.args.bound c.args.found c.last_of_ranges-last.result c.last_of_part.result c.last_of_part-in-Comprehension.result c.args.term.now i.field-0
+    i.variables i.filter i.term i.is c.last_of_ranges-last.ensures c.last_of_part.ensures c.last_of_part-in-Comprehension.ensures
 
 pub last_below-returns-in-Unary : goal.last_below-returns-in-Unary
 last_below-returns-in-Unary t c =

@@ -1,4 +1,4 @@
-use Rattle.zf_resolved.proofs.Renamings.{renamed_binary, renamed_bracket, renamed_builder, renamed_chain, renamed_constant, renamed_empty_set, renamed_listed, renamed_name, renamed_number, renamed_quantified, renamed_unary}
+use Rattle.zf_resolved.proofs.Renamings.{renamed_binary, renamed_bracket, renamed_comprehension, renamed_chain, renamed_constant, renamed_empty_set, renamed_listed, renamed_name, renamed_number, renamed_quantified, renamed_unary}
 use Rattle.zf_resolved.proofs.renaming.+renamed.Goals as goal
 
 pub renamed-returns-in-Name : goal.renamed-returns-in-Name
@@ -22,10 +22,10 @@ pub renamed-returns-in_ok-renamed_terms-in-Listed : goal.renamed-returns-in_ok-r
 renamed-returns-in_ok-renamed_terms-in-Listed g t c =
     let i = c.in-Listed in let x = c.in_ok-renamed_terms-in-Listed in renamed_listed _ i.line i.form i.items x.field-0 c.args.term.now i.is x.ensures
 
-pub renamed-returns-in_ok-term-in-Builder : goal.renamed-returns-in_ok-term-in-Builder
-renamed-returns-in_ok-term-in-Builder g t c =
-    let i = c.in-Builder in let x = c.in_ok-variables-in-Builder in let y = c.in_ok-filter-in-Builder in let z = c.in_ok-term-in-Builder in
-    renamed_builder _ i.line i.variables x.variables i.filter y.filter i.term z.term c.args.term.now i.is x.ensures y.ensures z.ensures
+pub renamed-returns-in_ok-term-in-Comprehension : goal.renamed-returns-in_ok-term-in-Comprehension
+renamed-returns-in_ok-term-in-Comprehension g t c =
+    let i = c.in-Comprehension in let x = c.in_ok-variables-in-Comprehension in let y = c.in_ok-filter-in-Comprehension in let z = c.in_ok-term-in-Comprehension in
+    renamed_comprehension _ i.line i.variables x.variables i.filter y.filter i.term z.term c.args.term.now i.is x.ensures y.ensures z.ensures
 
 pub renamed-returns-in_ok-renamed_box-in-Unary : goal.renamed-returns-in_ok-renamed_box-in-Unary
 renamed-returns-in_ok-renamed_box-in-Unary g t c =

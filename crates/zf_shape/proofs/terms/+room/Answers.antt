@@ -1,5 +1,5 @@
 use Rattle.std.proofs.Common.{refl, arith}
-use Rattle.zf_shape.proofs.Nodes.{terms_more, links_more, ranges_more, of_builder, of_quantified, last_of_three, none_left}
+use Rattle.zf_shape.proofs.Nodes.{terms_more, links_more, ranges_more, of_comprehension, of_quantified, last_of_three, none_left}
 use Rattle.zf_shape.proofs.terms.+room.Goals as goal
 
 pub room_after_terms-loop-term-preserved : goal.room_after_terms-loop-term-preserved
@@ -11,19 +11,19 @@ room_after_links-loop-link-preserved t c = omega (arith, c.loop-link.invariant, 
 pub room_after_ranges-loop-range-preserved : goal.room_after_ranges-loop-range-preserved
 room_after_ranges-loop-range-preserved t c = omega (arith, c.loop-range.invariant, c.in_ok-left.ensures, ranges_more _ _ _ c.range-item.is c.loop-range-test.true)
 
-pub room_after-returns-in_err-left-in-Builder : goal.room_after-returns-in_err-left-in-Builder
-room_after-returns-in_err-left-in-Builder t c =
-    none_left _ _ _ c.from_residual.ensures (omega (arith, of_builder _ _ _ _ _ c.in-Builder.is, c.in-Some.ensures, c.in_err-left-in-Builder.ensures))
+pub room_after-returns-in_err-left-in-Comprehension : goal.room_after-returns-in_err-left-in-Comprehension
+room_after-returns-in_err-left-in-Comprehension t c =
+    none_left _ _ _ c.from_residual.ensures (omega (arith, of_comprehension _ _ _ _ _ c.in-Comprehension.is, c.in-Some.ensures, c.in_err-left-in-Comprehension.ensures))
 
-pub room_after-returns-in_err-room_after_part-in-Builder : goal.room_after-returns-in_err-room_after_part-in-Builder
-room_after-returns-in_err-room_after_part-in-Builder t c =
-    none_left _ _ _ c.from_residual-in_err-room_after_part-in-Builder.ensures
-    (omega (arith, of_builder _ _ _ _ _ c.in-Builder.is, c.in-Some.ensures, c.in_ok-left-in-Builder.ensures, c.in_err-room_after_part-in-Builder.ensures))
+pub room_after-returns-in_err-room_after_part-in-Comprehension : goal.room_after-returns-in_err-room_after_part-in-Comprehension
+room_after-returns-in_err-room_after_part-in-Comprehension t c =
+    none_left _ _ _ c.from_residual-in_err-room_after_part-in-Comprehension.ensures
+    (omega (arith, of_comprehension _ _ _ _ _ c.in-Comprehension.is, c.in-Some.ensures, c.in_ok-left-in-Comprehension.ensures, c.in_err-room_after_part-in-Comprehension.ensures))
 
-pub room_after-returns-in_ok-room_after_part-in-Builder : goal.room_after-returns-in_ok-room_after_part-in-Builder
-room_after-returns-in_ok-room_after_part-in-Builder t c =
-    last_of_three _ _ _ _ _ _ _ _ _ (of_builder _ _ _ _ _ c.in-Builder.is)
-    (omega (arith, c.in-Some.ensures)) c.in_ok-left-in-Builder.ensures c.in_ok-room_after_part-in-Builder.ensures c.room_after_part-in-Builder.ensures
+pub room_after-returns-in_ok-room_after_part-in-Comprehension : goal.room_after-returns-in_ok-room_after_part-in-Comprehension
+room_after-returns-in_ok-room_after_part-in-Comprehension t c =
+    last_of_three _ _ _ _ _ _ _ _ _ (of_comprehension _ _ _ _ _ c.in-Comprehension.is)
+    (omega (arith, c.in-Some.ensures)) c.in_ok-left-in-Comprehension.ensures c.in_ok-room_after_part-in-Comprehension.ensures c.room_after_part-in-Comprehension.ensures
 
 pub room_after-returns-in_err-left-in-Quantified : goal.room_after-returns-in_err-left-in-Quantified
 room_after-returns-in_err-left-in-Quantified t c =

@@ -1,5 +1,5 @@
 use Rattle.std.proofs.Common.{refl, sym, ◌∙◌, true≢false}
-use Rattle.zf_shape.proofs.Heights.{term_within, link_within, range_within, terms_more, links_more, ranges_more, first_too_high, last_decides, is_builder, is_quantified}
+use Rattle.zf_shape.proofs.Heights.{term_within, link_within, range_within, terms_more, links_more, ranges_more, first_too_high, last_decides, is_comprehension, is_quantified}
 use Rattle.zf_shape.proofs.terms.+within.Goals as goal
 
 pub are_terms_within-returns-then-not-is_within : goal.are_terms_within-returns-then-not-is_within
@@ -31,11 +31,11 @@ are_ranges_within-loop-range-preserved t c = ranges_more _ _ _ _ c.range-item.is
 
 pub is_within-returns-then-not-are_ranges_within : goal.is_within-returns-then-not-are_ranges_within
 is_within-returns-then-not-are_ranges_within t c =
-    first_too_high _ _ _ _ _ _ _ (is_builder _ _ _ _ _ c.in-Builder.is) c.in-Some.ensures c.are_ranges_within.ensures c.if-not-are_ranges_within.true
+    first_too_high _ _ _ _ _ _ _ (is_comprehension _ _ _ _ _ c.in-Comprehension.is) c.in-Some.ensures c.are_ranges_within.ensures c.if-not-are_ranges_within.true
 
 pub is_within-returns-then-is_part_within : goal.is_within-returns-then-is_part_within
 is_within-returns-then-is_part_within t c =
-    last_decides _ _ _ _ _ _ _ _ _ (is_builder _ _ _ _ _ c.in-Builder.is) c.in-Some.ensures c.are_ranges_within.ensures c.if-not-are_ranges_within.false
+    last_decides _ _ _ _ _ _ _ _ _ (is_comprehension _ _ _ _ _ c.in-Comprehension.is) c.in-Some.ensures c.are_ranges_within.ensures c.if-not-are_ranges_within.false
     c.is_part_within.ensures c.if-is_part_within.true c.is_part_within-then-is_part_within.ensures
 
 pub is_within-returns-then-not-are_ranges_within-2 : goal.is_within-returns-then-not-are_ranges_within-2

@@ -632,40 +632,40 @@ binders::quantified-returns-clause-scope t c =
     let bound = c.in_ok-ranges.ensures.ok in
     c.unbind.ensures (scope_of c.args.scope.now) bound.0 (c.judge_term-body.ensures.scope ∙ c.judge_part-constraint.ensures.scope ∙ bound.2) c.depth-outside.ensures
 
-pub binders::builder-returns-in_err-ranges-clause-judged : goal.binders::builder-returns-in_err-ranges-clause-judged
-binders::builder-returns-in_err-ranges-clause-judged t c =
+pub binders::comprehension-returns-in_err-ranges-clause-judged : goal.binders::comprehension-returns-in_err-ranges-clause-judged
+binders::comprehension-returns-in_err-ranges-clause-judged t c =
     let s = scope_of c.args.scope.now in
     let n = c.args.need in
-    let l = c.in-Builder.line in
-    let p = part_of c.in-Builder.filter in
-    let e = part_of c.in-Builder.member in
+    let l = c.in-Comprehension.line in
+    let p = part_of c.in-Comprehension.filter in
+    let e = part_of c.in-Comprehension.member in
     let ds = tree_views.var_decls (map tree_views.var_decl_of c.as_slice.result.now) in
     let x = c.in_err-ranges.field-0.0 in
-    let is = ap tree_of c.in-Builder.is ∙ seen.of-Builder l c.in-Builder.decls c.in-Builder.filter c.in-Builder.member
-    ∙ ap (λ xs. tree.builder l (tree_views.var_decls (map tree_views.var_decl_of xs)) p e) (sym c.as_slice.ensures) in
+    let is = ap tree_of c.in-Comprehension.is ∙ seen.of-Comprehension l c.in-Comprehension.decls c.in-Comprehension.filter c.in-Comprehension.member
+    ∙ ap (λ xs. tree.comprehension l (tree_views.var_decls (map tree_views.var_decl_of xs)) p e) (sym c.as_slice.ensures) in
     subst (λ d. Judges s n d c.from_residual.result) (sym is)
-    (from_fault s n (tree.builder l ds p e) x c.from_residual.result
-    (if_fault x (λ k m. DeclarationsOffend s ds k m) (λ k m. Offends s n (tree.builder l ds p e) k m) (λ k m o. ⊎_elim (λ a. inl a) (λ b. inr (inl b)) o) c.in_err-ranges.ensures.wrong)
+    (from_fault s n (tree.comprehension l ds p e) x c.from_residual.result
+    (if_fault x (λ k m. DeclarationsOffend s ds k m) (λ k m. Offends s n (tree.comprehension l ds p e) k m) (λ k m o. ⊎_elim (λ a. inl a) (λ b. inr (inl b)) o) c.in_err-ranges.ensures.wrong)
     c.from_residual.ensures.0 c.from_residual.ensures.1)
 
-pub binders::builder-returns-clause-judged : goal.binders::builder-returns-clause-judged
-binders::builder-returns-clause-judged t c =
+pub binders::comprehension-returns-clause-judged : goal.binders::comprehension-returns-clause-judged
+binders::comprehension-returns-clause-judged t c =
     let s = scope_of c.args.scope.now in
-    let l = c.in-Builder.line in
-    let p = part_of c.in-Builder.filter in
-    let e = part_of c.in-Builder.member in
+    let l = c.in-Comprehension.line in
+    let p = part_of c.in-Comprehension.filter in
+    let e = part_of c.in-Comprehension.member in
     let ds = tree_views.var_decls (map tree_views.var_decl_of c.as_slice.result.now) in
     let bound = c.in_ok-ranges.ensures.ok in
     let inside = c.judge_part-filter.ensures.scope ∙ bound.2 in
-    let is = ap tree_of c.in-Builder.is ∙ seen.of-Builder l c.in-Builder.decls c.in-Builder.filter c.in-Builder.member
-    ∙ ap (λ xs. tree.builder l (tree_views.var_decls (map tree_views.var_decl_of xs)) p e) (sym c.as_slice.ensures) in
+    let is = ap tree_of c.in-Comprehension.is ∙ seen.of-Comprehension l c.in-Comprehension.decls c.in-Comprehension.filter c.in-Comprehension.member
+    ∙ ap (λ xs. tree.comprehension l (tree_views.var_decls (map tree_views.var_decl_of xs)) p e) (sym c.as_slice.ensures) in
     subst (λ d. Judges s c.args.need d c.built.result) (sym is)
     (c.built.ensures s ds bound.0 p e bound.1 c.in_ok-ranges.ensures.ranges
     (subst (λ z. JudgesPart z need.Predicate p c.judge_part-filter.result) bound.2 c.judge_part-filter.ensures.judged)
     (subst (λ z. JudgesPart z need.Expression e c.judge_part-member.result) inside c.judge_part-member.ensures.judged)
     (row_here c.row-row.result _ s bound.0 c.depth-outside.result (c.judge_part-member.ensures.scope ∙ inside) c.depth-outside.ensures c.row-row.ensures))
 
-pub binders::builder-returns-clause-scope : goal.binders::builder-returns-clause-scope
-binders::builder-returns-clause-scope t c =
+pub binders::comprehension-returns-clause-scope : goal.binders::comprehension-returns-clause-scope
+binders::comprehension-returns-clause-scope t c =
     let bound = c.in_ok-ranges.ensures.ok in
     c.unbind.ensures (scope_of c.args.scope.now) bound.0 (c.judge_part-member.ensures.scope ∙ c.judge_part-filter.ensures.scope ∙ bound.2) c.depth-outside.ensures

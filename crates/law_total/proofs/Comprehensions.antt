@@ -1,4 +1,4 @@
--- What a builder builds is a set, or is out.
+-- What a comprehension builds is a set, or is out.
 use Rattle.law_total.proofs.Prelude.{◌≡◌, ◌⊎◌, inl, inr, List, refl, subst, AreFrom, IsSetOf, Outcome, Is, Out, Undefined, Truth, SetOf, Value, IsBuilt, IsBuiltBy, IsBuiltOver, IsOutOfBounds, IsWithinBounds, one_out, one_undefined, Several, values}
 use Rattle.zf_value.specs.declared.value.Truth.TheVariants as truth
 use Rattle.law_total.proofs.Listed.{HasSome, one_or_all, Listed, listed_same, listed_none, listed_one, listed_some}
