@@ -1,8 +1,8 @@
 -- The name that a piece of a source is has the bytes of a name.
 use Rattle.law_names.proofs.Prelude.{◌++◌, ◌∙◌, ◌∷◌, ◌≡◌, [], ap, Bool, false, List, refl, Some, subst, sym, true, ℕ, list_all, if◌then◌else◌, codes, nat_le, bytes_eq, and_left, and_right, both, pick, Stands, Piece, Kind, IsName}
 use Rattle.zf_scan.specs.declared.pieces.Piece.TheVariants.{Plain, Symbol, Refused}
-use Rattle.zf_scan.specs.declared.pieces.Place.{Place}
-use Rattle.zf_scan.specs.declared.pieces.Place.TheVariants as places
+use Rattle.zf_scan.specs.declared.pieces.Region.{Region}
+use Rattle.zf_scan.specs.declared.pieces.Region.TheVariants as places
 use Rattle.zf_scan.specs.declared.token.Kind.TheVariants as k
 use Rattle.zf_scan.specs.{digits, escape, fixed, informal, InsideKind, is_directive, look_up, name, number_max, opening, openings, OutsideKind, remark, schema_opening, SpellsInside, SpellsOutside, symbols, unknown, value}
 use Rattle.zf_scan.specs.Pieces.{closing}
@@ -79,11 +79,11 @@ outside_spelled escape piece p h = other_piece piece (ap is_other_piece h.1)
 outside_spelled remark piece p h = other_piece piece (ap is_other_piece h.1 ∙ pick (λ piece. is_other_piece piece ≡ true) (is_directive p) _ _ (λ _. refl) (λ _. refl))
 outside_spelled informal piece p h = other_piece piece (ap is_other_piece h.1)
 
-piece_spelled : (place : Place) (piece : Piece) (p after : List ℕ) → Stands place piece p after → IsPieceSpelled piece
+piece_spelled : (place : Region) (piece : Piece) (p after : List ℕ) → Stands place piece p after → IsPieceSpelled piece
 piece_spelled places.Outside piece p after s = outside_spelled s.kind piece p s.spells
 piece_spelled (places.Zed line) piece p after s = inside_spelled (codes "\\end{zed}") s.kind piece p s.spells
 piece_spelled (places.Schema line) piece p after s = inside_spelled (codes "\\end{schema}") s.kind piece p s.spells
 
 -- a symbol that stands in a source is spelled so
-pub symbol_spelled : (place : Place) (kind : Kind) (p after : List ℕ) → Stands place (Symbol kind) p after → IsSpelled kind
+pub symbol_spelled : (place : Region) (kind : Kind) (p after : List ℕ) → Stands place (Symbol kind) p after → IsSpelled kind
 symbol_spelled place kind p after s = piece_spelled place (Symbol kind) p after s

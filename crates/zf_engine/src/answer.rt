@@ -8,16 +8,16 @@ ghost use Rattle.zf_lines.specs.{device_of, failures_of, HasLimit, read_failures
 ghost use Rattle.zf_meaning.specs.{environment_of};
 ghost use Rattle.zf_term.specs.{globals_of, schema_of};
 
-use crate::asked::{Asked, asked_in};
+use crate::asked::{Asked, find_schema};
 use crate::begin::{begin, begin_counting};
 use crate::bounds::{Bounds, Chosen, bounds_in};
-use crate::check::{check_answer, checked_in};
+use crate::check::{check_answer, check_source};
 use crate::inquiry::Inquiry;
 use crate::reach::reach_source;
 use crate::stop::{Stop, whole};
 use crate::subject::Subject;
 use crate::telling::{tell, write_whole};
-use crate::typed::typed_in;
+use crate::typed::load;
 use crate::why::why_source;
 use bumpalo::Bump;
 use std::alloc::Global;
@@ -87,7 +87,7 @@ fn checked_text(
         file,
         details,
     };
-    let checked = checked_in(alloc, &trees, &arena, report)?;
+    let checked = check_source(alloc, &trees, &arena, report)?;
     Ok(check_answer(alloc, types, report, &checked)?)
 }
 
@@ -137,7 +137,7 @@ fn show_source<W: Write>(
         request,
         report,
     };
-    match typed_in(alloc, &trees, &arena, report) {
+    match load(alloc, &trees, &arena, report) {
         Ok(globals) => show_globals(inquiry, &arena, &globals, writer),
         Err(stop) => tell(alloc, request.format, file, stop, writer),
     }
@@ -158,7 +158,7 @@ fn show_globals<'a, W: Write>(
     ensures count { failures_of writer.new ≡ write_failures result }
     ensures unread { read_failures result ≡ 0 }
 {
-    match asked_in(inquiry.alloc, globals, inquiry.request, inquiry.report) {
+    match find_schema(inquiry.alloc, globals, inquiry.request, inquiry.report) {
         Ok(Asked { schema, env }) => show_schema(inquiry, arena, schema, &env, writer),
         Err(stop) => refuse(inquiry, stop, writer),
     }

@@ -28,7 +28,7 @@ pub struct Asked<'g, 'a> {
 }
 
 /// The schema that is asked for, if there is one, the numbers and the sizes fit, and it is finite.
-pub fn asked_in<'g, 'a>(
+pub fn find_schema<'g, 'a>(
     alloc: Global,
     globals: &'g Globals<'a>,
     request: &Request,

@@ -21,7 +21,7 @@ use zf_tree::Spec;
 
 /// What a source defines, and its faults of types. Its trees stand in an arena of their own, which asks for its room while the
 /// symbols of the source still have theirs: what is made of the trees gets the room of the symbols.
-pub fn checked_in<'a>(
+pub fn check_source<'a>(
     alloc: Global,
     trees: &'a Bump,
     arena: &'a Bump,

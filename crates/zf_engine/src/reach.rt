@@ -17,7 +17,7 @@ use crate::begin::not_begun;
 use crate::numbers::greatest_number;
 use crate::stop::Stop;
 use crate::telling::tell;
-use crate::typed::typed_in;
+use crate::typed::load;
 use bumpalo::Bump;
 use std::alloc::Global;
 use std::io::Write;
@@ -75,7 +75,7 @@ pub fn reach_source<W: Write>(
         exploration,
         report,
     };
-    match typed_in(alloc, &trees, &arena, report) {
+    match load(alloc, &trees, &arena, report) {
         Ok(globals) => reach_globals(task, &arena, &globals, writer),
         Err(stop) => tell(alloc, exploration.format, file, stop, writer),
     }

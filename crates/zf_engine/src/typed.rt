@@ -3,7 +3,7 @@ ghost use Rattle.std.specs.Prelude.{[], IfOk, IfErr};
 ghost use Rattle.zf_engine.specs.{Checks, IfAnswered, IsUnfit};
 ghost use Rattle.zf_term.specs.{globals_of};
 
-use crate::check::{checked_in, fault_lines};
+use crate::check::{check_source, fault_lines};
 use crate::stop::Stop;
 use bumpalo::Bump;
 use std::alloc::Global;
@@ -12,7 +12,7 @@ use zf_messages::Report;
 use zf_term::Globals;
 
 /// What a source that is well typed defines.
-pub fn typed_in<'a>(
+pub fn load<'a>(
     alloc: Global,
     trees: &'a Bump,
     arena: &'a Bump,
@@ -21,7 +21,7 @@ pub fn typed_in<'a>(
     ensures checks { IfOk result (λ g. Checks report.entry.source.now (globals_of g) []) }
     ensures stop { IfErr result (λ s. IfAnswered s (IsUnfit report.entry.details report.entry.file.now report.entry.source.now)) }
 {
-    let checked = checked_in(alloc, trees, arena, report)?;
+    let checked = check_source(alloc, trees, arena, report)?;
     if !checked.faults.as_slice().is_empty() {
         let lines = fault_lines(alloc, report, checked.faults.as_slice())?;
         return Err(Stop::Answered(lines, Status::BadSpec));

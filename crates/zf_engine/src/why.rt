@@ -7,14 +7,14 @@ ghost use Rattle.zf_ranges.specs.{IsNoneOut};
 ghost use Rattle.zf_meaning.specs.{environment_of};
 ghost use Rattle.zf_term.specs.{globals_of, schema_of};
 
-use crate::asked::asked_in;
+use crate::asked::find_schema;
 use crate::begin::begin;
 use crate::held::values_held;
 use crate::inquiry::Inquiry;
 use crate::reasons::cause_lines;
 use crate::stop::Stop;
 use crate::subject::Subject;
-use crate::typed::typed_in;
+use crate::typed::load;
 use bumpalo::Bump;
 use std::alloc::{AllocError, Global};
 use zf_command::Request;
@@ -46,7 +46,7 @@ pub fn why_source(
         file,
         details: request.details,
     };
-    let globals = typed_in(alloc, &trees, &arena, report)?;
+    let globals = load(alloc, &trees, &arena, report)?;
     why_globals(alloc, &arena, &globals, request, report)
 }
 
@@ -69,7 +69,7 @@ fn why_globals<'a>(
         request,
         report,
     };
-    let asked = asked_in(alloc, globals, request, report)?;
+    let asked = find_schema(alloc, globals, request, report)?;
     why_schema(inquiry, arena, asked.schema, &asked.env)
 }
 

@@ -1,22 +1,22 @@
 -- The spellings that no other shares its first bytes with, and the bytes that no spelling begins with.
 use Rattle.zf_scan.proofs.Prelude.{◌++◌, ◌-◌, ◌<◌, ◌∙◌, ◌∷◌, ◌≡◌, ◌≤◌, [], arith, Bool, drop, false, get_or, length, List, None, Option, refl, rules, Some, sym, take, true, ℕ, take_rest, list_all, if◌then◌else◌, ◌==◌, codes, bytes_eq, look_up, symbols, piece_of, seen, Piece}
-use Rattle.zf_scan.specs.declared.pieces.Sight.{Sight}
+use Rattle.zf_scan.specs.declared.pieces.Lexeme.{Lexeme}
 use Rattle.zf_scan.proofs.Table.{hit}
 use Rattle.zf_scan.proofs.Texts.{both}
 
-seen_if : (s : List ℕ) (t : Bool) (sight : Sight) → seen s (if t then Some sight else None) ≡ (if t then Some (piece_of sight 0 s) else None)
-seen_if s true sight = refl
-seen_if s false sight = refl
+seen_if : (s : List ℕ) (t : Bool) (lexeme : Lexeme) → seen s (if t then Some lexeme else None) ≡ (if t then Some (piece_of lexeme 0 s) else None)
+seen_if s true lexeme = refl
+seen_if s false lexeme = refl
 
 -- the text is `front` and s; the row is what is looked up once the first byte of s is known
-pub alone : (front s : List ℕ) (b : ℕ) (text : List ℕ) (sight : Sight) (result : Option Sight) → 1 ≤ length s → get_or s 0 0 ≡ b
-    → result ≡ (if bytes_eq (take (length s - 1) (drop 1 s)) text then Some sight else None)
-    → ((rest : List ℕ) → look_up (front ++ b ∷ rest) symbols ≡ (if bytes_eq rest text then Some (piece_of sight 0 (front ++ b ∷ rest)) else None))
+pub alone : (front s : List ℕ) (b : ℕ) (text : List ℕ) (lexeme : Lexeme) (result : Option Lexeme) → 1 ≤ length s → get_or s 0 0 ≡ b
+    → result ≡ (if bytes_eq (take (length s - 1) (drop 1 s)) text then Some lexeme else None)
+    → ((rest : List ℕ) → look_up (front ++ b ∷ rest) symbols ≡ (if bytes_eq rest text then Some (piece_of lexeme 0 (front ++ b ∷ rest)) else None))
     → seen (front ++ s) result ≡ look_up (front ++ s) symbols
-alone front [] b text sight result h f e row = absurd (omega arith)
-alone front (x ∷ rest) b text sight result h f e row =
-    let same : result ≡ (if bytes_eq rest text then Some sight else None) = rw take_rest at e in
-    rw (same, f) (seen_if (front ++ b ∷ rest) (bytes_eq rest text) sight ∙ sym (row rest))
+alone front [] b text lexeme result h f e row = absurd (omega arith)
+alone front (x ∷ rest) b text lexeme result h f e row =
+    let same : result ≡ (if bytes_eq rest text then Some lexeme else None) = rw take_rest at e in
+    rw (same, f) (seen_if (front ++ b ∷ rest) (bytes_eq rest text) lexeme ∙ sym (row rest))
 
 -- ---- no spelling
 

@@ -1,7 +1,7 @@
 -- What the list of the symbols of a box is while the scanner fills it.
-use Rattle.zf_scan.proofs.Prelude.{◌++◌, ◌∙◌, ◌∷◌, ◌≡◌, ◌≤◌, [], ap, append_assoc, Bool, false, inl, inr, length, List, refl, Some, subst, sym, take, true, ℕ, append-nil, list_all, if◌then◌else◌, bytes_eq, begins_box, BeginsBox, ends_box, EndsOnce, Follows, IsBox, IsBoxAtMost, IsCutOn, IsCutUpTo, entered, escape, informal, is_directive, look_up, opening, OutsideKind, remark, schema_opening, SpellsOutside, openings, kind_of, Found, NotInProfile, Next, Piece, Plain, Refused, Symbol, Place, Border, Kind, BeginSchema, BeginZed, EndBox, Token}
+use Rattle.zf_scan.proofs.Prelude.{◌++◌, ◌∙◌, ◌∷◌, ◌≡◌, ◌≤◌, [], ap, append_assoc, Bool, false, inl, inr, length, List, refl, Some, subst, sym, take, true, ℕ, append-nil, list_all, if◌then◌else◌, bytes_eq, begins_box, BeginsBox, ends_box, EndsOnce, Follows, IsBox, IsBoxAtMost, IsCutOn, IsCutUpTo, entered, escape, informal, is_directive, look_up, opening, OutsideKind, remark, schema_opening, SpellsOutside, openings, kind_of, Match, NotInProfile, Next, Piece, Plain, Refused, Symbol, Region, Border, Kind, BeginSchema, BeginZed, EndBox, Token}
 use Rattle.zf_scan.specs.declared.next.Next.TheVariants as next
-use Rattle.zf_scan.specs.declared.pieces.Place.TheVariants.{Outside, Zed, Schema}
+use Rattle.zf_scan.specs.declared.pieces.Region.TheVariants.{Outside, Zed, Schema}
 use Rattle.zf_scan.proofs.Laws.{cut_whole}
 use Rattle.zf_scan.proofs.Runs.{and_left, and_right}
 use Rattle.zf_scan.proofs.Scanned.{StandsAt}
@@ -41,7 +41,7 @@ outside_begins escape kind p h = let e = h.1 in absurd (cc)
 outside_begins remark kind p h = absurd (no_remark p kind (is_directive p) h.1)
 outside_begins informal kind p h = let e = h.1 in absurd (cc)
 
-pub begins_there : (place : Place) (s : List ℕ) (f : Found) (kind : Kind) → StandsAt place s f → f.piece ≡ Symbol kind → place ≡ Outside → begins_box kind ≡ true
+pub begins_there : (place : Region) (s : List ℕ) (f : Match) (kind : Kind) → StandsAt place s f → f.piece ≡ Symbol kind → place ≡ Outside → begins_box kind ≡ true
 begins_there Outside s f kind a e out = outside_begins a.stands.kind kind (take f.len s) (subst (λ piece. SpellsOutside a.stands.kind piece (take f.len s)) e a.stands.spells)
 begins_there (Zed line) s f kind a e out = absurd (cc)
 begins_there (Schema line) s f kind a e out = absurd (cc)
@@ -71,7 +71,7 @@ pub record IsOpen (tokens : List Token) : Type 0 where
   pub no_end : NoEnds tokens
 
 -- nothing outside of boxes; inside, the beginning of a box, without its end
-abbrev pub IsPart : Place → List Token → Type 0
+abbrev pub IsPart : Region → List Token → Type 0
 IsPart Outside tokens = tokens ≡ []
 IsPart (Zed line) tokens = IsOpen tokens
 IsPart (Schema line) tokens = IsOpen tokens
@@ -93,7 +93,7 @@ one_of_both : (kind : Kind) → begins_box kind ≡ true → ends_box kind ≡ t
 one_of_both EndBox b e = cc
 one_of_both _ b e = cc
 
-is_inside : (place : Place) (ts : List Token) → IsOpen ts → (place ≡ Outside → ⊥) → IsPart place ts
+is_inside : (place : Region) (ts : List Token) → IsOpen ts → (place ≡ Outside → ⊥) → IsPart place ts
 is_inside Outside ts open_ inside = absurd (inside refl)
 is_inside (Zed line) ts open_ inside = open_
 is_inside (Schema line) ts open_ inside = open_
@@ -103,7 +103,7 @@ begun_inside line BeginZed b e = cc
 begun_inside line (BeginSchema name) b e = cc
 begun_inside line _ b e = cc
 
-stays_inside : (place : Place) (line : ℕ) (kind : Kind) → ends_box kind ≡ false → (place ≡ Outside → ⊥) → entered place line (Symbol kind) ≡ Outside → ⊥
+stays_inside : (place : Region) (line : ℕ) (kind : Kind) → ends_box kind ≡ false → (place ≡ Outside → ⊥) → entered place line (Symbol kind) ≡ Outside → ⊥
 stays_inside place line BeginZed e inside out = cc
 stays_inside place line (BeginSchema name) e inside out = cc
 stays_inside place line EndBox e inside out = cc
@@ -112,7 +112,7 @@ stays_inside place line _ e inside out = inside out
 more_open : (ts : List Token) (t : Token) → IsOpen ts → ends_box t.kind ≡ false → IsOpen (ts ++ t ∷ [])
 more_open ts t o e = record { begins = begins_still ts (t ∷ []) o.begins; no_end = no_more_ends ts t o.no_end e }
 
-grows : (place : Place) (line : ℕ) (ts : List Token) (t : Token) → (place ≡ Outside → begins_box t.kind ≡ true) → ends_box t.kind ≡ false → IsPart place ts
+grows : (place : Region) (line : ℕ) (ts : List Token) (t : Token) → (place ≡ Outside → begins_box t.kind ≡ true) → ends_box t.kind ≡ false → IsPart place ts
     → IsPart (entered place line (Symbol t.kind)) (ts ++ t ∷ [])
 grows Outside line ts t opens e h =
     subst (λ ts. IsPart (entered Outside line (Symbol t.kind)) (ts ++ t ∷ [])) (sym h)
@@ -121,23 +121,23 @@ grows (Zed l) line ts t opens e h = is_inside (entered (Zed l) line (Symbol t.ki
 grows (Schema l) line ts t opens e h = is_inside (entered (Schema l) line (Symbol t.kind)) (ts ++ t ∷ []) (more_open ts t h e) (stays_inside (Schema l) line t.kind e (λ out. cc))
 
 -- a symbol that ends no box
-pub grown : (place : Place) (line : ℕ) (ts : List Token) (t : Token) → (place ≡ Outside → begins_box t.kind ≡ true) → ends_box t.kind ≡ false → IsPart place ts
-    → (behind : Place) (more : List Token) → behind ≡ entered place line (Symbol t.kind) → more ≡ ts ++ t ∷ [] → IsPart behind more
+pub grown : (place : Region) (line : ℕ) (ts : List Token) (t : Token) → (place ≡ Outside → begins_box t.kind ≡ true) → ends_box t.kind ≡ false → IsPart place ts
+    → (behind : Region) (more : List Token) → behind ≡ entered place line (Symbol t.kind) → more ≡ ts ++ t ∷ [] → IsPart behind more
 grown place line ts t opens e h behind more place_is more_is =
     subst (λ behind. IsPart behind more) (sym place_is) (subst (IsPart (entered place line (Symbol t.kind))) (sym more_is) (grows place line ts t opens e h))
 
 -- one that ends the box
-pub closed : (place : Place) (ts : List Token) (t : Token) → (place ≡ Outside → begins_box t.kind ≡ true) → ends_box t.kind ≡ true → IsPart place ts → IsBox (ts ++ t ∷ [])
+pub closed : (place : Region) (ts : List Token) (t : Token) → (place ≡ Outside → begins_box t.kind ≡ true) → ends_box t.kind ≡ true → IsPart place ts → IsBox (ts ++ t ∷ [])
 closed Outside ts t opens e h = absurd (one_of_both t.kind (opens refl) e)
 closed (Zed line) ts t opens e h = record { begins = begins_still ts (t ∷ []) h.begins; ends = ends_last ts t h.no_end e }
 closed (Schema line) ts t opens e h = record { begins = begins_still ts (t ∷ []) h.begins; ends = ends_last ts t h.no_end e }
 
-pub at_outside : (place : Place) (ts : List Token) → IsPart place ts → place ≡ Outside → ts ≡ []
+pub at_outside : (place : Region) (ts : List Token) → IsPart place ts → place ≡ Outside → ts ≡ []
 at_outside Outside ts h e = h
 at_outside (Zed line) ts h e = absurd (cc)
 at_outside (Schema line) ts h e = absurd (cc)
 
-pub ended_outside : (place : Place) (line : ℕ) (kind : Kind) → ends_box kind ≡ true → Outside ≡ entered place line (Symbol kind)
+pub ended_outside : (place : Region) (line : ℕ) (kind : Kind) → ends_box kind ≡ true → Outside ≡ entered place line (Symbol kind)
 ended_outside place line EndBox e = refl
 ended_outside place line _ e = cc
 

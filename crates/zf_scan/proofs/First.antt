@@ -1,5 +1,5 @@
 -- Outside the boxes: what is found at the front of a text is of the first kind that fits.
-use Rattle.zf_scan.proofs.Prelude.{◌++◌, ◌+◌, ◌<◌, ◌∙◌, ◌∷◌, ◌≡◌, ◌≤◌, ◌⊎◌, [], ap, append_assoc, arith, Bool, drop, false, inl, inr, length, length-append, length-take-le, List, min, None, Option, refl, Some, subst, sym, take, take-append-drop, true, ℕ, ⊎_elim, one-add, nat_tests, list_all, if◌then◌else◌, ◌==◌, ◌||◌, codes, not, bytes_eq, StandsOutside, escape, informal, is_base, is_letter, is_run, look_up, opening, OutsideKind, remark, schema_opening, SpellsOutside, turn, openings, symbols, base_len, begins, Found, has_no_name, plain, run_len, comment_found, opening_found, other_opening_found, outside_found, schema_found, Piece, Plain, Refused, Symbol, Base, Line, BeginSchema, BeginZed}
+use Rattle.zf_scan.proofs.Prelude.{◌++◌, ◌+◌, ◌<◌, ◌∙◌, ◌∷◌, ◌≡◌, ◌≤◌, ◌⊎◌, [], ap, append_assoc, arith, Bool, drop, false, inl, inr, length, length-append, length-take-le, List, min, None, Option, refl, Some, subst, sym, take, take-append-drop, true, ℕ, ⊎_elim, one-add, nat_tests, list_all, if◌then◌else◌, ◌==◌, ◌||◌, codes, not, bytes_eq, StandsOutside, escape, informal, is_base, is_letter, is_run, look_up, opening, OutsideKind, remark, schema_opening, SpellsOutside, turn, openings, symbols, base_len, begins, Match, has_no_name, plain, run_len, comment_found, opening_found, other_opening_found, outside_found, schema_found, Piece, Plain, Refused, Symbol, Base, Line, BeginSchema, BeginZed}
 use Rattle.std.specs.Option.{is_some}
 use Rattle.zf_scan.specs.declared.fault.TextFaultKind.TheVariants as faults
 use Rattle.zf_scan.proofs.Runs.{and_left, and_right, run_le, run_exact, run_within}
@@ -16,7 +16,7 @@ pub record At (s : List ℕ) (piece : Piece) (n : ℕ) : Type 0 where
   pub within : n ≤ length s
   pub stands : StandsOutside piece (take n s) (drop n s)
 
-abbrev pub Next : List ℕ → Found → Type 0
+abbrev pub Next : List ℕ → Match → Type 0
 Next s f = At s f.piece f.len
 
 abbrev Bound : List ℕ → OutsideKind → ℕ → Type 0

@@ -1,7 +1,7 @@
 -- A source is cut in one way, and where it fails nothing goes on.
-use Rattle.zf_scan.proofs.Prelude.{◌++◌, ◌<◌, ◌∙◌, ◌∷◌, ◌≡◌, ◌≤◌, ◌⊎◌, [], ap, arith, drop, inl, inr, length, length-append, List, refl, subst, sym, take, take-append-drop, ℕ, ⊎_elim, append-nil, Before, IsCutUpTo, Cuts, Fails, reported_line, FaultsOnce, IsCutInto, IsCutOnce, IsNotBoth, IsRead, IsStuck, IsUncut, IsWantOfMemory, spot_line, past, Spot, Stands, start, tokens_from, Found, TextFault, TextFaultKind, BadByte, UnclosedBox, Piece, Refused, Place, Border, SOURCE_MAX, Token}
+use Rattle.zf_scan.proofs.Prelude.{◌++◌, ◌<◌, ◌∙◌, ◌∷◌, ◌≡◌, ◌≤◌, ◌⊎◌, [], ap, arith, drop, inl, inr, length, length-append, List, refl, subst, sym, take, take-append-drop, ℕ, ⊎_elim, append-nil, Before, IsCutUpTo, Cuts, Fails, reported_line, FaultsOnce, IsCutInto, IsCutOnce, IsNotBoth, IsRead, IsStuck, IsUncut, IsWantOfMemory, spot_line, past, Spot, Stands, start, tokens_from, Match, TextFault, TextFaultKind, BadByte, UnclosedBox, Piece, Refused, Region, Border, SOURCE_MAX, Token}
 use Rattle.std.proofs.Math.ListN.{drop_of_length-le}
-use Rattle.zf_scan.specs.declared.pieces.Place.TheVariants as places
+use Rattle.zf_scan.specs.declared.pieces.Region.TheVariants as places
 use Rattle.zf_scan.proofs.Same.{same, stands_some}
 use Rattle.zf_scan.proofs.Scanned.{Next}
 
@@ -34,13 +34,13 @@ empty_front : {C : Type 0} (rest p after : List ℕ) → rest ≡ [] → rest �
 empty_front rest p after e f some = absurd (omega (arith, ap length e, ap length f, length-append p after))
 
 -- no piece is read there
-stuck_here : (place : Place) (rest : List ℕ) (kind : TextFaultKind) → Fails place rest kind → (x : Piece) (r after : List ℕ) → rest ≡ r ++ after → Stands place x r after → IsRead x → ⊥
+stuck_here : (place : Region) (rest : List ℕ) (kind : TextFaultKind) → Fails place rest kind → (x : Piece) (r after : List ℕ) → rest ≡ r ++ after → Stands place x r after → IsRead x → ⊥
 stuck_here place rest kind (inl f) x r after e s read = subst IsRead (sym (same place (Refused kind) x f.0 r f.1 after f.3 s (sym f.2 ∙ e)).piece) read
 stuck_here place rest kind (inr (inl f)) x r after e s read = f.2 x r after e s
 stuck_here place rest kind (inr (inr f)) x r after e s read = empty_front rest r after f.1 e (stands_some place x r after s)
 
 -- and the source does not end there outside the boxes
-ended_here : (place : Place) (rest : List ℕ) (kind : TextFaultKind) → Fails place rest kind → rest ≡ [] → place ≡ places.Outside → ⊥
+ended_here : (place : Region) (rest : List ℕ) (kind : TextFaultKind) → Fails place rest kind → rest ≡ [] → place ≡ places.Outside → ⊥
 ended_here place rest kind (inl f) e out = empty_front rest f.0 f.1 e f.2 (stands_some place (Refused kind) f.0 f.1 f.3)
 ended_here place rest kind (inr (inl f)) e out = omega (arith, f.1, ap length e)
 ended_here place rest kind (inr (inr f)) e out = f.2 out
@@ -67,7 +67,7 @@ uncut_then source fault (inr s) = inr (uncut source fault s)
 
 -- ---- the ends of the loop
 
-pub finished : (source : List ℕ) (at line : ℕ) (place : Place) (tokens : List Token) → Before source at line place tokens → length source ≤ at
+pub finished : (source : List ℕ) (at line : ℕ) (place : Region) (tokens : List Token) → Before source at line place tokens → length source ≤ at
     → place ≡ places.Outside → length source ≤ SOURCE_MAX → IsCutInto source tokens
 finished source at line place tokens b over out short = record {
   short = short;
@@ -75,13 +75,13 @@ finished source at line place tokens b over out short = record {
   end = b.spot;
   cuts = subst (λ rest. Cuts b.pieces start source b.spot rest) (drop_of_length-le source over) b.cuts;
   closed = sym b.place_is ∙ out;
-  told = sym (append-nil tokens) ∙ sym (b.told []) ∙ ap (tokens_from start) (append-nil b.pieces);
+  match_of = sym (append-nil tokens) ∙ sym (b.match_of []) ∙ ap (tokens_from start) (append-nil b.pieces);
 }
 
 pub cut_whole : (source : List ℕ) (border : Border) (tokens : List Token) → IsCutUpTo source border tokens → length source ≤ border.start → IsCutInto source tokens
 cut_whole source border tokens up over = finished source border.start border.line places.Outside tokens up.before over refl up.short
 
-pub stuck : (source : List ℕ) (at line : ℕ) (place : Place) (tokens : List Token) → Before source at line place tokens → length source ≤ SOURCE_MAX
+pub stuck : (source : List ℕ) (at line : ℕ) (place : Region) (tokens : List Token) → Before source at line place tokens → length source ≤ SOURCE_MAX
     → (fault : TextFault) (kind : TextFaultKind) → fault.kind ≡ kind → fault.line ≡ reported_line place line kind
     → Fails place (drop at source) kind → IsStuck source fault
 stuck source at line place tokens b short fault kind e f fails = record {
@@ -94,11 +94,11 @@ stuck source at line place tokens b short fault kind e f fails = record {
   line = f ∙ ap (λ kind. reported_line place line kind) (sym e) ∙ ap (λ place. reported_line place line fault.kind) b.place_is ∙ ap (λ line. reported_line b.spot.place line fault.kind) b.line_is;
 }
 
-pub refused : (place : Place) (s : List ℕ) (f : Found) → Next place s f → (kind : TextFaultKind) → f.piece ≡ Refused kind → 0 < length s → Fails place s kind
+pub refused : (place : Region) (s : List ℕ) (f : Match) → Next place s f → (kind : TextFaultKind) → f.piece ≡ Refused kind → 0 < length s → Fails place s kind
 refused place s f (inl a) kind e some = inl (take f.len s, drop f.len s, sym (take-append-drop f.len s), subst (λ piece. Stands place piece (take f.len s) (drop f.len s)) e a.stands)
 refused place s f (inr n) kind e some = let k : kind ≡ BadByte = cc (e, n.0) in inr (inl (k, some, n.1))
 
-pub ended : (source : List ℕ) (at : ℕ) (place : Place) → length source ≤ at → (place ≡ places.Outside → ⊥) → Fails place (drop at source) UnclosedBox
+pub ended : (source : List ℕ) (at : ℕ) (place : Region) → length source ≤ at → (place ≡ places.Outside → ⊥) → Fails place (drop at source) UnclosedBox
 ended source at place over inside = inr (inr (refl, drop_of_length-le source over, inside))
 
 -- ---- the laws
@@ -114,13 +114,13 @@ pub is_cut_once : IsCutOnce
 is_cut_once source one two c d =
     let same : c.pieces ≡ d.pieces = ⊎_elim (λ g. sym (one_end c.pieces d.pieces c.end d.end g)) (λ g. one_end d.pieces c.pieces d.end c.end g)
     (compared c.pieces d.pieces start source c.end [] d.end [] c.cuts d.cuts) in
-    (same, c.told ∙ ap (tokens_from start) same ∙ sym d.told)
+    (same, c.match_of ∙ ap (tokens_from start) same ∙ sym d.match_of)
 
 pub is_not_both : IsNotBoth
 is_not_both source tokens fault c (inl t) = omega (arith, c.short, t.0)
 is_not_both source tokens fault c (inr s) = uncut source fault s tokens c
 
-fails_once : (place : Place) (rest : List ℕ) (k l : TextFaultKind) → Fails place rest k → Fails place rest l → k ≡ l
+fails_once : (place : Region) (rest : List ℕ) (k l : TextFaultKind) → Fails place rest k → Fails place rest l → k ≡ l
 fails_once place rest k l (inl f) (inl g) = let e = (same place (Refused k) (Refused l) f.0 g.0 f.1 g.1 f.3 g.3 (sym f.2 ∙ g.2)).piece in cc e
 fails_once place rest k l (inl f) (inr (inl g)) = absurd (g.2 (Refused k) f.0 f.1 f.2 f.3)
 fails_once place rest k l (inl f) (inr (inr g)) = empty_front rest f.0 f.1 g.1 f.2 (stands_some place (Refused k) f.0 f.1 f.3)

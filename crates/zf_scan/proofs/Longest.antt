@@ -1,5 +1,5 @@
 -- Inside a box: what is found at the front of a text is the longest, and where nothing is found no piece fits.
-use Rattle.zf_scan.proofs.Prelude.{◌++◌, ◌+◌, ◌<◌, ◌∙◌, ◌∷◌, ◌≡◌, ◌≤◌, ◌⊎◌, [], ap, append_assoc, arith, Bool, drop, false, inl, inr, length, length-append, length-drop, length-take-le, List, None, Option, refl, Some, sym, take, take-append-drop, true, ℕ, one-add, take-add, nat_tests, ◌&&◌, ◌==◌, ◌||◌, codes, StandsInside, closing, comment, fixed, InsideKind, is_base, is_letter, is_number, is_one, is_run, is_two, IsComment, look_up, name, number_piece, digits, remark, SpellsInside, unknown, symbols, base_len, begins, Found, found, name_of, or_else, run_len, strokes_len, symbol_len, word_len, symbol_found, word_found, Piece, Refused, Symbol, Base, Digits, Line, Strokes, is_ascii_digit}
+use Rattle.zf_scan.proofs.Prelude.{◌++◌, ◌+◌, ◌<◌, ◌∙◌, ◌∷◌, ◌≡◌, ◌≤◌, ◌⊎◌, [], ap, append_assoc, arith, Bool, drop, false, inl, inr, length, length-append, length-drop, length-take-le, List, None, Option, refl, Some, sym, take, take-append-drop, true, ℕ, one-add, take-add, nat_tests, ◌&&◌, ◌==◌, ◌||◌, codes, StandsInside, closing, comment, fixed, InsideKind, is_base, is_letter, is_number, is_one, is_run, is_two, IsComment, look_up, name, number_piece, digits, remark, SpellsInside, unknown, symbols, base_len, begins, Match, found, name_of, or_else, run_len, strokes_len, symbol_len, word_len, symbol_found, word_found, Piece, Refused, Symbol, Base, Digits, Line, Strokes, is_ascii_digit}
 use Rattle.zf_scan.specs.declared.fault.TextFaultKind.TheVariants as faults
 use Rattle.zf_scan.proofs.Runs.{and_left, and_right, run_le, run_exact, run_all, run_within, run_len-one}
 use Rattle.zf_scan.proofs.Texts.{pick, eq_is, both, back_is, taken, front_le, head_is, tail_is, begins_is, is_begun, bytes_same}
@@ -27,7 +27,7 @@ at_from end s piece n kind within spells bound = record {
 abbrev pub NoneFits : List ℕ → List ℕ → Type 0
 NoneFits end s = (other : InsideKind) (piece : Piece) (r rest : List ℕ) → SpellsInside end other piece r → s ≡ r ++ rest → ⊥
 
-abbrev pub Next : List ℕ → List ℕ → Found → Type 0
+abbrev pub Next : List ℕ → List ℕ → Match → Type 0
 Next end s f = At end s f.piece f.len ⊎ ((f.piece ≡ Refused faults.BadByte) × NoneFits end s)
 
 -- ---- first bytes

@@ -1,6 +1,6 @@
 -- No newline stands in the text of a symbol; which letters begin a word of one spelling.
-use Rattle.zf_scan.proofs.Prelude.{◌++◌, ◌∙◌, ◌∷◌, ◌≡◌, ◌≤◌, [], ap, arith, Bool, false, length, List, None, Option, refl, slice_index_or, Some, subst, sym, take, true, ℕ, list_all, ◌&&◌, ◌==◌, ◌||◌, codes, not, bytes_eq, newlines, closing, escape, fixed, informal, InsideKind, is_base, is_letter, is_one, is_run, is_two, look_up, name, digits, opening, OutsideKind, remark, schema_opening, SpellsInside, SpellsOutside, unknown, openings, symbols, Found, Piece, Plain, Symbol, Place, Run, Base, Digits, Letters, Line, Strokes, Kind}
-use Rattle.zf_scan.specs.declared.pieces.Place.TheVariants as places
+use Rattle.zf_scan.proofs.Prelude.{◌++◌, ◌∙◌, ◌∷◌, ◌≡◌, ◌≤◌, [], ap, arith, Bool, false, length, List, None, Option, refl, slice_index_or, Some, subst, sym, take, true, ℕ, list_all, ◌&&◌, ◌==◌, ◌||◌, codes, not, bytes_eq, newlines, closing, escape, fixed, informal, InsideKind, is_base, is_letter, is_one, is_run, is_two, look_up, name, digits, opening, OutsideKind, remark, schema_opening, SpellsInside, SpellsOutside, unknown, openings, symbols, Match, Piece, Plain, Symbol, Region, Run, Base, Digits, Letters, Line, Strokes, Kind}
+use Rattle.zf_scan.specs.declared.pieces.Region.TheVariants as places
 use Rattle.zf_scan.proofs.Alone.{differ}
 use Rattle.zf_scan.proofs.Runs.{and_left, and_right}
 use Rattle.zf_scan.proofs.Scanned.{StandsAt, newlines_append}
@@ -106,7 +106,7 @@ outside_quiet remark k p h = ap newlines h.0.1 ∙ more 37 h.0.0 refl (run_quiet
 outside_quiet informal k p h = let e = h.1 in absurd (cc)
 
 -- a symbol ends no line
-pub quiet : (place : Place) (s : List ℕ) (f : Found) (k : Kind) → StandsAt place s f → f.piece ≡ Symbol k → newlines (take f.len s) ≡ 0
+pub quiet : (place : Region) (s : List ℕ) (f : Match) (k : Kind) → StandsAt place s f → f.piece ≡ Symbol k → newlines (take f.len s) ≡ 0
 quiet places.Outside s f k a e = outside_quiet a.stands.kind k (take f.len s) (subst (λ piece. SpellsOutside a.stands.kind piece (take f.len s)) e a.stands.spells)
 quiet (places.Zed line) s f k a e = inside_quiet (codes "\\end{zed}") refl a.stands.kind k (take f.len s)
     (subst (λ piece. SpellsInside (codes "\\end{zed}") a.stands.kind piece (take f.len s)) e a.stands.spells)

@@ -1,7 +1,7 @@
 -- One piece stands at a place.
-use Rattle.zf_scan.proofs.Prelude.{◌++◌, ◌+◌, ◌<◌, ◌∙◌, ◌∷◌, ◌≡◌, ◌≤◌, ◌⊎◌, [], ap, arith, Bool, drop, false, inl, inr, length, length-append, List, None, Option, refl, Some, sym, take, true, unwrap_or, ℕ, ⊎_elim, one-add, bytes_decides, if◌then◌else◌, ◌==◌, codes, bytes_eq, Stands, StandsInside, StandsOutside, comment, InsideKind, is_base, is_letter, is_number, is_run, IsCommand, look_up, number_piece, OutsideKind, SpellsInside, SpellsOutside, turn, openings, symbols, base_len, run_len, Piece, Plain, Refused, Symbol, Place, Base, Letters, Strokes, BeginSchema, EndBox, Name, is_ascii_digit}
+use Rattle.zf_scan.proofs.Prelude.{◌++◌, ◌+◌, ◌<◌, ◌∙◌, ◌∷◌, ◌≡◌, ◌≤◌, ◌⊎◌, [], ap, arith, Bool, drop, false, inl, inr, length, length-append, List, None, Option, refl, Some, sym, take, true, unwrap_or, ℕ, ⊎_elim, one-add, bytes_decides, if◌then◌else◌, ◌==◌, codes, bytes_eq, Stands, StandsInside, StandsOutside, comment, InsideKind, is_base, is_letter, is_number, is_run, IsCommand, look_up, number_piece, OutsideKind, SpellsInside, SpellsOutside, turn, openings, symbols, base_len, run_len, Piece, Plain, Refused, Symbol, Region, Base, Letters, Strokes, BeginSchema, EndBox, Name, is_ascii_digit}
 use Rattle.zf_scan.specs.declared.fault.TextFaultKind.TheVariants as faults
-use Rattle.zf_scan.specs.declared.pieces.Place.TheVariants as places
+use Rattle.zf_scan.specs.declared.pieces.Region.TheVariants as places
 use Rattle.zf_scan.specs.Pieces
 use Rattle.zf_scan.proofs.Runs.{and_left, and_right, run_exact}
 use Rattle.zf_scan.proofs.Texts.{both, fronts, front_is, back_is, bytes_same}
@@ -185,7 +185,7 @@ schema_closer : Closer (codes "end{schema}")
 unfolding symbols
 schema_closer = record { unlisted = refl; letters = refl; long = omega arith }
 
-pub same : (place : Place) (x y : Piece) (p q a b : List ℕ) → Stands place x p a → Stands place y q b → p ++ a ≡ q ++ b → IsSame x y p q a b
+pub same : (place : Region) (x y : Piece) (p q a b : List ℕ) → Stands place x p a → Stands place y q b → p ++ a ≡ q ++ b → IsSame x y p q a b
 same places.Outside x y p q a b s t e = same_outside x y p q a b s t e
 same (places.Zed line) x y p q a b s t e = same_inside (codes "end{zed}") zed_closer x y p q a b s t e
 same (places.Schema line) x y p q a b s t e = same_inside (codes "end{schema}") schema_closer x y p q a b s t e
@@ -204,7 +204,7 @@ outside_some Pieces.escape piece p h = ⊎_elim (λ k. omega (arith, ap length k
 outside_some OutsideKind.remark piece p h = omega (arith, ap length h.0.1)
 outside_some Pieces.informal piece p h = omega (arith, h.0)
 
-pub stands_some : (place : Place) (x : Piece) (p a : List ℕ) → Stands place x p a → 0 < length p
+pub stands_some : (place : Region) (x : Piece) (p a : List ℕ) → Stands place x p a → 0 < length p
 stands_some places.Outside x p a s = outside_some s.kind x p s.spells
 stands_some (places.Zed line) x p a s = spelled_some (codes "end{zed}") s.kind x p s.spells
 stands_some (places.Schema line) x p a s = spelled_some (codes "end{schema}") s.kind x p s.spells

@@ -1,59 +1,59 @@
 -- One turn of the scanner's loop: a blank, another piece without a token, a symbol.
-use Rattle.zf_scan.proofs.Prelude.{◌++◌, ◌+◌, ◌<◌, ◌∙◌, ◌∷◌, ◌≡◌, [], ap, arith, drop, inl, inr, length, length-take-le, List, map, refl, subst, sym, take, ℕ, Before, entered, IsRead, newlines, token_at, kind_of, piece_of, told, Found, found, found_at, Plain, Symbol, Place, Placed, Token}
+use Rattle.zf_scan.proofs.Prelude.{◌++◌, ◌+◌, ◌<◌, ◌∙◌, ◌∷◌, ◌≡◌, [], ap, arith, drop, inl, inr, length, length-take-le, List, map, refl, subst, sym, take, ℕ, Before, entered, IsRead, newlines, token_at, kind_of, piece_of, match_of, Match, found, found_at, Plain, Symbol, Region, Placed, Token}
 use Rattle.zf_scan.specs.declared.next.Next as symbol
-use Rattle.zf_scan.specs.declared.pieces.Found as code
-use Rattle.zf_scan.specs.declared.pieces.Sight.TheVariants as sights
+use Rattle.zf_scan.specs.declared.pieces.Match as code
+use Rattle.zf_scan.specs.declared.pieces.Lexeme.TheVariants as lexemes
 use Rattle.zf_scan.proofs.Quiet.{quiet}
 use Rattle.zf_scan.proofs.Scanned.{StandsAt, Next, found_next, seen_at, goes, turned, moved, told_plain, told_symbol, placed_told}
 
 -- what was seen stands there
-pub plain_stands : (place : Place) (s rest : List ℕ) (f : code.Found) → rest ≡ s → told rest f ≡ found_at place rest → 0 < length s → f.sight ≡ sights.Plain → StandsAt place s (told s f)
-plain_stands place s rest f e g some is = goes place s (told s f) (seen_at place s rest f e g some) (subst (λ sight. IsRead (piece_of sight f.amount (take f.len s))) (sym is) tt)
+pub plain_stands : (place : Region) (s rest : List ℕ) (f : code.Match) → rest ≡ s → match_of rest f ≡ found_at place rest → 0 < length s → f.lexeme ≡ lexemes.Plain → StandsAt place s (match_of s f)
+plain_stands place s rest f e g some is = goes place s (match_of s f) (seen_at place s rest f e g some) (subst (λ lexeme. IsRead (piece_of lexeme f.amount (take f.len s))) (sym is) tt)
 
-pub symbol_stands : (place : Place) (s rest : List ℕ) (f : code.Found) (next : symbol.Next) → rest ≡ s → told rest f ≡ found_at place rest → 0 < length s
-    → f.sight ≡ sights.Symbol next → StandsAt place s (told s f)
-symbol_stands place s rest f next e g some is = goes place s (told s f) (seen_at place s rest f e g some) (subst (λ sight. IsRead (piece_of sight f.amount (take f.len s))) (sym is) tt)
+pub symbol_stands : (place : Region) (s rest : List ℕ) (f : code.Match) (next : symbol.Next) → rest ≡ s → match_of rest f ≡ found_at place rest → 0 < length s
+    → f.lexeme ≡ lexemes.Symbol next → StandsAt place s (match_of s f)
+symbol_stands place s rest f next e g some is = goes place s (match_of s f) (seen_at place s rest f e g some) (subst (λ lexeme. IsRead (piece_of lexeme f.amount (take f.len s))) (sym is) tt)
 
-blank_stands : (place : Place) (s : List ℕ) → Next place s (found Plain 1) → StandsAt place s (found Plain 1)
+blank_stands : (place : Region) (s : List ℕ) → Next place s (found Plain 1) → StandsAt place s (found Plain 1)
 blank_stands place s (inl a) = a
 blank_stands place s (inr n) = let e = n.0 in absurd (cc)
 
-plain_turn : (source : List ℕ) (at line : ℕ) (place : Place) (tokens : List Token) → Before source at line place tokens → (f : Found)
+plain_turn : (source : List ℕ) (at line : ℕ) (place : Region) (tokens : List Token) → Before source at line place tokens → (f : Match)
     → StandsAt place (drop at source) f → f.piece ≡ Plain → (lines : ℕ) → lines ≡ newlines (take f.len (drop at source))
     → Before source (at + f.len) (line + lines) place tokens
 plain_turn source at line place tokens b f s e lines n =
     moved _ _ _ _ _ (turned source at line place tokens b f s (subst IsRead (sym e) tt)) _ _ _ (ap (λ k. line + k) (sym n)) (ap (entered place line) e)
     (told_plain source at line place tokens b f (take f.len (drop at source)) e)
 
-pub blank_read : (source : List ℕ) (at line : ℕ) (place : Place) (tokens : List Token) → Before source at line place tokens → (rest : List ℕ)
+pub blank_read : (source : List ℕ) (at line : ℕ) (place : Region) (tokens : List Token) → Before source at line place tokens → (rest : List ℕ)
     → rest ≡ drop at source → 0 < length (drop at source) → found_at place rest ≡ found Plain 1
     → (lines : ℕ) → lines ≡ newlines (take 1 rest) → Before source (at + 1) (line + lines) place tokens
 blank_read source at line place tokens b rest e some h lines n =
     let next : Next place (drop at source) (found Plain 1) = subst (λ f. Next place (drop at source) f) (ap (found_at place) (sym e) ∙ h) (found_next place (drop at source) some) in
     plain_turn source at line place tokens b (found Plain 1) (blank_stands place (drop at source) next) refl lines (n ∙ ap (λ t. newlines (take 1 t)) e)
 
-pub plain_read : (source : List ℕ) (at line : ℕ) (place : Place) (tokens : List Token) → Before source at line place tokens → (rest : List ℕ) (f : code.Found)
-    → rest ≡ drop at source → told rest f ≡ found_at place rest → 0 < length (drop at source) → f.sight ≡ sights.Plain
+pub plain_read : (source : List ℕ) (at line : ℕ) (place : Region) (tokens : List Token) → Before source at line place tokens → (rest : List ℕ) (f : code.Match)
+    → rest ≡ drop at source → match_of rest f ≡ found_at place rest → 0 < length (drop at source) → f.lexeme ≡ lexemes.Plain
     → (lines : ℕ) → lines ≡ newlines (take f.len rest) → Before source (at + f.len) (line + lines) place tokens
 plain_read source at line place tokens b rest f e g some is lines n =
     let s = drop at source in
-    plain_turn source at line place tokens b (told s f) (plain_stands place s rest f e g some is)
-    (ap (λ sight. piece_of sight f.amount (take f.len s)) is) lines (n ∙ ap (λ t. newlines (take f.len t)) e)
+    plain_turn source at line place tokens b (match_of s f) (plain_stands place s rest f e g some is)
+    (ap (λ lexeme. piece_of lexeme f.amount (take f.len s)) is) lines (n ∙ ap (λ t. newlines (take f.len t)) e)
 
-pub symbol_read : (source : List ℕ) (at line : ℕ) (place : Place) (front : List Token) (symbols : List Placed)
-    → Before source at line place (front ++ map (token_at source) symbols) → (rest : List ℕ) (f : code.Found) (next : symbol.Next) → rest ≡ drop at source
-    → told rest f ≡ found_at place rest → 0 < length (drop at source) → f.sight ≡ sights.Symbol next
+pub symbol_read : (source : List ℕ) (at line : ℕ) (place : Region) (front : List Token) (symbols : List Placed)
+    → Before source at line place (front ++ map (token_at source) symbols) → (rest : List ℕ) (f : code.Match) (next : symbol.Next) → rest ≡ drop at source
+    → match_of rest f ≡ found_at place rest → 0 < length (drop at source) → f.lexeme ≡ lexemes.Symbol next
     → (more : List Placed) → more ≡ symbols ++ record { next = next; line = line; start = at; stop = at + f.len; amount = f.amount } ∷ []
-    → (behind : Place) → ((amount : ℕ) (text : List ℕ) → behind ≡ entered place line (Symbol (kind_of next amount text))) → Before source (at + f.len) line behind (front ++ map (token_at source) more)
+    → (behind : Region) → ((amount : ℕ) (text : List ℕ) → behind ≡ entered place line (Symbol (kind_of next amount text))) → Before source (at + f.len) line behind (front ++ map (token_at source) more)
 symbol_read source at line place front symbols b rest f next e g some is more pushed behind place_is =
     let s = drop at source in
     let text = take f.len s in
     let kind = kind_of next f.amount text in
     let tokens = front ++ map (token_at source) symbols in
     let a = symbol_stands place s rest f next e g some is in
-    let piece : piece_of f.sight f.amount text ≡ Symbol kind = ap (λ sight. piece_of sight f.amount text) is in
-    let silent : newlines text ≡ 0 = quiet place s (told s f) kind a piece in
+    let piece : piece_of f.lexeme f.amount text ≡ Symbol kind = ap (λ lexeme. piece_of lexeme f.amount text) is in
+    let silent : newlines text ≡ 0 = quiet place s (match_of s f) kind a piece in
     let same_line : line + newlines text ≡ line = omega (arith, silent) in
-    moved _ _ _ _ _ (turned source at line place tokens b (told s f) a (subst IsRead (sym piece) tt)) _ _ _ same_line (ap (entered place line) piece ∙ sym (place_is f.amount text))
-    (told_symbol source at line place tokens b (told s f) text kind piece (length-take-le f.len s a.within)
+    moved _ _ _ _ _ (turned source at line place tokens b (match_of s f) a (subst IsRead (sym piece) tt)) _ _ _ same_line (ap (entered place line) piece ∙ sym (place_is f.amount text))
+    (told_symbol source at line place tokens b (match_of s f) text kind piece (length-take-le f.len s a.within)
     ∙ placed_told source front at f.len symbols next f.amount line ∙ ap (λ ps. front ++ map (token_at source) ps) (sym pushed))

@@ -1,38 +1,38 @@
 -- What the loop of the scanner keeps, and what one turn does.
-use Rattle.zf_scan.proofs.Prelude.{◌++◌, ◌+◌, ◌-◌, ◌<◌, ◌∙◌, ◌∷◌, ◌≡◌, ◌≤◌, ◌⊎◌, [], ap, append_assoc, arith, Bool, drop, false, inl, inr, length, length-append, length-take-le, List, map, refl, subst, sym, take, take-append-drop, true, ℕ, append-nil, drop-drop, map-append, if◌then◌else◌, ◌==◌, codes, Before, Cuts, entered, IsRead, spot_line, newlines, past, Spot, Stands, start, tokens_from, tokens_of, token_at, kind_of, told, Found, found_at, Piece, Plain, Refused, Symbol, Place, Placed, Kind, Token}
+use Rattle.zf_scan.proofs.Prelude.{◌++◌, ◌+◌, ◌-◌, ◌<◌, ◌∙◌, ◌∷◌, ◌≡◌, ◌≤◌, ◌⊎◌, [], ap, append_assoc, arith, Bool, drop, false, inl, inr, length, length-append, length-take-le, List, map, refl, subst, sym, take, take-append-drop, true, ℕ, append-nil, drop-drop, map-append, if◌then◌else◌, ◌==◌, codes, Before, Cuts, entered, IsRead, spot_line, newlines, past, Spot, Stands, start, tokens_from, tokens_of, token_at, kind_of, match_of, Match, found_at, Piece, Plain, Refused, Symbol, Region, Placed, Kind, Token}
 use Rattle.zf_scan.specs.declared.fault.TextFaultKind.TheVariants as faults
 use Rattle.zf_scan.specs.declared.next.Next as symbol
-use Rattle.zf_scan.specs.declared.pieces.Found as code
-use Rattle.zf_scan.specs.declared.pieces.Place.TheVariants as places
+use Rattle.zf_scan.specs.declared.pieces.Match as code
+use Rattle.zf_scan.specs.declared.pieces.Region.TheVariants as places
 use Rattle.zf_scan.proofs.Longest as longest
 use Rattle.zf_scan.proofs.Longest.{spelled_some}
 use Rattle.zf_scan.proofs.Closing.{zed_next, schema_next}
 use Rattle.zf_scan.proofs.First.{outside_next}
 
 -- the piece that was found stands there, or no piece does
-pub record StandsAt (place : Place) (s : List ℕ) (f : Found) : Type 0 where
+pub record StandsAt (place : Region) (s : List ℕ) (f : Match) : Type 0 where
   pub some : 0 < f.len
   pub within : f.len ≤ length s
   pub stands : Stands place f.piece (take f.len s) (drop f.len s)
 
-abbrev pub NothingStands : Place → List ℕ → Type 0
+abbrev pub NothingStands : Region → List ℕ → Type 0
 NothingStands place s = (piece : Piece) (p after : List ℕ) → s ≡ p ++ after → Stands place piece p after → ⊥
 
-abbrev pub Next : Place → List ℕ → Found → Type 0
+abbrev pub Next : Region → List ℕ → Match → Type 0
 Next place s f = StandsAt place s f ⊎ ((f.piece ≡ Refused faults.BadByte) × NothingStands place s)
 
-at_some : (z s : List ℕ) (f : Found) → longest.At (92 ∷ z) s f.piece f.len → 0 < f.len
+at_some : (z s : List ℕ) (f : Match) → longest.At (92 ∷ z) s f.piece f.len → 0 < f.len
 at_some z s f a = omega (arith, spelled_some z a.stands.kind f.piece (take f.len s) a.stands.spells, length-take-le f.len s a.within)
 
-from_zed : (line : ℕ) (s : List ℕ) (f : Found) → longest.Next (codes "\\end{zed}") s f → Next (places.Zed line) s f
+from_zed : (line : ℕ) (s : List ℕ) (f : Match) → longest.Next (codes "\\end{zed}") s f → Next (places.Zed line) s f
 from_zed line s f (inl a) = inl (record { some = at_some (codes "end{zed}") s f a; within = a.within; stands = a.stands })
 from_zed line s f (inr n) = inr (n.0, λ piece p after e t. n.1 t.kind piece p after t.spells e)
 
-from_schema : (line : ℕ) (s : List ℕ) (f : Found) → longest.Next (codes "\\end{schema}") s f → Next (places.Schema line) s f
+from_schema : (line : ℕ) (s : List ℕ) (f : Match) → longest.Next (codes "\\end{schema}") s f → Next (places.Schema line) s f
 from_schema line s f (inl a) = inl (record { some = at_some (codes "end{schema}") s f a; within = a.within; stands = a.stands })
 from_schema line s f (inr n) = inr (n.0, λ piece p after e t. n.1 t.kind piece p after t.spells e)
 
-pub found_next : (place : Place) (s : List ℕ) → 0 < length s → Next place s (found_at place s)
+pub found_next : (place : Region) (s : List ℕ) → 0 < length s → Next place s (found_at place s)
 unfolding found_at
 found_next places.Outside s some = let a = outside_next s some in inl (record { some = a.some; within = a.within; stands = a.stands })
 found_next (places.Zed line) s some = from_zed line s _ (zed_next s some)
@@ -53,21 +53,21 @@ newlines_le (x ∷ a) = by (x == 10) (newlines_le a)
     by false h = omega arith
 
 pub begun : (source : List ℕ) → Before source 0 1 places.Outside []
-begun source = record { pieces = []; spot = start; cuts = (refl, refl); told = λ qs. refl; at_is = refl; line_is = refl; place_is = refl }
+begun source = record { pieces = []; spot = start; cuts = (refl, refl); match_of = λ qs. refl; at_is = refl; line_is = refl; place_is = refl }
 
 cuts_more : (ps : List (Piece × List ℕ)) (p : Piece × List ℕ) (a b : Spot) (source rest after : List ℕ) → Cuts ps a source b rest → rest ≡ p.1 ++ after
     → Stands b.place p.0 p.1 after → IsRead p.0 → Cuts (ps ++ p ∷ []) a source (past b p) after
 cuts_more [] p a b source rest after c e s r = (after, c.1 ∙ e, subst (λ a. Stands a.place p.0 p.1 after) (sym c.0) s, r, (ap (λ a. past a p) c.0, refl))
 cuts_more (q ∷ ps) p a b source rest after c e s r = (c.0, c.1, c.2, c.3, cuts_more ps p (past a q) b c.0 rest after c.4 e s r)
 
-pub turned : (source : List ℕ) (at line : ℕ) (place : Place) (tokens : List Token) (b : Before source at line place tokens) (f : Found) → StandsAt place (drop at source) f → IsRead f.piece
+pub turned : (source : List ℕ) (at line : ℕ) (place : Region) (tokens : List Token) (b : Before source at line place tokens) (f : Match) → StandsAt place (drop at source) f → IsRead f.piece
     → Before source (at + f.len) (line + newlines (take f.len (drop at source))) (entered place line f.piece) (tokens ++ tokens_of b.spot f.piece (take f.len (drop at source)))
 turned source at line place tokens b f s r = record {
   pieces = b.pieces ++ (f.piece, text) ∷ [];
   spot = past b.spot (f.piece, text);
   cuts = subst (λ rest. Cuts (b.pieces ++ (f.piece, text) ∷ []) start source (past b.spot (f.piece, text)) rest) (drop-drop f.len at source)
       (cuts_more b.pieces (f.piece, text) start b.spot source rest after b.cuts (sym (take-append-drop f.len rest)) (subst (λ place. Stands place f.piece text after) b.place_is s.stands) r);
-  told = λ qs. ap (tokens_from start) (append_assoc b.pieces ((f.piece, text) ∷ []) qs) ∙ b.told ((f.piece, text) ∷ qs)
+  match_of = λ qs. ap (tokens_from start) (append_assoc b.pieces ((f.piece, text) ∷ []) qs) ∙ b.match_of ((f.piece, text) ∷ qs)
       ∙ sym (append_assoc tokens (tokens_of b.spot f.piece text) (tokens_from (past b.spot (f.piece, text)) qs));
   at_is = omega (arith, b.at_is, length-append b.spot.before text, length-take-le f.len rest s.within);
   line_is = omega (arith, b.line_is, newlines_append b.spot.before text);
@@ -85,27 +85,27 @@ turned source at line place tokens b f s r = record {
 
 -- ---- what a turn has found
 
-pub seen_at : (place : Place) (s rest : List ℕ) (f : code.Found) → rest ≡ s → told rest f ≡ found_at place rest → 0 < length s → Next place s (told s f)
-seen_at place s rest f e g some = subst (λ f. Next place s f) (sym (subst (λ r. told r f ≡ found_at place r) e g)) (found_next place s some)
+pub seen_at : (place : Region) (s rest : List ℕ) (f : code.Match) → rest ≡ s → match_of rest f ≡ found_at place rest → 0 < length s → Next place s (match_of s f)
+seen_at place s rest f e g some = subst (λ f. Next place s f) (sym (subst (λ r. match_of r f ≡ found_at place r) e g)) (found_next place s some)
 
-pub goes : (place : Place) (s : List ℕ) (f : Found) → Next place s f → IsRead f.piece → StandsAt place s f
+pub goes : (place : Region) (s : List ℕ) (f : Match) → Next place s f → IsRead f.piece → StandsAt place s f
 goes place s f (inl a) r = a
 goes place s f (inr n) r = absurd (subst IsRead n.0 r)
 
-pub line_le : (source : List ℕ) (at line : ℕ) (place : Place) (tokens : List Token) → Before source at line place tokens → line ≤ 1 + at
+pub line_le : (source : List ℕ) (at line : ℕ) (place : Region) (tokens : List Token) → Before source at line place tokens → line ≤ 1 + at
 line_le source at line place tokens b = omega (arith, b.line_is, b.at_is, newlines_le b.spot.before)
 
-pub moved : (source : List ℕ) (at line : ℕ) (place : Place) (tokens : List Token) → Before source at line place tokens
-    → (line2 : ℕ) (place2 : Place) (tokens2 : List Token) → line ≡ line2 → place ≡ place2 → tokens ≡ tokens2 → Before source at line2 place2 tokens2
+pub moved : (source : List ℕ) (at line : ℕ) (place : Region) (tokens : List Token) → Before source at line place tokens
+    → (line2 : ℕ) (place2 : Region) (tokens2 : List Token) → line ≡ line2 → place ≡ place2 → tokens ≡ tokens2 → Before source at line2 place2 tokens2
 moved source at line place tokens b line2 place2 tokens2 e f g =
     subst (λ tokens. Before source at line2 place2 tokens) g (subst (λ place. Before source at line2 place tokens) f (subst (λ line. Before source at line place tokens) e b))
 
 -- the tokens of what was found
-pub told_plain : (source : List ℕ) (at line : ℕ) (place : Place) (tokens : List Token) (b : Before source at line place tokens) (f : Found) (text : List ℕ)
+pub told_plain : (source : List ℕ) (at line : ℕ) (place : Region) (tokens : List Token) (b : Before source at line place tokens) (f : Match) (text : List ℕ)
     → f.piece ≡ Plain → tokens ++ tokens_of b.spot f.piece text ≡ tokens
 told_plain source at line place tokens b f text e = ap (λ piece. tokens ++ tokens_of b.spot piece text) e ∙ append-nil tokens
 
-pub told_symbol : (source : List ℕ) (at line : ℕ) (place : Place) (tokens : List Token) (b : Before source at line place tokens) (f : Found) (text : List ℕ)
+pub told_symbol : (source : List ℕ) (at line : ℕ) (place : Region) (tokens : List Token) (b : Before source at line place tokens) (f : Match) (text : List ℕ)
     (kind : Kind) → f.piece ≡ Symbol kind → length text ≡ f.len
     → tokens ++ tokens_of b.spot f.piece text ≡ tokens ++ record { kind = kind; start = at; stop = at + f.len; line = line } ∷ []
 told_symbol source at line place tokens b f text kind e n =

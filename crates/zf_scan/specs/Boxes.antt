@@ -1,8 +1,8 @@
 -- The symbols of a source, box by box. Only clauses of what the parser calls rest on this file.
 use Rattle.std.specs.Prelude.{◌≡◌, ℕ, ◌≤◌, ◌⊎◌, Bool, true, false, List, [], ◌∷◌, ◌++◌, length, drop}
 use Rattle.zf_scan.specs.declared.pieces.Piece.{Piece}
-use Rattle.zf_scan.specs.declared.pieces.Place.{Place}
-use Rattle.zf_scan.specs.declared.pieces.Place.TheVariants.{Outside}
+use Rattle.zf_scan.specs.declared.pieces.Region.{Region}
+use Rattle.zf_scan.specs.declared.pieces.Region.TheVariants.{Outside}
 use Rattle.zf_scan.specs.declared.scan.Border.{Border}
 use Rattle.zf_scan.specs.declared.scan.TheConstants.{SOURCE_MAX}
 use Rattle.zf_scan.specs.declared.token.Kind.{Kind}
@@ -11,11 +11,11 @@ use Rattle.zf_scan.specs.declared.token.Token.{Token}
 use Rattle.zf_scan.specs.Cuts.{Spot, spot_line, start, Cuts, tokens_from, IsCutInto}
 
 -- pieces of a source up to a place, and their tokens
-pub record Before (source : List ℕ) (at line : ℕ) (place : Place) (tokens : List Token) : Type 0 where
+pub record Before (source : List ℕ) (at line : ℕ) (place : Region) (tokens : List Token) : Type 0 where
   pub pieces : List (Piece × List ℕ)
   pub spot : Spot
   pub cuts : Cuts pieces start source spot (drop at source)
-  pub told : (qs : List (Piece × List ℕ)) → tokens_from start (pieces ++ qs) ≡ tokens ++ tokens_from spot qs
+  pub match_of : (qs : List (Piece × List ℕ)) → tokens_from start (pieces ++ qs) ≡ tokens ++ tokens_from spot qs
   pub at_is : at ≡ length spot.before
   pub line_is : line ≡ spot_line spot
   pub place_is : place ≡ spot.place

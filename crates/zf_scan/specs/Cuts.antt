@@ -5,8 +5,8 @@ use Rattle.zf_scan.specs.declared.fault.TextFaultKind.{TextFaultKind}
 use Rattle.zf_scan.specs.declared.fault.TextFaultKind.TheVariants.{BadByte, UnclosedBox, TooLong}
 use Rattle.zf_scan.specs.declared.pieces.Piece.{Piece}
 use Rattle.zf_scan.specs.declared.pieces.Piece.TheVariants.{Symbol, Refused}
-use Rattle.zf_scan.specs.declared.pieces.Place.{Place}
-use Rattle.zf_scan.specs.declared.pieces.Place.TheVariants as places
+use Rattle.zf_scan.specs.declared.pieces.Region.{Region}
+use Rattle.zf_scan.specs.declared.pieces.Region.TheVariants as places
 use Rattle.zf_scan.specs.declared.scan.TheConstants.{SOURCE_MAX}
 use Rattle.zf_scan.specs.declared.token.Kind.TheVariants.{BeginZed, BeginSchema, EndBox}
 use Rattle.zf_scan.specs.declared.token.Token.{Token}
@@ -24,7 +24,7 @@ pub record StandsOutside (piece : Piece) (p after : List ℕ) : Type 0 where
   pub spells : SpellsOutside kind piece p
   pub first : (other : OutsideKind) (found : Piece) (r rest : List ℕ) → SpellsOutside other found r → p ++ after ≡ r ++ rest → (turn kind < turn other) ⊎ ((turn kind ≡ turn other) × (length r ≤ length p))
 
-abbrev pub Stands : Place → Piece → List ℕ → List ℕ → Type 0
+abbrev pub Stands : Region → Piece → List ℕ → List ℕ → Type 0
 Stands places.Outside piece p after = StandsOutside piece p after
 Stands (places.Zed line) piece p after = StandsInside (codes "\\end{zed}") piece p after
 Stands (places.Schema line) piece p after = StandsInside (codes "\\end{schema}") piece p after
@@ -35,7 +35,7 @@ newlines (b ∷ bs) = (if b == 10 then 1 else 0) + newlines bs
 
 -- where a piece stands, with what is before it
 pub record Spot : Type 0 where
-  pub place : Place
+  pub place : Region
   pub before : List ℕ
 
 abbrev pub spot_line : Spot → ℕ
@@ -45,7 +45,7 @@ abbrev pub start : Spot
 start = record { place = places.Outside; before = [] }
 
 -- the place behind a piece
-abbrev pub entered : Place → ℕ → Piece → Place
+abbrev pub entered : Region → ℕ → Piece → Region
 entered place line (Symbol BeginZed) = places.Zed line
 entered place line (Symbol (BeginSchema name)) = places.Schema line
 entered place line (Symbol EndBox) = places.Outside
@@ -80,22 +80,22 @@ pub record IsCutInto (source : List ℕ) (tokens : List Token) : Type 0 where
   pub end : Spot
   pub cuts : Cuts pieces start source end []
   pub closed : end.place ≡ places.Outside
-  pub told : tokens ≡ tokens_from start pieces
+  pub match_of : tokens ≡ tokens_from start pieces
 
 -- ---- faults
 
 -- the line of the box's `\begin`
-abbrev pub begun : Place → ℕ
+abbrev pub begun : Region → ℕ
 begun places.Outside = 0
 begun (places.Zed line) = line
 begun (places.Schema line) = line
 
-abbrev pub reported_line : Place → ℕ → TextFaultKind → ℕ
+abbrev pub reported_line : Region → ℕ → TextFaultKind → ℕ
 reported_line place line UnclosedBox = begun place
 reported_line place line _ = line
 
 -- no piece fits: one that is refused stands there, or none, or the source ends in a box
-abbrev pub Fails : Place → List ℕ → TextFaultKind → Type 0
+abbrev pub Fails : Region → List ℕ → TextFaultKind → Type 0
 Fails place rest kind =
     ((p after : List ℕ) × (rest ≡ p ++ after) × Stands place (Refused kind) p after)
     ⊎ (((kind ≡ BadByte) × (0 < length rest) × ((piece : Piece) (p after : List ℕ) → rest ≡ p ++ after → Stands place piece p after → ⊥))

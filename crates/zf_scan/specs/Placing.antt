@@ -4,7 +4,7 @@ use Rattle.zf_scan.specs.declared.placed.Placed.{Placed}
 use Rattle.zf_scan.specs.declared.token.Kind.{Kind}
 use Rattle.zf_scan.specs.declared.token.Token.{Token}
 use Rattle.zf_scan.specs.Separators.{Symbol, symbol}
-use Rattle.zf_scan.specs.Sights.{kind_of}
+use Rattle.zf_scan.specs.Lexemes.{kind_of}
 
 -- the bytes of a text from one place to another
 abbrev pub between : ℕ → ℕ → List ℕ → List ℕ

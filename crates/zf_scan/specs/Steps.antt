@@ -8,8 +8,8 @@ use Rattle.zf_scan.specs.declared.token.Kind.{Kind}
 use Rattle.zf_scan.specs.declared.token.Kind.TheVariants.{BeginZed, BeginSchema, EndBox, Name}
 use Rattle.zf_scan.specs.declared.pieces.Piece.{Piece}
 use Rattle.zf_scan.specs.declared.pieces.Piece.TheVariants.{Plain, Symbol, Refused}
-use Rattle.zf_scan.specs.declared.pieces.Place.{Place}
-use Rattle.zf_scan.specs.declared.pieces.Place.TheVariants.{Outside, Zed, Schema}
+use Rattle.zf_scan.specs.declared.pieces.Region.{Region}
+use Rattle.zf_scan.specs.declared.pieces.Region.TheVariants.{Outside, Zed, Schema}
 use Rattle.zf_scan.specs.declared.pieces.Run.{Run}
 use Rattle.zf_scan.specs.declared.pieces.Run.TheVariants.{Letters, Digits, Base, Strokes, Line}
 use Rattle.zf_scan.specs.Pieces.{is_one, is_two, is_letter, look_up, symbols, comment, number_piece}
@@ -33,22 +33,22 @@ begins s front = starts_with nat_eq s front
 -- ---- inside a box
 
 -- a piece that begins a text, by its length
-pub record Found : Type 0 where
+pub record Match : Type 0 where
   pub piece : Piece
   pub len : ℕ
 
-abbrev pub found : Piece → ℕ → Found
+abbrev pub found : Piece → ℕ → Match
 found piece len = record { piece = piece; len = len }
 
 -- the piece of the longer text, or what else is found
-abbrev pub or_else : Option Piece → ℕ → Found → Found
+abbrev pub or_else : Option Piece → ℕ → Match → Match
 or_else None len other = other
 or_else (Some piece) len other = found piece len
 
 abbrev pub comment_len : List ℕ → ℕ
 comment_len s = 1 + run_len Line (drop 1 s)
 
-unfoldable pub comment_found : List ℕ → Found
+unfoldable pub comment_found : List ℕ → Match
 comment_found s = found (comment (take (comment_len s) s)) (comment_len s)
 
 abbrev pub command_len : List ℕ → ℕ
@@ -57,13 +57,13 @@ command_len s = if run_len Letters (drop 1 s) == 0 then min (length s) 2 else 1 
 abbrev pub tail_len : List ℕ → ℕ
 tail_len s = if begins s (codes "_1") then 2 else step_len Digits s
 
-unfoldable pub short_command : List ℕ → ℕ → Found
+unfoldable pub short_command : List ℕ → ℕ → Match
 short_command s len = or_else (look_up (take len s) symbols) len (found (Refused faults.UnknownCommand) len)
 
 abbrev pub long_len : List ℕ → ℕ
 long_len s = command_len s + tail_len (drop (command_len s) s)
 
-unfoldable pub command_found : List ℕ → List ℕ → Found
+unfoldable pub command_found : List ℕ → List ℕ → Match
 command_found end s =
     if begins s end then found (Symbol EndBox) (length end)
     else or_else (look_up (take (long_len s) s) symbols) (long_len s) (short_command s (command_len s))
@@ -81,22 +81,22 @@ word_len s = base_len s + strokes_len s
 abbrev pub name_of : List ℕ → List ℕ → Kind
 name_of base strokes = Name base strokes
 
-unfoldable pub word_found : List ℕ → Found
+unfoldable pub word_found : List ℕ → Match
 word_found s = or_else (look_up (take (word_len s) s) symbols) (word_len s) (found (Symbol (name_of (take (base_len s) s) (take (strokes_len s) (drop (base_len s) s)))) (word_len s))
 
 abbrev pub digits_len : List ℕ → ℕ
 digits_len s = run_len Digits s
 
-unfoldable pub number_found : List ℕ → Found
+unfoldable pub number_found : List ℕ → Match
 number_found s = found (number_piece (take (digits_len s) s)) (digits_len s)
 
 abbrev pub symbol_len : List ℕ → ℕ
 symbol_len s = if begins s (codes "::=") then 3 else (if begins s (codes "==") then 2 else 1)
 
-unfoldable pub symbol_found : List ℕ → Found
+unfoldable pub symbol_found : List ℕ → Match
 symbol_found s = or_else (look_up (take (symbol_len s) s) symbols) (symbol_len s) (found (Refused faults.BadByte) (symbol_len s))
 
-unfoldable pub inside_found : List ℕ → List ℕ → Found
+unfoldable pub inside_found : List ℕ → List ℕ → Match
 inside_found end [] = found (Refused faults.UnclosedBox) 0
 inside_found end (b ∷ bs) =
     if b == 37 then comment_found (b ∷ bs)
@@ -106,13 +106,13 @@ inside_found end (b ∷ bs) =
 
 -- ---- outside
 
-abbrev pub plain : ℕ → Found
+abbrev pub plain : ℕ → Match
 plain len = found Plain len
 
-abbrev pub refused : TextFaultKind → ℕ → Found
+abbrev pub refused : TextFaultKind → ℕ → Match
 refused kind len = found (Refused kind) len
 
-unfoldable pub other_opening_found : List ℕ → Found
+unfoldable pub other_opening_found : List ℕ → Match
 other_opening_found s =
     if begins s (codes "\\begin{zed}") then found (Symbol BeginZed) 11
     else (if begins s (codes "\\begin{schema}") then refused faults.BadByte 14
@@ -123,26 +123,26 @@ other_opening_found s =
 abbrev pub has_no_name : List ℕ → Bool
 has_no_name t = base_len t == 0 || (not (begins (drop (base_len t) t) (codes "}")) || is_some (look_up (take (base_len t) t) symbols))
 
-unfoldable pub schema_found : List ℕ → Found
+unfoldable pub schema_found : List ℕ → Match
 schema_found s =
     if has_no_name (drop 15 s) then refused faults.BadByte 14
     else found (Symbol (BeginSchema (take (base_len (drop 15 s)) (drop 15 s)))) (16 + base_len (drop 15 s))
 
-unfoldable pub opening_found : List ℕ → Found
+unfoldable pub opening_found : List ℕ → Match
 opening_found s =
     if not (begins s (codes "\\begin{")) then plain (min (length s) 2)
     else (if begins s (codes "\\begin{schema}{") then schema_found s else other_opening_found s)
 
-unfoldable pub outside_found : List ℕ → Found
+unfoldable pub outside_found : List ℕ → Match
 outside_found [] = plain 0
 outside_found (b ∷ bs) = if b == 92 then opening_found (b ∷ bs) else (if b == 37 then comment_found (b ∷ bs) else plain 1)
 
-abbrev pub closing : Place → List ℕ
+abbrev pub closing : Region → List ℕ
 closing Outside = []
 closing (Zed line) = codes "\\end{zed}"
 closing (Schema line) = codes "\\end{schema}"
 
-unfoldable pub found_at : Place → List ℕ → Found
+unfoldable pub found_at : Region → List ℕ → Match
 found_at Outside s = outside_found s
 found_at (Zed line) s = inside_found (codes "\\end{zed}") s
 found_at (Schema line) s = inside_found (codes "\\end{schema}") s

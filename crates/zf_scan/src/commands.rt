@@ -6,400 +6,400 @@ ghost use Rattle.zf_scan.specs.{look_up, seen, symbols};
 
 use crate::fault::TextFaultKind;
 use crate::next::Next;
-use crate::pieces::{Sight, same};
+use crate::pieces::{Lexeme, same};
 use crate::token::Separator;
 use zf_tree::{Arrow, Connective, Constant, Infix, Prefix, Quantifier, Relation};
 
 /// `\a..`
-pub fn commands_in_a(rest: &[u8]) -> Option<Sight>
+pub fn commands_in_a(rest: &[u8]) -> Option<Lexeme>
     ensures { seen (92 ∷ 97 ∷ rest.now) result ≡ look_up (92 ∷ 97 ∷ rest.now) symbols }
 {
     if same(rest, b"lso") {
-        Some(Sight::Symbol(Next::Separator(Separator::Also)))
+        Some(Lexeme::Symbol(Next::Separator(Separator::Also)))
     } else {
         None
     }
 }
 
 /// `\b..`
-pub fn commands_in_b(rest: &[u8]) -> Option<Sight>
+pub fn commands_in_b(rest: &[u8]) -> Option<Lexeme>
     ensures { seen (92 ∷ 98 ∷ rest.now) result ≡ look_up (92 ∷ 98 ∷ rest.now) symbols }
 {
     if same(rest, b"egin") {
-        Some(Sight::Refused(TextFaultKind::UnclosedBox))
+        Some(Lexeme::Refused(TextFaultKind::UnclosedBox))
     } else if same(rest, b"ag") {
-        Some(Sight::Refused(TextFaultKind::NotInProfile))
+        Some(Lexeme::Refused(TextFaultKind::NotInProfile))
     } else if same(rest, b"igcup") {
-        Some(Sight::Refused(TextFaultKind::NotInProfile))
+        Some(Lexeme::Refused(TextFaultKind::NotInProfile))
     } else if same(rest, b"igcap") {
-        Some(Sight::Refused(TextFaultKind::NotInProfile))
+        Some(Lexeme::Refused(TextFaultKind::NotInProfile))
     } else if same(rest, b"ij") {
-        Some(Sight::Refused(TextFaultKind::NotInProfile))
+        Some(Lexeme::Refused(TextFaultKind::NotInProfile))
     } else {
         None
     }
 }
 
 /// `\c..`
-pub fn commands_in_c(rest: &[u8]) -> Option<Sight>
+pub fn commands_in_c(rest: &[u8]) -> Option<Lexeme>
     ensures { seen (92 ∷ 99 ∷ rest.now) result ≡ look_up (92 ∷ 99 ∷ rest.now) symbols }
 {
     if same(rest, b"up") {
-        Some(Sight::Symbol(Next::Infix(Infix::Union)))
+        Some(Lexeme::Symbol(Next::Infix(Infix::Union)))
     } else if same(rest, b"ap") {
-        Some(Sight::Symbol(Next::Infix(Infix::Intersection)))
+        Some(Lexeme::Symbol(Next::Infix(Infix::Intersection)))
     } else if same(rest, b"omp") {
-        Some(Sight::Symbol(Next::Infix(Infix::Composition)))
+        Some(Lexeme::Symbol(Next::Infix(Infix::Composition)))
     } else if same(rest, b"ross") {
-        Some(Sight::Symbol(Next::Cross))
+        Some(Lexeme::Symbol(Next::Cross))
     } else {
         None
     }
 }
 
 /// `\d..`
-pub fn commands_in_d(rest: &[u8]) -> Option<Sight>
+pub fn commands_in_d(rest: &[u8]) -> Option<Lexeme>
     ensures { seen (92 ∷ 100 ∷ rest.now) result ≡ look_up (92 ∷ 100 ∷ rest.now) symbols }
 {
     if same(rest, b"efs") {
-        Some(Sight::Symbol(Next::Defines))
+        Some(Lexeme::Symbol(Next::Defines))
     } else if same(rest, b"iv") {
-        Some(Sight::Symbol(Next::Infix(Infix::Div)))
+        Some(Lexeme::Symbol(Next::Infix(Infix::Div)))
     } else if same(rest, b"res") {
-        Some(Sight::Symbol(Next::Infix(Infix::DomainRestriction)))
+        Some(Lexeme::Symbol(Next::Infix(Infix::DomainRestriction)))
     } else if same(rest, b"om") {
-        Some(Sight::Symbol(Next::Prefix(Prefix::Domain)))
+        Some(Lexeme::Symbol(Next::Prefix(Prefix::Domain)))
     } else {
         None
     }
 }
 
 /// `\e..`
-pub fn commands_in_e(rest: &[u8]) -> Option<Sight>
+pub fn commands_in_e(rest: &[u8]) -> Option<Lexeme>
     ensures { seen (92 ∷ 101 ∷ rest.now) result ≡ look_up (92 ∷ 101 ∷ rest.now) symbols }
 {
     if same(rest, b"mptyset") {
-        Some(Sight::Symbol(Next::EmptySet))
+        Some(Lexeme::Symbol(Next::EmptySet))
     } else if same(rest, b"xists") {
-        Some(Sight::Symbol(Next::Quantifier(Quantifier::Exists)))
+        Some(Lexeme::Symbol(Next::Quantifier(Quantifier::Exists)))
     } else if same(rest, b"xists_1") {
-        Some(Sight::Symbol(Next::Quantifier(Quantifier::ExistsOne)))
+        Some(Lexeme::Symbol(Next::Quantifier(Quantifier::ExistsOne)))
     } else if same(rest, b"nd") {
-        Some(Sight::Refused(TextFaultKind::UnclosedBox))
+        Some(Lexeme::Refused(TextFaultKind::UnclosedBox))
     } else {
         None
     }
 }
 
 /// `\f..`
-pub fn commands_in_f(rest: &[u8]) -> Option<Sight>
+pub fn commands_in_f(rest: &[u8]) -> Option<Lexeme>
     ensures { seen (92 ∷ 102 ∷ rest.now) result ≡ look_up (92 ∷ 102 ∷ rest.now) symbols }
 {
     if same(rest, b"un") {
-        Some(Sight::Symbol(Next::Arrow(Arrow::TotalFunction)))
+        Some(Lexeme::Symbol(Next::Arrow(Arrow::TotalFunction)))
     } else if same(rest, b"inset") {
-        Some(Sight::Symbol(Next::Prefix(Prefix::Finset)))
+        Some(Lexeme::Symbol(Next::Prefix(Prefix::Finset)))
     } else if same(rest, b"orall") {
-        Some(Sight::Symbol(Next::Quantifier(Quantifier::ForAll)))
+        Some(Lexeme::Symbol(Next::Quantifier(Quantifier::ForAll)))
     } else if same(rest, b"fun") {
-        Some(Sight::Refused(TextFaultKind::NotInProfile))
+        Some(Lexeme::Refused(TextFaultKind::NotInProfile))
     } else if same(rest, b"inset_1") {
-        Some(Sight::Refused(TextFaultKind::NotInProfile))
+        Some(Lexeme::Refused(TextFaultKind::NotInProfile))
     } else {
         None
     }
 }
 
 /// `\g..`
-pub fn commands_in_g(rest: &[u8]) -> Option<Sight>
+pub fn commands_in_g(rest: &[u8]) -> Option<Lexeme>
     ensures { seen (92 ∷ 103 ∷ rest.now) result ≡ look_up (92 ∷ 103 ∷ rest.now) symbols }
 {
     if same(rest, b"eq") {
-        Some(Sight::Symbol(Next::Relation(Relation::AtLeast)))
+        Some(Lexeme::Symbol(Next::Relation(Relation::AtLeast)))
     } else {
         None
     }
 }
 
 /// `\h..`
-pub fn commands_in_h(rest: &[u8]) -> Option<Sight>
+pub fn commands_in_h(rest: &[u8]) -> Option<Lexeme>
     ensures { seen (92 ∷ 104 ∷ rest.now) result ≡ look_up (92 ∷ 104 ∷ rest.now) symbols }
 {
     if same(rest, b"ide") {
-        Some(Sight::Refused(TextFaultKind::NotInProfile))
+        Some(Lexeme::Refused(TextFaultKind::NotInProfile))
     } else {
         None
     }
 }
 
 /// `\i..`
-pub fn commands_in_i(rest: &[u8]) -> Option<Sight>
+pub fn commands_in_i(rest: &[u8]) -> Option<Lexeme>
     ensures { seen (92 ∷ 105 ∷ rest.now) result ≡ look_up (92 ∷ 105 ∷ rest.now) symbols }
 {
     if same(rest, b"nj") {
-        Some(Sight::Symbol(Next::Arrow(Arrow::TotalInjection)))
+        Some(Lexeme::Symbol(Next::Arrow(Arrow::TotalInjection)))
     } else if same(rest, b"nv") {
-        Some(Sight::Symbol(Next::Inverse))
+        Some(Lexeme::Symbol(Next::Inverse))
     } else if same(rest, b"n") {
-        Some(Sight::Symbol(Next::Relation(Relation::Member)))
+        Some(Lexeme::Symbol(Next::Relation(Relation::Member)))
     } else if same(rest, b"mplies") {
-        Some(Sight::Symbol(Next::Connective(Connective::Implies)))
+        Some(Lexeme::Symbol(Next::Connective(Connective::Implies)))
     } else if same(rest, b"ff") {
-        Some(Sight::Symbol(Next::Connective(Connective::Iff)))
+        Some(Lexeme::Symbol(Next::Connective(Connective::Iff)))
     } else if same(rest, b"d") {
-        Some(Sight::Refused(TextFaultKind::NotInProfile))
+        Some(Lexeme::Refused(TextFaultKind::NotInProfile))
     } else {
         None
     }
 }
 
 /// `\l..`
-pub fn commands_in_l(rest: &[u8]) -> Option<Sight>
+pub fn commands_in_l(rest: &[u8]) -> Option<Lexeme>
     ensures { seen (92 ∷ 108 ∷ rest.now) result ≡ look_up (92 ∷ 108 ∷ rest.now) symbols }
 {
     if same(rest, b"img") {
-        Some(Sight::Symbol(Next::OpenImage))
+        Some(Lexeme::Symbol(Next::OpenImage))
     } else if same(rest, b"eq") {
-        Some(Sight::Symbol(Next::Relation(Relation::AtMost)))
+        Some(Lexeme::Symbol(Next::Relation(Relation::AtMost)))
     } else if same(rest, b"not") {
-        Some(Sight::Symbol(Next::Not))
+        Some(Lexeme::Symbol(Next::Not))
     } else if same(rest, b"and") {
-        Some(Sight::Symbol(Next::Connective(Connective::And)))
+        Some(Lexeme::Symbol(Next::Connective(Connective::And)))
     } else if same(rest, b"or") {
-        Some(Sight::Symbol(Next::Connective(Connective::Or)))
+        Some(Lexeme::Symbol(Next::Connective(Connective::Or)))
     } else if same(rest, b"ambda") {
-        Some(Sight::Refused(TextFaultKind::NotInProfile))
+        Some(Lexeme::Refused(TextFaultKind::NotInProfile))
     } else if same(rest, b"data") {
-        Some(Sight::Refused(TextFaultKind::NotInProfile))
+        Some(Lexeme::Refused(TextFaultKind::NotInProfile))
     } else {
         None
     }
 }
 
 /// `\m..`
-pub fn commands_in_m(rest: &[u8]) -> Option<Sight>
+pub fn commands_in_m(rest: &[u8]) -> Option<Lexeme>
     ensures { seen (92 ∷ 109 ∷ rest.now) result ≡ look_up (92 ∷ 109 ∷ rest.now) symbols }
 {
     if same(rest, b"apsto") {
-        Some(Sight::Symbol(Next::Infix(Infix::Maplet)))
+        Some(Lexeme::Symbol(Next::Infix(Infix::Maplet)))
     } else if same(rest, b"od") {
-        Some(Sight::Symbol(Next::Infix(Infix::Mod)))
+        Some(Lexeme::Symbol(Next::Infix(Infix::Mod)))
     } else if same(rest, b"u") {
-        Some(Sight::Refused(TextFaultKind::NotInProfile))
+        Some(Lexeme::Refused(TextFaultKind::NotInProfile))
     } else {
         None
     }
 }
 
 /// `\n..`
-pub fn commands_in_n(rest: &[u8]) -> Option<Sight>
+pub fn commands_in_n(rest: &[u8]) -> Option<Lexeme>
     ensures { seen (92 ∷ 110 ∷ rest.now) result ≡ look_up (92 ∷ 110 ∷ rest.now) symbols }
 {
     if same(rest, b"dres") {
-        Some(Sight::Symbol(Next::Infix(Infix::DomainSubtraction)))
+        Some(Lexeme::Symbol(Next::Infix(Infix::DomainSubtraction)))
     } else if same(rest, b"rres") {
-        Some(Sight::Symbol(Next::Infix(Infix::RangeSubtraction)))
+        Some(Lexeme::Symbol(Next::Infix(Infix::RangeSubtraction)))
     } else if same(rest, b"um") {
-        Some(Sight::Symbol(Next::Constant(Constant::Integers)))
+        Some(Lexeme::Symbol(Next::Constant(Constant::Integers)))
     } else if same(rest, b"at") {
-        Some(Sight::Symbol(Next::Constant(Constant::Naturals)))
+        Some(Lexeme::Symbol(Next::Constant(Constant::Naturals)))
     } else if same(rest, b"at_1") {
-        Some(Sight::Symbol(Next::Constant(Constant::Positives)))
+        Some(Lexeme::Symbol(Next::Constant(Constant::Positives)))
     } else if same(rest, b"eq") {
-        Some(Sight::Symbol(Next::Relation(Relation::NotEqual)))
+        Some(Lexeme::Symbol(Next::Relation(Relation::NotEqual)))
     } else if same(rest, b"otin") {
-        Some(Sight::Symbol(Next::Relation(Relation::NotMember)))
+        Some(Lexeme::Symbol(Next::Relation(Relation::NotMember)))
     } else {
         None
     }
 }
 
 /// `\o..`
-pub fn commands_in_o(rest: &[u8]) -> Option<Sight>
+pub fn commands_in_o(rest: &[u8]) -> Option<Lexeme>
     ensures { seen (92 ∷ 111 ∷ rest.now) result ≡ look_up (92 ∷ 111 ∷ rest.now) symbols }
 {
     if same(rest, b"plus") {
-        Some(Sight::Symbol(Next::Infix(Infix::Overriding)))
+        Some(Lexeme::Symbol(Next::Infix(Infix::Overriding)))
     } else {
         None
     }
 }
 
 /// `\p..`
-pub fn commands_in_p(rest: &[u8]) -> Option<Sight>
+pub fn commands_in_p(rest: &[u8]) -> Option<Lexeme>
     ensures { seen (92 ∷ 112 ∷ rest.now) result ≡ look_up (92 ∷ 112 ∷ rest.now) symbols }
 {
     if same(rest, b"fun") {
-        Some(Sight::Symbol(Next::Arrow(Arrow::PartialFunction)))
+        Some(Lexeme::Symbol(Next::Arrow(Arrow::PartialFunction)))
     } else if same(rest, b"inj") {
-        Some(Sight::Symbol(Next::Arrow(Arrow::PartialInjection)))
+        Some(Lexeme::Symbol(Next::Arrow(Arrow::PartialInjection)))
     } else if same(rest, b"ower") {
-        Some(Sight::Symbol(Next::Prefix(Prefix::Power)))
+        Some(Lexeme::Symbol(Next::Prefix(Prefix::Power)))
     } else if same(rest, b"ower_1") {
-        Some(Sight::Refused(TextFaultKind::NotInProfile))
+        Some(Lexeme::Refused(TextFaultKind::NotInProfile))
     } else if same(rest, b"roject") {
-        Some(Sight::Refused(TextFaultKind::NotInProfile))
+        Some(Lexeme::Refused(TextFaultKind::NotInProfile))
     } else if same(rest, b"re") {
-        Some(Sight::Refused(TextFaultKind::NotInProfile))
+        Some(Lexeme::Refused(TextFaultKind::NotInProfile))
     } else if same(rest, b"ipe") {
-        Some(Sight::Refused(TextFaultKind::NotInProfile))
+        Some(Lexeme::Refused(TextFaultKind::NotInProfile))
     } else {
         None
     }
 }
 
 /// `\r..`
-pub fn commands_in_r(rest: &[u8]) -> Option<Sight>
+pub fn commands_in_r(rest: &[u8]) -> Option<Lexeme>
     ensures { seen (92 ∷ 114 ∷ rest.now) result ≡ look_up (92 ∷ 114 ∷ rest.now) symbols }
 {
     if same(rest, b"img") {
-        Some(Sight::Symbol(Next::CloseImage))
+        Some(Lexeme::Symbol(Next::CloseImage))
     } else if same(rest, b"res") {
-        Some(Sight::Symbol(Next::Infix(Infix::RangeRestriction)))
+        Some(Lexeme::Symbol(Next::Infix(Infix::RangeRestriction)))
     } else if same(rest, b"el") {
-        Some(Sight::Symbol(Next::Arrow(Arrow::Relation)))
+        Some(Lexeme::Symbol(Next::Arrow(Arrow::Relation)))
     } else if same(rest, b"an") {
-        Some(Sight::Symbol(Next::Prefix(Prefix::Range)))
+        Some(Lexeme::Symbol(Next::Prefix(Prefix::Range)))
     } else if same(rest, b"data") {
-        Some(Sight::Refused(TextFaultKind::NotInProfile))
+        Some(Lexeme::Refused(TextFaultKind::NotInProfile))
     } else {
         None
     }
 }
 
 /// `\s..`
-pub fn commands_in_s(rest: &[u8]) -> Option<Sight>
+pub fn commands_in_s(rest: &[u8]) -> Option<Lexeme>
     ensures { seen (92 ∷ 115 ∷ rest.now) result ≡ look_up (92 ∷ 115 ∷ rest.now) symbols }
 {
     if same(rest, b"etminus") {
-        Some(Sight::Symbol(Next::Infix(Infix::Difference)))
+        Some(Lexeme::Symbol(Next::Infix(Infix::Difference)))
     } else if same(rest, b"ubseteq") {
-        Some(Sight::Symbol(Next::Relation(Relation::Subset)))
+        Some(Lexeme::Symbol(Next::Relation(Relation::Subset)))
     } else if same(rest, b"ubset") {
-        Some(Sight::Symbol(Next::Relation(Relation::ProperSubset)))
+        Some(Lexeme::Symbol(Next::Relation(Relation::ProperSubset)))
     } else if same(rest, b"eq") {
-        Some(Sight::Refused(TextFaultKind::NotInProfile))
+        Some(Lexeme::Refused(TextFaultKind::NotInProfile))
     } else if same(rest, b"urj") {
-        Some(Sight::Refused(TextFaultKind::NotInProfile))
+        Some(Lexeme::Refused(TextFaultKind::NotInProfile))
     } else if same(rest, b"emi") {
-        Some(Sight::Refused(TextFaultKind::NotInProfile))
+        Some(Lexeme::Refused(TextFaultKind::NotInProfile))
     } else {
         None
     }
 }
 
 /// `\t..`
-pub fn commands_in_t(rest: &[u8]) -> Option<Sight>
+pub fn commands_in_t(rest: &[u8]) -> Option<Lexeme>
     ensures { seen (92 ∷ 116 ∷ rest.now) result ≡ look_up (92 ∷ 116 ∷ rest.now) symbols }
 {
     if same(rest, b"1") {
-        Some(Sight::Plain)
+        Some(Lexeme::Plain)
     } else if same(rest, b"2") {
-        Some(Sight::Plain)
+        Some(Lexeme::Plain)
     } else if same(rest, b"3") {
-        Some(Sight::Plain)
+        Some(Lexeme::Plain)
     } else if same(rest, b"4") {
-        Some(Sight::Plain)
+        Some(Lexeme::Plain)
     } else if same(rest, b"5") {
-        Some(Sight::Plain)
+        Some(Lexeme::Plain)
     } else if same(rest, b"6") {
-        Some(Sight::Plain)
+        Some(Lexeme::Plain)
     } else if same(rest, b"7") {
-        Some(Sight::Plain)
+        Some(Lexeme::Plain)
     } else if same(rest, b"8") {
-        Some(Sight::Plain)
+        Some(Lexeme::Plain)
     } else if same(rest, b"9") {
-        Some(Sight::Plain)
+        Some(Lexeme::Plain)
     } else if same(rest, b"heta") {
-        Some(Sight::Refused(TextFaultKind::NotInProfile))
+        Some(Lexeme::Refused(TextFaultKind::NotInProfile))
     } else {
         None
     }
 }
 
 /// `\u..`
-pub fn commands_in_u(rest: &[u8]) -> Option<Sight>
+pub fn commands_in_u(rest: &[u8]) -> Option<Lexeme>
     ensures { seen (92 ∷ 117 ∷ rest.now) result ≡ look_up (92 ∷ 117 ∷ rest.now) symbols }
 {
     if same(rest, b"pto") {
-        Some(Sight::Symbol(Next::Infix(Infix::UpTo)))
+        Some(Lexeme::Symbol(Next::Infix(Infix::UpTo)))
     } else {
         None
     }
 }
 
 /// `\w..`
-pub fn commands_in_w(rest: &[u8]) -> Option<Sight>
+pub fn commands_in_w(rest: &[u8]) -> Option<Lexeme>
     ensures { seen (92 ∷ 119 ∷ rest.now) result ≡ look_up (92 ∷ 119 ∷ rest.now) symbols }
 {
     if same(rest, b"here") {
-        Some(Sight::Symbol(Next::Where))
+        Some(Lexeme::Symbol(Next::Where))
     } else {
         None
     }
 }
 
 /// `\D..`
-pub fn commands_in_capital_d(rest: &[u8]) -> Option<Sight>
+pub fn commands_in_capital_d(rest: &[u8]) -> Option<Lexeme>
     ensures { seen (92 ∷ 68 ∷ rest.now) result ≡ look_up (92 ∷ 68 ∷ rest.now) symbols }
 {
     if same(rest, b"elta") {
-        Some(Sight::Symbol(Next::Delta))
+        Some(Lexeme::Symbol(Next::Delta))
     } else {
         None
     }
 }
 
 /// `\E..`
-pub fn commands_in_capital_e(rest: &[u8]) -> Option<Sight>
+pub fn commands_in_capital_e(rest: &[u8]) -> Option<Lexeme>
     ensures { seen (92 ∷ 69 ∷ rest.now) result ≡ look_up (92 ∷ 69 ∷ rest.now) symbols }
 {
     if same(rest, b"LSE") {
-        Some(Sight::Refused(TextFaultKind::NotInProfile))
+        Some(Lexeme::Refused(TextFaultKind::NotInProfile))
     } else {
         None
     }
 }
 
 /// `\I..`
-pub fn commands_in_capital_i(rest: &[u8]) -> Option<Sight>
+pub fn commands_in_capital_i(rest: &[u8]) -> Option<Lexeme>
     ensures { seen (92 ∷ 73 ∷ rest.now) result ≡ look_up (92 ∷ 73 ∷ rest.now) symbols }
 {
     if same(rest, b"F") {
-        Some(Sight::Refused(TextFaultKind::NotInProfile))
+        Some(Lexeme::Refused(TextFaultKind::NotInProfile))
     } else {
         None
     }
 }
 
 /// `\L..`
-pub fn commands_in_capital_l(rest: &[u8]) -> Option<Sight>
+pub fn commands_in_capital_l(rest: &[u8]) -> Option<Lexeme>
     ensures { seen (92 ∷ 76 ∷ rest.now) result ≡ look_up (92 ∷ 76 ∷ rest.now) symbols }
 {
     if same(rest, b"ET") {
-        Some(Sight::Refused(TextFaultKind::NotInProfile))
+        Some(Lexeme::Refused(TextFaultKind::NotInProfile))
     } else {
         None
     }
 }
 
 /// `\T..`
-pub fn commands_in_capital_t(rest: &[u8]) -> Option<Sight>
+pub fn commands_in_capital_t(rest: &[u8]) -> Option<Lexeme>
     ensures { seen (92 ∷ 84 ∷ rest.now) result ≡ look_up (92 ∷ 84 ∷ rest.now) symbols }
 {
     if same(rest, b"HEN") {
-        Some(Sight::Refused(TextFaultKind::NotInProfile))
+        Some(Lexeme::Refused(TextFaultKind::NotInProfile))
     } else {
         None
     }
 }
 
 /// `\X..`
-pub fn commands_in_capital_x(rest: &[u8]) -> Option<Sight>
+pub fn commands_in_capital_x(rest: &[u8]) -> Option<Lexeme>
     ensures { seen (92 ∷ 88 ∷ rest.now) result ≡ look_up (92 ∷ 88 ∷ rest.now) symbols }
 {
     if same(rest, b"i") {
-        Some(Sight::Symbol(Next::Xi))
+        Some(Lexeme::Symbol(Next::Xi))
     } else {
         None
     }

@@ -1,13 +1,13 @@
 //! The piece that begins a text inside a box.
 ghost use Rattle.std.specs.Prelude.{◌≡◌, ◌<◌, ◌≤◌, ℕ, List, ◌∷◌, IsTrue, length, slice_index_or, nat_le, if◌then◌else◌, Some, None};
 ghost use Rattle.zf_scan.specs.Pieces as spec;
-ghost use Rattle.zf_scan.specs.{look_up, seen, symbols, told};
+ghost use Rattle.zf_scan.specs.{look_up, seen, symbols, match_of};
 ghost use Rattle.zf_scan.specs.Steps as steps;
 
 use crate::fault::TextFaultKind;
 use crate::next::Next;
 use crate::pieces::{
-    Found, Place, Run, Sight, after, begins, front, is_digit, is_letter, run_len, step,
+    Match, Region, Run, Lexeme, after, begins, front, is_digit, is_letter, run_len, step,
 };
 use crate::signs::symbol_at;
 use crate::symbols::fixed;
@@ -17,25 +17,25 @@ use crate::token::Separator;
 pub const NUMBER_MAX: u64 = 9223372036854775807;
 
 /// How the box is closed.
-fn closing(place: Place) -> &'static [u8]
+fn closing(place: Region) -> &'static [u8]
     ensures { result.now ≡ steps.closing place }
 {
     match place {
-        Place::Outside => b"",
-        Place::Zed(_) => b"\\end{zed}",
-        Place::Schema(_) => b"\\end{schema}",
+        Region::Outside => b"",
+        Region::Zed(_) => b"\\end{zed}",
+        Region::Schema(_) => b"\\end{schema}",
     }
 }
 
 /// The piece at the front of a text in a box.
 #[tactic(auto, unfolding(crate::specs::Steps::inside_found))]
-pub fn inside_at(place: Place, rest: &[u8]) -> Found
+pub fn inside_at(place: Region, rest: &[u8]) -> Match
     requires end_len { 2 ≤ length (steps.closing place) }
     requires end_second { slice_index_or (steps.closing place) 1 0 ≡ 101 }
-    ensures { told rest.now result ≡ steps.inside_found (steps.closing place) rest.now }
+    ensures { match_of rest.now result ≡ steps.inside_found (steps.closing place) rest.now }
 {
     let [first, ..] = rest else {
-        return Found::of(Sight::Refused(TextFaultKind::UnclosedBox), 0);
+        return Match::of(Lexeme::Refused(TextFaultKind::UnclosedBox), 0);
     };
     match *first {
         b'%' => comment_at(rest),
@@ -48,17 +48,17 @@ pub fn inside_at(place: Place, rest: &[u8]) -> Found
 
 /// A comment, from its `%` on.
 #[tactic(auto, unfolding(crate::specs::Steps::comment_found))]
-pub fn comment_at(rest: &[u8]) -> Found
+pub fn comment_at(rest: &[u8]) -> Match
     requires { 0 < length rest.now }
-    ensures { told rest.now result ≡ steps.comment_found rest.now }
+    ensures { match_of rest.now result ≡ steps.comment_found rest.now }
 {
     let len = 1 + run_len(Run::Line, after(rest, 1));
-    let sight = if is_directive(front(rest, len)) {
-        Sight::Refused(TextFaultKind::NotInProfile)
+    let lexeme = if is_directive(front(rest, len)) {
+        Lexeme::Refused(TextFaultKind::NotInProfile)
     } else {
-        Sight::Plain
+        Lexeme::Plain
     };
-    Found::of(sight, len)
+    Match::of(lexeme, len)
 }
 
 fn is_directive(comment: &[u8]) -> bool
@@ -71,36 +71,36 @@ fn is_directive(comment: &[u8]) -> bool
 }
 
 // A command, or the closing of the box. The most frequent ones are told by their second byte.
-fn command_at(place: Place, rest: &[u8]) -> Found
+fn command_at(place: Region, rest: &[u8]) -> Match
     requires end_len { 2 ≤ length (steps.closing place) }
     requires end_second { slice_index_or (steps.closing place) 1 0 ≡ 101 }
     requires some { 0 < length rest.now }
     requires first { slice_index_or rest.now 0 0 ≡ 92 }
-    ensures { told rest.now result ≡ steps.command_found (steps.closing place) rest.now }
+    ensures { match_of rest.now result ≡ steps.command_found (steps.closing place) rest.now }
 {
     match rest {
-        [_, b'\\', ..] => Found::of(Sight::Symbol(Next::Separator(Separator::NewLine)), 2),
-        [_, b'{', ..] => Found::of(Sight::Symbol(Next::OpenBrace), 2),
-        [_, b'}', ..] => Found::of(Sight::Symbol(Next::CloseBrace), 2),
+        [_, b'\\', ..] => Match::of(Lexeme::Symbol(Next::Separator(Separator::NewLine)), 2),
+        [_, b'{', ..] => Match::of(Lexeme::Symbol(Next::OpenBrace), 2),
+        [_, b'}', ..] => Match::of(Lexeme::Symbol(Next::CloseBrace), 2),
         _ => named_command_at(place, rest),
     }
 }
 
 #[tactic(auto, unfolding(crate::specs::Steps::command_found))]
-fn named_command_at(place: Place, rest: &[u8]) -> Found
+fn named_command_at(place: Region, rest: &[u8]) -> Match
     requires end_len { 2 ≤ length (steps.closing place) }
     requires end_second { slice_index_or (steps.closing place) 1 0 ≡ 101 }
     requires some { 0 < length rest.now }
-    ensures { told rest.now result ≡ steps.command_found (steps.closing place) rest.now }
+    ensures { match_of rest.now result ≡ steps.command_found (steps.closing place) rest.now }
 {
     let end = closing(place);
     if closes(end, rest) {
-        return Found::of(Sight::Symbol(Next::EndBox), end.len());
+        return Match::of(Lexeme::Symbol(Next::EndBox), end.len());
     }
     let short = command_len(rest);
     let long = short + tail_len(after(rest, short));
     match fixed(front(rest, long)) {
-        Some(sight) => Found::of(sight, long),
+        Some(lexeme) => Match::of(lexeme, long),
         None => short_command(rest, short),
     }
 }
@@ -119,13 +119,13 @@ fn closes(end: &[u8], rest: &[u8]) -> bool
 }
 
 #[tactic(auto, unfolding(crate::specs::Steps::short_command))]
-fn short_command(rest: &[u8], len: usize) -> Found
+fn short_command(rest: &[u8], len: usize) -> Match
     requires { len ≤ length rest.now }
-    ensures { told rest.now result ≡ steps.short_command rest.now len }
+    ensures { match_of rest.now result ≡ steps.short_command rest.now len }
 {
     match fixed(front(rest, len)) {
-        Some(sight) => Found::of(sight, len),
-        None => Found::of(Sight::Refused(TextFaultKind::UnknownCommand), len),
+        Some(lexeme) => Match::of(lexeme, len),
+        None => Match::of(Lexeme::Refused(TextFaultKind::UnknownCommand), len),
     }
 }
 
@@ -157,16 +157,16 @@ fn tail_len(rest: &[u8]) -> usize
 
 // A name, `true` or `false`.
 #[tactic(auto, unfolding(crate::specs::Steps::word_found))]
-fn word_at(rest: &[u8]) -> Found
-    ensures { told rest.now result ≡ steps.word_found rest.now }
+fn word_at(rest: &[u8]) -> Match
+    ensures { match_of rest.now result ≡ steps.word_found rest.now }
 {
     let base = base_len(rest);
     let strokes = run_len(Run::Strokes, after(rest, base));
     let len = base + strokes;
     match fixed_word(front(rest, len)) {
-        Some(sight) => Found::of(sight, len),
-        None => Found {
-            sight: Sight::Symbol(Next::Name),
+        Some(lexeme) => Match::of(lexeme, len),
+        None => Match {
+            lexeme: Lexeme::Symbol(Next::Name),
             amount: base,
             len,
         },
@@ -174,7 +174,7 @@ fn word_at(rest: &[u8]) -> Found
 }
 
 // The piece of one spelling that a word is, if it is one.
-fn fixed_word(word: &[u8]) -> Option<Sight>
+fn fixed_word(word: &[u8]) -> Option<Lexeme>
     ensures { seen word.now result ≡ look_up word.now symbols }
 {
     let [first, ..] = word else {
@@ -199,17 +199,17 @@ pub fn base_len(rest: &[u8]) -> usize
 }
 
 #[tactic(auto, unfolding(crate::specs::Steps::number_found))]
-fn number_at(rest: &[u8]) -> Found
-    ensures { told rest.now result ≡ steps.number_found rest.now }
+fn number_at(rest: &[u8]) -> Match
+    ensures { match_of rest.now result ≡ steps.number_found rest.now }
 {
     let len = run_len(Run::Digits, rest);
     match value_of(front(rest, len)) {
-        Some(value) => Found {
-            sight: Sight::Symbol(Next::Number),
+        Some(value) => Match {
+            lexeme: Lexeme::Symbol(Next::Number),
             amount: value as usize,
             len,
         },
-        None => Found::of(Sight::Refused(TextFaultKind::NumberTooLarge), len),
+        None => Match::of(Lexeme::Refused(TextFaultKind::NumberTooLarge), len),
     }
 }
 

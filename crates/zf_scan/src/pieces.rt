@@ -10,7 +10,7 @@ use crate::fault::TextFaultKind;
 use crate::next::Next;
 use crate::token::Kind;
 
-/// What a piece is. The scanner keeps a `Sight` of it, and the text stays in the source.
+/// What a piece is. The scanner keeps a `Lexeme` of it, and the text stays in the source.
 #[derive(Drop)]
 pub enum Piece {
     /// Informal text, a comment or a blank: no token.
@@ -21,7 +21,7 @@ pub enum Piece {
 
 /// A piece without its text.
 #[derive(Clone, Copy)]
-pub enum Sight {
+pub enum Lexeme {
     Plain,
     Symbol(Next),
     Refused(TextFaultKind),
@@ -29,19 +29,19 @@ pub enum Sight {
 
 /// What begins a text: its length, and a name's length without strokes or a number's value.
 #[derive(Clone, Copy)]
-pub struct Found {
-    pub sight: Sight,
+pub struct Match {
+    pub lexeme: Lexeme,
     pub amount: usize,
     pub len: usize,
 }
 
-impl Found {
+impl Match {
     /// A piece that is no name and no number.
-    pub fn of(sight: Sight, len: usize) -> Found
-        ensures { result ≡ record { sight = sight; amount = 0; len = len } }
+    pub fn of(lexeme: Lexeme, len: usize) -> Match
+        ensures { result ≡ record { lexeme = lexeme; amount = 0; len = len } }
     {
-        Found {
-            sight,
+        Match {
+            lexeme,
             amount: 0,
             len,
         }
@@ -50,7 +50,7 @@ impl Found {
 
 /// Where a piece stands: outside the boxes, or in a box with the line of its `\begin`.
 #[derive(Clone, Copy)]
-pub enum Place {
+pub enum Region {
     Outside,
     Zed(u32),
     Schema(u32),

@@ -1,20 +1,20 @@
 //! From bytes to tokens.
 ghost use Rattle.std.specs.Prelude.{◌≡◌, ◌≤◌, ◌<◌, ◌⊎◌, ◌++◌, [], ℕ, List, IsTrue, length, take, map, IfOk, IfErr, OnOk};
-ghost use Rattle.zf_scan.specs.{IsBorder, IsBoxAtMost, IsCutOn, IsCutUpTo, kind_of, piece_of, token_at, told};
+ghost use Rattle.zf_scan.specs.{IsBorder, IsBoxAtMost, IsCutOn, IsCutUpTo, kind_of, piece_of, token_at, match_of};
 ghost use Rattle.zf_scan.specs.Cuts as cuts;
 ghost use Rattle.zf_scan.specs.CutLaws as cuts_laws;
 ghost use Rattle.zf_scan.specs.CutViews as cuts_views;
 ghost use Rattle.zf_scan.specs.Steps as steps;
 ghost use Rattle.zf_scan.specs.declared.next.Next.{Next as NextSymbol};
 ghost use Rattle.zf_scan.specs.declared.pieces.Piece.TheVariants.{Plain, Symbol};
-ghost use Rattle.zf_scan.specs.declared.pieces.Sight.TheVariants as sights;
+ghost use Rattle.zf_scan.specs.declared.pieces.Lexeme.TheVariants as lexemes;
 ghost use Rattle.zf_scan.specs.declared.token.Token.{Token};
 
 use crate::fault::{TextFault, TextFaultKind};
 use crate::inside::inside_at;
 use crate::next::Next;
 use crate::outside::outside_at;
-use crate::pieces::{Found, Place, Sight, after, front};
+use crate::pieces::{Match, Region, Lexeme, after, front};
 use crate::placed::Placed;
 use crate::token::Token;
 use std::alloc::{AllocError, Global};
@@ -37,7 +37,7 @@ impl Border {
         ensures fault { IfErr result (λ fault. cuts.IsTooLong source.now fault) }
     {
         if source.len() > SOURCE_MAX {
-            return Err(fault_at(TextFaultKind::TooLong, Place::Outside, 0));
+            return Err(fault_at(TextFaultKind::TooLong, Region::Outside, 0));
         }
         Ok(Border { line: 1, start: 0 })
     }
@@ -57,7 +57,7 @@ pub fn next_box(
     ensures fault { IfErr result (λ fault. cuts_views.IsWantOfMemory fault ⊎ cuts.IsStuck source.now fault) }
 {
     symbols.clear();
-    let mut place = Place::Outside;
+    let mut place = Region::Outside;
     let mut line = border.line;
     let mut start = border.start;
     while start < source.len() {
@@ -67,10 +67,10 @@ pub fn next_box(
             start += 1;
             continue;
         }
-        let Found { sight, amount, len } = piece_at(place, rest);
-        match sight {
-            Sight::Plain => line += newlines(front(rest, len)),
-            Sight::Symbol(next) => {
+        let Match { lexeme, amount, len } = piece_at(place, rest);
+        match lexeme {
+            Lexeme::Plain => line += newlines(front(rest, len)),
+            Lexeme::Symbol(next) => {
                 symbols.push(Placed {
                     next,
                     line,
@@ -87,7 +87,7 @@ pub fn next_box(
                 }
                 place = behind(place, line, next);
             }
-            Sight::Refused(kind) => {
+            Lexeme::Refused(kind) => {
                 *border = Border { line, start };
                 return Err(fault_at(kind, place, line));
             }
@@ -96,7 +96,7 @@ pub fn next_box(
     }
     *border = Border { line, start };
     match place {
-        Place::Outside => Ok(()),
+        Region::Outside => Ok(()),
         _ => Err(fault_at(TextFaultKind::UnclosedBox, place, line)),
     }
 }
@@ -152,12 +152,12 @@ fn push_tokens(
 
 // Whether a blank begins a text inside a box.
 #[tactic(auto, unfolding(crate::specs::Steps::found_at, crate::specs::Steps::inside_found, crate::specs::Steps::symbol_found, crate::specs::Pieces::symbols))]
-fn is_blank(place: Place, rest: &[u8]) -> bool
+fn is_blank(place: Region, rest: &[u8]) -> bool
     ensures { IsTrue result → steps.found_at place rest.now ≡ steps.found Plain 1 }
 {
     match place {
-        Place::Outside => false,
-        Place::Zed(_) | Place::Schema(_) => matches!(rest, [b' ' | b'\n' | b'\t', ..]),
+        Region::Outside => false,
+        Region::Zed(_) | Region::Schema(_) => matches!(rest, [b' ' | b'\n' | b'\t', ..]),
     }
 }
 
@@ -174,29 +174,29 @@ fn ends_line(rest: &[u8]) -> u32
 
 // The piece at the front of a text.
 #[tactic(auto, unfolding(crate::specs::Steps::found_at))]
-fn piece_at(place: Place, rest: &[u8]) -> Found
-    ensures { told rest.now result ≡ steps.found_at place rest.now }
+fn piece_at(place: Region, rest: &[u8]) -> Match
+    ensures { match_of rest.now result ≡ steps.found_at place rest.now }
 {
     match place {
-        Place::Outside => outside_at(rest),
-        Place::Zed(_) | Place::Schema(_) => inside_at(place, rest),
+        Region::Outside => outside_at(rest),
+        Region::Zed(_) | Region::Schema(_) => inside_at(place, rest),
     }
 }
 
 // Where the text behind a symbol stands.
-fn behind(place: Place, line: u32, next: Next) -> Place
+fn behind(place: Region, line: u32, next: Next) -> Region
     ensures { (amount : ℕ) (text : List ℕ) → result ≡ cuts.entered place line (Symbol (kind_of next amount text)) }
 {
     match next {
-        Next::BeginZed => Place::Zed(line),
-        Next::BeginSchema => Place::Schema(line),
-        Next::EndBox | Next::End => Place::Outside,
+        Next::BeginZed => Region::Zed(line),
+        Next::BeginSchema => Region::Schema(line),
+        Next::EndBox | Next::End => Region::Outside,
         _ => place,
     }
 }
 
 // A refusal at a line. A box that is not closed is told by the line of its `\begin`.
-fn fault_at(kind: TextFaultKind, place: Place, line: u32) -> TextFault
+fn fault_at(kind: TextFaultKind, place: Region, line: u32) -> TextFault
     ensures kind { result.kind ≡ kind }
     ensures line { result.line ≡ cuts.reported_line place line kind }
 {
@@ -210,12 +210,12 @@ fn fault_at(kind: TextFaultKind, place: Place, line: u32) -> TextFault
     }
 }
 
-fn begun(place: Place) -> u32
+fn begun(place: Region) -> u32
     ensures { result ≡ cuts.begun place }
 {
     match place {
-        Place::Outside => 0,
-        Place::Zed(line) | Place::Schema(line) => line,
+        Region::Outside => 0,
+        Region::Zed(line) | Region::Schema(line) => line,
     }
 }
 

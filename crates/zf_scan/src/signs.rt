@@ -1,33 +1,33 @@
 //! The symbols of a box that are neither words, numbers nor commands.
 ghost use Rattle.std.specs.Prelude.{◌≡◌, ◌<◌, ◌≤◌, ℕ, List, ◌∷◌, length};
-ghost use Rattle.zf_scan.specs.{told};
+ghost use Rattle.zf_scan.specs.{match_of};
 ghost use Rattle.zf_scan.specs.Steps as steps;
 
 use crate::fault::TextFaultKind;
 use crate::next::Next;
-use crate::pieces::{Found, Sight, begins, front};
+use crate::pieces::{Match, Lexeme, begins, front};
 use crate::symbols::fixed;
 use zf_tree::{Infix, Relation};
 
 /// A symbol. The most frequent ones are told by their first bytes.
 #[tactic(auto, unfolding(crate::specs::Steps::symbol_found, crate::specs::Pieces::symbols))]
-pub fn symbol_at(rest: &[u8]) -> Found
-    ensures { told rest.now result ≡ steps.symbol_found rest.now }
+pub fn symbol_at(rest: &[u8]) -> Match
+    ensures { match_of rest.now result ≡ steps.symbol_found rest.now }
 {
     let [first, ..] = rest else {
-        return Found::of(Sight::Refused(TextFaultKind::BadByte), 1);
+        return Match::of(Lexeme::Refused(TextFaultKind::BadByte), 1);
     };
     match *first {
-        b'(' => Found::of(Sight::Symbol(Next::OpenRound), 1),
-        b')' => Found::of(Sight::Symbol(Next::CloseRound), 1),
-        b',' => Found::of(Sight::Symbol(Next::Comma), 1),
-        b'[' => Found::of(Sight::Symbol(Next::OpenSquare), 1),
-        b']' => Found::of(Sight::Symbol(Next::CloseSquare), 1),
-        b'|' => Found::of(Sight::Symbol(Next::Bar), 1),
-        b'@' => Found::of(Sight::Symbol(Next::At), 1),
-        b'+' => Found::of(Sight::Symbol(Next::Infix(Infix::Plus)), 1),
-        b'<' => Found::of(Sight::Symbol(Next::Relation(Relation::Less)), 1),
-        b'>' => Found::of(Sight::Symbol(Next::Relation(Relation::Greater)), 1),
+        b'(' => Match::of(Lexeme::Symbol(Next::OpenRound), 1),
+        b')' => Match::of(Lexeme::Symbol(Next::CloseRound), 1),
+        b',' => Match::of(Lexeme::Symbol(Next::Comma), 1),
+        b'[' => Match::of(Lexeme::Symbol(Next::OpenSquare), 1),
+        b']' => Match::of(Lexeme::Symbol(Next::CloseSquare), 1),
+        b'|' => Match::of(Lexeme::Symbol(Next::Bar), 1),
+        b'@' => Match::of(Lexeme::Symbol(Next::At), 1),
+        b'+' => Match::of(Lexeme::Symbol(Next::Infix(Infix::Plus)), 1),
+        b'<' => Match::of(Lexeme::Symbol(Next::Relation(Relation::Less)), 1),
+        b'>' => Match::of(Lexeme::Symbol(Next::Relation(Relation::Greater)), 1),
         b':' => colon_at(rest),
         b'=' => equals_at(rest),
         _ => other_symbol_at(rest),
@@ -35,34 +35,34 @@ pub fn symbol_at(rest: &[u8]) -> Found
 }
 
 #[tactic(auto, unfolding(crate::specs::Steps::symbol_found, crate::specs::Pieces::symbols))]
-fn colon_at(rest: &[u8]) -> Found
-    ensures { (more : List ℕ) → rest.now ≡ 58 ∷ more → told rest.now result ≡ steps.symbol_found rest.now }
+fn colon_at(rest: &[u8]) -> Match
+    ensures { (more : List ℕ) → rest.now ≡ 58 ∷ more → match_of rest.now result ≡ steps.symbol_found rest.now }
 {
     match rest {
-        [_, b':', b'=', ..] => Found::of(Sight::Symbol(Next::FreeType), 3),
-        _ => Found::of(Sight::Symbol(Next::Colon), 1),
+        [_, b':', b'=', ..] => Match::of(Lexeme::Symbol(Next::FreeType), 3),
+        _ => Match::of(Lexeme::Symbol(Next::Colon), 1),
     }
 }
 
 #[tactic(auto, unfolding(crate::specs::Steps::symbol_found, crate::specs::Pieces::symbols))]
-fn equals_at(rest: &[u8]) -> Found
-    ensures { (more : List ℕ) → rest.now ≡ 61 ∷ more → told rest.now result ≡ steps.symbol_found rest.now }
+fn equals_at(rest: &[u8]) -> Match
+    ensures { (more : List ℕ) → rest.now ≡ 61 ∷ more → match_of rest.now result ≡ steps.symbol_found rest.now }
 {
     match rest {
-        [_, b'=', ..] => Found::of(Sight::Symbol(Next::Abbreviates), 2),
-        _ => Found::of(Sight::Symbol(Next::Relation(Relation::Equal)), 1),
+        [_, b'=', ..] => Match::of(Lexeme::Symbol(Next::Abbreviates), 2),
+        _ => Match::of(Lexeme::Symbol(Next::Relation(Relation::Equal)), 1),
     }
 }
 
 #[tactic(auto, unfolding(crate::specs::Steps::symbol_found))]
-fn other_symbol_at(rest: &[u8]) -> Found
+fn other_symbol_at(rest: &[u8]) -> Match
     requires { 0 < length rest.now }
-    ensures { told rest.now result ≡ steps.symbol_found rest.now }
+    ensures { match_of rest.now result ≡ steps.symbol_found rest.now }
 {
     let len = symbol_len(rest);
     match fixed(front(rest, len)) {
-        Some(sight) => Found::of(sight, len),
-        None => Found::of(Sight::Refused(TextFaultKind::BadByte), len),
+        Some(lexeme) => Match::of(lexeme, len),
+        None => Match::of(Lexeme::Refused(TextFaultKind::BadByte), len),
     }
 }
 

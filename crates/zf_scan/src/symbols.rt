@@ -8,12 +8,12 @@ ghost use Rattle.zf_scan.specs.{look_up, seen, symbols};
 use crate::commands as by_letter;
 use crate::fault::TextFaultKind;
 use crate::next::Next;
-use crate::pieces::{Sight, same};
+use crate::pieces::{Lexeme, same};
 use crate::token::Separator;
 use zf_tree::{Constant, Infix, Prefix, Relation};
 
 /// The piece that a text spells, if it is of one spelling.
-pub fn fixed(text: &[u8]) -> Option<Sight>
+pub fn fixed(text: &[u8]) -> Option<Lexeme>
     ensures { seen text.now result ≡ look_up text.now symbols }
 {
     let [first, rest @ ..] = text else {
@@ -21,96 +21,96 @@ pub fn fixed(text: &[u8]) -> Option<Sight>
     };
     match *first {
         b'\\' => command(rest),
-        b'\t' => only(rest, b"", Sight::Plain),
-        b'\n' => only(rest, b"", Sight::Plain),
-        b'\r' => only(rest, b"", Sight::Plain),
-        b' ' => only(rest, b"", Sight::Plain),
-        b'~' => only(rest, b"", Sight::Plain),
+        b'\t' => only(rest, b"", Lexeme::Plain),
+        b'\n' => only(rest, b"", Lexeme::Plain),
+        b'\r' => only(rest, b"", Lexeme::Plain),
+        b' ' => only(rest, b"", Lexeme::Plain),
+        b'~' => only(rest, b"", Lexeme::Plain),
         b';' => only(
             rest,
             b"",
-            Sight::Symbol(Next::Separator(Separator::Semicolon)),
+            Lexeme::Symbol(Next::Separator(Separator::Semicolon)),
         ),
-        b'(' => only(rest, b"", Sight::Symbol(Next::OpenRound)),
-        b')' => only(rest, b"", Sight::Symbol(Next::CloseRound)),
-        b'[' => only(rest, b"", Sight::Symbol(Next::OpenSquare)),
-        b']' => only(rest, b"", Sight::Symbol(Next::CloseSquare)),
-        b',' => only(rest, b"", Sight::Symbol(Next::Comma)),
+        b'(' => only(rest, b"", Lexeme::Symbol(Next::OpenRound)),
+        b')' => only(rest, b"", Lexeme::Symbol(Next::CloseRound)),
+        b'[' => only(rest, b"", Lexeme::Symbol(Next::OpenSquare)),
+        b']' => only(rest, b"", Lexeme::Symbol(Next::CloseSquare)),
+        b',' => only(rest, b"", Lexeme::Symbol(Next::Comma)),
         b':' => colons(rest),
-        b'|' => only(rest, b"", Sight::Symbol(Next::Bar)),
-        b'@' => only(rest, b"", Sight::Symbol(Next::At)),
+        b'|' => only(rest, b"", Lexeme::Symbol(Next::Bar)),
+        b'@' => only(rest, b"", Lexeme::Symbol(Next::At)),
         b'=' => equals(rest),
-        b'<' => only(rest, b"", Sight::Symbol(Next::Relation(Relation::Less))),
-        b'>' => only(rest, b"", Sight::Symbol(Next::Relation(Relation::Greater))),
-        b'+' => only(rest, b"", Sight::Symbol(Next::Infix(Infix::Plus))),
-        b'-' => only(rest, b"", Sight::Symbol(Next::Infix(Infix::Minus))),
-        b'*' => only(rest, b"", Sight::Symbol(Next::Infix(Infix::Times))),
-        b't' => only(rest, b"rue", Sight::Symbol(Next::Constant(Constant::True))),
+        b'<' => only(rest, b"", Lexeme::Symbol(Next::Relation(Relation::Less))),
+        b'>' => only(rest, b"", Lexeme::Symbol(Next::Relation(Relation::Greater))),
+        b'+' => only(rest, b"", Lexeme::Symbol(Next::Infix(Infix::Plus))),
+        b'-' => only(rest, b"", Lexeme::Symbol(Next::Infix(Infix::Minus))),
+        b'*' => only(rest, b"", Lexeme::Symbol(Next::Infix(Infix::Times))),
+        b't' => only(rest, b"rue", Lexeme::Symbol(Next::Constant(Constant::True))),
         b'f' => only(
             rest,
             b"alse",
-            Sight::Symbol(Next::Constant(Constant::False)),
+            Lexeme::Symbol(Next::Constant(Constant::False)),
         ),
-        b'{' => only(rest, b"", Sight::Refused(TextFaultKind::NotInProfile)),
-        b'}' => only(rest, b"", Sight::Refused(TextFaultKind::NotInProfile)),
+        b'{' => only(rest, b"", Lexeme::Refused(TextFaultKind::NotInProfile)),
+        b'}' => only(rest, b"", Lexeme::Refused(TextFaultKind::NotInProfile)),
         _ => None,
     }
 }
 
-// The sight, where its text is this one.
-fn only(rest: &[u8], text: &[u8], sight: Sight) -> Option<Sight>
-    ensures { result ≡ (if bytes_eq rest.now text.now then Some sight else None) }
+// The lexeme, where its text is this one.
+fn only(rest: &[u8], text: &[u8], lexeme: Lexeme) -> Option<Lexeme>
+    ensures { result ≡ (if bytes_eq rest.now text.now then Some lexeme else None) }
 {
-    if same(rest, text) { Some(sight) } else { None }
+    if same(rest, text) { Some(lexeme) } else { None }
 }
 
 #[tactic(auto, unfolding(crate::specs::Pieces::symbols))]
-fn colons(rest: &[u8]) -> Option<Sight>
+fn colons(rest: &[u8]) -> Option<Lexeme>
     ensures { seen (58 ∷ rest.now) result ≡ look_up (58 ∷ rest.now) symbols }
 {
     if same(rest, b"") {
-        Some(Sight::Symbol(Next::Colon))
+        Some(Lexeme::Symbol(Next::Colon))
     } else if same(rest, b":=") {
-        Some(Sight::Symbol(Next::FreeType))
+        Some(Lexeme::Symbol(Next::FreeType))
     } else {
         None
     }
 }
 
 #[tactic(auto, unfolding(crate::specs::Pieces::symbols))]
-fn equals(rest: &[u8]) -> Option<Sight>
+fn equals(rest: &[u8]) -> Option<Lexeme>
     ensures { seen (61 ∷ rest.now) result ≡ look_up (61 ∷ rest.now) symbols }
 {
     if same(rest, b"=") {
-        Some(Sight::Symbol(Next::Abbreviates))
+        Some(Lexeme::Symbol(Next::Abbreviates))
     } else if same(rest, b"") {
-        Some(Sight::Symbol(Next::Relation(Relation::Equal)))
+        Some(Lexeme::Symbol(Next::Relation(Relation::Equal)))
     } else {
         None
     }
 }
 
 // A command, by what stands behind its backslash.
-fn command(text: &[u8]) -> Option<Sight>
+fn command(text: &[u8]) -> Option<Lexeme>
     ensures { seen (92 ∷ text.now) result ≡ look_up (92 ∷ text.now) symbols }
 {
     let [first, rest @ ..] = text else {
         return None;
     };
     match *first {
-        b',' => only(rest, b"", Sight::Plain),
-        b':' => only(rest, b"", Sight::Plain),
-        b';' => only(rest, b"", Sight::Plain),
-        b'!' => only(rest, b"", Sight::Plain),
-        b' ' => only(rest, b"", Sight::Plain),
+        b',' => only(rest, b"", Lexeme::Plain),
+        b':' => only(rest, b"", Lexeme::Plain),
+        b';' => only(rest, b"", Lexeme::Plain),
+        b'!' => only(rest, b"", Lexeme::Plain),
+        b' ' => only(rest, b"", Lexeme::Plain),
         b'\\' => only(
             rest,
             b"",
-            Sight::Symbol(Next::Separator(Separator::NewLine)),
+            Lexeme::Symbol(Next::Separator(Separator::NewLine)),
         ),
-        b'{' => only(rest, b"", Sight::Symbol(Next::OpenBrace)),
-        b'}' => only(rest, b"", Sight::Symbol(Next::CloseBrace)),
-        b'#' => only(rest, b"", Sight::Symbol(Next::Prefix(Prefix::Size))),
+        b'{' => only(rest, b"", Lexeme::Symbol(Next::OpenBrace)),
+        b'}' => only(rest, b"", Lexeme::Symbol(Next::CloseBrace)),
+        b'#' => only(rest, b"", Lexeme::Symbol(Next::Prefix(Prefix::Size))),
         b'a' => by_letter::commands_in_a(rest),
         b'b' => by_letter::commands_in_b(rest),
         b'c' => by_letter::commands_in_c(rest),

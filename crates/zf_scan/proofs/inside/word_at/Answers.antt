@@ -1,6 +1,6 @@
-use Rattle.zf_scan.proofs.Prelude.{◌+◌, ◌∙◌, ◌≡◌, ap, drop, None, sym, take, look_up, symbols, seen, told, Strokes}
+use Rattle.zf_scan.proofs.Prelude.{◌+◌, ◌∙◌, ◌≡◌, ap, drop, None, sym, take, look_up, symbols, seen, match_of, Strokes}
 use Rattle.zf_scan.specs.declared.next.Next.TheVariants as next
-use Rattle.zf_scan.specs.declared.pieces.Sight.TheVariants as sight
+use Rattle.zf_scan.specs.declared.pieces.Lexeme.TheVariants as lexeme
 use Rattle.zf_scan.specs.Steps as steps
 use Rattle.zf_scan.proofs.Spelled.{word_told}
 use Rattle.zf_scan.proofs.inside.word_at.Goals as goal
@@ -13,6 +13,6 @@ returns-in-None c =
     let len : c.base_len-base.result + c.run_len-strokes.result ≡ steps.word_len s = ap (λ n. n + c.run_len-strokes.result) base ∙ ap (λ n. steps.base_len s + n) strokes in
     let text : c.front.result.now ≡ take (steps.word_len s) s = c.front.ensures ∙ ap (λ n. take n s) len in
     let none : look_up (take (steps.word_len s) s) symbols ≡ None = sym (ap (λ t. look_up t symbols) text) ∙ sym c.fixed_word.ensures ∙ ap (seen c.front.result.now) c.in-None.is in
-    ap (λ n. told s (record { sight = sight.Symbol next.Name; amount = n; len = c.base_len-base.result + c.run_len-strokes.result })) base
-    ∙ ap (λ n. told s (record { sight = sight.Symbol next.Name; amount = steps.base_len s; len = n })) len
+    ap (λ n. match_of s (record { lexeme = lexeme.Symbol next.Name; amount = n; len = c.base_len-base.result + c.run_len-strokes.result })) base
+    ∙ ap (λ n. match_of s (record { lexeme = lexeme.Symbol next.Name; amount = steps.base_len s; len = n })) len
     ∙ word_told s none

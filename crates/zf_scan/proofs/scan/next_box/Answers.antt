@@ -1,11 +1,11 @@
-use Rattle.zf_scan.proofs.Prelude.{◌++◌, ◌+◌, ◌<◌, ◌∙◌, ◌∷◌, ◌≡◌, [], ap, arith, drop, inr, length, length-drop, length-take-le, map, refl, subst, sym, take, true, map-append, begins_box, IsBox, newlines, between, token_at, kind_of, piece_of, told, Refused, Symbol, Placed}
-use Rattle.zf_scan.specs.declared.pieces.Place.TheVariants as places
+use Rattle.zf_scan.proofs.Prelude.{◌++◌, ◌+◌, ◌<◌, ◌∙◌, ◌∷◌, ◌≡◌, [], ap, arith, drop, inr, length, length-drop, length-take-le, map, refl, subst, sym, take, true, map-append, begins_box, IsBox, newlines, between, token_at, kind_of, piece_of, match_of, Refused, Symbol, Placed}
+use Rattle.zf_scan.specs.declared.pieces.Region.TheVariants as places
 use Rattle.zf_scan.proofs.BoxParts.{IsPart, begins_there, begins_same, grown, closed, ended_outside}
 use Rattle.zf_scan.proofs.Scanned.{StandsAt, seen_at, line_le, moved}
 use Rattle.zf_scan.proofs.ScanTurns.{plain_stands, symbol_stands, blank_read, plain_read, symbol_read}
 use Rattle.zf_scan.proofs.Laws.{stuck, refused, ended}
 use Rattle.zf_scan.proofs.scan.next_box.Goals as goal
-use Rattle.zf_scan.proofs.scan.next_box.Goals.{In-Plain, Then-ends_box, Joined-sight, in-Plain, in-Symbol+in_ok-push-in-Symbol+else-ends_box}
+use Rattle.zf_scan.proofs.scan.next_box.Goals.{In-Plain, Then-ends_box, Joined-lexeme, in-Plain, in-Symbol+in_ok-push-in-Symbol+else-ends_box}
 
 pub overflow_add-line : goal.overflow_add-line
 overflow_add-line c =
@@ -23,9 +23,9 @@ loop-start-preserved-then-is_blank c =
       further = omega (arith, c.loop-start.invariant.further);
     }
 
-stands_plain : (c : In-Plain) → StandsAt c.loop-start.place (drop c.loop-start.start c.args.source.now) (told (drop c.loop-start.start c.args.source.now) c.piece_at-sight.result)
-stands_plain c = plain_stands c.loop-start.place (drop c.loop-start.start c.args.source.now) c.after-rest.result.now c.piece_at-sight.result
-    c.after-rest.ensures c.piece_at-sight.ensures (omega (arith, length-drop c.loop-start.start c.args.source.now, c.loop-start-test.true)) c.in-Plain.is
+stands_plain : (c : In-Plain) → StandsAt c.loop-start.place (drop c.loop-start.start c.args.source.now) (match_of (drop c.loop-start.start c.args.source.now) c.piece_at-lexeme.result)
+stands_plain c = plain_stands c.loop-start.place (drop c.loop-start.start c.args.source.now) c.after-rest.result.now c.piece_at-lexeme.result
+    c.after-rest.ensures c.piece_at-lexeme.ensures (omega (arith, length-drop c.loop-start.start c.args.source.now, c.loop-start-test.true)) c.in-Plain.is
 
 pub front-requires : goal.front-requires
 front-requires c = omega (arith, (stands_plain c).within, ap length c.after-rest.ensures)
@@ -41,31 +41,31 @@ overflow_add-line-in-Plain c =
       line_le _ _ _ _ _ (c.loop-start.invariant.before c.requires.0 c.requires.1),
       c.newlines-line.ensures.few,
       ap length c.front.ensures,
-      length-take-le c.piece_at-sight.result.len c.after-rest.result.now (omega (arith, a.within, ap length c.after-rest.ensures)),
+      length-take-le c.piece_at-lexeme.result.len c.after-rest.result.now (omega (arith, a.within, ap length c.after-rest.ensures)),
     )
 
 pub overflow_add-start-in-Symbol : goal.overflow_add-start-in-Symbol
 overflow_add-start-in-Symbol c =
     let s = drop c.loop-start.start c.args.source.now in
-    let a = symbol_stands c.loop-start.place s c.after-rest.result.now c.piece_at-sight.result c.in-Symbol.next c.after-rest.ensures c.piece_at-sight.ensures
+    let a = symbol_stands c.loop-start.place s c.after-rest.result.now c.piece_at-lexeme.result c.in-Symbol.next c.after-rest.ensures c.piece_at-lexeme.ensures
     (omega (arith, length-drop c.loop-start.start c.args.source.now, c.loop-start-test.true)) c.in-Symbol.is in
     omega (arith, a.within, length-drop c.loop-start.start c.args.source.now, c.loop-start.invariant.short)
 
-stands_symbol : (c : Then-ends_box) → StandsAt c.loop-start.place (drop c.loop-start.start c.args.source.now) (told (drop c.loop-start.start c.args.source.now) c.piece_at-sight.result)
+stands_symbol : (c : Then-ends_box) → StandsAt c.loop-start.place (drop c.loop-start.start c.args.source.now) (match_of (drop c.loop-start.start c.args.source.now) c.piece_at-lexeme.result)
 stands_symbol c =
-    symbol_stands c.loop-start.place (drop c.loop-start.start c.args.source.now) c.after-rest.result.now c.piece_at-sight.result c.in-Symbol.next
-    c.after-rest.ensures c.piece_at-sight.ensures (omega (arith, length-drop c.loop-start.start c.args.source.now, c.loop-start-test.true)) c.in-Symbol.is
+    symbol_stands c.loop-start.place (drop c.loop-start.start c.args.source.now) c.after-rest.result.now c.piece_at-lexeme.result c.in-Symbol.next
+    c.after-rest.ensures c.piece_at-lexeme.ensures (omega (arith, length-drop c.loop-start.start c.args.source.now, c.loop-start-test.true)) c.in-Symbol.is
 
 -- a symbol outside of a box begins one
 opens : (c : Then-ends_box) → (p : Placed) → p.next ≡ c.in-Symbol.next → c.loop-start.place ≡ places.Outside → begins_box (token_at c.args.source.now p).kind ≡ true
 opens c p same out =
     let s = drop c.loop-start.start c.args.source.now in
-    let f = c.piece_at-sight.result in
-    let piece : piece_of f.sight f.amount (take f.len s) ≡ Symbol (kind_of c.in-Symbol.next f.amount (take f.len s)) = ap (λ sight. piece_of sight f.amount (take f.len s)) c.in-Symbol.is in
+    let f = c.piece_at-lexeme.result in
+    let piece : piece_of f.lexeme f.amount (take f.len s) ≡ Symbol (kind_of c.in-Symbol.next f.amount (take f.len s)) = ap (λ lexeme. piece_of lexeme f.amount (take f.len s)) c.in-Symbol.is in
     let text = between p.start p.stop c.args.source.now in
     ap (λ next. begins_box (kind_of next p.amount text)) same
     ∙ begins_same c.in-Symbol.next p.amount f.amount text (take f.len s)
-    ∙ begins_there c.loop-start.place s (told s f) _ (stands_symbol c) piece out
+    ∙ begins_there c.loop-start.place s (match_of s f) _ (stands_symbol c) piece out
 
 pub overflow_add-border : goal.overflow_add-border
 overflow_add-border c = omega (arith, (stands_symbol c).within, length-drop c.loop-start.start c.args.source.now, c.loop-start.invariant.short)
@@ -75,8 +75,8 @@ returns-then-ends_box-clause-cut c = λ tokens up.
     let source = c.args.source.now in
     let some : 0 < length (drop c.loop-start.start source) = omega (arith, length-drop c.loop-start.start source, c.loop-start-test.true) in
     record {
-      before = symbol_read _ _ _ _ tokens c.loop-start.symbols.items (c.loop-start.invariant.before tokens up) c.after-rest.result.now c.piece_at-sight.result
-          c.in-Symbol.next c.after-rest.ensures c.piece_at-sight.ensures some c.in-Symbol.is c.push.new.self.items c.in_ok-push-in-Symbol.ensures.items
+      before = symbol_read _ _ _ _ tokens c.loop-start.symbols.items (c.loop-start.invariant.before tokens up) c.after-rest.result.now c.piece_at-lexeme.result
+          c.in-Symbol.next c.after-rest.ensures c.piece_at-lexeme.ensures some c.in-Symbol.is c.push.new.self.items c.in_ok-push-in-Symbol.ensures.items
           places.Outside
           (λ amount text. ended_outside c.loop-start.place c.loop-start.line (kind_of c.in-Symbol.next amount text) (sym (c.ends_box.ensures amount text) ∙ c.if-ends_box.true));
       short = c.loop-start.invariant.short;
@@ -91,8 +91,8 @@ returns-then-ends_box-clause-one c =
       line = c.loop-start.line;
       start = c.loop-start.start;
       stop = c.loop-start.start +
-          c.piece_at-sight.result.len;
-      amount = c.piece_at-sight.result.amount;
+          c.piece_at-lexeme.result.len;
+      amount = c.piece_at-lexeme.result.amount;
     } in
     let pushed : map (token_at source) c.push.new.self.items ≡ map (token_at source) c.loop-start.symbols.items
     ++ token_at source p ∷ [] = ap (map (token_at source)) c.in_ok-push-in-Symbol.ensures.items
@@ -106,21 +106,21 @@ returns-then-ends_box-clause-further c = λ some. omega (arith, (stands_symbol c
 pub returns-in-Refused-clause-fault : goal.returns-in-Refused-clause-fault
 returns-in-Refused-clause-fault c =
     let s = drop c.loop-start.start c.args.source.now in
-    let f = c.piece_at-sight.result in
+    let f = c.piece_at-lexeme.result in
     let some : 0 < length s = omega (arith, length-drop c.loop-start.start c.args.source.now) in
-    let n = seen_at c.loop-start.place s c.after-rest.result.now f c.after-rest.ensures c.piece_at-sight.ensures some in
-    let is : piece_of f.sight f.amount (take f.len s) ≡ Refused c.in-Refused.kind = ap (λ sight. piece_of sight f.amount (take f.len s)) c.in-Refused.is in
+    let n = seen_at c.loop-start.place s c.after-rest.result.now f c.after-rest.ensures c.piece_at-lexeme.ensures some in
+    let is : piece_of f.lexeme f.amount (take f.len s) ≡ Refused c.in-Refused.kind = ap (λ lexeme. piece_of lexeme f.amount (take f.len s)) c.in-Refused.is in
     inr (stuck _ _ _ _ _ (c.loop-start.invariant.before c.requires.0 c.requires.1) c.loop-start.invariant.short c.fault_at.result c.in-Refused.kind
-    c.fault_at.ensures.kind c.fault_at.ensures.line (refused c.loop-start.place _ (told s f) n c.in-Refused.kind is some))
+    c.fault_at.ensures.kind c.fault_at.ensures.line (refused c.loop-start.place _ (match_of s f) n c.in-Refused.kind is some))
 
-stands : (c : Joined-sight) → StandsAt c.loop-start.place (drop c.loop-start.start c.args.source.now) (told (drop c.loop-start.start c.args.source.now) c.piece_at-sight.result)
+stands : (c : Joined-lexeme) → StandsAt c.loop-start.place (drop c.loop-start.start c.args.source.now) (match_of (drop c.loop-start.start c.args.source.now) c.piece_at-lexeme.result)
 stands c =
     let s = drop c.loop-start.start c.args.source.now in
     let some : 0 < length s = omega (arith, length-drop c.loop-start.start c.args.source.now, c.loop-start-test.true) in
-    elim c.match-sight.branch [
-      | in-Plain w ↦ plain_stands c.loop-start.place s c.after-rest.result.now c.piece_at-sight.result c.after-rest.ensures c.piece_at-sight.ensures some w.in-Plain.is
-      | in-Symbol+in_ok-push-in-Symbol+else-ends_box w ↦ symbol_stands c.loop-start.place s c.after-rest.result.now c.piece_at-sight.result w.in-Symbol.next
-          c.after-rest.ensures c.piece_at-sight.ensures some w.in-Symbol.is
+    elim c.match-lexeme.branch [
+      | in-Plain w ↦ plain_stands c.loop-start.place s c.after-rest.result.now c.piece_at-lexeme.result c.after-rest.ensures c.piece_at-lexeme.ensures some w.in-Plain.is
+      | in-Symbol+in_ok-push-in-Symbol+else-ends_box w ↦ symbol_stands c.loop-start.place s c.after-rest.result.now c.piece_at-lexeme.result w.in-Symbol.next
+          c.after-rest.ensures c.piece_at-lexeme.ensures some w.in-Symbol.is
     ]
 
 pub overflow_add-start-in-loop-start : goal.overflow_add-start-in-loop-start
@@ -134,36 +134,36 @@ loop-start-preserved c =
     let source = c.args.source.now in
     let at = c.loop-start.start in
     let s = drop at source in
-    let f = c.piece_at-sight.result in
+    let f = c.piece_at-lexeme.result in
     let rest = c.after-rest.result.now in
     let some : 0 < length s = omega (arith, length-drop at source, c.loop-start-test.true) in
     record {
-      before = λ tokens up. elim c.match-sight.branch [
+      before = λ tokens up. elim c.match-lexeme.branch [
         | in-Plain w ↦
-            moved _ _ _ _ _ (plain_read _ _ _ _ _ (c.loop-start.invariant.before tokens up) rest f c.after-rest.ensures c.piece_at-sight.ensures some
+            moved _ _ _ _ _ (plain_read _ _ _ _ _ (c.loop-start.invariant.before tokens up) rest f c.after-rest.ensures c.piece_at-lexeme.ensures some
             w.in-Plain.is w.newlines-line.result (w.newlines-line.ensures.value ∙ ap newlines w.front.ensures)) _ _ _
             (sym w.line-is) (sym w.place-is) (ap (λ v. tokens ++ map (token_at source) v.items) (sym w.symbols-is))
         | in-Symbol+in_ok-push-in-Symbol+else-ends_box w ↦
             moved _ _ _ _ _ (symbol_read _ _ _ _ tokens c.loop-start.symbols.items
-            (c.loop-start.invariant.before tokens up) rest f w.in-Symbol.next c.after-rest.ensures c.piece_at-sight.ensures some w.in-Symbol.is
-            c.match-sight.symbols.items (ap (λ v. v.items) w.symbols-is ∙ w.in_ok-push-in-Symbol.ensures.items) w.behind-place.result
+            (c.loop-start.invariant.before tokens up) rest f w.in-Symbol.next c.after-rest.ensures c.piece_at-lexeme.ensures some w.in-Symbol.is
+            c.match-lexeme.symbols.items (ap (λ v. v.items) w.symbols-is ∙ w.in_ok-push-in-Symbol.ensures.items) w.behind-place.result
             w.behind-place.ensures) _ _ _
             (sym w.line-is) (sym w.place-is) refl
       ];
-      part = elim c.match-sight.branch [
-        | in-Plain w ↦ subst (λ place. IsPart place (map (token_at source) c.match-sight.symbols.items)) (sym w.place-is)
+      part = elim c.match-lexeme.branch [
+        | in-Plain w ↦ subst (λ place. IsPart place (map (token_at source) c.match-lexeme.symbols.items)) (sym w.place-is)
             (subst (λ v. IsPart c.loop-start.place (map (token_at source) v.items)) (sym w.symbols-is) c.loop-start.invariant.part)
         | in-Symbol+in_ok-push-in-Symbol+else-ends_box w ↦
             let p : Placed = record { next = w.in-Symbol.next; line = c.loop-start.line; start = at; stop = at + f.len; amount = f.amount } in
-            let pushed : map (token_at source) c.match-sight.symbols.items ≡ map (token_at source) c.loop-start.symbols.items ++ token_at source p ∷ [] =
+            let pushed : map (token_at source) c.match-lexeme.symbols.items ≡ map (token_at source) c.loop-start.symbols.items ++ token_at source p ∷ [] =
             ap (λ v. map (token_at source) v.items) w.symbols-is ∙ ap (map (token_at source)) w.in_ok-push-in-Symbol.ensures.items ∙ map-append (token_at source) c.loop-start.symbols.items (p ∷ []) in
-            let a = symbol_stands c.loop-start.place s rest f w.in-Symbol.next c.after-rest.ensures c.piece_at-sight.ensures some w.in-Symbol.is in
-            let piece : piece_of f.sight f.amount (take f.len s) ≡ Symbol (kind_of w.in-Symbol.next f.amount (take f.len s)) = ap (λ sight. piece_of sight f.amount (take f.len s)) w.in-Symbol.is in
+            let a = symbol_stands c.loop-start.place s rest f w.in-Symbol.next c.after-rest.ensures c.piece_at-lexeme.ensures some w.in-Symbol.is in
+            let piece : piece_of f.lexeme f.amount (take f.len s) ≡ Symbol (kind_of w.in-Symbol.next f.amount (take f.len s)) = ap (λ lexeme. piece_of lexeme f.amount (take f.len s)) w.in-Symbol.is in
             let opening : c.loop-start.place ≡ places.Outside → begins_box (token_at source p).kind ≡ true =
-            λ out. begins_same w.in-Symbol.next f.amount f.amount (between at (at + f.len) source) (take f.len s) ∙ begins_there c.loop-start.place s (told s f) _ a piece out in
+            λ out. begins_same w.in-Symbol.next f.amount f.amount (between at (at + f.len) source) (take f.len s) ∙ begins_there c.loop-start.place s (match_of s f) _ a piece out in
             grown c.loop-start.place c.loop-start.line (map (token_at source) c.loop-start.symbols.items) (token_at source p) opening
             (sym (w.ends_box.ensures f.amount (between at (at + f.len) source)) ∙ w.if-ends_box.false) c.loop-start.invariant.part
-            c.match-sight.place (map (token_at source) c.match-sight.symbols.items) (w.place-is ∙ w.behind-place.ensures f.amount (between at (at + f.len) source)) pushed
+            c.match-lexeme.place (map (token_at source) c.match-lexeme.symbols.items) (w.place-is ∙ w.behind-place.ensures f.amount (between at (at + f.len) source)) pushed
       ];
       short = c.loop-start.invariant.short;
       within = omega (arith, (stands c).within, length-drop at source);

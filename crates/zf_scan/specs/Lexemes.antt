@@ -2,11 +2,11 @@
 use Rattle.std.specs.Prelude.{ℕ, List, take, drop, Option, Some, None}
 use Rattle.zf_scan.specs.declared.next.Next.{Next}
 use Rattle.zf_scan.specs.declared.next.Next.TheVariants as next
-use Rattle.zf_scan.specs.declared.pieces.Found.{Found}
+use Rattle.zf_scan.specs.declared.pieces.Match.{Match}
 use Rattle.zf_scan.specs.declared.pieces.Piece.{Piece}
 use Rattle.zf_scan.specs.declared.pieces.Piece.TheVariants.{Plain, Symbol, Refused}
-use Rattle.zf_scan.specs.declared.pieces.Sight.{Sight}
-use Rattle.zf_scan.specs.declared.pieces.Sight.TheVariants as sight
+use Rattle.zf_scan.specs.declared.pieces.Lexeme.{Lexeme}
+use Rattle.zf_scan.specs.declared.pieces.Lexeme.TheVariants as lexeme
 use Rattle.zf_scan.specs.declared.token.Kind.{Kind}
 use Rattle.zf_scan.specs.declared.token.Kind.TheVariants as k
 use Rattle.zf_scan.specs.Steps as steps
@@ -54,16 +54,16 @@ kind_of (next.Quantifier q) amount text = k.Quantifier q
 kind_of next.Delta amount text = k.Delta
 kind_of next.Xi amount text = k.Xi
 
-abbrev pub piece_of : Sight → ℕ → List ℕ → Piece
-piece_of sight.Plain amount text = Plain
-piece_of (sight.Symbol next) amount text = Symbol (kind_of next amount text)
-piece_of (sight.Refused kind) amount text = Refused kind
+abbrev pub piece_of : Lexeme → ℕ → List ℕ → Piece
+piece_of lexeme.Plain amount text = Plain
+piece_of (lexeme.Symbol next) amount text = Symbol (kind_of next amount text)
+piece_of (lexeme.Refused kind) amount text = Refused kind
 
 -- what a spelling is seen as
-abbrev pub seen : List ℕ → Option Sight → Option Piece
+abbrev pub seen : List ℕ → Option Lexeme → Option Piece
 seen text None = None
-seen text (Some sight) = Some (piece_of sight 0 text)
+seen text (Some lexeme) = Some (piece_of lexeme 0 text)
 
 -- what was found at the front of a text
-abbrev pub told : List ℕ → Found → steps.Found
-told s f = record { piece = piece_of f.sight f.amount (take f.len s); len = f.len }
+abbrev pub match_of : List ℕ → Match → steps.Match
+match_of s f = record { piece = piece_of f.lexeme f.amount (take f.len s); len = f.len }
