@@ -125,7 +125,7 @@ one_schemas x g p q is also =
     ∙ ap (λ (n : Option Named). schemas_of q.state q.init q.operations n)
     (one_sought p.sought q.sought (one_named_all g (option_to_list x.sought) (option_to_list p.sought) (option_to_list q.sought) is.sought also.sought))
 
--- ---- what is told of one that fails excludes that it passes
+-- ---- what is reported of one that fails excludes that it passes
 
 pub out_apart : (e : Environment) (text : List ℕ) (status : Status) (n : Named) → TellsOut e n.schema.comps text status → IsNoneOut e n.schema.comps → ⊥
 out_apart e text status n out none = none out.0 out.1.here

@@ -1,4 +1,4 @@
--- Two searches of which the second begins behind the last row of the first are one search.
+-- Two searches of which the second begins after the last row of the first are one search.
 use Rattle.law_answered.proofs.Prelude.{◌++◌, ◌+◌, ◌↔◌, ◌∙◌, ◌∷◌, ◌≡◌, [], ap, append_assoc, arith, inl, inr, length, length-append, List, map, None, Option, refl, Some, subst, sym, ℕ, flat_map-append, All-append, All-cons, All-nil, IsTotalOrder, lists_total, AllPairs, Contains, Ordering, AllPairs-cons, AllPairs-head, AllPairs-tail, Contains-either, Contains-head, Contains-later, Contains-left, Contains-right, IsRowOf-length, Conjuncts, Event, IsEvent, ComesAfter, IsLater, TiesAreEqual, IsUpTo, Truth, False, Out, True, AllPairs-mapped, Contains-map, Contains-mapped, AreEventsUpTo, Hold, IsBelow, IsWritten, lines, Status, AreTold, IsBefore, IsNotPast, together, Wording}
 use Rattle.law_answered.proofs.OneEnding.{last_of, rows_compared, same_event}
 use Rattle.law_answered.proofs.WrittenRows.{not_past, up_to, with_truth}

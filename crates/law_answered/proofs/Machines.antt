@@ -24,7 +24,7 @@ module _ {A : Type 0} (Passes : A → Type 0) where
   one_first F G f_apart g_apart join (x ∷ xs) (inr (passes, f)) (inl g) = absurd (g_apart x g passes)
   one_first F G f_apart g_apart join (x ∷ xs) (inr (passes, f)) (inr (_, g)) = one_first F G f_apart g_apart join xs f g
 
-  -- all pass, or one fails first, with what is told of it
+  -- all pass, or one fails first, with what is reported of it
   pub all_or_first : {B : Type 0} (Fails : B → A → Type 0) → ((x : A) → Passes x ⊎ ((b : B) × Fails b x)) → (xs : List A) → AllByRecursion Passes xs ⊎ ((b : B) × FirstFails Passes (Fails b) xs)
   all_or_first Fails judged [] = inl tt
   all_or_first {B} Fails judged (x ∷ xs) = by (judged x) (all_or_first Fails judged xs)

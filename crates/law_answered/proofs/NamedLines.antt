@@ -1,4 +1,4 @@
--- A line is that of one row, an object too, and what is told of a text that is refused is that it is the line of none.
+-- A line is that of one row, an object too, and what is reported of a text that is refused is that it is the line of none.
 use Rattle.law_answered.proofs.Prelude.{◌∙◌, ◌≡◌, [], ap, List, subst, sym, ℕ, Defined, Schema, Environment, Size, one_row, binding_text, AreClear, spellings}
 use Rattle.zf_format.specs.declared.format.Format.TheVariants.{Lines, Objects}
 use Rattle.zf_print.specs.{IsNoLine}

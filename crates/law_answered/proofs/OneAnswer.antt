@@ -30,7 +30,7 @@ no_held_values e comps (Some text) held none are = none held are
 
 -- ---- answers of a request, stage by stage
 
--- what is told of a search that is granted is one thing
+-- what is reported of a search that is granted is one thing
 abbrev IsOneTold : (Tells : List Defined → Schema → Environment → Portion → List ℕ → Status → Type 0) → Request → (file source one two : List ℕ) → (s t : Status) → Type 0
 IsOneTold Tells r file source one two s t =
     (g : List Defined) (a : Schema) (e : Environment) (p : Portion) → HasSchema source r.name g a → AreComplete (given_sets g) (stated g r.setting)

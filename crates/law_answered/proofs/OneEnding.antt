@@ -24,7 +24,7 @@ module _ {V : Type 0} (telling : Wording V) (limit : Option ℕ) where
   pub last_of : (front : List (Event V)) (e : Event V) → Contains (front ++ e ∷ []) e
   last_of front e = Contains-right front (e ∷ []) e (Contains-head e [])
 
-  -- no more events than the limit are written, or told as out
+  -- no more events than the limit are written, or reported as out
   few : (events : List (Event V)) (last : Option (List V)) (text : List ℕ) (status : Status) → IsWritten telling limit events last text status → IsNotAbove limit (length events)
   few events last text status (IsWritten.pauses front e is up hold reached told done) = subst (λ l. IsNotAbove l (length events)) (sym reached) (omega arith)
   few events last text status (IsWritten.breaks front e is up hold out below told past) =

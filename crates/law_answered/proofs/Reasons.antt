@@ -53,7 +53,7 @@ module _ (f : Format) (details : Bool) (file source : List ℕ) (g : List Define
       let end = one_search e a p telling (Some 1) x.events y.events last other_last x.text y.text s t x.listed y.listed x.ends y.ends in
       (end.lasts, end.statuses)
 
-  -- ---- what is told is one
+  -- ---- what is reported is one
 
   -- two texts are one, or tell the same conjuncts with other sides, or two minimal sets of conjuncts
   abbrev pub AreOneReason : (one two : List ℕ) → Type 0

@@ -12,7 +12,7 @@ use Rattle.law_answered.proofs.WrittenRows.{with_truth}
 
 -- ---- a run that pauses
 
--- what is told of a row that is out is not that the limit is reached
+-- what is reported of a row that is out is not that the limit is reached
 abbrev TellsApart : {V : Type 0} → Wording V → Type 0
 TellsApart {V} telling = (row : List V) → telling.out row ≡ telling.more → ⊥
 

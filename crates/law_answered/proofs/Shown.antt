@@ -83,7 +83,7 @@ module _ (Tells : List Defined → Schema → Environment → Portion → List �
       absurd (unread source fault checks.boxes refused checks.reads)
   of_answer (inr answer) = typed (staged Tells r file source text status answer)
 
--- what is told of all components, or of some
+-- what is reported of all components, or of some
 pub shown_told : (only : Option (List ℕ)) (r : Request) (file source : List ℕ) (g : List Defined) (a : Schema) (e : Environment) (p : Portion) (text : List ℕ) (status : Status) → r.only ≡ only
     → IsGranted r source g a e p → AnswersRequest r file source text status → TellsShown only r g a e p text status
 shown_told only r file source g a e p text status is granted answer =

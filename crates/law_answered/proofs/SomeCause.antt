@@ -101,7 +101,7 @@ module _ (e : Environment) (cs : List Comp) (held : List (Option Value)) (ranges
           (pick (λ i p. RuleOut e cs held (p ∷ [])) (λ i p. HasRow e cs held (p ∷ [])) ps (λ i p at. elim (row_decided (p ∷ [])) [ inl some ↦ inr some | inr never ↦ inl never ])))
     ]
 
--- ---- what is told of conjuncts, by none of their sides
+-- ---- what is reported of conjuncts, by none of their sides
 
 some_tellings : (R : ℕ → ResolvedTree → Told → Type 0) → ((i : ℕ) (p : ResolvedTree) → HasSome (R i p)) → (i : ℕ) (ps : List ResolvedTree) (m : List Bool) → HasSome (AreTellings R i ps m)
 some_tellings R each i [] m = ([], refl)

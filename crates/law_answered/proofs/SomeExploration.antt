@@ -1,4 +1,4 @@
--- Each exploration has an answer: it is refused at a stage, or what its machine can reach is told.
+-- Each exploration has an answer: it is refused at a stage, or what its machine can reach is reported.
 use Rattle.law_answered.proofs.Prelude.{◌∷◌, ◌≡◌, ◌≤◌, ◌⊎◌, [], ap, arith, inl, inr, List, map, None, Option, refl, Some, subst, sym, ℕ, AllByRecursion, AreSmall, BadRequest, BadSpec, causes, Checks, declared_out_line, Defined, Environment, first, finite_without_cause, given_sets, HasLimit, IsFinite, IsFirstOut, IsNoneOut, no_schema_lines, NotFinite, not_finite_lines, numbers_of, numbers_too_large_line, PastBounds, size_fault_lines, spellings, stated, Status, messages_in}
 use Rattle.std.specs.List.{AllZip}
 use Rattle.std.specs.Prelude.{◌++◌, option_to_list}
@@ -88,7 +88,7 @@ module _ (x : Exploration) (file source : List ℕ) (limited : HasLimit x.limit)
       some_explored : (e : Environment) → IsSearchable x source g p e → IsAnswered
       some_explored e is = let some = told e is x.sought in (some.0, some.1, ExplorationAnswer.explored g p e is some.2)
 
-      -- one of the schemas has a declared set that is out, and this is told of it
+      -- one of the schemas has a declared set that is out, and this is reported of it
       out_or_none : (e : Environment) (n : Named) → IsNoneOut e n.schema.comps ⊎ ((b : List ℕ × Status) × TellsOut e n.schema.comps b.0 b.1)
       out_or_none e n = by (first_out_or_none e n.schema.comps)
         where

@@ -66,7 +66,7 @@ pub data EndsLines {V : Type 0} (InDoubt : List V → Type 0) (w : Wording V) (l
 
 -- The text and the status of `show` for a schema among these globals, in this environment, after the named row and with the values that are held.
 pub record ShowsBindings (r : Request) (globals : List Defined) (a : Schema) (e : Environment) (p : Portion) (text : List ℕ) (status : Status) : Type 0 where
-  -- the range of each component: the values that lie in all its declared sets, or of them the one that is held
+  -- the range of each component: the values that are members of all its declared sets, or of them the one that is held
   pub ranges : List (List Value)
   pub of_components : AreRanges e a.comps p.held ranges
   -- the rows that have a line, and the last one that is looked at

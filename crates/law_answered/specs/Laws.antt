@@ -108,7 +108,7 @@ AreOfSame (e ∷ es) [] = ⊥
 AreOfSame (e ∷ es) (f ∷ fs) = ((g : List Defined) × (item : Item) × OffendsItem g item e.offence e.line × OffendsItem g item f.offence f.line) × AreOfSame es fs
 
 -- Two texts of messages are one, or differ in what is left open: which fault of the grammar an unread source has, which symbols a fault of it is about, which offence of
--- an ill typed paragraph is told and what is reported beside it, which schema without a component is reported, and the byte at which a text is no names of components, no binding, or no line of some components.
+-- an ill typed paragraph is reported and what is reported beside it, which schema without a component is reported, and the byte at which a text is no names of components, no binding, or no line of some components.
 pub data AreMessagesAlike (details : Bool) (file source one two : List ℕ) : Type 0 where
   same : one ≡ two → AreMessagesAlike details file source one two
   symbols : (fault : TextFault) (first second : Cited) → RefusesSource source fault → one ≡ text_fault_lines details file fault first
@@ -123,7 +123,7 @@ pub data AreMessagesAlike (details : Bool) (file source one two : List ℕ) : Ty
   no_binding : (first second : ℕ) → one ≡ not_a_binding_line first → two ≡ not_a_binding_line second → AreMessagesAlike details file source one two
   no_values : (first second : ℕ) → one ≡ not_held_line first → two ≡ not_held_line second → AreMessagesAlike details file source one two
 
--- Two texts in a format are one, or those of messages that are alike, or differ in what is told of the sides of disjunctions, or in which minimal set of conjuncts that can't hold together is told.
+-- Two texts in a format are one, or those of messages that are alike, or differ in what is reported of the sides of disjunctions, or in which minimal set of conjuncts that can't hold together is reported.
 pub data AreAlike (f : Format) (details : Bool) (file source one two : List ℕ) : Type 0 where
   same : one ≡ two → AreAlike f details file source one two
   messages : (first second : List ℕ) → AreMessagesAlike details file source first second → one ≡ messages_in f file first → two ≡ messages_in f file second → AreAlike f details file source one two

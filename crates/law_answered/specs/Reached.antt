@@ -31,7 +31,7 @@ SchemasMakeOneMachine = (e : Environment) (elements : List Spelling) (form : For
 abbrev pub graph_in : System → Graph Node Label
 graph_in m = steps m nodes.ghosts.eq
 
--- The text is that of a turn of each node that is met, with `end` behind it:
+-- The text is that of a turn of each node that is met, with `end` after it:
 pub record MeetsAll (m : System) (text : List ℕ) : Type 0 where
   pub turns : List (Turn Node Label)
   pub met : List (Met Node Label)

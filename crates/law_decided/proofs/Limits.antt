@@ -1,4 +1,4 @@
--- What can be decided of schemas: whether their components agree, and whether they are within the limits. So there is a next schema, or it is told why not.
+-- What can be decided of schemas: whether their components agree, and whether they are within the limits. So there is a next schema, or it is known why not.
 use Rattle.law_decided.proofs.Prelude.{◌∷◌, ◌≡◌, ◌≤◌, ◌⊎◌, [], inl, inr, length, List, None, Option, refl, Some, ℕ, Comp, Schema, clash, Limit, Offence, too_large, Agree, Agrees, comp_named, decorated, HasTypeOf, MarkAgrees, prime, schema_nodes, AreFew, components_max, conjuncts_max, declared_sets, height_max, IsLow, IsTooLarge, IsWithin, KeepsTo, nodes_max, sets_max, Clashes, Differs, IsNext, MarkClashes, OneClashes, Stops, SomeOffence}
 use Rattle.std.specs.List.{AllByRecursion}
 use Rattle.zf_tree.specs.declared.tree.RefMark.{RefMark}
@@ -7,7 +7,7 @@ use Rattle.zf_term.specs.declared.fault.Limit.TheVariants as limit
 use Rattle.zf_term.specs.{height}
 use Rattle.law_decided.proofs.Decided.{Decided, decided_all, at_most, same_type}
 
--- it holds, or it is told why not
+-- it holds, or it is known why not
 abbrev pub OrTold : Type 0 → (Offence → Type 0) → Type 0
 OrTold P Q = P ⊎ ((k : Offence) × Q k)
 

@@ -115,7 +115,7 @@ of_binary s n l op a b (inl p) (inl q) = by (combined (rule_of op) p.0 q.0 p.2 q
         let is = disagreement (rule_of op) p.0 q.0 p.2 q.2 in
         inr (is.0, line_of b, inr (inr (inl (inl (p.0, q.0, p.1, q.1, p.2, q.2, none, is.1, refl)))))
 
--- a chain behind an operand
+-- a chain after an operand
 module _ (s : Scope) (left : Tree) (x : Sort) (r : Relation) (e : Tree) (ks : Links) where
   of_link :
       IsOf s left x → Decided (Meets (left_need (relation_rule r)) x) → IsJudged s (right_need (relation_rule r)) e

@@ -7,7 +7,7 @@ use Rattle.zf_walk.proofs.Lists.{Contains-head, Contains-later, Contains-cases, 
 use Rattle.zf_walk.proofs.Picks.{IsRowOf-length}
 use Rattle.zf_lines.specs.declared.fault.Status.TheVariants.{Done, PastBounds}
 
--- ---- a list of events is cut behind one of them, or not
+-- ---- a list of events is cut after one of them, or not
 
 -- the events up to one of them, which is the last one, or all of them
 abbrev pub IsCut : {V : Type 0} → List (Event V) → Option (List V) → List (Event V) → Type 0
@@ -59,7 +59,7 @@ module _ {V : Type 0} (w : Wording V) (limit : Option ℕ) (all : List (Event V)
     written = pauses front e refl refl h l refl refl;
   }
 
-  -- an event that is not False, behind those that hold
+  -- an event that is not False, after those that hold
   next_written : (front : List (Event V)) (x : Event V) (xs : List (Event V)) (t : Truth) → x.truth ≡ t → t ≢ False → all ≡ front ++ x ∷ xs → Hold front → IsBelow limit (length front)
       → (all ≡ (front ++ x ∷ []) ++ xs → Hold (front ++ x ∷ []) → IsBelow limit (length (front ++ x ∷ [])) → AreWritten w limit all) → AreWritten w limit all
   next_written front x xs False is n e h l on = absurd (n refl)

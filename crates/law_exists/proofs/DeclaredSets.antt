@@ -1,4 +1,4 @@
--- What lies in declared sets is decided, and where they are bounded it is listed.
+-- What is a member of declared sets is decided, and where they are bounded it is listed.
 use Rattle.law_exists.proofs.Prelude.{◌≡◌, Bool, false, inl, inr, None, Option, Some, subst, true, ⊎_elim, and_parts, or_cases, IsMember, members, Value, carrier, DeclaredSet, DeclaredSets, no_sets, plain, set, sides, ResolvedTree, Ty, bounds, one_bounds, Environment, globally, HasOutcome, Decided, decided_both, decided_either, decided_in, Listed, listed_either, listed_kept, listed_none, listed_same, some_outcome, listed_members, same_value, IsCarrierOut, IsInCarrier, IsInOne, IsInPlain, IsInSet, IsInSets, IsOneOut, IsPlainOut, IsSetOut, is_none}
 use Rattle.zf_term.specs.declared.extent.Infinite.{Infinite}
 use Rattle.zf_value.specs.declared.value.Outcome.{Outcome}

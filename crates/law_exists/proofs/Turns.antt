@@ -1,4 +1,4 @@
--- In an exploration each state has its steps, or one that can't be told; in a search for one each is sought, or another, or it can't be told.
+-- In an exploration each state has its steps, or one that can't be decided; in a search for one each is sought, or another, or it can't be decided.
 use Rattle.std.proofs.Common.{◌∷◌, ◌≡◌, ◌⊎◌, [], false, inl, inr, List, None, Option, refl, subst, sym, true, ℕ}
 use Rattle.std.specs.List.{AllByRecursion}
 use Rattle.std.specs.Prelude.{AllPairs, Contains}
@@ -51,7 +51,7 @@ module _ (e : Environment) (a : Schema) (held : List (Option Value)) (finite : I
         },
       )
 
-  -- each holds or can't be told
+  -- each holds or can't be decided
   told : (x : Event Value) → IsEventOf e a held x → (x.truth ≡ True) ⊎ (x.truth ≡ Out)
   told x f = by x.truth refl where
     by : (t : Truth) → x.truth ≡ t → (x.truth ≡ True) ⊎ (x.truth ≡ Out)

@@ -48,14 +48,14 @@ EveryBound = (e : Environment) (a : Schema) (held : List (Option Value)) (ranges
 abbrev pub EveryTurn : Type 0
 EveryTurn = (m : System) → CanExplore m → EachNodeHasTurn (explored_in m)
 
--- In a search for a state each state is sought, or another, or it can't be told; so the search has a result.
+-- In a search for a state each state is sought, or another, or it can't be decided; so the search has a result.
 abbrev pub EverySight : Type 0
 EverySight = (m : System) → CanExplore m → EachIsTold (explored_in m) (sought_in m)
 
 abbrev pub EveryResult : Type 0
 EveryResult = (m : System) (limit : ℕ) → CanExplore m → 1 ≤ limit → IsSomehowSearched (explored_in m) (sought_in m) (words m) (verdict m) limit
 
--- Where states with these components are tested by a schema, one that is sought satisfies it, and another has no row of it, not even one that can't be told.
+-- Where states with these components are tested by a schema, one that is sought satisfies it, and another has no row of it, not even one that can't be decided.
 abbrev pub SoughtSatisfies : Type 0
 SoughtSatisfies =
     (m : System) (state : List Comp) (name : List ℕ) (a : Schema) (values : List Value) → m.test ≡ test_in state name a → IsSought m (State values) → Satisfies m.environment a state values

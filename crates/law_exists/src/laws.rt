@@ -23,12 +23,12 @@ pub fn every_number()
     ensures bound { EveryBound }
 {}
 
-/// In an exploration each state has its steps, or one that can't be told.
+/// In an exploration each state has its steps, or one that can't be decided.
 pub fn every_turn()
     ensures { EveryTurn }
 {}
 
-/// In a search for a state each state is sought, or another, or it can't be told, and the search has a result.
+/// In a search for a state each state is sought, or another, or it can't be decided, and the search has a result.
 pub fn every_sight()
     ensures sights { EverySight }
     ensures results { EveryResult }

@@ -1,4 +1,4 @@
--- What a tree spells is a front of the symbols: the rest stands behind it.
+-- What a tree spells is a front of the symbols: the rest stands after it.
 use Rattle.law_names.proofs.Prelude.{◌++◌, ◌∙◌, ◌∷◌, ◌≡◌, [], ap, append_assoc, List, sym, DeclTree, include, schema_reference, SchemaTree, Tree, vars, Name, separator, Symbol, symbol, Kind, Next, PartedBy, Spells, SpellsDecl, SpellsMarked, SpellsName, SpellsPredicates, SpellsSchema}
 use Rattle.zf_tree.specs.declared.symbol.Connective.TheVariants.{And, Or}
 use Rattle.zf_scan.specs.declared.token.Kind.TheVariants as k

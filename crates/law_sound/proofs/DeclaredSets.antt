@@ -1,4 +1,4 @@
--- What lies in the declared sets of a component is of its type, where it can be listed.
+-- What is a member of the declared sets of a component is of its type, where it can be listed.
 use Rattle.law_sound.proofs.Prelude.{◌+◌, ◌^◌, ◌↔◌, ◌∙◌, ◌∷◌, ◌≡◌, ◌⊎◌, [], ap, arith, Bool, false, inl, inr, List, None, Option, refl, Some, subst, sym, take, true, ℕ, ℤ, ⊎_elim, ints, none-some, same_Some, w64, ◌<ℤ◌, ◌≤ℤ◌, FitsSigned, negsuc, pos, slice_get, number_of-Int, same_number, number_of, IsMember, members, Outcome, Is, Int, Value, Tree, carrier, DeclaredSet, DeclaredSets, Defined, no_sets, plain, set, sides, ResolvedTree, int, power, Ty, Infinite, resolved, set_sort, IsOf, direct, outside, AreWellTyped, Environment, globally, HasOutcome, IsOfType, IsIn}
 use Rattle.std.proofs.lemmas.Bool.{cases_lt}
 use Rattle.zf_term.specs.declared.extent.Infinite.TheVariants.{Num, Nat, Nat1}

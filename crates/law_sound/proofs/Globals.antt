@@ -44,7 +44,7 @@ one_behind k n later sizes e = ap (λ xs. slice_get xs (1 + n)) e ∙ ap (slice_
 none_behind : (n : ℕ) (later sizes : List ℕ) → sizes ≡ later → slice_get sizes (0 + n) ≡ slice_get later n
 none_behind n later sizes e = ap (λ xs. slice_get xs (0 + n)) e ∙ ap (slice_get later) (none_more n)
 
--- what stands behind the size of a definition
+-- what stands after the size of a definition
 size_behind : (stated : List Size) (name : List ℕ) (d : Definition) (later sizes : List ℕ) (n : ℕ) → AddsSize stated name d later sizes → slice_get sizes (has_elements d + n) ≡ slice_get later n
 size_behind stated name (given_set m) later sizes n h = one_behind h.0 n later sizes h.2
 size_behind stated name (free_type m ns) later sizes n h = one_behind (length ns) n later sizes h

@@ -2,7 +2,7 @@
 use Rattle.law_sound.proofs.Prelude.{◌++◌, ◌∷◌, ◌≡◌, ◌≤◌, [], ap, arith, inl, inr, length, Less, List, refl, subst, sym, ⊎_elim, every_at, members-append, not_below_itself, IsAscending, IsMember, value_order, Value}
 use Rattle.std.proofs.lemmas.List.{length-append}
 
--- what stands before a member, and what stands behind it
+-- what stands before a member, and what stands after it
 split : (ys : List Value) (y : Value) → IsMember y ys → (a b : List Value) × (ys ≡ a ++ y ∷ b)
 split [] y m = absurd m
 split (z ∷ ys) y m = ⊎_elim (λ e. ([], ys, ap (λ x. x ∷ ys) e)) (λ n. let s = split ys y n in (z ∷ s.0, s.1, ap (λ r. z ∷ r) s.2)) m

@@ -10,7 +10,7 @@ some_found : {A B : Type 0} (f : A → B) (o : Option (ℕ × A)) (p : Option (�
 some_found f None p test is holds e none = true≢false (sym holds ∙ is)
 some_found f (Some q) p test is holds e none = absurd (cc)
 
--- none of those behind the component has its name
+-- none of those after the component has its name
 pub one_more_apart :
     (cs : List Component) (i : ℕ) (c : Component) (x : List ℕ) → i < length cs → c ≡ get_or cs i c → x ≡ (get_or cs i c).name
     → comp_named x (map comp_of (take (length cs - (i + 1)) (drop (i + 1) cs))) ≡ None
@@ -21,12 +21,12 @@ one_more_apart cs i c x below at name none rest =
     let one = subst (λ (y : List ℕ). comp_named y (map comp_of (drop (i + 1) cs)) ≡ None) same behind in
     at_step (λ (ds : List Component). AreOnce (map comp_of ds)) cs i c at below (one, rest)
 
--- those ahead have each a name of its own: the component and those behind it
+-- those ahead have each a name of its own: the component and those after it
 pub once_ahead : (cs : List Component) (i : ℕ) (c : Component) → i < length cs → c ≡ get_or cs i c → AreOnce (map comp_of (drop i cs))
     → (comp_named c.name (map comp_of (drop (i + 1) cs)) ≡ None) × AreOnce (map comp_of (drop (i + 1) cs))
 once_ahead cs i c below at all = subst (λ (ds : List Component). AreOnce (map comp_of ds)) (dropped cs i c below at) all
 
--- one of those behind the component has its name
+-- one of those after the component has its name
 pub one_found_behind :
     {A : Type 0} (f : A → Comp) (cs : List Component) (i : ℕ) (c : Component) (x : List ℕ) (o : Option (ℕ × A)) (test : Bool) → i < length cs → c ≡ get_or cs i c → x ≡ (get_or cs i c).name
     → test ≡ is_some o → test ≡ true → found_as f o ≡ comp_named x (map comp_of (take (length cs - (i + 1)) (drop (i + 1) cs)))

@@ -4,7 +4,7 @@ use Rattle.zf_calculus.proofs.Prelude.{if◌then◌else◌, ◌++◌, ◌+◌, �
 some_alike : {A : Type 0} {x y : A} → Some x ≡ Some y → x ≡ y
 some_alike h = (cc)
 
--- what is found is the first, or it is found behind it
+-- what is found is the first, or it is found after it
 front : {A : Type 0} (b : Bool) (a d : A) (i : ℕ) (o : Option (ℕ × A)) → (if b then Some (0, a) else later o) ≡ Some (i, d)
     → ((b ≡ true) × (i ≡ 0) × (a ≡ d)) ⊎ ((b ≡ false) × ((j : ℕ) × (o ≡ Some (j, d)) × (i ≡ suc j)))
 front true a d i o h = let e = some_alike h in inl (refl, sym (ap (λ q. q.0) e), ap (λ q. q.1) e)

@@ -111,7 +111,7 @@ abbrev pub memberships : (place : ℕ) → List Comp → List ResolvedTree
 memberships i [] = []
 memberships i (c ∷ cs) = flat_map (membership i) c.sets ++ memberships (i + 1) cs
 
--- what a schema says of its components: that they lie in their declared sets, and its conjuncts
+-- what a schema says of its components: that they are members of their declared sets, and its conjuncts
 abbrev pub constraints : Schema → List ResolvedTree
 constraints a = memberships 0 a.comps ++ a.conjuncts
 

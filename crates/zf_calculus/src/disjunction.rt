@@ -111,7 +111,7 @@ fn either_left<'a>(
     Ok(made)
 }
 
-/// That a component lies in a declared set, where a declaration names it.
+/// That a component is a member of a declared set, where a declaration names it.
 #[tactic(auto, using(zf_term::proofs::SetsSeen::seen))]
 fn push_membership<'a>(
     place: usize,
@@ -152,7 +152,7 @@ fn push_all_memberships<'a>(
     Ok(())
 }
 
-/// That the components lie in their declared sets, and the conjuncts, of a schema whose components are at these places.
+/// That the components are members of their declared sets, and the conjuncts, of a schema whose components are at these places.
 fn constraints<'a>(
     arena: &'a Bump,
     flat: &Flat<'a>,

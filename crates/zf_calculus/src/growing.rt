@@ -96,7 +96,7 @@ impl<'a> Growing<'a> {
         Ok(())
     }
 
-    /// What is left of the limits behind one more component, where there is room for its declared sets.
+    /// What is left of the limits after one more component, where there is room for its declared sets.
     fn left_behind(&self, component: &Component<'a>) -> Result<Left, Stop<'a>>
         requires { IsGrowing self.now }
         ensures ok { IfOk result (λ l. AreFew (grown (schema_of self.now.flat) (comp_of component.now)).comps → HasLeft (grown (schema_of self.now.flat) (comp_of component.now)) l.sets l.nodes) }
@@ -124,7 +124,7 @@ impl<'a> Growing<'a> {
         Ok(())
     }
 
-    /// How many nodes are left behind one more conjunct, where there is room for it.
+    /// How many nodes are left after one more conjunct, where there is room for it.
     #[inline]
     fn nodes_behind(&self, conjunct: &Conjunct<'a>) -> Result<usize, Stop<'a>>
         requires { IsGrowing self.now }
@@ -250,7 +250,7 @@ impl<'a> Growing<'a> {
     }
 }
 
-/// What is left of the limits behind a schema, if it is within them.
+/// What is left of the limits after a schema, if it is within them.
 fn left_of<'a>(flat: &Flat<'a>) -> Result<Left, Limit>
     ensures ok { IfOk result (λ l. HasLeft (schema_of flat.now) l.sets l.nodes) }
     ensures passed { IfErr result (λ l. KeepsTo l (schema_of flat.now) → ⊥) }

@@ -1,4 +1,4 @@
-//! How much of the limits is left behind parts of a schema.
+//! How much of the limits is left after parts of a schema.
 ghost use Rattle.std.specs.Prelude.{◌≡◌, ◌+◌, ◌<◌, ◌↔◌, IsTrue, MatchOption, map};
 ghost use Rattle.std.specs.List.{AllByRecursion, sum_by};
 ghost use Rattle.zf_term.specs.{comp_of, conjunct_of, IsLow, nodes, set_count, set_nodes, set_of};
@@ -10,7 +10,7 @@ use zf_shape::conjunct;
 use zf_shape::{room_after_nodes, room_after_sets};
 use zf_term::{Component, Conjunct, Domain};
 
-/// How much of the room for declared sets is left behind these, where there is enough.
+/// How much of the room for declared sets is left after these, where there is enough.
 pub fn after_sets<'a>(domains: &Chunked<'a, Domain<'a>>, room: usize) -> Option<usize>
     ensures { MatchOption result (room < sum_by set_count (map set_of domains.now)) (λ left. left + sum_by set_count (map set_of domains.now) ≡ room) }
 {
@@ -21,7 +21,7 @@ pub fn after_sets<'a>(domains: &Chunked<'a, Domain<'a>>, room: usize) -> Option<
     Some(left)
 }
 
-/// How much of the room for nodes is left behind these, where there is enough.
+/// How much of the room for nodes is left after these, where there is enough.
 pub fn after_nodes<'a>(domains: &Chunked<'a, Domain<'a>>, room: usize) -> Option<usize>
     ensures { MatchOption result (room < sum_by set_nodes (map set_of domains.now)) (λ left. left + sum_by set_nodes (map set_of domains.now) ≡ room) }
 {

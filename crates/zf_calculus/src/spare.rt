@@ -17,7 +17,7 @@ impl Spare {
         }
     }
 
-    /// What is expected behind this schema: nothing behind an empty one, since a text may take in any number of those.
+    /// What is expected after this schema: nothing after an empty one, since a text may take in any number of those.
     pub fn behind(self, flat: &Flat<'_>) -> Spare {
         if flat.components.len() == 0 && flat.conjuncts.len() == 0 {
             Spare::none()

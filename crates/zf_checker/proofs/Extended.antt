@@ -1,4 +1,4 @@
--- What is asked of a well typed term has the same answer where more is defined behind.
+-- What is asked of a well typed term has the same answer where more is defined after.
 use Rattle.zf_checker.proofs.Prelude.{if◌then◌else◌, ◌&&◌, ◌++◌, ◌∙◌, ◌≡◌, ap, Bool, drop, List, None, Option, refl, slice_get, Some, subst, sym, take, ℕ, take-append-drop, none-some, spelling, Links, no_decls, no_trees, Perhaps, Tree, tree, Trees, var_decl, VarDecls, abbreviation, Comp, Defined, first_named, ResolvedTree, Ty, Tys, bound, referent, resolved, resolved_all, resolved_links, resolved_part, resolved_ranges, predicate, set_sort, Sort, typed, outside, ExtentsKept, option_or}
 use Rattle.zf_tree.specs.declared.symbol.Relation.{Relation}
 use Rattle.zf_tree.specs.declared.operator.Listed.{Listed}
@@ -11,7 +11,7 @@ use Rattle.zf_checker.proofs.Fronts.{in_front}
 use Rattle.zf_schema.proofs.Named.{named_there}
 use Rattle.zf_checker.proofs.WellTyped.{globals_well_typed}
 
--- what is asked has the same answer with more behind these globals
+-- what is asked has the same answer with more after these globals
 abbrev pub Same : {A : Type 0} → List Defined → List Defined → (List Defined → A) → Type 0
 Same g more asked = asked (g ++ more) ≡ asked g
 

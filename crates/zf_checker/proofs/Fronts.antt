@@ -7,12 +7,12 @@ in_front [] ys i x at = absurd (none-some x at)
 in_front (y ∷ xs) ys zero x at = at
 in_front (y ∷ xs) ys (suc i) x at = in_front xs ys i x at
 
--- what goes on stands behind what was
+-- what goes on stands after what was
 pub at_seam : {A : Type 0} (xs : List A) (y : A) (ys : List A) → slice_get (xs ++ y ∷ ys) (length xs) ≡ Some y
 at_seam [] y ys = refl
 at_seam (x ∷ xs) y ys = at_seam xs y ys
 
--- what stands in a list with one more stood there before, or is the one, behind the whole list
+-- what stands in a list with one more stood there before, or is the one, after the whole list
 pub before_or_last :
     {A : Type 0} (xs : List A) (y : A) (i : ℕ) (x : A) → slice_get (xs ++ y ∷ []) i ≡ Some x
     → ((slice_get xs i ≡ Some x) × (take i (xs ++ y ∷ []) ≡ take i xs)) ⊎ ((y ≡ x) × (take i (xs ++ y ∷ []) ≡ xs))

@@ -4,7 +4,7 @@ use Rattle.zf_tree.specs.Trees as text
 use Rattle.zf_schema.specs.{a_box, a_paragraph, abbreviated, ChecksAll, ChecksOne, Constructs, Defines, DefinesParagraph, Gives, IsNew, Item, items, next_number, with_global}
 use Rattle.zf_schema.proofs.Once.{schema_once, text_once}
 
--- ---- what is defined stands behind what was
+-- ---- what is defined stands after what was
 
 abbrev Keeps : List Defined → List Defined → Type 0
 Keeps g h = (more : List Defined) × (h ≡ g ++ more)

@@ -21,7 +21,7 @@ given_well g (n ∷ ns) h well p =
     let given_set = given_set (next_number g) in
     given_well (with_global g n given_set) ns h (one_more g n given_set refl well) p.1
 
--- the constructors that are left, behind those before this place
+-- the constructors that are left, after those before this place
 constructors_well :
     (g : List Defined) (number : ℕ) (of_type : List ℕ) (place : ℕ) (ns : List Name) (h : List Defined)
     → (i : ℕ) (before : List (List ℕ)) → slice_get g i ≡ Some (record { name = of_type; definition = free_type number (before ++ map spelling ns) })

@@ -9,7 +9,7 @@ use Rattle.zf_term.specs.Faults as fault
 use Rattle.zf_checker.specs.declared.checker.Checked.{Checked}
 use Rattle.zf_schema.specs.{ChecksAll, ChecksOne, Item}
 
--- the fault, if there is one, is put behind those that were there
+-- the fault, if there is one, is put after those that were there
 abbrev pub Notes : {A : Type 0} → Result A Refusal → List TypeFault → List TypeFault → Type 0
 Notes (Ok a) es fs = fs ≡ es
 Notes (Err (Fault f)) es fs = fs ≡ es ++ f ∷ []

@@ -8,7 +8,7 @@ use Rattle.zf_typing.specs.{IsOf, resolved}
 use Rattle.zf_sorts.specs.{typed}
 use Rattle.zf_schema.specs.{IsChecked, IsSchema, next_number, outside}
 
--- the free type of this number and name is among the globals; it has this name at the place, and only that many globals stand behind it
+-- the free type of this number and name is among the globals; it has this name at the place, and only that many globals stand after it
 abbrev pub IsConstructor : List Defined → (name : List ℕ) → (number : ℕ) → (of_type : List ℕ) → (place : ℕ) → Type 0
 IsConstructor g name number of_type place =
     (i : ℕ) × (names : List (List ℕ)) × (slice_get g i ≡ Some (record { name = of_type; definition = free_type number names }))

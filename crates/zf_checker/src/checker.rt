@@ -128,7 +128,7 @@ fn check_schema_box<'a>(
     note(&mut checked.faults, defined)
 }
 
-/// Puts the fault, if there is one, behind the others.
+/// Puts the fault, if there is one, after the others.
 fn note<'a>(
     faults: &mut Items<TypeFault<'a>>,
     defined: Result<(), Refusal<'a>>,

@@ -105,7 +105,7 @@ fn append_components(text: &mut Vec<u8>, components: &[Component]) -> Result<(),
     Ok(())
 }
 
-/// `x: T` behind four spaces.
+/// `x: T` after four spaces.
 fn append_component(text: &mut Vec<u8>, component: &Component) -> Result<(), AllocError>
     ensures { OnOk result (text.new.items ≡ text.old.items ++ spec.component_line (comp_of component.now)) }
 {

@@ -37,7 +37,7 @@ fn top_command<'a>(alloc: Global) -> Result<Command<'a>, AllocError>
     Ok(command)
 }
 
-/// The subcommands `why` and `reach`, behind those that are there.
+/// The subcommands `why` and `reach`, after those that are there.
 fn with_questions<'a>(alloc: Global, command: Command<'a>) -> Result<Command<'a>, AllocError>
     ensures { (app : App) → IsCommand command.entry app → IfOk result (λ c. IsCommand c (spec.with_questions app)) }
 {

@@ -57,7 +57,7 @@ module _ (x : Exploration) (file source : List ℕ) (p : Schemas) (e : Environme
   abbrev IsMachine : System → Type 0
   IsMachine m = IsMachineOf e (spellings e.globals) (form_of x) p m
 
-  -- what is told of it is the answer
+  -- what is reported of it is the answer
   told_answer : (sought : Option (List ℕ)) → x.sought ≡ sought → (text : List ℕ) (status : Status) → TellsMachine sought x e.globals p e text status → ExplorationAnswer x file source text status
   told_answer sought same text status told = ExplorationAnswer.explored e.globals p e is (subst (λ (name : Option (List ℕ)). TellsMachine name x e.globals p e text status) (sym same) told)
 

@@ -1,4 +1,4 @@
--- The first event of a search, and what is told of it.
+-- The first event of a search, and what is reported of it.
 use Rattle.zf_engine.proofs.Prelude.{◌++◌, ◌∙◌, ◌∷◌, ◌≡◌, [], ap, List, None, Option, refl, Some, subst, ℕ, Stage, Value, Schema, Environment, portion, property, Goal, spellings, Spelling}
 use Rattle.std.specs.Prelude.{unwrap_or}
 use Rattle.zf_enum.specs.{Begins, conjuncts_of}

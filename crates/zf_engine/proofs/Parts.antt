@@ -17,7 +17,7 @@ use Rattle.zf_parts.specs.{ArePartsWritten, part_wording, StopsParts, WritesPart
 
 -- ---- answers that are whole
 
--- the messages of a refusal are an answer, whatever would be told of a search
+-- the messages of a refusal are an answer, whatever would be reported of a search
 pub show_refused : (r : Request) (file source text : List ℕ) (status : Status) → AreMessages r.format file (IsRefused r file source) text status → Answer (Show r) file source text status
 show_refused r file source text status (told, inl unread, is) = inl (told, unread, is)
 show_refused r file source text status (told, inr refused, is) = inr (RequestAnswer.refused (told, refused, is))
@@ -119,7 +119,7 @@ module _ (r : Request) (file source : List ℕ) (a : Schema) (g : Goal) (b : Sta
     is,
   )
 
-  -- what is told of them is the answer
+  -- what is reported of them is the answer
   granted : (only : Option (List ℕ)) → r.only ≡ only → (text : List ℕ) (status : Status) → TellsShown only r e.globals a e p text status → ShowAnswer r file source text status
   granted only same text status told = RequestAnswer.granted e.globals a e p search (subst (λ o. TellsShown o r e.globals a e p text status) (sym same) told)
 

@@ -1,4 +1,4 @@
--- The lines of what is told, one after another.
+-- The lines of what is reported, one after another.
 use Rattle.zf_engine.proofs.Prelude.{◌++◌, ◌+◌, ◌<◌, ◌∙◌, ◌≡◌, ◌≤◌, ◌∷◌, [], ap, append-nil, arith, get_or, length, List, refl, Result, suc, sym, zero, ℕ}
 use Rattle.std.proofs.Common.{append_assoc}
 use Rattle.std.specs.Prelude.{codes, drop, OnOk, Ok, Err}

@@ -9,7 +9,7 @@ use Rattle.zf_typing.specs.{component_meaning, global_meaning, last_named, meani
 
 -- ---- places
 
--- no reference names a component behind the first n
+-- no reference names a component after the first n
 pub push : (n : ℕ) (rs : List Reference) (r : Reference) → greatest_place rs ≤ n → place_named r ≤ n → greatest_place (rs ++ r ∷ []) ≤ n
 push n [] r h k = omega (arith, k)
 push n (q ∷ rs) r h k = let ih = push n rs r (omega (arith, h)) k in omega (arith, h, ih)

@@ -4,7 +4,7 @@ use Rattle.zf_term.specs.{Comp}
 use Rattle.zf_engine.specs.SourceLines.{trimmed}
 use Rattle.zf_engine.specs.Only.{component_place}
 
--- behind these places stands that of the component which is named between blanks, and it is none of them
+-- after these places stands that of the component which is named between blanks, and it is none of them
 pub record IsAdded (comps : List Comp) (name : List ℕ) (old new : List ℕ) : Type 0 where
   pub place : ℕ
   pub named : component_place comps (trimmed name) ≡ Some place

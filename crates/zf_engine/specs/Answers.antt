@@ -100,7 +100,7 @@ pub record IsSearch (r : Request) (source : List ℕ) (globals : List Defined) (
 
 -- ---- refusals
 
--- A request is refused for a source that is read, by the first case that applies. The text is told as lines.
+-- A request is refused for a source that is read, by the first case that applies. The text is written as lines.
 pub data RefusesRequest (r : Request) (file source text : List ℕ) (status : Status) : Type 0 where
   ill_typed : (globals : List Defined) (faults : List Fault) → Checks source globals faults → faults ≢ [] → AreLines r.details file faults text
       → status ≡ BadSpec → RefusesRequest r file source text status
@@ -123,7 +123,7 @@ pub data RefusesRequest (r : Request) (file source text : List ℕ) (status : St
       → AreShown a.comps r.only shown → IsNamedRow e shown r.after after → AreHeld e a.comps r.held held → IsFirstOut e a.comps place → slice_get a.comps place ≡ Some c → text ≡ declared_out_line c.name
       → status ≡ PastBounds → RefusesRequest r file source text status
 
--- The answer of a request for a source that is read: it is refused, or this is told of the search.
+-- The answer of a request for a source that is read: it is refused, or this is reported of the search.
 pub data RequestAnswer (Tells : List Defined → Schema → Environment → Portion → (text : List ℕ) → Status → Type 0) (r : Request) (file source text : List ℕ) (status : Status) : Type 0 where
   refused : AreMessages r.format file (RefusesRequest r file source) text status → RequestAnswer Tells r file source text status
   granted : (globals : List Defined) (a : Schema) (e : Environment) (p : Portion) → IsSearch r source globals a e p → Tells globals a e p text status
@@ -131,7 +131,7 @@ pub data RequestAnswer (Tells : List Defined → Schema → Environment → Port
 
 -- ---- `show`
 
--- in which lines the bindings of a schema are told
+-- in which lines the bindings of a schema are written
 abbrev pub wording : Request → List Defined → Schema → Wording Value
 wording r globals a = row_wording r.format (spellings globals) a.comps
 
@@ -196,7 +196,7 @@ format_of (Show r) = r.format
 format_of (Why r) = r.format
 format_of (Reach x) = x.format
 
--- what is told of a source with a fault of its text. Which fault of the grammar is told, on which line, and which symbols any fault is about, is open.
+-- what is reported of a source with a fault of its text. Which fault of the grammar is reported, on which line, and which symbols any fault is about, is open.
 abbrev pub UnreadAnswer : (details : Bool) → (file source text : List ℕ) → Status → Type 0
 UnreadAnswer details file source text status =
     (fault : TextFault) × (about : Cited) × RefusesSource source fault × (text ≡ text_fault_lines details file fault about) × (status ≡ BadSpec)

@@ -8,7 +8,7 @@ use Rattle.zf_why.specs.declared.cause.Cause.{Cause}
 use Rattle.zf_why.specs.declared.cause.Cause.TheVariants.{Empty, Alone, Together}
 use Rattle.zf_engine.specs.Reasons.{empty_lines, told_lines}
 
--- the components without a value, or what is told of the conjuncts that are to blame
+-- the components without a value, or what is reported of the conjuncts that are to blame
 abbrev pub cause_lines : Format → (file source : List ℕ) → List Spelling → Schema → Cause → List ℕ
 cause_lines f file source ss a (Empty empty) = empty_lines f file (chosen_of a.comps empty.items)
 cause_lines f file source ss a (Alone told) = told_lines f file source ss told.items

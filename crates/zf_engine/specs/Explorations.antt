@@ -97,7 +97,7 @@ HasInfinite x file numbers g p text status = FirstFails (λ n. IsFinite numbers 
 abbrev pub HasOut : Environment → Schemas → (text : List ℕ) → Status → Type 0
 HasOut e p text status = FirstFails (λ n. IsNoneOut e n.schema.comps) (λ n. TellsOut e n.schema.comps text status) (all_of p)
 
--- An exploration is refused for a source that is read, by the first case that applies. The text is told as lines.
+-- An exploration is refused for a source that is read, by the first case that applies. The text is written as lines.
 pub data RefusesExploration (x : Exploration) (file source text : List ℕ) (status : Status) : Type 0 where
   ill_typed : TellsFaults x.details file source text status → RefusesExploration x file source text status
   no_schema : (g : List Defined) → Checks source g [] → LacksSchema x g text status → RefusesExploration x file source text status
@@ -124,7 +124,7 @@ pub record ExploresMachine (x : Exploration) (g : List Defined) (p : Schemas) (e
   pub written : graph.IsExplored (explored_in machine) (words machine) (states_limit x) ending text
   pub ends : status ≡ ending_status ending
 
--- so it is where it can't be told whether a state is one that is sought
+-- so it is where it can't be decided whether a state is one that is sought
 abbrev pub result_status : seeking.Result → Status
 result_status seeking.found = Done
 result_status seeking.missing = Done

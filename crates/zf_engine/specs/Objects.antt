@@ -37,7 +37,7 @@ side_objects source ns = parted (map (source_object source) ns)
 abbrev pub side_array : (source : List ℕ) → (lines : List ℕ) → List ℕ
 side_array source ns = codes "[" ++ side_objects source ns ++ codes "]"
 
--- both sides, if it is told by both
+-- both sides, if it is reported by both
 abbrev pub sides_member : (source : List ℕ) → Option Sides → List ℕ
 sides_member source None = []
 sides_member source (Some s) = codes ", \"sides\": [" ++ side_array source s.left.items ++ codes ", " ++ side_array source s.right.items ++ codes "]"
@@ -48,7 +48,7 @@ outcome_object ss (outcome.Is v) = value_object ss v
 outcome_object ss outcome.Undefined = codes "null"
 outcome_object ss outcome.Out = codes "{\"out of bounds\": true}"
 
--- both operands, if they are told
+-- both operands, if they are reported
 abbrev pub operands_members : List Spelling → Option Operands → List ℕ
 operands_members ss None = []
 operands_members ss (Some o) = codes ", \"left\": " ++ outcome_object ss o.left ++ codes ", \"right\": " ++ outcome_object ss o.right

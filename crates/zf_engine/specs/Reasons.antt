@@ -63,7 +63,7 @@ abbrev pub operands_lines_of : List Spelling → Option Operands → List ℕ
 operands_lines_of ss None = []
 operands_lines_of ss (Some o) = operands_lines ss o
 
--- a conjunct's line, that of its first symbol, and behind it those of its sides, if it is told by both, and of its operands, if they are told
+-- a conjunct's line, that of its first symbol, and after it those of its sides, if it is reported by both, and of its operands, if they are reported
 abbrev pub told_line : Format → (file source : List ℕ) → List Spelling → Told → List ℕ
 told_line Lines file source ss t = source_line file source t.line ++ sides_lines_of file source t.sides ++ operands_lines_of ss t.operands
 told_line Objects file source ss t = told_object file source ss t
@@ -87,14 +87,14 @@ no_binding_line Objects = codes "{\"no binding\": true}\n"
 
 -- ---- the answer
 
--- The text tells these conjuncts, each beside others. Which minimal sets are told of the sides of a disjunction is open. So are the places of the conjuncts that are told by their sides:
+-- The text tells these conjuncts, each beside others. Which minimal sets are reported of the sides of a disjunction is open. So are the places of the conjuncts that are reported by their sides:
 -- those of the disjunctions of schemas, as `why` of `zf_why` has it, which a schema's predicates do not show.
 abbrev pub TellsConjuncts : Format → (details : Bool) → (file source : List ℕ) → Schema → Environment → (held : List (Option Value)) → (beside : ℕ → List ResolvedTree) → (chosen : List Bool) → (text : List ℕ) → Type 0
 TellsConjuncts f details file source a e held beside chosen text =
     (disjunctions : ℕ → Bool) × (told : List Told) × AreTold e a.comps held details beside disjunctions a.conjuncts chosen told × (text ≡ told_lines f file source (spellings e.globals) told ++ no_binding_line f)
 
 -- The text and the status of a search for bindings of a schema among these globals: its first event, as a binding or as one that is out of bounds; or, where there is none, a cause.
--- Which minimal set of conjuncts is told, where there are several, is open.
+-- Which minimal set of conjuncts is reported, where there are several, is open.
 pub data TellsWhy (f : Format) (details : Bool) (file source : List ℕ) (globals : List Defined) (a : Schema) (e : Environment) (p : Portion) (text : List ℕ) (status : Status) : Type 0 where
   satisfied : (event : Event Value) → HasEvents e a p (Some event.row) (event ∷ []) → event.truth ≡ True
       → text ≡ row_line f (spellings globals) a.comps event.row ++ satisfied_line f → status ≡ Done → TellsWhy f details file source globals a e p text status

@@ -1,4 +1,4 @@
--- What `show`, `why` and `reach` share: what a source defines, the sizes and the greatest number that are stated, and what is told where these or a schema are refused.
+-- What `show`, `why` and `reach` share: what a source defines, the sizes and the greatest number that are stated, and what is reported where these or a schema are refused.
 use Rattle.std.specs.Prelude.{◌≡◌, ◌≢◌, ℕ, Bool, not, List, [], ◌++◌, map, Option, Some, None, slice_get}
 use Rattle.std.specs.List.{filter, list_any}
 use Rattle.std.specs.Str.{bytes_eq}
@@ -70,7 +70,7 @@ size_fault_lines details g sizes size_faults.OutOfMemory = []
 abbrev pub numbers_of : Setting → Option ℕ
 numbers_of s = s.numbers
 
--- ---- what is told of a refusal
+-- ---- what is reported of a refusal
 
 -- the messages of a text that this tells, in this format
 abbrev pub AreMessages : Format → (file : List ℕ) → (Tells : List ℕ → Status → Type 0) → (text : List ℕ) → Status → Type 0

@@ -7,11 +7,11 @@ abbrev pub first_line : List ℕ → List ℕ
 first_line [] = []
 first_line (b ∷ bytes) = if b == 10 then [] else b ∷ first_line bytes
 
--- what stands behind the first line
+-- what stands after the first line
 abbrev pub further_lines : List ℕ → List ℕ
 further_lines bytes = drop (length (first_line bytes) + 1) bytes
 
--- what stands behind so many lines
+-- what stands after so many lines
 abbrev pub lines_behind : ℕ → List ℕ → List ℕ
 lines_behind zero bytes = bytes
 lines_behind (suc n) bytes = lines_behind n (further_lines bytes)

@@ -86,7 +86,7 @@ ToldOfFaults types details file source text status = UnreadAnswer details file s
 abbrev pub IsRefused : Request → (file source text : List ℕ) → Status → Type 0
 IsRefused r file source text status = UnreadAnswer r.details file source text status ⊎ RefusesRequest r file source text status
 
--- this answers the request, whatever would be told of a search
+-- this answers the request, whatever would be reported of a search
 abbrev pub AnswersRequest : Request → (file source : List ℕ) → Stop → Type 0
 AnswersRequest r file source stop = IfAnswered stop (IsRefused r file source)
 
@@ -103,7 +103,7 @@ abbrev pub WritesText : (text : List ℕ) → Status → Option (List ℕ) → O
 WritesText text status old new (Ok given) = (status ≡ given) × Appends old new text
 WritesText text status old new (Err fault) = AppendsFront old new text
 
--- the messages of what is told are written in this format, or a front of them
+-- the messages of what is reported are written in this format, or a front of them
 abbrev pub Tells : Format → (file : List ℕ) → Stop → Option (List ℕ) → Option (List ℕ) → Result Status RunFault → Type 0
 Tells format file (Answered text status) old new result = WritesText (messages_in format file text.items) status old new result
 Tells format file OutOfMemory old new (Ok given) = ⊥

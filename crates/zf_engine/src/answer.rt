@@ -164,7 +164,7 @@ fn show_globals<'a, W: Write>(
     }
 }
 
-/// Writes what is told where a request is refused.
+/// Writes what is reported where a request is refused.
 fn refuse<W: Write>(
     inquiry: Inquiry<'_>,
     stop: Stop,

@@ -23,7 +23,7 @@ fn line_numbered(source: &[u8], number: u32) -> &[u8]
     first_line(rest)
 }
 
-/// What stands behind the first line.
+/// What stands after the first line.
 fn further_lines(bytes: &[u8]) -> &[u8]
     ensures { result.now ≡ spec.further_lines bytes.now }
 {

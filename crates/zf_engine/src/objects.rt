@@ -32,7 +32,7 @@ pub fn append_empty_object(
     text.extend_from_slice(b"}\n")
 }
 
-/// Appends what is told of a conjunct. A refusal leaves a part of it.
+/// Appends what is reported of a conjunct. A refusal leaves a part of it.
 pub fn append_told_object(
     text: &mut Vec<u8>,
     report: Report<'_>,
@@ -76,7 +76,7 @@ fn append_source(text: &mut Vec<u8>, source: &[u8], line: u32) -> Result<(), All
     append_string(text, trimmed_line(source, line))
 }
 
-/// Appends both sides of a disjunction, if it is told by both.
+/// Appends both sides of a disjunction, if it is reported by both.
 fn append_sides(text: &mut Vec<u8>, source: &[u8], sides: &Option<Sides>) -> Result<(), AllocError>
     ensures { OnOk result (text.new.items ≡ text.old.items ++ spec.sides_member source.now sides.now) }
 {
@@ -115,7 +115,7 @@ fn append_side_objects(text: &mut Vec<u8>, source: &[u8], lines: &[u32]) -> Resu
     Ok(())
 }
 
-/// Appends what stands before an object, behind so many others.
+/// Appends what stands before an object, after so many others.
 fn append_separator(text: &mut Vec<u8>, count: usize) -> Result<(), AllocError>
     ensures { OnOk result (text.new.items ≡ text.old.items ++ comma_before count) }
 {
@@ -133,7 +133,7 @@ fn append_source_object(text: &mut Vec<u8>, source: &[u8], line: u32) -> Result<
     text.extend_from_slice(b"}")
 }
 
-/// Appends both operands of a relation, if they are told.
+/// Appends both operands of a relation, if they are reported.
 fn append_operands(
     text: &mut Vec<u8>,
     elements: &[Spelling],

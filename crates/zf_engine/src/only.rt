@@ -80,7 +80,7 @@ fn add_place(
     Ok(())
 }
 
-/// The answer for a name that does not fit, which stands behind blanks at a place.
+/// The answer for a name that does not fit, which stands after blanks at a place.
 fn not_components(alloc: Global, at: usize, name: &[u8]) -> Stop
     ensures { IfAnswered result TellsPlaceMisnamed }
 {

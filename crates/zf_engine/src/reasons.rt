@@ -87,7 +87,7 @@ fn append_empty_line(
     lines.extend_from_slice(&told)
 }
 
-/// The lines of what is told of conjuncts.
+/// The lines of what is reported of conjuncts.
 fn told_lines(style: &Style<'_>, report: Report<'_>, told: &[Told]) -> Result<Vec<u8>, AllocError>
     ensures { IfOk result (λ v. v.items ≡ spec.told_lines style.now.format report.entry.file.now report.entry.source.now style.now.elements.now told.now) }
 {
@@ -98,7 +98,7 @@ fn told_lines(style: &Style<'_>, report: Report<'_>, told: &[Told]) -> Result<Ve
     Ok(lines)
 }
 
-/// What is told of a conjunct.
+/// What is reported of a conjunct.
 fn append_told(
     style: &Style<'_>,
     lines: &mut Vec<u8>,

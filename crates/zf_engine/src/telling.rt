@@ -1,4 +1,4 @@
-//! What is told in the place of bindings, states or causes.
+//! What is reported in the place of bindings, states or causes.
 ghost use Rattle.std.specs.Prelude.{◌≡◌};
 ghost use Rattle.zf_engine.specs.{Tells, WritesText};
 ghost use Rattle.zf_lines.specs.{device_of, failures_of, read_failures, write_failures};
@@ -9,7 +9,7 @@ use std::io::Write;
 use zf_format::{Format, messages_in};
 use zf_lines::{Counted, RunFault, Status, write_text};
 
-/// Writes the messages of what is told, in this format.
+/// Writes the messages of what is reported, in this format.
 pub fn tell<W: Write>(
     alloc: Global,
     format: Format,

@@ -28,7 +28,7 @@ use zf_print::spellings_of;
 use zf_walk::Step;
 use zf_why::{Question, why};
 
-/// The answer of `why` for a source. Its refusals are told.
+/// The answer of `why` for a source. Its refusals are reported.
 pub fn why_source(
     alloc: Global,
     request: &Request,

@@ -9,7 +9,7 @@ abbrev greatest_up_to : ℕ → List Reference → ℕ
 greatest_up_to m [] = 0
 greatest_up_to m (r ∷ rs) = max (place_up_to m r) (greatest_up_to m rs)
 
--- ---- behind other references
+-- ---- after other references
 
 behind : (m : ℕ) (rs : List Reference) (r : Reference) → greatest_up_to m (rs ++ r ∷ []) ≡ max (greatest_up_to m rs) (place_up_to m r)
 behind m [] r = omega arith
@@ -129,7 +129,7 @@ all_reached k m [] l e = absurd (false≢true e)
 all_reached k m (r ∷ rs) l e =
     ⊎_elim (λ a. let p = one_reached k m r l a in omega (arith, p)) (λ a. let p = all_reached k m rs l a in omega (arith, p)) (either_true (is_component k r) (is_among k rs) e)
 
--- a component that is used is not behind the last one up to a later place
+-- a component that is used is not after the last one up to a later place
 pub used_up_to : (t : ResolvedTree) (k m : ℕ) → k ≤ m → uses t k ≡ true → k < need m t
 used_up_to t k m l e = let p = all_reached k m (references t) l e in omega (arith, p, up_to m t)
 

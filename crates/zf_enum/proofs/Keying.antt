@@ -108,7 +108,7 @@ sides-due line left right =
     let both = due_need m p (omega arith) in
     (omega (arith, whole, one, both), omega (arith, whole, other, both))
 
--- no component before k is named, and none behind
+-- no component before k is named, and none after
 pub only_one : (t : ResolvedTree) (k n : ℕ) → uses t k ≡ true → due t ≤ k + 1 → k ≤ n → ((j : ℕ) → j < n → uses t j ≡ false) → IsOnly t k
 only_one t k n named low all none = record {
   named = named;

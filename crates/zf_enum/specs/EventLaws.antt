@@ -1,4 +1,4 @@
--- What is claimed of the events of a schema: that there is one list of them, how it goes on behind a row, and the bound of its tests.
+-- What is claimed of the events of a schema: that there is one list of them, how it goes on after a row, and the bound of its tests.
 use Rattle.std.specs.Prelude.{◌≡◌, ℕ, ◌≤◌, List, ◌∷◌, ◌++◌, Option}
 use Rattle.zf_term.specs.{Schema}
 use Rattle.zf_value.specs.declared.plain.Value.{Value}

@@ -10,7 +10,7 @@ use Rattle.zf_meaning.specs.{Environment, environment_of}
 use Rattle.zf_enum.specs.declared.property.Property as judge
 use Rattle.zf_enum.specs.Property.{property}
 
--- What a search goes by: predicates, which are its conjuncts or, where there are trees, the leaves of them. They stand in an environment that may have names behind those of the schema's.
+-- What a search goes by: predicates, which are its conjuncts or, where there are trees, the leaves of them. They stand in an environment that may have names after those of the schema's.
 pub record Goal : Type 0 where
   pub environment : Environment
   pub further : Environment

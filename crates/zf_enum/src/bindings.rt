@@ -20,7 +20,7 @@ pub struct Bindings<'s, 'e, 'g, 'a> {
 }
 
 impl<'s, 'e, 'g, 'a> Bindings<'s, 'e, 'g, 'a> {
-    /// Stands before the first event in these ranges. The named row need not lie in them.
+    /// Stands before the first event in these ranges. The named row need not be in them.
     pub fn over(
         alloc: Global,
         property: Property<'e, 'g, 'a>,

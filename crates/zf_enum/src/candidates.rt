@@ -29,7 +29,7 @@ pub(crate) enum Tie {
     Members,
 }
 
-/// Gathers the places of the next range that an expression leaves, over all values of the components that it uses behind. Answers false where it is out.
+/// Gathers the places of the next range that an expression leaves, over all values of the components that it uses after. Answers false where it is out.
 pub(crate) fn gather_candidates<'a>(
     side: &Resolved<'a>,
     tie: Tie,
@@ -105,7 +105,7 @@ pub(crate) fn is_tried(side: &Resolved<'_>, ranges: &[Range<Value>], next: usize
     due <= next || is_worth_it(side, ranges, next, due)
 }
 
-/// Whether the components behind that an expression uses have no more rows than the range has values. With each value that is not left out, all these rows would have to be tried.
+/// Whether the components after that an expression uses have no more rows than the range has values. With each value that is not left out, all these rows would have to be tried.
 fn is_worth_it(side: &Resolved<'_>, ranges: &[Range<Value>], next: usize, due: usize) -> bool
     requires next { next < length ranges.now }
     requires due { due ≤ length ranges.now }

@@ -31,7 +31,7 @@ pub struct Instances<'s, 'e, 'g, 'a> {
 }
 
 impl<'s, 'e, 'g, 'a> Instances<'s, 'e, 'g, 'a> {
-    /// Stands before the first event of the schema that has the values which are held, by the components' places. Neither they nor the named row need lie in the ranges.
+    /// Stands before the first event of the schema that has the values which are held, by the components' places. Neither they nor the named row need be in the ranges.
     pub fn start(
         alloc: Global,
         arena: &'a Bump,

@@ -116,7 +116,7 @@ fn plant_leaf<'a>(
     forest.leaf(leaf)
 }
 
-/// Gathers the leaves of a predicate that have to hold, if it has to, where its leaves are planted from this place on. What is answered is the place behind them.
+/// Gathers the leaves of a predicate that have to hold, if it has to, where its leaves are planted from this place on. What is answered is the place after them.
 #[cycle(required)]
 fn gather_required(
     term: &Resolved<'_>,

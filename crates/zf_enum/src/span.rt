@@ -1,4 +1,4 @@
-//! Numbers of which it is told between which two they lie, by the value of the next component.
+//! Numbers of which it is known between which two they lie, by the value of the next component.
 ghost use Rattle.std.specs.Prelude.{◌≡◌, ℤ, ◌+ℤ◌, ◌-ℤ◌, ◌*ℤ◌, IfOk, Some};
 ghost use Rattle.zf_enum.specs.{IsSmall};
 ghost use Rattle.zf_enum.specs.Spans.{Spans};
@@ -13,7 +13,7 @@ pub(crate) struct Span {
     pub(crate) high: i32,
 }
 
-/// Why it isn't told what an expression comes to.
+/// Why it isn't known what an expression comes to.
 #[derive(Drop)]
 pub(crate) enum Untold {
     Unknown,

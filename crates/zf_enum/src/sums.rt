@@ -104,7 +104,7 @@ fn adds(op: Infix) -> bool {
 
 // ---- what they leave
 
-/// Gathers the places of the next range with which a relation between sums may hold. Answers false where it isn't told, or where these are many.
+/// Gathers the places of the next range with which a relation between sums may hold. Answers false where it isn't known, or where these are many.
 pub(crate) fn gather_balanced<'a>(
     term: &Resolved<'a>,
     ranges: &[Range<Value>],
@@ -222,7 +222,7 @@ fn is_possible(relation: Relation, low: i64, high: i64) -> bool
 
 // ---- sums
 
-/// What a sum comes to with a value of the next component, whatever the values behind it are.
+/// What a sum comes to with a value of the next component, whatever the values after it are.
 #[cycle(spanning)]
 #[tactic(auto, using(zf_term::proofs::ResolvedSeen::seen))]
 fn span_of<'a>(
@@ -309,7 +309,7 @@ fn span_of_number(n: u64) -> Result<Span, Untold>
     }
 }
 
-/// The value of the next component, or any that one behind it may have.
+/// The value of the next component, or any that one after it may have.
 fn span_ahead(place: usize, ranges: &[Range<Value>], next: usize) -> Result<Span, Untold>
     requires ascending { AreAscending value_order ranges.now }
     ensures { IfOk result (IsSpanAhead ranges.now next place) }

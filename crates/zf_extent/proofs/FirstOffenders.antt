@@ -27,7 +27,7 @@ pub first_of_both : {A : Type 0} (xs ys : List A) → first (xs ++ ys) ≡ optio
 first_of_both [] ys = refl
 first_of_both (x ∷ xs) ys = refl
 
--- one item further: what it has comes before what the items behind it have
+-- one item further: what it has comes before what the items after it have
 pub first_step :
     {X A : Type 0} (all behind : List X → List A) (xs : List X) (i : ℕ) (x : X) (here : List A) (whole found next : Option A)
     → x ≡ get_or xs i x → i < length xs
@@ -83,7 +83,7 @@ ends_where : (ks : List ResolvedLink) → (length ks == 0) ≡ ends ks
 ends_where [] = refl
 ends_where (k ∷ ks) = eqb-suc-zero (length ks)
 
--- none is behind
+-- none is after
 pub ends_at : (xs : List ResolvedLink) (n : ℕ) → (length (take (length xs - n) (drop n xs)) == 0) ≡ ends (drop n xs)
 ends_at xs n = ap (λ ks. length ks == 0) (take_rest xs n) ∙ ends_where (drop n xs)
 

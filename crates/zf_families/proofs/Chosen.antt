@@ -1,9 +1,9 @@
--- Which rows are told: those that a law allows which goes by the first layer.
+-- Which rows are listed: those that a law allows which goes by the first layer.
 use Rattle.zf_families.proofs.Prelude.{◌↔◌, ◌∷◌, ◌≡◌, ◌⊎◌, [], Bool, inl, inr, List, map, subst, true, ⊎_elim, filter, IsMember, Value, extended, extensions, some, whole}
 use Rattle.zf_families.proofs.Lists.{In, in_left, in_right, in_either, in_map, in_from_map, in_filter, in_from_filter, in_flat_map, in_from_flat_map}
 use Rattle.zf_families.proofs.Told.{member_in, in_member}
 
--- an item of the layer, and behind it a row that it fits, of which P holds
+-- an item of the layer, and after it a row that it fits, of which P holds
 abbrev pub Takes : (Value → List Value → Bool) → List Value → (List Value → Type 0) → List Value → Type 0
 Takes f layer P r = (p : Value) × (s : List Value) × (p ∷ s ≡ r) × IsMember p layer × P s × (f p s ≡ true)
 

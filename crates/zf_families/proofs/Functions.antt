@@ -144,7 +144,7 @@ module _ (b : List Value) (f : Value → List Value → Bool) (Law : List Value 
             (λ n. let v = t.4.1 u n in (v.0, inr v.1)) m),
       )
 
-  -- ---- what is told
+  -- ---- what is listed
 
   above : (x : Value) (ys : List Value) → AllByRecursion (λ y. value_order x y ≡ Less) ys → (y : Value) → Each (AllByRecursion (λ q. value_order (pair x y) q ≡ Less)) (map (pairs b) ys)
   above x ys h y = each_map (AllByRecursion (λ q. value_order (pair x y) q ≡ Less)) (pairs b) ys (lift ys h)

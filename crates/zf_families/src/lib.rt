@@ -1,4 +1,4 @@
-//! The sets of sets of the toolkit: power sets, products, relations, functions and injections. Each is told out by its size, before it is built.
+//! The sets of sets of the toolkit: power sets, products, relations, functions and injections. Each is found out of bounds by its size, before it is built.
 #![tactic(auto)]
 
 mod count;

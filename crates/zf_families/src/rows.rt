@@ -93,7 +93,7 @@ fn with_more(
     Ok(next)
 }
 
-/// Puts each item of the layer before each of the rows that it fits, behind what is there.
+/// Puts each item of the layer before each of the rows that it fits, after what is there.
 fn extend(
     alloc: Global,
     fits: Fits,
@@ -109,7 +109,7 @@ fn extend(
     Ok(())
 }
 
-/// Puts the item before each of the rows that it fits, behind what is there.
+/// Puts the item before each of the rows that it fits, after what is there.
 fn extend_by(
     alloc: Global,
     fits: Fits,
@@ -127,7 +127,7 @@ fn extend_by(
     Ok(())
 }
 
-/// The item, and the row behind it.
+/// The item, and the row after it.
 fn begun(alloc: Global, p: &Value, row: &[Value]) -> Result<Items<Value>, AllocError>
     ensures { IfOk result (λ r. r ≡ p.now ∷ row.now) }
 {
@@ -226,7 +226,7 @@ pub fn product(alloc: Global, a: &[Value], b: &[Value]) -> Result<Vec<Value>, Al
     Ok(all)
 }
 
-/// The pairs of the value with the members of the set, behind what is there.
+/// The pairs of the value with the members of the set, after what is there.
 fn append_pairs(
     alloc: Global,
     x: &Value,

@@ -29,7 +29,7 @@ abbrev pub line_member : List ℕ → List ℕ
 line_member [] = []
 line_member (b ∷ digits) = codes "\"line\": " ++ digits ++ codes ", "
 
--- of a line that begins with the name of the file, by what is behind that, and the place of a colon there
+-- of a line that begins with the name of the file, by what is after that, and the place of a colon there
 abbrev pub located_members : (file line rest : List ℕ) → Option ℕ → List ℕ
 located_members file line rest None = message_member line
 located_members file line rest (Some n) =
@@ -38,9 +38,9 @@ located_members file line rest (Some n) =
 abbrev pub message_members : (file line : List ℕ) → List ℕ
 message_members file line = if starts_with nat_eq line file then located_members file line (drop (length file) line) (colon_place (drop (length file) line)) else message_member line
 
--- ---- a detail: `WORD: TEXT` behind four blanks
+-- ---- a detail: `WORD: TEXT` after four blanks
 
--- of what is behind the blanks, by the place of a colon there
+-- of what is after the blanks, by the place of a colon there
 abbrev pub detail_member : List ℕ → Option ℕ → List ℕ
 detail_member detail None = member (codes "more") detail
 detail_member detail (Some n) = member (take n detail) (drop (n + 2) detail)
@@ -58,7 +58,7 @@ abbrev pub text_lines : List ℕ → List (List ℕ)
 text_lines [] = []
 text_lines (b ∷ text) = if is_newline b then [] ∷ text_lines text else onto_first b (text_lines text)
 
--- what a line adds behind a message: one more member, or the next message
+-- what a line adds after a message: one more member, or the next message
 abbrev pub further : (file line : List ℕ) → List ℕ
 further file line = if is_detail line then codes ", " ++ detail_member (drop 4 line) (colon_place (drop 4 line)) else codes "}\n{" ++ message_members file line
 

@@ -60,7 +60,7 @@ fn first_line(text: &[u8]) -> &[u8]
     &text[..line_len(text)]
 }
 
-/// What stands behind the first newline.
+/// What stands after the first newline.
 fn behind_line(text: &[u8]) -> &[u8]
     ensures { result.now ≡ after_first spec.is_newline text.now }
 {
@@ -72,7 +72,7 @@ fn behind_line(text: &[u8]) -> &[u8]
     }
 }
 
-/// Appends what a line adds behind a message.
+/// Appends what a line adds after a message.
 fn append_further(text: &mut Vec<u8>, file: &[u8], line: &[u8]) -> Result<(), AllocError>
     ensures { OnOk result (text.new.items ≡ text.old.items ++ spec.further file.now line.now) }
 {
@@ -85,7 +85,7 @@ fn append_further(text: &mut Vec<u8>, file: &[u8], line: &[u8]) -> Result<(), Al
     }
 }
 
-/// Appends the member of a detail, which is behind its blanks.
+/// Appends the member of a detail, which is after its blanks.
 fn append_detail(text: &mut Vec<u8>, detail: &[u8]) -> Result<(), AllocError>
     ensures { OnOk result (text.new.items ≡ text.old.items ++ spec.detail_member detail.now (spec.colon_place detail.now)) }
 {
@@ -106,7 +106,7 @@ fn append_message(text: &mut Vec<u8>, file: &[u8], line: &[u8]) -> Result<(), Al
     }
 }
 
-/// Appends the members of a line that begins with the name of the file, by what is behind that.
+/// Appends the members of a line that begins with the name of the file, by what is after that.
 fn append_located(
     text: &mut Vec<u8>,
     file: &[u8],

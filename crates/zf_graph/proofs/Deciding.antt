@@ -1,4 +1,4 @@
--- Where a search ends: the first new node that is sought, or of which it can't be told, or that is one more than are asked for.
+-- Where a search ends: the first new node that is sought, or of which it can't be decided, or that is one more than are asked for.
 use Rattle.std.proofs.lemmas.Bool.{cond-false}
 use Rattle.zf_graph.proofs.Prelude.{◌++◌, ◌<◌, ◌∙◌, ◌∷◌, ◌≡◌, ◌≤◌, ◌⊎◌, [], ap, arith, Bool, false, inl, inr, length, List, refl, Some, subst, sym, ℕ, slice_get, Edge, Explored, Met, IsMet, is_met, beyond, arrive_all}
 use Rattle.zf_graph.proofs.Places.{at_last}
@@ -16,7 +16,7 @@ module _ {N L : Type 0} (eq : N → N → Bool) (a : Met N L) (met : List (Met N
       go m [] h = at-arrive_all eq a m more i x h
       go m (e ∷ es) h = go (arrive_all eq a m (e ∷ [])) es h
 
-  -- the new node stands behind the others
+  -- the new node stands after the others
   pub new_behind : (es : List (Edge N L)) (e : Edge N L) → is_met eq (arrive_all eq a met es) e.to ≡ false → arrive_all eq a met (es ++ e ∷ []) ≡ arrive_all eq a met es ++ beyond a e ∷ []
   new_behind es e fresh = arrive_all-push eq a met es e ∙ cond-false (is_met eq (arrive_all eq a met es) e.to) (arrive_all eq a met es) (arrive_all eq a met es ++ beyond a e ∷ []) fresh
 
@@ -66,7 +66,7 @@ module _ {N L : Type 0} (p : Explored N L) (s : Sought N) (limit : ℕ) where
     decides_once before to q r (is_full other h e) (is_untold at k f) = absurd (none_untold to at other k)
     decides_once before to q r (is_full other h e) (is_full same k f) = e ∙ sym f
 
-    -- no search goes on behind it
+    -- no search goes on after it
     pub ends_there : (before after : List (Met N L)) (to : N) (result : Result) → Decides before to result → IsMet after to → length before < length after → IsClear after → ⊥
     ends_there before after to result (is_sought h e) m l c = none_sought to (c.others to m) h
     ends_there before after to result (is_untold at h e) m l c = none_untold to at (c.others to m) h

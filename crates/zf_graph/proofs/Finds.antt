@@ -84,12 +84,12 @@ module _ {N L O X : Type 0} (s : Searched N L O X) (orderly : IsOrderly s) (a : 
       (λ x m. (h.members x).1 ((k.members x).0 (subst (λ w. Contains w x) (sym f.1) (Contains-right xs f.0 x m)))) in
       sym (f.1 ∙ ap (λ w. xs ++ w) none ∙ append-nil xs)
 
-  -- where what can't be told is found first, not all hold
+  -- where what can't be decided is found first, not all hold
   pub all_or_out : (xs ys : List X) (x : X) → AreFinds s a o xs → EachHolds s xs → AreFirst s a o (ys ++ x ∷ []) → s.IsOut x → ⊥
   all_or_out xs ys x h hold k out =
       orderly.told x (hold x ((h.members x).1 (k.are x (Contains-right ys (x ∷ []) x (Contains-head x []))))) out
 
-  -- of what holds and of what can't be told, the lists before the first that can't be told are one
+  -- of what holds and of what can't be decided, the lists before the first that can't be decided are one
   pub before_out : (xs ys : List X) (x y : X) → EachHolds s ys → s.IsOut x → IsFront (xs ++ x ∷ []) (ys ++ y ∷ []) → (xs ≡ ys) × (x ≡ y)
   before_out xs ys x y hold out f = go xs ys hold f where
     head : {X : Type 0} → X → List X → X

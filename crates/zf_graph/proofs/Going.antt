@@ -59,7 +59,7 @@ module _ {N L O X : Type 0} (s : Searched N L O X) (a : N) where
         ap (λ m. es ++ map (s.edge m o) xs) number ∙ ap (λ w. w ++ map (s.edge (n + 1 + k) o) xs) is ∙ append_assoc (map (s.edge n p) ys) rest (map (s.edge (n + 1 + k) o) xs),
       )
 
-  -- the same where the next can't be told
+  -- the same where the next can't be decided
   pub breaks_in_part : (n : ℕ) (os : List O) (k : ℕ) (o : O) (es : Edges) (xs : List X) (x : X) → slice_get os k ≡ Some o → HasParts s a n (take k os) es
       → AreFirst s a o (xs ++ x ∷ []) → EachHolds s xs → s.IsOut x → BreaksParts s a n os (es ++ map (s.edge (n + k) o) xs) (s.stop o x)
   breaks_in_part n [] k o es xs x at h first hold out = absurd (none_some o at)

@@ -47,7 +47,7 @@ module _ {N L O X : Type 0} (s : Searched N L O X) (orderly : IsOrderly s) (a : 
   abbrev Edges : Type 0
   Edges = List (Edge N L)
 
-  -- all that is found in a part, each of which holds or can't be told
+  -- all that is found in a part, each of which holds or can't be decided
   pub record AreListed (o : O) : Type 0 where
     pub finds : List X
     pub are : AreFinds s a o finds
@@ -87,7 +87,7 @@ module _ {N L O X : Type 0} (s : Searched N L O X) (orderly : IsOrderly s) (a : 
       let whole : xs ++ rest ≡ r.0 ++ (r.1 ++ rest) = ap (λ w. w ++ rest) r.2 ∙ append_assoc r.0 r.1 rest in
       inl (r.0, front_first o r.0 (r.1 ++ rest) (subst (AreFirst s a o) whole are), front_holds xs r.0 r.1 r.2 hold, r.3)
 
-  -- ---- up to what can't be told
+  -- ---- up to what can't be decided
 
   record IsCut (xs : List X) : Type 0 where
     pub front : List X
@@ -133,7 +133,7 @@ module _ {N L O X : Type 0} (s : Searched N L O X) (orderly : IsOrderly s) (a : 
 
   -- ---- the turn
 
-  -- whether the node is a stray, or that it can't be told
+  -- whether the node is a stray, or that it can't be decided
   abbrev pub IsStrayTold : Type 0
   IsStrayTold = ((b : Bool) × s.IsStray a b) ⊎ ((at : List ℕ) × s.IsDoubtful a at)
 

@@ -43,7 +43,7 @@ module _ {N L : Type 0} where
         explores = subst (λ k. Explores p (arrive_all p.eq l.item met l.turn.edges) (k + 1) l.rest after) same l.explores;
       }
 
-  -- two lists of turns: they are one, or one of them goes on behind the other
+  -- two lists of turns: they are one, or one of them goes on after the other
   pub data IsCompared (p : Explored N L) (place : ℕ) (ts us : List (Turn N L)) (one two : List (Met N L)) : Type 0 where
     same : ts ≡ us → one ≡ two → IsCompared p place ts us one two
     shorter : IsLonger p place ts us one two → IsCompared p place ts us one two
@@ -123,7 +123,7 @@ module _ {N L : Type 0} where
   last_of x (y ∷ xs) = let r = last_of y xs in (x ∷ r.0, r.1, ap (λ l. x ∷ l) r.2)
 
   module _ (p : Explored N L) (w : Words N L) (limit : ℕ) (sure : IsSure p) where
-    -- what goes on behind a full turn meets more than the limit has
+    -- what goes on after a full turn meets more than the limit has
     pub too_many : (a : Met N L) (met : List (Met N L)) (now : Turn N L) (e : Edge N L) (more es : List (Edge N L))
         → length (arrive_all p.eq a met now.edges) ≡ limit → is_met p.eq (arrive_all p.eq a met now.edges) e.to ≡ false
         → es ≡ (now.edges ++ e ∷ []) ++ more → length (arrive_all p.eq a met es) ≤ limit → ⊥

@@ -24,7 +24,7 @@ module _ {X : Type 0} where
   pub one_at : (xs : List X) (i : ℕ) (x y : X) → slice_get xs i ≡ Some x → slice_get xs i ≡ Some y → x ≡ y
   one_at xs i x y p q = one_some x y (sym p ∙ q)
 
-  -- an item keeps its place where others come behind
+  -- an item keeps its place where others come after
   pub at_left : (xs ys : List X) (i : ℕ) (x : X) → slice_get xs i ≡ Some x → slice_get (xs ++ ys) i ≡ Some x
   at_left [] ys i x p = absurd (none_some x p)
   at_left (z ∷ xs) ys zero x p = p
@@ -35,7 +35,7 @@ module _ {X : Type 0} where
   at_last [] y = refl
   at_last (z ∷ xs) y = at_last xs y
 
-  -- an item with one behind is one of the first, or the last
+  -- an item with one after is one of the first, or the last
   pub at_push : (xs : List X) (y : X) (i : ℕ) (x : X) → slice_get (xs ++ y ∷ []) i ≡ Some x → (slice_get xs i ≡ Some x) ⊎ ((i ≡ length xs) × (x ≡ y))
   at_push [] y zero x p = inr (refl, sym (one_some y x p))
   at_push [] y (suc i) x p = absurd (none_some x p)

@@ -138,7 +138,7 @@ module _ {N L : Type 0} (p : Explored N L) (s : Sought N) (w : Words N L) (last 
             ∙ ap (λ n. (w.head ++ way_text w p.eq (nodes_of (arrive_all p.eq k.item k.before (now.edges ++ e ∷ []))) p.root (k.item.way ++ e ∷ []))
             ++ last found (length (arrive_all p.eq k.item k.before now.edges)) n) (count p s limit node now met place inner k e next none some))
 
-        -- it can't be told
+        -- it can't be decided
         pub seeks_untold : (at : List ℕ) → s.IsUntold e.to at → IsSearched p s w last limit (untold at) (w.head ++ last (untold at) (length met) next)
         seeks_untold at doubt =
             doubts k.turns k.before k.item now e at k.up_to there (subst (λ m. length m ≤ limit) k.of_met k.few)

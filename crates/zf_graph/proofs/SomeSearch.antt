@@ -27,7 +27,7 @@ module _ {N L : Type 0} (p : Explored N L) (s : Sought N) where
       go (suc i) h = absurd (none_some m.item h)
 
 module _ {N L : Type 0} (p : Explored N L) (s : Sought N) (limit : ℕ) (told : EachIsTold p s) where
-  -- an edge leads to a node that ends the search, or the search goes on behind it
+  -- an edge leads to a node that ends the search, or the search goes on after it
   data IsPassed (a : Met N L) (met : List (Met N L)) (done : List (Edge N L)) (e : Edge N L) : Type 0 where
     ended_there : (result : Result) → is_met p.eq (arrive_all p.eq a met done) e.to ≡ false → Decides p s limit (arrive_all p.eq a met done) e.to result → IsPassed a met done e
     on : IsClear p s limit (arrive_all p.eq a met (done ++ e ∷ [])) → IsPassed a met done e

@@ -22,7 +22,7 @@ module _ {N L O X : Type 0} (s : Searched N L O X) (orderly : IsOrderly s) (a : 
   abbrev Edges : Type 0
   Edges = List (Edge N L)
 
-  -- what is found first, or what holds, beside what can't be told
+  -- what is found first, or what holds, beside what can't be decided
   first_or_out : (o : O) (xs ys : List X) (x : X) → AreFirst s a o xs → EachHolds s xs → AreFirst s a o (ys ++ x ∷ []) → s.IsOut x → IsFront xs ys
   first_or_out o xs ys x h hold k out = elim (one_first s orderly a o xs (ys ++ x ∷ []) h k) [
     | inl f ↦ shorter xs ys f.0 hold f.1

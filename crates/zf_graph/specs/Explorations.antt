@@ -19,7 +19,7 @@ pub record Explored (N L : Type 0) : Type 1 where
 
 -- ---- nodes in the order in which they are met
 
--- with one more, which stands behind the others where it is new
+-- with one more, which stands after the others where it is new
 abbrev pub with_node : {N : Type 0} → (N → N → Bool) → List N → N → List N
 with_node eq nodes b = cond (list_any (eq b) nodes) nodes (nodes ++ b ∷ [])
 
@@ -60,7 +60,7 @@ at_first root = record { node = root; way = [] } ∷ []
 abbrev pub beyond : {N L : Type 0} → Met N L → Edge N L → Met N L
 beyond a e = record { node = e.to; way = a.way ++ e ∷ [] }
 
--- what is met once an edge of this node is passed: a node that is new stands behind the others
+-- what is met once an edge of this node is passed: a node that is new stands after the others
 abbrev pub arrive : {N L : Type 0} → (N → N → Bool) → Met N L → List (Met N L) → Edge N L → List (Met N L)
 arrive eq a met e = cond (is_met eq met e.to) met (met ++ beyond a e ∷ [])
 

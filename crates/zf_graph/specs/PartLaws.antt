@@ -18,7 +18,7 @@ module _ {N L O X : Type 0} (s : Searched N L O X) where
   abbrev pub graph_of : Graph N L
   graph_of = record { root = s.root; IsEdge = IsFound }
 
-  -- The order tells what is found in a part apart, nothing both holds and can't be told, and no node both is a stray and is none.
+  -- The order tells what is found in a part apart, nothing both holds and can't be decided, and no node both is a stray and is none.
   pub record IsOrderly : Type 0 where
     pub sound : (a b : N) → s.eq a b ≡ Bool.true → a ≡ b
     pub itself : (a : N) → s.eq a a ≡ Bool.true

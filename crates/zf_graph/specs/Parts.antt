@@ -4,7 +4,7 @@ use Rattle.zf_graph.specs.Explorations.{Explored, Turn}
 use Rattle.zf_graph.specs.Edges.{Edge}
 use Rattle.zf_graph.specs.Texts.{no_turn}
 
--- What is searched: for nodes, in parts, for finds of which each is an edge, or can't be told.
+-- What is searched: for nodes, in parts, for finds of which each is an edge, or can't be decided.
 pub record Searched (N L O X : Type 0) : Type 1 where
   pub root : N
   pub eq : N → N → Bool
@@ -15,10 +15,10 @@ pub record Searched (N L O X : Type 0) : Type 1 where
   pub IsBefore : X → X → Type 0
   pub Holds : X → Type 0
   pub IsOut : X → Type 0
-  -- the edge, by the number of its part, and what is said of what can't be told
+  -- the edge, by the number of its part, and what is said of what can't be decided
   pub edge : ℕ → O → X → Edge N L
   pub stop : O → X → List ℕ
-  -- whether a node is a stray, or that it can't be told, with what is said then
+  -- whether a node is a stray, or that it can't be decided, with what is said then
   pub IsStray : N → Bool → Type 0
   pub IsDoubtful : N → List ℕ → Type 0
 
@@ -50,7 +50,7 @@ module _ {N L O X : Type 0} (s : Searched N L O X) where
         ((xs : List X) × AreFirst o xs × EachHolds xs × (es ≡ map (s.edge number o) xs))
         ⊎ ((xs : List X) × (rest : List (Edge N L)) × AreFinds o xs × EachHolds xs × BeginsParts (number + 1) os rest × (es ≡ map (s.edge number o) xs ++ rest))
 
-    -- those before the first that can't be told
+    -- those before the first that can't be decided
     abbrev pub BreaksParts : (number : ℕ) → List O → List (Edge N L) → (at : List ℕ) → Type 0
     BreaksParts number [] es at = ⊥
     BreaksParts number (o ∷ os) es at =

@@ -4,14 +4,14 @@ use Rattle.zf_graph.specs.Explorations.{arrive_all, beyond, Explored, ExploresAl
 use Rattle.zf_graph.specs.Edges.{Edge}
 use Rattle.zf_graph.specs.Texts.{inner_edges, no_turn, with_edge, Words}
 
--- How a search ends: at a node that is sought, or no node that is met is one, or as many nodes are met as are asked for, or it can't be told, at what this text says.
+-- How a search ends: at a node that is sought, or no node that is met is one, or as many nodes are met as are asked for, or it can't be decided, at what this text says.
 pub data Result : Type 0 where
   found : Result
   missing : Result
   open_ended : Result
   untold : (at : List ℕ) → Result
 
--- which nodes are sought, and of which it can't be told, with a text that says why
+-- which nodes are sought, and of which it can't be decided, with a text that says why
 pub record Sought (N : Type 0) : Type 1 where
   pub IsSought : N → Type 0
   pub IsOther : N → Type 0

@@ -10,7 +10,7 @@ use Rattle.zf_graph.specs.Texts.{Words}
 abbrev pub IsSearchedPart : {N L : Type 0} → Explored N L → Sought N → Words N L → (last : Result → (nodes edges : ℕ) → List ℕ) → (limit : ℕ) → List ℕ → Type 0
 IsSearchedPart p s w last limit text = (text ≡ []) ⊎ ((result : Result) × IsSearched p s w last limit result text)
 
--- A node is at most one of the three, and what can't be told is told by one text. The root is not sought.
+-- A node is at most one of the three, and what can't be decided is reported by one text. The root is not sought.
 pub record IsDecisive {N L : Type 0} (p : Explored N L) (s : Sought N) : Type 0 where
   pub not_both : (b : N) → s.IsOther b → s.IsSought b → ⊥
   pub not_other : (b : N) (at : List ℕ) → s.IsUntold b at → s.IsOther b → ⊥
@@ -36,7 +36,7 @@ module _ {N L : Type 0} (p : Explored N L) (g : Graph N L) (s : Sought N) (w : W
   abbrev pub MissingIsNowhere : Type 0
   MissingIsNowhere = (text : List ℕ) → IsSearched p s w last limit missing text → (b : N) → IsReachable g b → s.IsSought b → ⊥
 
--- each node but for the root is sought, or another, or it can't be told
+-- each node but for the root is sought, or another, or it can't be decided
 abbrev pub EachIsTold : {N L : Type 0} → Explored N L → Sought N → Type 0
 EachIsTold {N} p s = (b : N) → (b ≡ p.root) ⊎ (s.IsSought b ⊎ (s.IsOther b ⊎ ((at : List ℕ) × s.IsUntold b at)))
 

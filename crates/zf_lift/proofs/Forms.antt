@@ -122,7 +122,7 @@ row_length c rs one_out h vs f = absurd f
 row_length c rs one_undefined h vs f = absurd f
 row_length c rs (values ss) h vs f = from_length ss vs f ∙ ranges_length c rs ss h
 
--- what holds behind so many variables of a binder
+-- what holds after so many variables of a binder
 abbrev pub Inside : ℕ → Context → Context → (Context → Context → Type 0) → Type 0
 Inside n c d P = (vs : List Value) → length vs ≡ n → P (within c vs) (within d vs)
 

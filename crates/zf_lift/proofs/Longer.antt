@@ -54,6 +54,6 @@ behind [] i h = refl
 behind (d ∷ ds) zero h = absurd (omega arith)
 behind (d ∷ ds) (suc i) h = behind ds i (omega arith)
 
--- a name behind all globals stands for none
+-- a name after all globals stands for none
 pub no_global : (e g : Environment) (i : ℕ) → length e.globals ≤ i → IsLonger e g → slice_get g.globals i ≡ None
 no_global e g i l h = ap (λ ds. slice_get ds i) (same_globals e g h) ∙ behind e.globals i l

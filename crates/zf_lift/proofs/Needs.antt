@@ -7,7 +7,7 @@ abbrev greatest : List Reference → ℕ
 greatest [] = 0
 greatest (r ∷ rs) = max (place r) (greatest rs)
 
--- ---- behind other references
+-- ---- after other references
 
 behind : (rs : List Reference) (r : Reference) → greatest (rs ++ r ∷ []) ≡ max (greatest rs) (place r)
 behind [] r = omega arith

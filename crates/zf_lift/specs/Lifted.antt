@@ -6,7 +6,7 @@ use Rattle.zf_value.specs.declared.value.Outcome.{Outcome}
 use Rattle.zf_value.specs.declared.value.Truth.{Truth}
 use Rattle.zf_meaning.specs.{Environment, in_row, IsTruth, longer, UsesFirst}
 
--- f has the names of e, and maybe more behind them
+-- f has the names of e, and maybe more after them
 abbrev pub IsLonger : Environment → Environment → Type 0
 IsLonger e f = (os : List Outcome) × (f ≡ longer e os)
 

@@ -1,4 +1,4 @@
--- Terms in which closed parts are names of what they come to, which stand behind all others. Public clauses rest on `is_liftable` alone.
+-- Terms in which closed parts are names of what they come to, which stand after all others. Public clauses rest on `is_liftable` alone.
 use Rattle.std.specs.Prelude.{◌≡◌, ◌+◌, ◌≤◌, ℕ, Bool, true, false, ◌&&◌, is_some, length, List, [], Option}
 use Rattle.zf_tree.specs.declared.operator.Operator.TheVariants as operator
 use Rattle.zf_tree.specs.declared.operator.Unary.TheVariants as the_unary
@@ -14,7 +14,7 @@ use Rattle.zf_lift.specs.Same.{IsSame, AreSame, AreSameRanges, AreSameLinks, IsS
 abbrev pub at : Environment → List Value → List Value → Context
 at e row locals = record { environment = e; row = row; locals = locals }
 
--- in each environment longer than f as in e, behind n bound variables, whatever is bound
+-- in each environment longer than f as in e, after n bound variables, whatever is bound
 abbrev pub Wherever : (n : ℕ) → Environment → Environment → (Context → Context → Type 0) → Type 0
 Wherever n f e P = (g : Environment) → IsLonger f g → (row locals : List Value) → length locals ≡ n → P (at g row locals) (at e row locals)
 

@@ -32,7 +32,7 @@ pub fn is_liftable(term: &Resolved<'_>, env: &Env<'_, '_>) -> bool
     }
 }
 
-/// Whether what stands behind a relation is asked only for whether it has a member, and then need not be built: numbers, or a family of sets, behind a membership.
+/// Whether what stands after a relation is asked only for whether it has a member, and then need not be built: numbers, or a family of sets, after a membership.
 pub fn is_asked(relation: Relation, term: &Resolved<'_>) -> bool {
     match relation {
         Relation::Member | Relation::NotMember => is_family(term),
@@ -40,7 +40,7 @@ pub fn is_asked(relation: Relation, term: &Resolved<'_>) -> bool {
     }
 }
 
-/// Whether the term is a set that is told by what it is made of.
+/// Whether the term is a set that is described by what it is made of.
 #[cycle(family)]
 fn is_family(term: &Resolved<'_>) -> bool {
     match term {
@@ -76,7 +76,7 @@ fn is_number_set(symbol: Constant) -> bool
     }
 }
 
-/// Whether what stands before or behind a term makes a value of it.
+/// Whether what stands before or after a term makes a value of it.
 fn builds(operator: Unary) -> bool
     ensures { (n : Option ℕ) (l : ℕ) (t : ResolvedTree) → result ≡ spec.is_liftable n (unary l operator t) }
 {

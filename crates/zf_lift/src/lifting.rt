@@ -24,7 +24,7 @@ pub(crate) struct Gathered<'g, 'a> {
     pub is_closed: bool,
 }
 
-/// A term behind so many bound variables in which closed parts are names, and is itself one where it is such a part.
+/// A term after so many bound variables in which closed parts are names, and is itself one where it is such a part.
 #[cycle(lifting)]
 pub(crate) fn lifted<'g, 'a>(
     term: &Resolved<'a>,
@@ -165,7 +165,7 @@ fn lifted_box<'g, 'a>(
     Ok(Boxed::new(arena, part)?)
 }
 
-/// How many variables are bound behind so many and those of these ranges.
+/// How many variables are bound after so many and those of these ranges.
 fn bound_behind(depth: usize, variables: &[Range<'_>]) -> Result<usize, Unlifted>
     ensures { IfOk result (λ inside. inside ≡ depth + spec.variables_of (ranges (map range_of variables.now))) }
 {
@@ -247,7 +247,7 @@ fn lifted_link<'g, 'a>(
     })
 }
 
-/// What stands behind the relation of a link. A set that is only asked for a member is not built.
+/// What stands after the relation of a link. A set that is only asked for a member is not built.
 #[cycle(lifting)]
 fn lifted_right<'g, 'a>(
     link: &ResolvedLink<'a>,

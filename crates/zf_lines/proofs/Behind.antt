@@ -103,7 +103,7 @@ module _ {V : Type 0} (cmp : V → V → Ordering) (s : Conjuncts V) (ranges : L
         ]
       ]
 
-  -- where no event is ahead, all are behind
+  -- where no event is ahead, all are after
   pub up_to_end : (a : Ahead V) (events : List (Event V)) → IsNoneAhead cmp s ranges after a → Behind a events → AreEventsUpTo cmp s ranges after None events
   up_to_end a events none h = record {
     ascending = h.ascending;

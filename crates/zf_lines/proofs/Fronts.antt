@@ -1,4 +1,4 @@
--- Texts that are written one behind the other, and fronts of them.
+-- Texts that are written one after the other, and fronts of them.
 use Rattle.zf_lines.proofs.Prelude.{◌++◌, ◌∙◌, [], ap, append-nil, append_assoc, Err, List, Ok, OnErr, OnOk, Option, Result, sym, ℕ, Appends-trans, Appends, AppendsFront}
 
 pub always_on_err : {T E : Type 0} (r : Result T E) {Q : Type 0} → Q → OnErr r Q

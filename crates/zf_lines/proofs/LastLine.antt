@@ -97,7 +97,7 @@ module _ (f : Format) (ss : List Spelling) (cs : List Comp) where
       ∙ sym (append_assoc (opening f) (parted (take i ts)) (comma_before i ++ component_in f ss c v))
 
   module _ (ranges : List (List Value)) (row : List Value) (parts : List Part) (h : AreParts f ss cs ranges row parts) where
-    -- the line is cut off behind a part
+    -- the line is cut off after a part
     pub cut_there : (line rest : List ℕ) (m : ℕ) (part : Part) → slice_get parts m ≡ Some part → line ≡ front f ss cs row (length parts) ++ rest
         → take part.end line ≡ front f ss cs row (m + 1)
     cut_there line rest m part at is =
@@ -133,7 +133,7 @@ module _ (f : Format) (ss : List Spelling) (cs : List Comp) where
       ];
     }
 
-    -- the line is cut off behind so many parts
+    -- the line is cut off after so many parts
     pub cut_behind : (line rest : List ℕ) (count : ℕ) (part : Part) → 0 < count → count ≤ length parts → part ≡ get_or parts (count - 1) part
         → line ≡ front f ss cs row (length parts) ++ rest → take part.end line ≡ front f ss cs row count
     cut_behind line rest count part some all at is =
@@ -191,7 +191,7 @@ module _ (f : Format) (ss : List Spelling) (cs : List Comp) where
       }
 
 module _ (f : Format) (ss : List Spelling) (ranges : List (List Value)) where
-  -- the line behind one more part
+  -- the line after one more part
   pub line_more : (comps : List Component) (columns : List Column) (column : Column) (vs : List Value) (i : ℕ) (line new : List ℕ) → AreColumns f ss (map comp_of comps) ranges columns
       → slice_get columns i ≡ Some column → i < length comps → i < length vs → line ≡ front f ss (map comp_of comps) vs i → new ≡ line ++ part_at column.head f ss vs i
       → new ≡ front f ss (map comp_of comps) vs (i + 1)

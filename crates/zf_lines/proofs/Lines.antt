@@ -20,7 +20,7 @@ module _ (words : Wording Value) (limit : Option ℕ) (s : Conjuncts Value) (ran
   abbrev pub IsFirst : (last : Option (List Value)) → List (Event Value) → Type 0
   IsFirst last events = (events ≡ []) ⊎ (AreEventsUpTo value_order s ranges after last events × IsBegun words limit events last (lines words events))
 
-  -- the lines of the events that are behind are written; so many bindings may still be
+  -- the lines of the events that are after are written; so many bindings may still be
   pub record HasLines (ahead : Ahead Value) (left : Option ℕ) (last : Option (List Value)) (old new : Option (List ℕ)) : Type 0 where
     pub events : List (Event Value)
     pub hold : Hold events

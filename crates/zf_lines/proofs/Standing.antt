@@ -6,7 +6,7 @@ use Rattle.zf_lines.proofs.Lines as lines
 use Rattle.zf_lines.proofs.Lines.{HasLines}
 use Rattle.zf_lines.proofs.Searching as searching
 
--- the lines of what is behind are written, and so many bindings are left to be
+-- the lines of what is after are written, and so many bindings are left to be
 pub record Standing (words : Wording Value) (limit : Option ℕ) (a : Schema) (g : Goal) (b : Stage Value) (now : Goal) (c : Stage Value) (left : Option ℕ) (old new : Option (List ℕ)) : Type 0 where
   pub lines : HasLines words limit (property g.environment a.conjuncts) b.ranges b.after c.ahead left c.last old new
   pub some : HasLimit left

@@ -8,7 +8,7 @@ use Rattle.zf_print.specs.{comma_before, name_in, value_in}
 use Rattle.zf_lines.specs.declared.column.Column.{Column}
 use Rattle.zf_lines.specs.declared.column.Kept.{Kept}
 
--- what stands before the value of a component, behind so many others
+-- what stands before the value of a component, after so many others
 abbrev pub head_of : Format → ℕ → Comp → List ℕ
 head_of f count c = comma_before count ++ name_in f c.name
 

@@ -31,7 +31,7 @@ pub record IsFront (f : Format) (ss : List Spelling) (cs : List Comp) (ranges : 
   pub count : length printed.parts.items ≡ n
   pub parts : AreParts f ss cs ranges row printed.parts.items
 
--- the line is that of some row up to its last part, with anything behind
+-- the line is that of some row up to its last part, with anything after
 pub record IsPrinted (f : Format) (ss : List Spelling) (cs : List Comp) (ranges : List (List Value)) (printed : Printed) : Type 0 where
   pub columns : AreColumns f ss cs ranges printed.columns.items
   pub line : (row : List Value) × AreParts f ss cs ranges row printed.parts.items × (rest : List ℕ) × (printed.line.items ≡ front f ss cs row (length printed.parts.items) ++ rest)

@@ -25,7 +25,7 @@ pub record AreEventsUpTo {V : Type 0} (cmp : V → V → Ordering) (s : Conjunct
 abbrev pub Hold : {V : Type 0} → List (Event V) → Type 0
 Hold events = All (λ e. e.truth ≡ True) events
 
--- in which lines a search is told: each of its rows, and last that a row is out of bounds, that the limit is reached, or that no row is left; and the number of tests
+-- in which lines a search is written: each of its rows, and last that a row is out of bounds, that the limit is reached, or that no row is left; and the number of tests
 pub record Wording (V : Type 0) : Type 0 where
   pub line : List V → List ℕ
   pub out : List V → List ℕ

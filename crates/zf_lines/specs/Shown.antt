@@ -12,7 +12,7 @@ use Rattle.zf_lines.specs.declared.fault.Status.{Status}
 use Rattle.zf_lines.specs.FaultViews.{AppendsFront}
 use Rattle.zf_lines.specs.Searches.{AreEventsUpTo, IsBegun, IsWritten, Wording}
 
--- the search for the bindings of the schema that lie in its ranges and come after its row is at its beginning
+-- the search for the bindings of the schema that are in its ranges and come after its row is at its beginning
 pub record IsAtStart (a : Schema) (g : Goal) (b : Stage Value) : Type 0 where
   pub same : SayTheSame (conjuncts_of g) (property g.environment a.conjuncts)
   pub ahead : AreAllAhead value_order (property g.environment a.conjuncts) b.ranges b.after b.ahead

@@ -119,7 +119,7 @@ pub fn columns_of(style: &Style<'_>, flat: &Flat<'_>) -> Result<Vec<Column>, All
     Ok(columns)
 }
 
-/// What stands before the value of a component, behind so many others.
+/// What stands before the value of a component, after so many others.
 fn head_of(style: &Style<'_>, count: usize, name: &[u8]) -> Result<Text, AllocError>
     ensures { IfOk result (λ text. text ≡ comma_before count ++ name_in style.now.format name.now) }
 {

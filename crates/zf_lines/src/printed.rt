@@ -86,7 +86,7 @@ impl Printed {
         count
     }
 
-    /// Cuts the line off behind so many parts. A refusal leaves no line.
+    /// Cuts the line off after so many parts. A refusal leaves no line.
     fn cut(&mut self, format: Format, count: usize) -> Result<(), AllocError>
         requires there { count ≤ length self.old.parts.items }
         ensures line { OnOk result ((ss : List Spelling) (cs : List Comp) (ranges : List (List value.Value)) (row : List value.Value) (rest : List ℕ) → AreParts format ss cs ranges row self.old.parts.items → self.old.line.items ≡ front format ss cs row (length self.old.parts.items) ++ rest → self.new.line.items ≡ front format ss cs row count) }
@@ -115,7 +115,7 @@ impl Printed {
         }
     }
 
-    /// Appends the parts of the line behind those that are there.
+    /// Appends the parts of the line after those that are there.
     fn append_parts<P: Located>(
         &mut self,
         style: &Style<'_>,

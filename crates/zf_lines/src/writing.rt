@@ -7,7 +7,7 @@ use crate::counted::Counted;
 use crate::fault::RunFault;
 use std::io::Write;
 
-/// Writes the text, by as many calls as the device wants, and stops at the first that fails or takes nothing.
+/// Writes the text, by as many calls as the device needs, and stops at the first that fails or takes nothing.
 pub fn write_text<W: Write>(writer: &mut Counted<W>, text: &[u8]) -> Result<(), RunFault>
     requires { failures_of writer.old ≡ 0 }
     ensures ok { OnOk result (Appends (W.contents (device_of writer.old)) (W.contents (device_of writer.new)) text.now) }

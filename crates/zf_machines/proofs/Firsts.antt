@@ -4,7 +4,7 @@ use Rattle.std.proofs.lemmas.List.{drop_all, drop_more}
 use Rattle.std.specs.List.{AllByRecursion}
 use Rattle.zf_machines.specs.{FirstFails}
 
--- what is still ahead decides; of the first that fails an answer is told
+-- what is still ahead decides; of the first that fails an answer is reported
 pub record IsAhead {A B : Type 0} (Passes : A → Type 0) (Fails : B → A → Type 0) (all rest : List A) : Type 0 where
   pub pass : AllByRecursion Passes rest → AllByRecursion Passes all
   pub fails : (b : B) → FirstFails Passes (Fails b) rest → FirstFails Passes (Fails b) all

@@ -40,7 +40,7 @@ init_schema : (state : List Comp) (name : List ℕ) (a : Schema) (o : Operation)
 init_schema state name a o (inl x) = ap (λ o. o.schema) x.1
 init_schema state name a o (inr x) = ap (λ o. o.schema) x.2
 
--- of those in front, and of the one behind, if there is one
+-- of those in front, and of the one after, if there is one
 all_front : {A : Type 0} (P : A → Type 0) (xs ys : List A) → AllByRecursion P (xs ++ ys) → AllByRecursion P xs
 all_front P [] ys h = tt
 all_front P (x ∷ xs) ys h = (h.0, all_front P xs ys h.1)

@@ -36,7 +36,7 @@ pub fn lack_of<'p, 'a>(
     }
 }
 
-/// The first schema behind that of the initial states that lacks a component.
+/// The first schema after that of the initial states that lacks a component.
 fn later_lack<'p, 'a>(states: States<'_, 'a>, schemas: &Schemas<'p, 'a>) -> Option<Lack<'p, 'a>>
     requires { AreStates states }
     ensures { MatchOption result (AllByRecursion (CanStep (before_of states.entry)) (schemas_of schemas.now).operations × AllowsSought (before_of states.entry) (schemas_of schemas.now).sought) (λ k. LacksBehind (before_of states.entry) (schemas_of schemas.now) k.schema.now k.component.now) }

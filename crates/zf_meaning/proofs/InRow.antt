@@ -24,7 +24,7 @@ pub described-in-row : (env : Env) (row : List Value) (locals : List (Bor Value)
     → IfOk r (Describes (HasOutcome (scope_of env row locals) t)) → IfOk r (Describes (HasOutcome (in_row (environment_of env) row) t))
 described-in-row env row locals t r e h = subst (λ c. IfOk r (Describes (HasOutcome c t))) (none-bound env row locals e) h
 
--- what an expression comes to behind some variables, it comes to behind as many others, if it names none of them
+-- what an expression comes to after some variables, it comes to after as many others, if it names none of them
 pub outcome-behind : (env : Env) (row : List Value) (locals : List (Bor Value)) (n : ℕ) (t : ResolvedTree) (x : Outcome) (r : Result Outcome AllocError)
     → length locals ≡ n → need n t ≡ 0 → HasOutcome (scope_of env row locals) t x → IfOk r (λ o. o ≡ x) → IfOk r (IsBehind (environment_of env) row n t)
 unfolding IsBehind

@@ -1,4 +1,4 @@
--- No term needs a bound variable behind the bound.
+-- No term needs a bound variable after the bound.
 use Rattle.zf_meaning.proofs.Prelude.{◌+◌, ◌≤◌, arith, cond, ℕ, nat_tests, nat_lt, Reference, Component, Global, Local, absent, binary, bracket, comprehension, chain, constant, empty_set, link, listed, no_links, no_ranges, no_terms, number, present, quantified, range, Ranges, reference, ResolvedLinks, ResolvedPart, ResolvedTree, ResolvedTrees, term, unary, all_need, links_need, need, part_need, place_below, ranges_need}
 
 below : (m i : ℕ) → cond (nat_lt i m) (i + 1) 0 ≤ m

@@ -267,7 +267,7 @@ drop-all : {A : Type 0} (xs : List A) → drop (length xs) xs ≡ []
 drop-all [] = refl
 drop-all (x ∷ xs) = drop-all xs
 
--- no place is behind the last
+-- no place is after the last
 pub none-behind : (P : ℕ → Type 0) (xs : List ℕ) → All P (drop (length xs) xs)
 none-behind P xs = subst (All P) (sym (drop-all xs)) (λ k d h. absurd (omega (arith, h)))
 

@@ -181,7 +181,7 @@ other-more xs from before place x wanted n l e other h i a b k =
 
 -- ---- what is left
 
--- behind what is passed is the next row, or none
+-- after what is passed is the next row, or none
 pub skips-turned : (passing : Passing) (row next : List Value) (rows rest ahead : List (List Value)) (turned : Option ℕ) → Skips passing row rows rest
     → MatchOption turned (rest ≡ []) (λ anew. rest ≡ next ∷ ahead) → MatchOption turned (Skips passing row rows [])
     (λ anew. Skips passing row rows (next ∷ ahead))

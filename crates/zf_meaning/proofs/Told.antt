@@ -86,7 +86,7 @@ one-more P done t v Out f new p h = record {
   one = λ e. still_one P done v (λ q. let d = f v _ _ p q in (cc)) (h.one e);
 }
 
--- ---- what is told
+-- ---- what is reported
 
 -- once it is settled by rows that R admits
 pub settled-told : (q : Quantifier) (R : List Value → Type 0) (P : List Value → Truth → Type 0) (done : List (List Value)) (t : Tally)

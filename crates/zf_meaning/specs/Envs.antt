@@ -8,6 +8,6 @@ use Rattle.zf_meaning.specs.Environments.{Environment}
 abbrev pub environment_of : Env → Environment
 environment_of e = record { globals = globals_of e.globals.now; sizes = e.sizes.items; outcomes = e.outcomes.items; numbers = e.numbers }
 
--- the environment in which further names, behind all others, have these outcomes
+-- the environment in which further names, after all others, have these outcomes
 abbrev pub longer : Environment → List Outcome → Environment
 longer e os = record { globals = e.globals; sizes = e.sizes; outcomes = e.outcomes ++ os; numbers = e.numbers }

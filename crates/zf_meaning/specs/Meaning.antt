@@ -110,7 +110,7 @@ abbrev mutual
   IsTruth c (quantified l q rs p t) u = (s : Several) × HaveRanges c rs s × IsQuantified q s (λ vs w. IsTold q (λ a. IsConstraint (within c vs) p a) (λ b. IsTruth (within c vs) t b) w) u
   IsTruth c _ u = u ≡ truth.False
 
-  -- u is the truth of what is left of a chain, behind an operand of this outcome: the conjunction of its links
+  -- u is the truth of what is left of a chain, after an operand of this outcome: the conjunction of its links
   pub AreLinked : Context → Outcome → ResolvedLinks → Truth → Type 0
   AreLinked c x no_links u = u ≡ truth.True
   AreLinked c x (link r t ks) u = (y : Outcome) × HasOutcome c t y × IsConjunction (λ p. IsLink (infinite_right c r t) r x y p) (λ q. AreLinked c y ks q) u

@@ -17,7 +17,7 @@ row_of r = picked (lists_of r) r.places.items
 abbrev pub ahead : Rows → List (List Value)
 ahead r = rows_after (lists_of r) r.places.items
 
--- the row is bound behind the variables outside
+-- the row is bound after the variables outside
 abbrev pub IsAt : Rows → List Value → Type 0
 IsAt r outside = ArePlaces (lists_of r) r.places.items × (seen r.bound.items ≡ outside ++ row_of r)
 

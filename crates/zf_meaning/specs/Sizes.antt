@@ -74,7 +74,7 @@ IsRefusal sets sizes fault = RefusesSize sets sizes fault
 abbrev pub IsStated : List Size → List ℕ → ℕ → Type 0
 IsStated sizes name count = Contains sizes (record { name = name; count = count })
 
--- the sizes from this definition on, where `later` are those behind it: a given set has the size that is stated, a free type as many elements as constructors
+-- the sizes from this definition on, where `later` are those after it: a given set has the size that is stated, a free type as many elements as constructors
 abbrev pub AddsSize : List Size → List ℕ → Definition → List ℕ → List ℕ → Type 0
 AddsSize stated name (given_set n) later sizes = (count : ℕ) × IsStated stated name count × (sizes ≡ count ∷ later)
 AddsSize stated name (free_type n names) later sizes = sizes ≡ length names ∷ later

@@ -69,7 +69,7 @@ impl<'g, 'a> Env<'g, 'a> {
         self.outcomes.len()
     }
 
-    /// Gives the next name behind all others this outcome.
+    /// Gives the next name after all others this outcome.
     pub fn add(&mut self, outcome: Outcome) -> Result<(), AllocError>
         ensures { OnOk result (environment_of self.new ≡ longer (environment_of self.old) (outcome ∷ [])) }
     {

@@ -22,7 +22,7 @@ pub(crate) fn built_numbers(env: &Env<'_, '_>, set: Infinite) -> Result<Outcome,
     }
 }
 
-/// The set of its numbers, told by the least and the greatest.
+/// The set of its numbers, given by the least and the greatest.
 pub(crate) fn described_numbers<'v>(env: &Env<'_, '_>, set: Infinite) -> Described<'v>
     ensures { Describes (IsNumberSet (environment_of env.now).numbers set) result }
 {

@@ -17,7 +17,7 @@ pub(crate) enum Passing<'v> {
     Others(usize, Lent<'v>),
 }
 
-/// A row of ranges, behind the variables that are bound outside.
+/// A row of ranges, after the variables that are bound outside.
 #[derive(Drop)]
 pub(crate) struct Rows<'v> {
     lists: Vec<&'v [Value]>,

@@ -28,7 +28,7 @@ pub fn value_of<'a, R: Row>(
     found.into_outcome(env.allocator())
 }
 
-/// The outcome of an expression in a row behind so many bound variables, whatever these are. None if it names one of them.
+/// The outcome of an expression in a row after so many bound variables, whatever these are. None if it names one of them.
 pub fn value_behind<'a, R: Row>(
     term: &Resolved<'a>,
     row: &R,

@@ -96,7 +96,7 @@ AreLines details file faults lines = (rs : List Reported) × (map (λ r. r.fault
 
 -- ---- faults of the text
 
--- the command that ends a box is not told
+-- the command that ends a box is not reported
 abbrev pub symbol_text : List ℕ → List ℕ
 symbol_text symbol = if starts_with nat_eq symbol (codes "\\end{") then codes "end of the box" else symbol
 
@@ -104,7 +104,7 @@ symbol_text symbol = if starts_with nat_eq symbol (codes "\\end{") then codes "e
 abbrev pub is_printed : ℕ → Bool
 is_printed = is_ascii_graphic
 
--- a command; without the byte behind its backslash, where that is not printed
+-- a command; without the byte after its backslash, where that is not printed
 abbrev pub command_text : List ℕ → List ℕ
 command_text [] = []
 command_text (a ∷ []) = a ∷ []

@@ -25,10 +25,10 @@ abbrev pub first_like : List ℕ → List (List ℕ) → List ℕ
 first_like name [] = []
 first_like name (other ∷ names) = if is_like name other then other else first_like name names
 
--- `zf: no schema S`; behind it the first schema that is like it, and all that there are
+-- `zf: no schema S`; after it the first schema that is like it, and all that there are
 abbrev pub no_schema_lines : (details : Bool) → List Defined → List ℕ → List ℕ
 no_schema_lines details g name = with_details details (no_schema_line name) (detail_if_any (codes "like") (first_like name (schemas g)) ++ detail_if_any (codes "schemas") (names_text (schemas g)))
 
--- `zf: no size for N`; behind it all given sets without a size
+-- `zf: no size for N`; after it all given sets without a size
 abbrev pub no_size_lines : (details : Bool) → List (List ℕ) → List ℕ → List ℕ
 no_size_lines details sets name = with_details details (no_size_line name) (detail_if_any (codes "no size for") (names_text sets))

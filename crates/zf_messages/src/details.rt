@@ -193,7 +193,7 @@ pub fn type_fault_lines(
 
 // ---- faults of the text
 
-/// A symbol as it is told: the command that ends a box is not.
+/// A symbol as it is reported: the command that ends a box is not.
 fn symbol_text(symbol: &[u8]) -> &[u8]
     ensures { result.now ≡ spec.symbol_text symbol.now }
 {
@@ -209,7 +209,7 @@ fn is_printed(byte: u8) -> bool
     33 <= byte && byte <= 126
 }
 
-/// A command as it is told: without the byte behind its backslash, where that is not printed.
+/// A command as it is reported: without the byte after its backslash, where that is not printed.
 fn command_text(command: &[u8]) -> &[u8]
     ensures { result.now ≡ spec.command_text command.now }
 {

@@ -161,7 +161,7 @@ pub fn size_too_large_line(alloc: Global, name: &[u8]) -> Result<Vec<u8>, AllocE
     around(alloc, b"zf: size of ", name, b" is too large\n")
 }
 
-/// A place in a text, behind what is said of it.
+/// A place in a text, after what is said of it.
 fn at_byte_line(alloc: Global, before: &[u8], place: usize) -> Result<Vec<u8>, AllocError>
     ensures { IfOk result (λ v. v.items ≡ before.now ++ decimal place ++ codes "\n") }
 {

@@ -1,4 +1,4 @@
--- Sets that are told by what they are made of: each that is not out is there, and its members are told.
+-- Sets that are described by what they are made of: each that is not out is there, and its members are reported.
 use Rattle.zf_outcome.proofs.Prelude.{cases_lt, ◌+ℤ◌, ◌<ℤ◌, pos, either_way, members-SetOf, OnNumbers, IsBetweenNumbers, IsInterval, AreFrom, IsSubset, ArePartialFunctions, ArePartialInjections, AreRelations, AreTotalFunctions, AreTotalInjections, IsCross, IsPower, IsMember, IsSetOf, members, value_order, Outcome, Is, Out, Undefined, Truth, Int, out-Value, SetOf, Tuple, Value, Value-F, outs-Int, IsPartialFunction, IsPartialInjection, IsRelation, IsTotalFunction, IsTotalInjection, IsTupleFrom, Arrow, Relation, is_membership, IsDescribed, IsOfArrow, IsUnbuilt, told_in, Describes, IsInDescribed, IsTruthIn, found_outcome, one_out, one_undefined, OnOne, OnSeveral, Several, values, ArrowOutcome, Holds, IsAtom, Described, Arrows, Interval, Plain, Power, Product, IsWithin}
 use Rattle.std.proofs.Common.{◌≡◌, ◌↔◌, ◌⊎◌, inl, inr, ◌≤◌, ◌<◌, ℕ, Bool, true, false, ℤ, Option, Some, None, List, [], refl, sym, ap, ◌∙◌, subst, ⊎_elim, Less, arith, IsTrue, Vec, Global}
 use Rattle.std.proofs.lemmas.Bool.{false≢true}

@@ -1,4 +1,4 @@
--- Sets that are told by what they are made of, so that they can be tested for members without being built.
+-- Sets that are described by what they are made of, so that they can be tested for members without being built.
 use Rattle.std.specs.Prelude.{◌≡◌, Bool, true, false}
 use Rattle.zf_tree.specs.declared.symbol.Arrow.{Arrow}
 use Rattle.zf_tree.specs.declared.symbol.Arrow.TheVariants as arrow

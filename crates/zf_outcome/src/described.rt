@@ -18,7 +18,7 @@ use zf_tree::{Arrow, Relation};
 use zf_value::{Lent, Outcome, Truth, Value, is_in_interval, is_interval_out};
 use zf_value::set::is_member;
 
-/// What an expression comes to; a set is told by what it is made of where it need not be built.
+/// What an expression comes to; a set is described by what it is made of where it need not be built.
 #[derive(Drop)]
 pub enum Described<'v> {
     Plain(Found<'v>),

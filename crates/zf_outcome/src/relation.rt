@@ -50,7 +50,7 @@ pub fn between_values(relation: Relation, v: &Value, w: &Value) -> Truth
     told(holds(relation, v, w))
 }
 
-/// The truth of a membership of a pair in a set; of other relations nothing is told.
+/// The truth of a membership of a pair in a set; of other relations nothing is reported.
 pub fn of_pair(relation: Relation, x: &Value, y: &Value, set: &Value) -> Option<Truth>
     ensures { IfSome result (IsAtom (Is (pair x.now y.now)) (Is set.now) (Holds relation)) }
 {

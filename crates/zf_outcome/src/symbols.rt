@@ -31,7 +31,7 @@ pub fn on_both(
     }
 }
 
-/// A symbol before or behind an outcome.
+/// A symbol before or after an outcome.
 pub fn on_one(alloc: Global, op: Unary, x: &Found<'_>) -> Result<Outcome, AllocError>
     ensures { IfOk result (OnOne (found_outcome x.now) (UnaryOutcome op)) }
 {

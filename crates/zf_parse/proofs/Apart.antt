@@ -1,4 +1,4 @@
--- Where a box ends: behind its end, whatever follows.
+-- Where a box ends: after its end, whatever follows.
 use Rattle.zf_parse.proofs.Prelude.{◌++◌, ◌∙◌, ◌∷◌, ◌≡◌, ◌≤◌, [], ap, arith, false, length, List, refl, subst, sym, true, ℕ, append_cancel_right, if◌then◌else◌, BoxTree, DeclTree, include, ParagraphTree, schema_reference, schema_box, SchemaTree, Tree, vars, zed, And, Or, Name, RefMark, Delta, Plain, Xi, ends_box, separator, Symbol, symbol, Kind, IsOn, Next, PartedBy, Spells, SpellsBox, SpellsDecl, SpellsMarked, SpellsName, SpellsParagraph, SpellsPredicates, SpellsSchema}
 use Rattle.zf_scan.specs.declared.token.Kind.TheVariants as k
 use Rattle.zf_tree.specs.Trees as shape
@@ -99,7 +99,7 @@ EndsOnce [] = ⊥
 EndsOnce (t ∷ []) = ends_box t.kind ≡ true
 EndsOnce (t ∷ (u ∷ ts)) = (ends_box t.kind ≡ false) × EndsOnce (u ∷ ts)
 
--- what stands behind them is all that follows them
+-- what stands after them is all that follows them
 behind_end : (ts es : List Symbol) → EndsOnce ts → behind (ts ++ es) ≡ es
 behind_end [] es h = absurd h
 behind_end (t ∷ []) es h = ap (λ b. if b then es else behind es) h

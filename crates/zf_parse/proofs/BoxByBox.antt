@@ -130,7 +130,7 @@ none_left : (rs us : List Symbol) → EndsOnce rs → rs ++ us ≡ [] → ⊥
 none_left [] us h e = h
 none_left (r ∷ rs) us h e = cc
 
--- behind a box, the boxes but the first
+-- after a box, the boxes but the first
 behind_first : (all later : List BoxTree) (rs us : List Symbol) → EndsOnce rs → AllByRecursion BoxIsLevelled later → SpellsBoxes later (rs ++ us) → highest later ≤ highest all → Later all us
 behind_first all [] rs us ends lev h low = absurd (none_left rs us ends h)
 behind_first all (b ∷ bs) rs us ends lev h low =

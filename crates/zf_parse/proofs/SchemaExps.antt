@@ -185,7 +185,7 @@ ref_first n below Plain r ts us h = ap (λ ts. schema_part_by n below (first ts)
 ref_first n below Delta r ts us h = ap (λ ts. schema_part_by n below (first ts) ts) h.1.1 ∙ sym (ap (λ ts. and_then (read_ref ts) (λ r us. Ok (tall (schema.Ref r) 1, us))) h.1.1)
 ref_first n below Xi r ts us h = ap (λ ts. schema_part_by n below (first ts) ts) h.1.1 ∙ sym (ap (λ ts. and_then (read_ref ts) (λ r us. Ok (tall (schema.Ref r) 1, us))) h.1.1)
 
--- predicates that may be left out, and the symbol behind them
+-- predicates that may be left out, and the symbol after them
 pub begins : (P : code.Next → Type 0) (kind end : Kind) (ps : List Tree) (ts a us : List Symbol) → SpellsPredicates kind ps ts a → Next end a us → P (next_of kind) → P (next_of end) → P (first ts)
 begins P kind end [] ts a us h close begin ends = subst (λ ts. P (first ts)) (sym (h ∙ close.1)) ends
 begins P kind end (p ∷ ps) ts a us h close begin ends = subst (λ ts. P (first ts)) (sym h.1.1) begin

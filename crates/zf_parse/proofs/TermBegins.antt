@@ -15,7 +15,7 @@ use Rattle.zf_parse.proofs.TermSteps.{ok_value, ok_rest, bind_ok, if_ok, if_case
 use Rattle.zf_parse.proofs.TermParts.{trees_of, decls_of, Sound, AreSome, Reader, IsSound, made, further_sound, decls_sound, part_sound}
 use Rattle.zf_parse.proofs.TermTables.{unary_level_le, member_place_le}
 
--- ---- what stands between the terms of a list, and behind them
+-- ---- what stands between the terms of a list, and after them
 
 pub same_parting : (form : Listed) → kind_of (parted_by form) ≡ parting form
 same_parting list.Product = refl

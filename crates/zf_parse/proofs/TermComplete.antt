@@ -21,7 +21,7 @@ use Rattle.zf_parse.proofs.TermBeginsRead.{Closing, name_begins, numeral_begins,
 use Rattle.zf_parse.proofs.TermPartsRead.{IsRead, Reader, IsComplete, first_is, some_height, split_links, links_complete}
 use Rattle.zf_parse.proofs.TermTables.{operator_closing, closing, level_closes, closes, chain_gap, cross_gap, postfix_gap, stands}
 
--- ---- what stands behind two operands
+-- ---- what stands after two operands
 
 ended : (op : Operator) (ts us : List Symbol) → Behind op ts us → ended_by op ts ≡ Ok (tt, us)
 ended operator.Image ts us h = ok_expect mark.CloseImage ts us h
@@ -31,7 +31,7 @@ behind_stops : (op : Operator) (ts us : List Symbol) → binds (first us) ≤ op
 behind_stops operator.Image ts us stop h = first_is (λ x. binds x ≤ expression_level) ts us h (omega arith)
 behind_stops _ ts us stop h = omega (arith, ap (λ ts. binds (first ts)) h)
 
--- and behind the terms of a product
+-- and after the terms of a product
 no_cross : (x : code.Next) → binds x ≤ product_level → is_mark mark.Cross x ≡ false
 no_cross next.Cross stop = absurd (omega arith)
 no_cross _ stop = refl

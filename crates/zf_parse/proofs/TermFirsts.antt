@@ -112,7 +112,7 @@ atom_begins (binary l op x y) ts us a lev h = atom_begins x ts h.0 (omega (arith
 atom_begins (chain l t ks) ts us a lev h = absurd (omega arith)
 atom_begins (quantified l q ds p t) ts us a lev h = absurd (omega arith)
 
--- ---- the first symbol behind the left operand
+-- ---- the first symbol after the left operand
 
 pub record Joins (op : Operator) (ts us : List Symbol) : Type 0 where
   pub role : role_of (first ts) ≡ role.Operator op

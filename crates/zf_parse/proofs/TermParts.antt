@@ -33,7 +33,7 @@ abbrev pub AreSome : {A : Type 0} → List A → Type 0
 AreSome [] = ⊥
 AreSome (x ∷ xs) = Unit {0}
 
--- what further terms were read, behind those of the first list
+-- what further terms were read, after those of the first list
 pub record SoundTerms (highest place turns : ℕ) (m : Mark) (xs ys : Tall (List Term)) (ts us : List Symbol) : Type 0 where
   pub more : List Term
   pub items : ys.part ≡ xs.part ++ more

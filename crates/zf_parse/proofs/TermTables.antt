@@ -1,4 +1,4 @@
--- Bounds of the table of levels, and which symbols may stand behind which terms.
+-- Bounds of the table of levels, and which symbols may stand after which terms.
 use Rattle.zf_parse.proofs.Prelude.{◌+◌, ◌<◌, ◌≤◌, arith, ℕ, Listed, Operator, Sign, Unary, And, Iff, Implies, Or, Maplet, atom_level, chain_level, expression_level, infix_level, left_place, level, listed_level, member_place, operator_level, postfix_level, priority, product_level, quantifier_level, right_place, sign_level, unary_level}
 use Rattle.zf_tree.specs.declared.symbol.Infix.{Infix}
 use Rattle.zf_tree.specs.declared.symbol.Prefix.TheVariants.{Power, Finset, Domain, Range, Size}
@@ -34,7 +34,7 @@ pub member_place_le : (form : Listed) → member_place form ≤ atom_level
 member_place_le list.Product = omega arith
 member_place_le _ = omega arith
 
--- ---- how loose a symbol may be that stands behind a tree and is not taken into it
+-- ---- how loose a symbol may be that stands after a tree and is not taken into it
 
 abbrev pub unary_closing : Unary → ℕ
 unary_closing one.Inverse = atom_level
@@ -52,7 +52,7 @@ closing (listed l form ts) = listed_level form
 closing (chain l t ks) = chain_level
 closing _ = atom_level
 
--- a symbol that binds at `b` may stand behind any term that fits the place `p`
+-- a symbol that binds at `b` may stand after any term that fits the place `p`
 pub record Gap (p b : ℕ) : Type 0 where
   pub near : b ≤ p + 1
   pub two : p ≤ 2 → b ≤ 2

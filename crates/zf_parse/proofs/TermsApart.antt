@@ -8,7 +8,7 @@ use Rattle.zf_tree.specs.declared.operator.Unary.TheVariants as one
 use Rattle.zf_tree.specs.{absent, binary, bracket, comprehension, chain, constant, empty_set, link, Links, listed, named, no_decls, no_links, no_trees, numeral, Perhaps, present, quantified, Tree, tree, unary, var_decl, VarDecls}
 use Rattle.zf_tree.specs.Trees.{Trees}
 
--- what stands behind the first symbol that ends a box
+-- what stands after the first symbol that ends a box
 abbrev pub behind : List Symbol → List Symbol
 behind [] = []
 behind (t ∷ ts) = if ends_box t.kind then ts else behind ts

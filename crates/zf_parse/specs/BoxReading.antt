@@ -77,7 +77,7 @@ read_decl n = λ ts. if is_declared ts then variables n ts else inclusion n ts
 abbrev pub read_decls : ℕ → Parser (Tall (List Decl))
 read_decls n = items mark.Separator (read_decl n)
 
--- ---- predicates behind a symbol, if it is there
+-- ---- predicates after a symbol, if it is there
 
 unfoldable pub predicates : ℕ → Mark → Parser (Tall (List Term))
 predicates n m = λ ts. if is_mark m (first ts) then items mark.Separator (read_term n quantifier_level) (rest ts) else Ok (tall [] 0, ts)

@@ -48,7 +48,7 @@ abbrev pub IsFirstLine : ℕ → Trees → Type 0
 IsFirstLine l no_trees = ⊥
 IsFirstLine l (tree t ts) = l ≡ line_of t
 
--- what stands before and behind the operand, of a term on this line
+-- what stands before and after the operand, of a term on this line
 abbrev pub Before : Unary → ℕ → Tree → List Symbol → List Symbol → Type 0
 Before (one.Sign s) l t ts rest = Starts (sign_kind s) l ts rest
 Before one.Not l t ts rest = Starts k.Not l ts rest
@@ -58,7 +58,7 @@ abbrev pub After : Unary → List Symbol → List Symbol → Type 0
 After one.Inverse ts rest = Next k.Inverse ts rest
 After _ ts rest = ts ≡ rest
 
--- what stands between two operands, and behind them
+-- what stands between two operands, and after them
 abbrev pub Between : Operator → List Symbol → List Symbol → Type 0
 Between (operator.Function op) ts rest = Next (k.Infix op) ts rest
 Between (operator.Generic a) ts rest = Next (k.Arrow a) ts rest
@@ -70,7 +70,7 @@ abbrev pub Behind : Operator → List Symbol → List Symbol → Type 0
 Behind operator.Image ts rest = Next k.CloseImage ts rest
 Behind _ ts rest = ts ≡ rest
 
--- what stands before several terms, between each two of them, and behind them
+-- what stands before several terms, between each two of them, and after them
 abbrev pub Opens : Listed → ℕ → Trees → List Symbol → List Symbol → Type 0
 Opens list.Tuple l us ts rest = Starts k.OpenRound l ts rest
 Opens list.Display l us ts rest = Starts k.OpenBrace l ts rest
@@ -123,7 +123,7 @@ abbrev mutual
   SpellsDecls (var_decl ns t (var_decl ms u ds)) ts rest =
       (a b c d : List Symbol) × SpellsNames ns ts a × Next k.Colon a b × Spells t b c × Next separator c d × SpellsDecls (var_decl ms u ds) d rest
 
-  -- a part that may be left out, behind its symbol
+  -- a part that may be left out, after its symbol
   pub SpellsPart : Kind → Perhaps → List Symbol → List Symbol → Type 0
   SpellsPart kind absent ts rest = ts ≡ rest
   SpellsPart kind (present t) ts rest = (a : List Symbol) × Next kind ts a × Spells t a rest
@@ -142,7 +142,7 @@ abbrev pub SpellsDecl : DeclTree → List Symbol → List Symbol → Type 0
 SpellsDecl (vars ns t) ts rest = (a b : List Symbol) × SpellsNames ns ts a × Next k.Colon a b × Spells t b rest
 SpellsDecl (include r) ts rest = SpellsRef r ts rest
 
--- predicates, parted by separators, behind the symbol; without any, nothing
+-- predicates, parted by separators, after the symbol; without any, nothing
 abbrev pub SpellsPredicates : Kind → List Tree → List Symbol → List Symbol → Type 0
 SpellsPredicates kind [] ts rest = ts ≡ rest
 SpellsPredicates kind (p ∷ ps) ts rest = (a : List Symbol) × Next kind ts a × PartedBy separator Spells (p ∷ ps) a rest

@@ -99,7 +99,7 @@ abbrev pub Gives : {A : Type 0} → Outcome A → Result A TextFault → List Sy
 Gives outcome (Ok a) after = outcome ≡ Ok (a, after)
 Gives outcome (Err e) after = Fails outcome e.kind e.line
 
--- ---- what a symbol is behind a term
+-- ---- what a symbol is after a term
 
 abbrev pub role_of : Next → Role
 role_of (next.Infix op) = role.Operator (operator.Function op)
@@ -168,9 +168,9 @@ over_both make x y = tall (make x.part y.part) (max x.height y.height + 1)
 abbrev pub if_at : ℕ → ℕ → Parser (Tall Term) → Parser (Tall Term)
 if_at least place p = λ ts. if nat_le least place then p ts else Err Refused
 
--- ---- symbols between operands and terms, and behind them
+-- ---- symbols between operands and terms, and after them
 
--- behind the symbol between two operands
+-- after the symbol between two operands
 abbrev pub beyond : Operator → List Symbol → List Symbol
 beyond operator.Application ts = ts
 beyond _ ts = rest ts
@@ -191,7 +191,7 @@ closed_by list.Product = pure tt
 -- ---- the rules, of which `below` reads a term at a place, one level deeper
 
 module _ (below : ℕ → Parser (Tall Term)) where
-  -- further terms at this place, each behind the symbol; the number bounds the turns
+  -- further terms at this place, each after the symbol; the number bounds the turns
   unfoldable pub further_from : Mark → ℕ → ℕ → Tall (List Term) → Parser (Tall (List Term))
   further_from m place zero xs = pure xs
   further_from m place (suc n) xs = λ ts.
@@ -234,14 +234,14 @@ module _ (below : ℕ → Parser (Tall Term)) where
   unfoldable pub decls : Parser (Tall (List VarDecl))
   decls = λ ts. and_then (read_decl ts) (λ x us. decls_from (length us) (tall (x.part ∷ []) x.height) us)
 
-  -- a part that may be left out, behind its symbol
+  -- a part that may be left out, after its symbol
   unfoldable pub part : Mark → ℕ → Parser (Tall (Option Term))
   part m place = λ ts.
       if is_mark m (first ts)
       then and_then (below place (rest ts)) (λ x us. Ok (tall (Some x.part) x.height, us))
       else Ok (tall None 0, ts)
 
-  -- the terms of a list, of which the first is read, and what stands behind them
+  -- the terms of a list, of which the first is read, and what stands after them
   unfoldable pub listed : ℕ → Listed → Tall Term → Parser (Tall Term)
   listed line form x = do
     all ← further (parted_by form) (member_place form) x
@@ -285,7 +285,7 @@ module _ (below : ℕ → Parser (Tall Term)) where
   unfoldable pub braced : ℕ → Parser (Tall Term)
   braced line = λ ts. if begins_decl true ts then comprehension line ts else display line ts
 
-  -- a term over the operand behind the next symbol
+  -- a term over the operand after the next symbol
   unfoldable pub prefixed : ℕ → ℕ → Unary → Parser (Tall Term)
   prefixed least line op = if_at least (unary_level op) (past (do
     x ← below (unary_level op)

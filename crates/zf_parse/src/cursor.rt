@@ -165,7 +165,7 @@ impl<'a, 'b> Cursor<'a, 'b> {
         }
     }
 
-    /// Goes past what stands behind two operands.
+    /// Goes past what stands after two operands.
     pub fn end(&mut self, op: Operator) -> Result<(), TextFault>
         ensures { Gives (terms.ended_by op self.old) result self.new }
     {
@@ -175,7 +175,7 @@ impl<'a, 'b> Cursor<'a, 'b> {
         Ok(())
     }
 
-    /// Goes past what stands behind the terms of a list.
+    /// Goes past what stands after the terms of a list.
     pub fn close(&mut self, form: Listed) -> Result<(), TextFault>
         ensures { Gives (terms.closed_by form self.old) result self.new }
     {

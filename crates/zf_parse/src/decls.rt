@@ -134,7 +134,7 @@ impl<'a> Rule<'a> for PredicateRule<'a> {
     }
 }
 
-/// Predicates behind a symbol, parted by separators, if that symbol is there.
+/// Predicates after a symbol, parted by separators, if that symbol is there.
 #[tactic(auto, unfolding(crate::specs::BoxReading::predicates))]
 pub fn predicates<'a>(
     arena: &'a Bump,

@@ -30,7 +30,7 @@ pub const POSTFIX: u8 = 18;
 
 pub const ATOM: u8 = 19;
 
-/// What a symbol is behind a term.
+/// What a symbol is after a term.
 #[derive(Clone, Copy)]
 pub enum Role {
     /// It does not go on with the term.
@@ -173,7 +173,7 @@ pub fn level(term: &Term<'_>) -> u8
     }
 }
 
-/// What the symbol is behind a term.
+/// What the symbol is after a term.
 #[inline(always)]
 pub fn role_of(next: Next) -> Role
     ensures { result ≡ spec.role_of next }

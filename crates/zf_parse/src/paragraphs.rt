@@ -64,7 +64,7 @@ fn abbreviation<'a>(
     })
 }
 
-/// A definition behind its name, which has no strokes.
+/// A definition after its name, which has no strokes.
 #[tactic(auto, unfolding(crate::specs::BoxReading::definition))]
 fn definition<'a>(
     arena: &'a Bump,

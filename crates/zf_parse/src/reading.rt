@@ -124,7 +124,7 @@ fn about<'a>(fault: TextFault, text: &'a [u8], symbols: &[Placed], left: usize) 
     }
 }
 
-/// The box that the symbols are, and nothing behind it.
+/// The box that the symbols are, and nothing after it.
 fn only_box<'a>(
     arena: &'a Bump,
     text: &'a [u8],

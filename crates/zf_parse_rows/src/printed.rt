@@ -5,7 +5,7 @@ use std::{fmt, io};
 use zf_data::arena::Boxed;
 use zf_tree::{Decl, Link, Listed, Name, Operator, Paragraph, Part, SchemaExp, SchemaRef, Sign, Spec, Term, Unary, VarDecl, ZBox};
 
-/// The text of the boxes; with lines, that of each name and term stands behind it and `@`.
+/// The text of the boxes; with lines, that of each name and term stands after it and `@`.
 pub fn printed(alloc: Global, spec: &Spec<'_>, has_lines: bool) -> io::Result<String> {
     let mut printer = Printer {
         text: String::new(alloc),
@@ -169,7 +169,7 @@ impl Printer {
         self.close()
     }
 
-    /// A part behind a mark, if it is there.
+    /// A part after a mark, if it is there.
     #[cycle(terms)]
     fn optional(&mut self, mark: &str, part: &Part<'_>) -> fmt::Result {
         match part.get() {

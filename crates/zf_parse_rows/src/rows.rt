@@ -2,11 +2,11 @@
 //!
 //! A line begins with a mark and a blank:
 //!
-//! | Mark | What is behind it |
+//! | Mark | What is after it |
 //! |---|---|
 //! | `#` | a remark |
-//! | `(` | a line of the text round the sources to come, which stand at its `..`; with nothing behind it, there is none |
-//! | `)` | the tree round the trees to come, which stand at its `..`; with nothing behind it, there is none |
+//! | `(` | a line of the text round the sources to come, which stand at its `..`; with nothing after it, there is none |
+//! | `)` | the tree round the trees to come, which stand at its `..`; with nothing after it, there is none |
 //! | `^` | the level of the forms to come, or the loosest level that may stand in the sources to come |
 //! | `=` | the tree of the forms or sources to come |
 //! | `@` | the tree of the sources to come, with the line of each name and term |
@@ -19,7 +19,7 @@
 //! | `/` | the last line of the next source: each front of it is a row that is run |
 //!
 //! The forms stand in their order, the loosest first. At the `..` of a source one stands in brackets where it is looser
-//! than the source's level, or begins with a minus behind a separator, which would be dropped.
+//! than the source's level, or begins with a minus after a separator, which would be dropped.
 use crate::printed::printed;
 use bumpalo::Bump;
 use std::alloc::{AllocError, Global};
@@ -226,7 +226,7 @@ fn is_among(found: &str, faults: &str) -> bool {
     false
 }
 
-/// The text at the `..` of what stands round it, or behind what has none.
+/// The text at the `..` of what stands round it, or after what has none.
 fn within(alloc: Global, round: &str, text: &str) -> Result<String, AllocError> {
     let (before, behind) = round.split_once("..").unwrap_or((round, ""));
     let mut whole = String::from_str(alloc, before)?;
@@ -253,7 +253,7 @@ fn push_line_or_clear(text: &mut String, line: &str) -> Result<(), AllocError> {
     push_line(text, line)
 }
 
-/// Pushes words behind a number so many times; without words, the text stands so many times.
+/// Pushes words after a number so many times; without words, the text stands so many times.
 fn push_often(text: &mut String, often: &str) -> io::Result<()> {
     let (number, words) = often.split_once(' ').unwrap_or((often, ""));
     let Ok(times) = number.parse::<usize>() else {

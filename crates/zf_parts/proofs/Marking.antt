@@ -133,7 +133,7 @@ module _ (places : List ℕ) (pages : List Page) (w at : ℕ) (h : IsKept places
 
 -- ---- bits of a page
 
--- a number's word and bit are told by its place in the page
+-- a number's word and bit are given by its place in the page
 place_in_page : (n : ℕ) → n % 1024 ≡ n / 64 % 16 * 64 + n % 64
 place_in_page n = omega (arith, div-add-mod' n 1024, div-add-mod' n 64, div-add-mod' (n / 64) 16, mod-lt n {m = 1024} (omega arith), mod-lt n {m = 64} (omega arith), mod-lt (n / 64) {m = 16} (omega arith))
 
@@ -336,7 +336,7 @@ module _ (p : Page) (m : ℕ) where
 in_page : (m n : ℕ) → m ≤ n → n < (m / 1024 + 1) * 1024 → n / 1024 ≡ m / 1024
 in_page m n later before = omega (arith, later, before, div-add-mod' m 1024, div-add-mod' n 1024, mod-lt m {m = 1024} (omega arith), mod-lt n {m = 1024} (omega arith))
 
--- of the numbers of a page, whatever its marks are told by
+-- of the numbers of a page, whatever its marks are found by
 pub as_sight : (has marked : ℕ → Bool) (m : ℕ) → ((n : ℕ) → n / 1024 ≡ m / 1024 → marked n ≡ has n) → (r : Sight) → IsSight has m r → reached r ≤ (m / 1024 + 1) * 1024 → IsSight marked m r
 as_sight has marked m same (Marked found) (later, is, none) near = (
   later,

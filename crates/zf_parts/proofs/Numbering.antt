@@ -134,7 +134,7 @@ some_rest l t h = elim (cases_lt 0 t) [
   ]
 ]
 
--- those behind have no more rows
+-- those after have no more rows
 pub fewer_behind : (ranges : List (List Value)) (places : List ℕ) (i : ℕ) → 0 < total (ranges_at ranges places)
     → total (ranges_at ranges (drop i places)) ≤ total (ranges_at ranges places)
 fewer_behind ranges places zero some = omega arith

@@ -1,4 +1,4 @@
--- What is written so far, and then what is told of the parts that are left, is the whole.
+-- What is written so far, and then what is reported of the parts that are left, is the whole.
 use Rattle.zf_parts.proofs.Prelude.{◌++◌, ◌+◌, ◌∙◌, ◌∷◌, ◌≡◌, [], ap, append-nil, append_assoc, arith, List, None, Option, refl, Some, subst, suc, sym, zero, ℕ, option_map, Out, True, Value, Part}
 use Rattle.std.proofs.KnownBytes.{Appends-nil, Appends-trans}
 use Rattle.std.specs.Io.KnownBytes.{Appends}
@@ -10,14 +10,14 @@ use Rattle.zf_parts.specs.{ArePartsWritten}
 use Rattle.zf_parts.proofs.Telling.{AllAreTold, told, told_of, told_written}
 
 module _ (w : Wording Value) where
-  -- ---- what is told of parts, by the first of them
+  -- ---- what is reported of parts, by the first of them
 
   pub out_first : (left : Option ℕ) (p : Part) (parts : List Part) → HasLimit left → p.first.truth ≡ Out → told w left (p ∷ parts) ≡ (w.out p.first.row, PastBounds)
   out_first None p parts some out = ap (λ t. told_of w p t (told w None parts)) out
   out_first (Some zero) p parts some out = absurd (omega (arith, some))
   out_first (Some (suc n)) p parts some out = ap (λ t. told_of w p t (told w (Some n) parts)) out
 
-  -- one less is left behind it
+  -- one less is left after it
   pub line_first : (left less : Option ℕ) (p : Part) (parts : List Part) → left ≡ option_map (λ n. n + 1) less → p.first.truth ≡ True
       → told w left (p ∷ parts) ≡ (w.line p.values ++ (told w less parts).0, (told w less parts).1)
   line_first left None p parts e holds = ap (λ l. told w l (p ∷ parts)) e ∙ ap (λ t. told_of w p t (told w None parts)) holds
@@ -80,7 +80,7 @@ module _ (w : Wording Value) where
               subst (AppendsFront old later) (sym whole) (front_longer old later (written ++ text) more (front_behind old now later written text h.appended front)),
             )
 
-        -- all that is told is written
+        -- all that is reported is written
         pub stops_in : (text : List ℕ) (status : Status) → told w left rest ≡ (text, status) → AppendsFront now later text → Stops later
         stops_in text status all front = stops text [] (ap (λ (r : List ℕ × Status). r.0) all ∙ sym (append-nil text)) front
 

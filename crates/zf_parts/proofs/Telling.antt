@@ -14,13 +14,13 @@ abbrev pub AllAreTold : List Part → Type 0
 AllAreTold parts = (p : Part) → Contains parts p → (p.first.truth ≡ True) ⊎ (p.first.truth ≡ Out)
 
 module _ (w : Wording Value) where
-  -- what is told of a part with this truth, and of those behind it
+  -- what is reported of a part with this truth, and of those after it
   abbrev pub told_of : Part → Truth → List ℕ × Status → List ℕ × Status
   told_of p Out rest = (w.out p.first.row, PastBounds)
   told_of p True rest = (w.line p.values ++ rest.0, rest.1)
   told_of p False rest = (w.line p.values ++ rest.0, rest.1)
 
-  -- what is told of parts, of which so many may still be written
+  -- what is reported of parts, of which so many may still be written
   abbrev pub told : Option ℕ → List Part → List ℕ × Status
   told None [] = (w.end, Done)
   told None (p ∷ parts) = told_of p p.first.truth (told None parts)

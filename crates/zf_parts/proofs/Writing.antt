@@ -1,4 +1,4 @@
--- The loop over what is kept of parts: what is written so far, and then what is told of those ahead, is the whole.
+-- The loop over what is kept of parts: what is written so far, and then what is reported of those ahead, is the whole.
 use Rattle.zf_parts.proofs.Prelude.{◌++◌, ◌+◌, ◌<◌, ◌∙◌, ◌∷◌, ◌≡◌, ◌⊎◌, [], ap, append-nil, append_assoc, arith, inl, inr, List, None, Option, refl, Some, subst, suc, sym, zero, ℕ, Contains, Contains-cases, Contains-nil, option_map, Out, True, Value, Part}
 use Rattle.std.proofs.KnownBytes.{Appends-nil, Appends-trans}
 use Rattle.std.specs.Io.KnownBytes.{Appends}
@@ -24,7 +24,7 @@ all_told (q ∷ parts) (entry ∷ entries) k p m = elim (Contains-cases q parts 
 ]
 
 module _ (w : Wording Value) where
-  -- ---- what is told of parts, by the first of them
+  -- ---- what is reported of parts, by the first of them
 
   out_first : (left : Option ℕ) (p : Part) (parts : List Part) → HasLimit left → p.first.truth ≡ Out → told w left (p ∷ parts) ≡ (w.out p.first.row, PastBounds)
   out_first None p parts some out = ap (λ t. told_of w p t (told w None parts)) out

@@ -34,7 +34,7 @@ abbrev pub total : List (List Value) → ℕ
 total [] = 1
 total (range ∷ ranges) = length range * total ranges
 
--- what a digit counts: how many rows the ranges behind have
+-- what a digit counts: how many rows the ranges after have
 abbrev pub weights : List (List Value) → List ℕ
 weights [] = []
 weights (range ∷ ranges) = total ranges ∷ weights ranges
@@ -95,7 +95,7 @@ abbrev pub page_has : Option Page → (entry : ℕ) → ℕ → Bool
 page_has None entry n = eqb entry (n % 1024 + 1)
 page_has (Some page) entry n = cond (eqb page.number (n / 1024)) (bit_of page n) (eqb entry (n % 1024 + 1))
 
--- behind the numbers of a page an entry is a place
+-- after the numbers of a page an entry is a place
 abbrev pub has_in : List Page → (entry : ℕ) → ℕ → Bool
 has_in pages entry n = page_has (counted_page pages (entry - 1024)) entry n
 
@@ -109,12 +109,12 @@ pub record IsPlaced (pages : List Page) (entry number at : ℕ) : Type 0 where
   pub there : slice_get pages at ≡ Some page
   pub is : page.number ≡ number
 
--- up to where it is told
+-- up to where it is reported
 abbrev pub reached : Sight → ℕ
 reached (Marked found) = found + 1
 reached (Free next) = next
 
--- what is told of the numbers from one on
+-- what is reported of the numbers from one on
 abbrev pub IsSight : (has : ℕ → Bool) → ℕ → Sight → Type 0
 IsSight has number (Marked found) = (number ≤ found) × (has found ≡ true) × ((n : ℕ) → number ≤ n → n < found → has n ≡ false)
 IsSight has number (Free next) = (number < next) × ((n : ℕ) → number ≤ n → n < next → has n ≡ false)

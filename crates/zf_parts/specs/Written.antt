@@ -28,7 +28,7 @@ pub data ArePartsWritten (w : Wording Value) (limit : Option ℕ) (parts : List 
   ends : AllHold parts → IsBelow limit (length parts) → text ≡ part_lines w parts ++ w.end → status ≡ Done
       → ArePartsWritten w limit parts text status
 
--- the line of a part is that of its components; of an event that is out the whole row is told
+-- the line of a part is that of its components; of an event that is out the whole row is reported
 abbrev pub part_wording : Format → List Spelling → (part whole : List Comp) → Wording Value
 part_wording f ss part whole = record {
   line = (row_wording f ss part).line;

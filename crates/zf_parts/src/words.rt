@@ -33,7 +33,7 @@ impl Words {
         }
     }
 
-    /// A number behind this one, with none between them that has another word than 0.
+    /// A number after this one, with none between them that has another word than 0.
     pub fn past(&self, word: usize) -> usize
         requires { word + 16 < 2 ^ 64 }
         ensures behind { (word < result) × (result ≤ word + 16) }

@@ -22,7 +22,7 @@ pub record Basis {V : Type 0} (cmp : V → V → Ordering) (l : Conjuncts V) (ra
   pub kept : KeepTruths l
   pub named : HasLength after (length ranges)
 
--- the value behind a road is of the range there
+-- the value after a road is of the range there
 in-range : {V : Type 0} (road : List V) (v : V) (tail : List V) (ranges : List (List V)) → IsRowOf (take (length (road ++ v ∷ tail)) ranges) (road ++ v ∷ tail)
     → Contains (get_or ranges (length road) []) v
 in-range [] v tail [] m = absurd m
@@ -57,7 +57,7 @@ module _ {V : Type 0} {cmp : V → V → Ordering} {l : Conjuncts V} {ranges : L
     equal : (x : List V × ℕ) → Walked x → under cmp road F x.0 ≡ under cmp road G x.0
     equal x w = same-under cmp given.total given.ties road F G x.0 (λ tail is. h tail x.1 (subst (λ r. Walked (r, x.1)) (sym is) w))
 
-  -- a row is under itself as nothing is behind it
+  -- a row is under itself as nothing is after it
   itself : (road : List V) (F : List V → Bool) → under cmp road F road ≡ F []
   itself road F = subst (λ r. under cmp road F r ≡ F []) (append-nil road) (under-at cmp given.total road F [])
 
@@ -225,7 +225,7 @@ module _ {V : Type 0} {cmp : V → V → Ordering} {l : Conjuncts V} {ranges : L
 
   -- ---- moves
 
-  -- to a value of the range behind a road, or past the road
+  -- to a value of the range after a road, or past the road
   module _ (p q : Place) (at : IsAt ranges p) (k : ℕ) (deep : k ≤ p.depth) (near : k < length ranges) (rising : AllPairs (λ v w. cmp v w ≡ Less) (get_or ranges k [])) where
     abbrev front : List V
     front = picked ranges (take k p.places.items)
@@ -341,7 +341,7 @@ module _ {V : Type 0} {cmp : V → V → Ordering} {l : Conjuncts V} {ranges : L
   short x w = let pair = w.is_pair in let c = pair.candidate in IsFrontOf-length ranges x.0 c.front
 
   module _ (places : List ℕ) (within : AreWithin ranges places) (tests : ℕ) where
-    -- all tests behind a whole row are those up to it
+    -- all tests after a whole row are those up to it
     pub tests-up_to : length places ≡ length ranges → Counts cmp l ranges after (picked ranges places) none_of tests → (number : ℕ)
         × IsNumberOfTests cmp l ranges after (Some (picked ranges places)) number × (tests ≡ cut number)
     tests-up_to whole (number, count, is) =

@@ -11,7 +11,7 @@ use Rattle.zf_plan.proofs.Knowing.{picked-take}
 use Rattle.zf_plan.proofs.Moving.{length-bound, same-under, within-front}
 use Rattle.zf_plan.proofs.Stepping.{failed-none, Moves, Rests, Setting}
 
--- ---- rows behind a road
+-- ---- rows after a road
 
 reaches-behind : {V : Type 0} (cmp : V → V → Ordering) (here : Bool) (road rest row : List V) → reaches cmp here (road ++ rest) row ≡ under cmp road (reaches cmp here rest) row
 reaches-behind cmp here [] rest row = refl

@@ -1,4 +1,4 @@
--- What is known of leaves, from what was told of them.
+-- What is known of leaves, from what was found of them.
 use Rattle.zf_plan.proofs.Prelude.{◌++◌, ◌<◌, ◌∙◌, ◌∷◌, ◌≡◌, ◌≤◌, [], ap, append_assoc, arith, drop, get_or, length, List, None, Option, refl, Some, subst, suc, sym, take, zero, ℕ, length-take-le, take-append-drop, AreWithin-tail, AreWithin-take, length-picked, picked-cons, slice_get-nth, Conjuncts, KeepTruths, AreWithin, picked, Truth, IsKnown, IsSettled, Tells, leaf}
 
 take-none : {V : Type 0} (k : ℕ) → take {A = V} k [] ≡ []

@@ -6,7 +6,7 @@ use Rattle.zf_walk.specs.{cut}
 use Rattle.zf_plan.specs.{Renews}
 use Rattle.zf_plan.specs.declared.marks.Marks.{Marks}
 
--- what the row has behind a road is a row of the ranges behind it
+-- what the row has after a road is a row of the ranges after it
 pub tail-row : {V : Type 0} (road tail : List V) (ranges : List (List V)) → IsRowOf ranges (road ++ tail) → IsRowOf (drop (length road) ranges) tail
 tail-row [] tail ranges m = m
 tail-row (x ∷ road) tail [] m = absurd m
@@ -38,7 +38,7 @@ pub record IsFrontier {V : Type 0} (range : List V) (f : ℕ) (F : List V → Bo
   pub behind : (m : ℕ) (v : V) (tail : List V) → IsNth range m v → m < f → F (v ∷ tail) ≡ false
 
 module _ {V : Type 0} (cmp : V → V → Ordering) (o : IsTotalOrder cmp) (ties : TiesAreEqual cmp) where
-  -- two tests under a road agree on a row where they agree on what it has behind the road
+  -- two tests under a road agree on a row where they agree on what it has after the road
   pub same-under : (road : List V) (f g : List V → Bool) (row : List V) → ((tail : List V) → road ++ tail ≡ row → f tail ≡ g tail) → under cmp road f row ≡ under cmp road g row
   same-under [] f g row h = h row refl
   same-under (x ∷ road) f g [] h = refl
@@ -265,7 +265,7 @@ module _ {V : Type 0} (cmp : V → V → Ordering) (o : IsTotalOrder cmp) (ties 
     landed (found, seen, inl a) = on-value found seen a.0 a.1 a.2 a.3 a.4
     landed (found, seen, inr a) = past-row found seen a.0 a.1 a.2 a.3 a.4
 
--- what was told stays right where the leaves that need one value more are forgotten
+-- what was found stays right where the leaves that need one value more are forgotten
 pub tells-landed : {V : Type 0} (l : Conjuncts V) (ranges : List (List V)) (k : ℕ) (places new : List ℕ) (old told : List (Option Truth)) → Tells l ranges places old → AreForgotten l (k + 1) old told
     → k ≤ length places → length new ≤ k + 1 → ((i : ℕ) → i ≤ k → take i new ≡ take i places) → Tells l ranges new told
 tells-landed l ranges k places new old told tells g deep short fronts = record {

@@ -234,7 +234,7 @@ module _ {V : Type 0} (l : Conjuncts V) (trees : List Tree) where
     )
     so-tested Out Out n ne h k = ((λ j m p. elim p [ inl below ↦ k.0 j m below | inr w ↦ not-false-there n h.0 h.1.0 j m w ]), k.1)
 
-    -- what these leaves come to is told of their conjuncts
+    -- what these leaves come to is reported of their conjuncts
     pub told-so : (t : Truth) → IsTruthOfLeaves l road leaves (length leaves) t → IsTold l trees road (length places) t
     told-so False h = refuting-leaf h
     told-so True h = λ j c m is. let f = found-at j c m is in settled-so j c True m is (subst (λ d. l.says d road True) f.2 (h f.0 f.1))

@@ -15,7 +15,7 @@ pub record IsPlain {V : Type 0} (l : Conjuncts V) (trees : List Tree) (planned :
   pub flat : IsFlat l.number trees
   pub plain : planned.is_plain ≡ true
 
--- which rows that begin with a given one are ahead, by what they have behind it: all, those that go on, or none
+-- which rows that begin with a given one are ahead, by what they have after it: all, those that go on, or none
 abbrev pub all_of : {V : Type 0} → List V → Bool
 all_of tail = true
 

@@ -7,7 +7,7 @@ use Rattle.zf_walk.specs.{AreTrue, picked}
 use Rattle.zf_plan.specs.Memories.{Memory, AreDues}
 use Rattle.zf_plan.specs.Trees.{Tree, leaf, negated, both, either, opposite, IsTreeTruth, due_of, tree_at}
 
--- what was told of a leaf that needs no more values than there are is its truth on those that it needs
+-- what was found of a leaf that needs no more values than there are is its truth on those that it needs
 pub record Tells {V : Type 0} (l : Conjuncts V) (ranges : List (List V)) (places : List ℕ) (told : List (Option Truth)) : Type 0 where
   pub all : length told ≡ l.number
   pub right : (c : ℕ) (t : Truth) → c < l.number → l.due c ≤ length places → slice_index_or told c None ≡ Some t → l.says c (picked ranges (take (l.due c) places)) t

@@ -60,7 +60,7 @@ pub record IsFound {V : Type 0} (l : Conjuncts V) (trees : List Tree) (row : Lis
   pub so : IsSoFar l trees row (NeedsWithin l trees k) t
   pub not_false : t ≢ False
 
--- what is known of range k behind the values before it
+-- what is known of range k after the values before it
 abbrev pub seen_at : Place → ℕ → Seen
 seen_at p k = slice_index_or p.seen.items k unseen
 
@@ -74,7 +74,7 @@ IsTold l trees row k False = IsRefuted l trees row
 IsTold l trees row k True = AreHeld l trees row k
 IsTold l trees row k Out = ⊥
 
--- what is known of the values of the next range behind those at these places is so
+-- what is known of the values of the next range after those at these places is so
 abbrev pub AreSeen : {V : Type 0} → Conjuncts V → List Tree → List (List V) → List ℕ → Seen → Type 0
 AreSeen l trees ranges places seen = (i : ℕ) (t : Truth) → AreWithin ranges (places ++ i ∷ []) → IsSeen seen i t → IsTold l trees (picked ranges (places ++ i ∷ [])) (length places + 1) t
 

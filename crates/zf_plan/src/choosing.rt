@@ -138,7 +138,7 @@ fn gather_first<V: Ord, J: Guide<V>>(
     Ok(None)
 }
 
-/// Chooses the places of the next component that are tried. With a value at any other place a conjunct is False on every row, whatever the values are behind those first ones that the answer counts.
+/// Chooses the places of the next component that are tried. With a value at any other place a conjunct is False on every row, whatever the values are after those first ones that the answer counts.
 pub fn choose<V: Ord, J: Guide<V>>(
     problem: &Problem<V, J>,
     places: &[usize],

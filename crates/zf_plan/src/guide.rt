@@ -7,7 +7,7 @@ ghost use Rattle.zf_plan.specs.Choices.{Leaves};
 use std::alloc::AllocError;
 use zf_walk::{Judge, Range};
 
-/// How it is told which values a leaf leaves.
+/// How it is known which values a leaf leaves.
 #[derive(Clone, Copy)]
 pub enum Means {
     /// By itself, and these are likely to be few.
@@ -43,7 +43,7 @@ pub trait Guide<V: Ord>: Judge<V> {
     /// Which number is the key of a value of the last component that a leaf needs.
     ghost is_key: { Self → ℕ → V → ℕ → Type 0 };
 
-    /// The key of the value at a place of the last range that a leaf needs. Without a place it is the one that the leaf wants where the values at these places of the ranges before are bound: with a value of any other key it is False.
+    /// The key of the value at a place of the last range that a leaf needs. Without a place it is the one that the leaf needs where the values at these places of the ranges before are bound: with a value of any other key it is False.
     fn key(
         &self,
         leaf: usize,

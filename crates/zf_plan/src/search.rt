@@ -50,7 +50,7 @@ impl<'a, V: Ord, J: Guide<V>> Model for Search<'a, V, J> {
 }
 
 impl<'a, V: Ord + Drop, J: Guide<V> + Drop> Search<'a, V, J> {
-    /// Stands before the first event. The named row need not lie in the ranges.
+    /// Stands before the first event. The named row need not be in the ranges.
     pub fn start(
         alloc: Global,
         judge: J,

@@ -12,7 +12,7 @@ use crate::problem::Problem;
 use std::alloc::AllocError;
 use zf_walk::Truth;
 
-/// Chooses the values of the next range on which none of these conjuncts is False. The choice is one whatever the values are behind those first ones that the answer counts.
+/// Chooses the values of the next range on which none of these conjuncts is False. The choice is one whatever the values are after those first ones that the answer counts.
 pub fn sift<V: Ord, J: Guide<V>>(
     problem: &Problem<V, J>,
     places: &[usize],

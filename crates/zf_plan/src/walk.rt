@@ -29,7 +29,7 @@ impl<'a, V: Ord, J: Guide<V>> Model for Walk<'a, V, J> {
 }
 
 impl<'a, V: Ord + Drop, J: Guide<V> + Drop> Walk<'a, V, J> {
-    /// Stands before the first event. The named row need not lie in the ranges.
+    /// Stands before the first event. The named row need not be in the ranges.
     pub fn start(
         alloc: Global,
         judge: J,

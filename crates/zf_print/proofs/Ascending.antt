@@ -1,4 +1,4 @@
--- When a list stays ascending with one more value behind it.
+-- When a list stays ascending with one more value after it.
 use Rattle.zf_print.proofs.Prelude.{◌++◌, ◌-◌, ◌↔◌, ◌∙◌, ◌∷◌, ◌≡◌, [], ap, arith, Bool, Equal, Greater, is_lt, IsTrue, length, Less, List, Ordering, refl, Some, sym, true, slice_get, IsAscending, value_order, Value, AllByRecursion}
 use Rattle.zf_value.specs.contracts.plain.ValueOrd.TheImpl.Laws.{total-law}
 

@@ -67,7 +67,7 @@ module _ (ss : List Spelling) (e : Environment) where
   pub ends_more : (c : Comp) (cs : List Comp) (n : ℕ) (bytes : List ℕ) (held : List (Option Value)) → HoldNext ss e cs (n + 1) bytes held → EndsAs c.type bytes
   ends_more c cs n bytes held h = ends_as c.type bytes (ends_next cs n bytes held (subst (λ m. HoldNext ss e cs m bytes held) (one_more n) h))
 
-  -- the values that are held of these, behind n others
+  -- the values that are held of these, after n others
   abbrev pub HoldNone : List Comp → ℕ → List ℕ → Type 0
   HoldNone cs n bytes = AreClear ss e.sizes → (held : List (Option Value)) → HoldNext ss e cs n bytes held → ⊥
 

@@ -16,7 +16,7 @@ regrouped a s t l c = simp append_assoc refl
 pub goes_on-later : (n m : ℕ) (ts : List (List ℕ)) → m ≡ suc n → goes_on m ts ≡ later_parts ts
 goes_on-later n m ts e = ap (λ k. goes_on k ts) e
 
--- what was ahead is ahead behind one more part
+-- what was ahead is ahead after one more part
 pub ahead-more : (text mid new closing whole t : List ℕ) (n : ℕ) (ts : List (List ℕ)) → text ++ (goes_on n (t ∷ ts) ++ closing) ≡ whole
     → mid ≡ text ++ comma_before n → new ≡ mid ++ t → new ++ (goes_on (n + 1) ts ++ closing) ≡ whole
 ahead-more text mid new closing whole t n ts h e f =

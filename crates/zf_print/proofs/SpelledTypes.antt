@@ -48,7 +48,7 @@ pub without_elements : (ss : List Spelling) (e : Environment) (name : List ℕ) 
 unfolding HasNoElements IsNoSpelledType
 without_elements ss e name n is none clear v h = sized_of ss e (type_number e name) n v (sym is) (none clear) h
 
--- ---- numbers behind a name
+-- ---- numbers after a name
 
 pub not_numbered : (word name : List ℕ) (i : ℕ) → IsNoItem name word → word ≡ name ++ codes "." ++ decimal (i + 1) → ⊥
 unfolding IsNoItem

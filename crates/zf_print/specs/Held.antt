@@ -7,7 +7,7 @@ use Rattle.zf_print.specs.declared.spelling.Spelling.{Spelling}
 use Rattle.zf_print.specs.LineTexts.{comma_before, component_text}
 use Rattle.zf_print.specs.Words.{Ends}
 
--- behind n components the bytes go on with the name of this one, and no word goes on behind it
+-- after n components the bytes go on with the name of this one, and no word goes on after it
 abbrev pub IsNamedNext : Comp → ℕ → List ℕ → Type 0
 IsNamedNext c n bytes = (rest : List ℕ) × Ends rest × (bytes ≡ comma_before n ++ (c.name ++ rest))
 

@@ -16,7 +16,7 @@ use Rattle.zf_print.specs.HeldLines.{IsLineOfSome}
 abbrev pub OneValue : Type 0
 OneValue = (ss : List Spelling) (e : Environment) (t : Ty) (v w : Value) → AreClear ss e.sizes → IsOfType e t v → IsOfType e t w → value_text ss v ≡ value_text ss w → v ≡ w
 
--- a text begins with the text of one value of a type alone, where no word goes on behind it
+-- a text begins with the text of one value of a type alone, where no word goes on after it
 abbrev pub OneEnd : Type 0
 OneEnd = (ss : List Spelling) (e : Environment) (t : Ty) (v w : Value) (r s : List ℕ) → AreClear ss e.sizes → IsOfType e t v → IsOfType e t w → Ends r → Ends s → value_text ss v ++ r ≡ value_text ss w ++ s → (v ≡ w) × (r ≡ s)
 

@@ -6,7 +6,7 @@ use Rattle.zf_format.specs.declared.format.Format.TheVariants.{Lines}
 use Rattle.zf_print.specs.declared.spelling.Spelling.{Spelling}
 use Rattle.zf_print.specs.BindingTexts.{component_in, components_in}
 
--- what stands before a part behind n others
+-- what stands before a part after n others
 abbrev pub comma_before : ℕ → List ℕ
 comma_before zero = []
 comma_before (suc n) = codes ", "

@@ -15,7 +15,7 @@ use Rattle.zf_print.specs.Words.{is_in_word, Ends}
 use Rattle.zf_print.specs.Clear.{IsClear, AreClear}
 use Rattle.zf_print.specs.Held.{IsNamedNext}
 
--- what may stand behind the text of a value of the type: behind a word none goes on
+-- what may stand after the text of a value of the type: after a word none goes on
 abbrev pub EndsAs : Ty → List ℕ → Type 0
 EndsAs int r = Ends r
 EndsAs (basic name) r = Ends r
@@ -31,7 +31,7 @@ abbrev pub Closes : List ℕ → Type 0
 Closes [] = Unit {0}
 Closes (b ∷ r) = (is_in_word b ≡ false) × (is_opening b ≡ false)
 
--- ---- parts behind so many others
+-- ---- parts after so many others
 
 abbrev pub goes_on : ℕ → List (List ℕ) → List ℕ
 goes_on zero ts = parted ts
@@ -93,7 +93,7 @@ pub record ArePartsAt (ss : List Spelling) (e : Environment) (ts : Tys) (bytes :
   pub values : AreOfTypes e ts vs
   pub stand : IsItem bytes place (parted (map (value_text ss) vs) ++ codes ")") end
 
--- behind n parts the bytes don't begin with parts of these types and the end of a tuple
+-- after n parts the bytes don't begin with parts of these types and the end of a tuple
 unfoldable pub AreNoParts : List Spelling → Environment → Tys → ℕ → List ℕ → Type 0
 AreNoParts ss e ts n bytes = AreClear ss e.sizes → (vs : List Value) (rest : List ℕ) → AreOfTypes e ts vs → bytes ≡ goes_on n (map (value_text ss) vs) ++ (codes ")" ++ rest) → ⊥
 
@@ -117,7 +117,7 @@ pub record AreMembersAt (ss : List Spelling) (e : Environment) (t : Ty) (bytes :
   pub members : AreMembers e t vs
   pub stand : IsItem bytes place (parted (map (value_text ss) vs) ++ codes "}") end
 
--- behind these members the bytes don't begin with further ones and the end of a set
+-- after these members the bytes don't begin with further ones and the end of a set
 unfoldable pub AreNoMembers : List Spelling → Environment → Ty → List Value → List ℕ → Type 0
 AreNoMembers ss e t vs bytes = AreClear ss e.sizes → (ws : List Value) (rest : List ℕ) → AreMembers e t (vs ++ ws) → bytes ≡ goes_on (length vs) (map (value_text ss) ws) ++ (codes "}" ++ rest) → ⊥
 
@@ -131,13 +131,13 @@ pub record IsComponentAt (ss : List Spelling) (e : Environment) (c : Comp) (byte
 unfoldable pub IsNoComponent : List Spelling → Environment → Comp → List ℕ → Type 0
 IsNoComponent ss e c bytes = AreClear ss e.sizes → (v : Value) (rest : List ℕ) → IsOfType e c.type v → EndsAs c.type rest → bytes ≡ component_text ss c v ++ rest → ⊥
 
--- behind n components the bytes are not the rest of a line
+-- after n components the bytes are not the rest of a line
 unfoldable pub IsNoRest : List Spelling → Environment → List Comp → ℕ → List ℕ → Type 0
 IsNoRest ss e cs n bytes = AreClear ss e.sizes → (vs : List Value) → IsRow e cs vs → bytes ≡ goes_on n (component_texts ss cs vs) → ⊥
 
 -- ---- the values that a line of some components holds
 
--- the bytes begin with the name, and no word goes on behind it
+-- the bytes begin with the name, and no word goes on after it
 abbrev pub BeginsWithName : List ℕ → List ℕ → Type 0
 BeginsWithName name bytes = (rest : List ℕ) × Ends rest × (bytes ≡ name ++ rest)
 

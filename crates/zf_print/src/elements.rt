@@ -140,7 +140,7 @@ fn misfit(text: &[u8], place: usize, word: &[u8], spelling: &Spelling) -> usize
     }
 }
 
-/// Whether an element's spelling goes on behind the word.
+/// Whether an element's spelling goes on after the word.
 fn is_front(word: &[u8], spelling: &Spelling) -> bool {
     match spelling {
         Spelling::Numbered(name) => is_numbered_front(word, name.as_slice()),

@@ -52,7 +52,7 @@ pub fn read_held(
     Ok(held)
 }
 
-/// The value that is held of the component, and the place behind it, if it is named next.
+/// The value that is held of the component, and the place after it, if it is named next.
 fn held_next(
     alloc: Global,
     line: &Line<'_, '_, '_, '_>,
@@ -86,7 +86,7 @@ fn named_at(text: &[u8], place: usize, count: usize, component: &Component<'_>) 
     }
 }
 
-/// The place behind what stands before a part behind so many others.
+/// The place after what stands before a part after so many others.
 fn behind_separator(text: &[u8], place: usize, count: usize) -> Option<usize>
     requires { place ≤ length text.now }
     ensures { MatchOption result (IsNoItem (comma_before count) (drop place text.now)) (λ start. IsItem text.now place (comma_before count) start) }
@@ -101,7 +101,7 @@ fn behind_separator(text: &[u8], place: usize, count: usize) -> Option<usize>
     }
 }
 
-/// Whether the name stands at the place, and no word goes on behind it.
+/// Whether the name stands at the place, and no word goes on after it.
 fn is_word(text: &[u8], place: usize, name: &[u8]) -> bool
     requires { place ≤ length text.now }
     ensures { MatchBool result (BeginsWithName name.now (drop place text.now)) (BeginsWithoutName name.now (drop place text.now)) }
@@ -127,7 +127,7 @@ fn ends(bytes: &[u8]) -> bool
     }
 }
 
-/// The place of what is no component that is ahead: the end of the text, where a name of one goes on behind it.
+/// The place of what is no component that is ahead: the end of the text, where a name of one goes on after it.
 fn misfit(text: &[u8], place: usize, count: usize, ahead: &[Component<'_>]) -> usize
     requires { place ≤ length text.now }
 {

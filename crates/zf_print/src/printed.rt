@@ -83,7 +83,7 @@ pub fn append_name(text: &mut Vec<u8>, format: Format, name: &[u8]) -> Result<()
     }
 }
 
-/// Appends what stands before a part, behind so many others.
+/// Appends what stands before a part, after so many others.
 fn append_separator(text: &mut Vec<u8>, count: usize) -> Result<(), AllocError>
     ensures { OnOk result (text.new.items ≡ text.old.items ++ comma_before count) }
 {

@@ -53,7 +53,7 @@ pub fn read_binding(
     Ok(row)
 }
 
-/// The value of the component at the place, and the place behind it.
+/// The value of the component at the place, and the place after it.
 pub(crate) fn read_component(
     alloc: Global,
     line: &Line<'_, '_, '_, '_>,
@@ -71,7 +71,7 @@ pub(crate) fn read_component(
     read_value(alloc, line, behind_name + 4, &component.ztype)
 }
 
-/// The place of a name that goes on behind it, or else of what follows it.
+/// The place of a name that goes on after it, or else of what follows it.
 fn misfit(text: &[u8], place: usize, behind_name: usize) -> usize
     requires { behind_name ≤ length text.now }
 {
@@ -81,7 +81,7 @@ fn misfit(text: &[u8], place: usize, behind_name: usize) -> usize
     crate::words::misfit(text, behind_name, b" == ")
 }
 
-/// The value of the type at the place, and the place behind it.
+/// The value of the type at the place, and the place after it.
 #[cycle(read)]
 #[tactic(auto, using(zf_term::proofs::TypesSeen::seen))]
 fn read_value(

@@ -43,7 +43,7 @@ pub(crate) fn stands(text: &[u8], place: usize, item: &[u8]) -> bool
     behind(&text[place..], item).is_some()
 }
 
-/// The place behind the item, which stands at the place.
+/// The place after the item, which stands at the place.
 pub(crate) fn item(text: &[u8], place: usize, item: &[u8]) -> Result<usize, AfterFault>
     requires { place ≤ length text.now }
     ensures read { IfOk result (λ end. IsItem text.now place item.now end) }
@@ -55,7 +55,7 @@ pub(crate) fn item(text: &[u8], place: usize, item: &[u8]) -> Result<usize, Afte
     Err(AfterFault::NotABinding(misfit(text, place, item)))
 }
 
-/// What stands before a part, behind so many others.
+/// What stands before a part, after so many others.
 pub(crate) fn separated(text: &[u8], place: usize, count: usize) -> Result<usize, AfterFault>
     requires { place ≤ length text.now }
     ensures read { IfOk result (λ end. IsItem text.now place (comma_before count) end) }

@@ -10,7 +10,7 @@ module _ (e : Environment) (ds : DeclaredSets) where
   pub of_all : (xs : List Value) → IsAllOfEach e ds xs → IsAllWith e ds None xs
   of_all xs h = (lists_same (IsInSets e ds) (λ v. IsInSets e ds v × IsHeld None v) xs (λ v. (λ i. (i, tt), λ i. i.0)) h.0, h.1)
 
-  -- this one is held, and lies in the declared sets or not
+  -- this one is held, and is a member of the declared sets or not
   pub of_one : (w : Value) (ys xs : List Value) → ys ≡ w ∷ [] → NarrowsAll e ds ys xs → IsAllWith e ds (Some w) xs
   of_one w ys xs is h =
       let here = subst (λ zs. NarrowsAll e ds zs xs) is h in (

@@ -60,9 +60,9 @@ all_taken (x ∷ xs) (suc i) l = ap (λ ys. x ∷ ys) (all_taken xs i (omega ari
 pub narrows_end : (e : Environment) (xs : List Domain) (i : ℕ) (vs found : List Value) → length xs ≤ i → NarrowsAll e (front i xs) vs found → NarrowsAll e (whole xs) vs found
 narrows_end e xs i vs found l h = subst (λ ys. NarrowsAll e (whole ys) vs found) (all_taken xs i l) h
 
--- ---- before, at and behind a place
+-- ---- before, at and after a place
 
--- the slice behind a place
+-- the slice after a place
 pub rest : (xs : List Domain) (i : ℕ) → take (length xs - (i + 1)) (drop (i + 1) xs) ≡ drop (suc i) xs
 rest xs i = rw add-one (all_taken (drop (suc i) xs) (length xs - suc i) (omega (arith, length-drop (suc i) xs)))
 

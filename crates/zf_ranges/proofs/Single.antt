@@ -159,7 +159,7 @@ pub described_carrier_is_out : (e : Environment) (t : Ty) (d : Described) → ha
 unfolding Describes
 described_carrier_is_out e t d n f h = carrier_is_out e t Out n (f Out h) refl
 
--- ---- which set it is told to be
+-- ---- which set it is reported to be
 
 pub no_infinite : (d : Option Infinite) → ((s : Infinite) → d ≡ Some s → ⊥) → d ≡ None
 no_infinite None h = refl

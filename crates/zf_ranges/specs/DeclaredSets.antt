@@ -1,4 +1,4 @@
--- What lies in the declared sets of a component, and which of them are out.
+-- What is a member of the declared sets of a component, and which of them are out.
 use Rattle.std.specs.Prelude.{◌⊎◌, ℕ, Bool, true, false, Option, Some, None}
 use Rattle.zf_term.specs.declared.extent.Infinite.{Infinite}
 use Rattle.zf_term.specs.{carrier, DeclaredSet, DeclaredSets, has_numbers, no_sets, plain, ResolvedTree, set, sides, Ty}

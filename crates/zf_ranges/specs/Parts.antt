@@ -21,11 +21,11 @@ pub record Lists (P : Value → Type 0) (xs : List Value) : Type 0 where
   pub ascending : IsAscending xs
   pub members : (v : Value) → IsMember v xs ↔ P v
 
--- the value is put behind the others if it passes
+-- the value is put after the others if it passes
 unfoldable pub Grows : (Value → Type 0) → Value → List Value → List Value → Type 0
 Grows P x old new = (P x × (new ≡ old ++ x ∷ [])) ⊎ ((P x → ⊥) × (new ≡ old))
 
--- the values of xs that lie in the declared set, which is not out
+-- the values of xs that are members of the declared set, which is not out
 abbrev pub Narrows : Environment → DeclaredSet → List Value → List Value → Type 0
 Narrows e d xs ys = Lists (λ v. IsMember v xs × IsInSet e d v) ys × (IsSetOut e d → ⊥)
 
@@ -37,7 +37,7 @@ NarrowsAll e ds xs ys = Lists (λ v. IsMember v xs × IsInSets e ds v) ys × (Is
 abbrev pub IsAllOf : Environment → DeclaredSet → List Value → Type 0
 IsAllOf e d xs = Lists (IsInSet e d) xs × (IsSetOut e d → ⊥)
 
--- the values that lie in each of several, of which none is out
+-- the values that are members of each of several, of which none is out
 abbrev pub IsAllOfEach : Environment → DeclaredSets → List Value → Type 0
 IsAllOfEach e ds xs = Lists (IsInSets e ds) xs × (IsOneOut e ds → ⊥)
 
@@ -50,7 +50,7 @@ pub record IsListed (o : Outcome) (P : Value → Type 0) (xs : List Value) : Typ
   pub within : o ≡ outcome.Out → ⊥
   pub lists : Lists P xs
 
--- the values of xs that lie in what is described, which is not out
+-- the values of xs that are members of what is described, which is not out
 abbrev pub Filters : Described → List Value → List Value → Type 0
 Filters d xs ys = Lists (λ v. IsMember v xs × IsInDescribed d v) ys × IsWithin d
 

@@ -10,7 +10,7 @@ use Rattle.zf_ranges.specs.DeclaredSets.{IsInSets, IsOneOut}
 abbrev pub IsHeld : Option Value → Value → Type 0
 IsHeld held v = IfSome held (λ w. v ≡ w)
 
--- the ascending list of exactly the values in the component's range: those that lie in its declared sets, or of them the one that is held
+-- the ascending list of exactly the values in the component's range: those that are members of its declared sets, or of them the one that is held
 pub record IsComponentRange (e : Environment) (c : Comp) (held : Option Value) (xs : List Value) : Type 0 where
   pub ascending : IsAscending xs
   pub members : (v : Value) → IsMember v xs ↔ (IsInSets e (sets_of c.sets) v × IsHeld held v)

@@ -40,7 +40,7 @@ pub(crate) fn kept<T: Test>(
     Ok(out)
 }
 
-/// Puts a copy of the value behind the others if it passes.
+/// Puts a copy of the value after the others if it passes.
 fn keep<T: Test>(
     alloc: Global,
     out: &mut Vec<Value>,

@@ -54,7 +54,7 @@ pub(crate) fn of_carrier<'a>(
     members_of(alloc, outcome)
 }
 
-/// Those of the values that lie in the set that a declaration names.
+/// Those of the values that are members of the set that a declaration names.
 pub(crate) fn among_plain<'a>(
     alloc: Global,
     values: &[Value],
@@ -74,7 +74,7 @@ pub(crate) fn among_plain<'a>(
     members_among(alloc, values, &described)
 }
 
-/// Those of the values that lie in the carrier of the type, or, where endless numbers are parts of them, are of the type.
+/// Those of the values that are members of the carrier of the type, or, where endless numbers are parts of them, are of the type.
 pub(crate) fn among_carrier<'a>(
     alloc: Global,
     values: &[Value],

@@ -1,4 +1,4 @@
-//! The values that lie in declared sets.
+//! The values that are members of declared sets.
 ghost use Rattle.std.specs.Prelude.{◌≡◌, ◌≤◌, ◌<◌, true, IfOk, IfErr, MatchOption, length, map, option_map, slice_get};
 ghost use Rattle.zf_term.specs.{globals_of, set_of, sets_of};
 ghost use Rattle.zf_meaning.specs.{environment_of};
@@ -15,7 +15,7 @@ use zf_meaning::Env;
 use zf_term::Domain;
 use zf_value::Value;
 
-/// The values that lie in each of the declared sets, of which one bounds; the one that is held alone, if one is.
+/// The values that are members of each of the declared sets, of which one bounds; the one that is held alone, if one is.
 pub(crate) fn values_with<'a>(
     alloc: Global,
     domains: &[Domain<'a>],
@@ -32,7 +32,7 @@ pub(crate) fn values_with<'a>(
     }
 }
 
-/// The values that lie in each of the declared sets, of which one bounds; none where none does.
+/// The values that are members of each of the declared sets, of which one bounds; none where none does.
 #[cycle(listing)]
 fn range<'a>(alloc: Global, domains: &[Domain<'a>], env: &Env<'_, 'a>) -> Result<Vec<Value>, Lack>
     ensures is { spec.one_bounds (environment_of env.now).numbers (environment_of env.now).globals (sets_of (map set_of domains.now)) ≡ true → IfOk result (λ xs. IsAllOfEach (environment_of env.now) (sets_of (map set_of domains.now)) xs.items) }
@@ -49,7 +49,7 @@ fn range<'a>(alloc: Global, domains: &[Domain<'a>], env: &Env<'_, 'a>) -> Result
     Ok(found)
 }
 
-/// The values that lie in a declared set that bounds.
+/// The values that are members of a declared set that bounds.
 #[cycle(listing)]
 #[tactic(auto, using(zf_term::proofs::SetsSeen::seen))]
 fn values<'a>(alloc: Global, domain: &Domain<'a>, env: &Env<'_, 'a>) -> Result<Vec<Value>, Lack>
@@ -68,7 +68,7 @@ fn values<'a>(alloc: Global, domain: &Domain<'a>, env: &Env<'_, 'a>) -> Result<V
     }
 }
 
-/// Those of the values that lie in each of the declared sets.
+/// Those of the values that are members of each of the declared sets.
 #[cycle(narrowing)]
 fn narrowed<'a>(
     alloc: Global,
@@ -87,7 +87,7 @@ fn narrowed<'a>(
     Ok(found)
 }
 
-/// Those of the values that lie in the declared set.
+/// Those of the values that are members of the declared set.
 #[cycle(narrowing)]
 #[tactic(auto, using(zf_term::proofs::SetsSeen::seen))]
 fn narrowed_by<'a>(

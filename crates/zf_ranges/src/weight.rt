@@ -1,4 +1,4 @@
-//! How many values a declared set may have, as far as it can be told without listing them. It decides what is listed and tried, and nothing that is found.
+//! How many values a declared set may have, as far as it can be decided without listing them. It decides what is listed and tried, and nothing that is found.
 
 use std::alloc::AllocError;
 use zf_meaning::{Env, Row, described_in};

@@ -7,7 +7,7 @@ use Rattle.zf_reach.proofs.Prelude.{◌++◌, ◌+◌, ◌<◌, ◌∙◌, ◌�
 use Rattle.zf_reach.specs.{edge}
 
 module _ {X : Type 0} (test : X → Bool) where
-  -- where none passes, the place is behind the last
+  -- where none passes, the place is after the last
   pub place-none : (xs : List X) → list_any test xs ≡ false → position_or_len test xs ≡ length xs
   place-none [] h = refl
   place-none (x ∷ xs) h =

@@ -47,7 +47,7 @@ AdvancesTo p (founds.Edge label to) of now Stands HasPassed stop = Stands (with_
 AdvancesTo p founds.Over of now Stands HasPassed stop = HasPassed now
 AdvancesTo p founds.Out of now Stands HasPassed stop = p.BreaksTurn of now stop
 
--- fewer edges are ahead behind an edge
+-- fewer edges are ahead after an edge
 abbrev pub HasFewer : {N L : Type 0} → Found N L → (before after : ℕ) → Type 0
 HasFewer (founds.Edge label to) before after = after < before
 HasFewer founds.Over before after = Unit {0}

@@ -112,7 +112,7 @@ fn write_turn<M: Machine, W: Write>(
     Ok(None)
 }
 
-/// Begins the turn of the next node, and writes it where that is a stray. Whether that can be told.
+/// Begins the turn of the next node, and writes it where that is a stray. Whether that can be decided.
 fn open_turn<M: Machine, W: Write>(
     machine: &M,
     limit: usize,

@@ -9,6 +9,6 @@ pub enum Finding {
     Missing,
     /// None of as many nodes as are asked for is sought.
     OpenEnded,
-    /// Whether a node is sought, or the next edge, can't be told.
+    /// Whether a node is sought, or the next edge, can't be decided.
     Untold,
 }

@@ -39,7 +39,7 @@ pub fn one_search<M: Machine>()
     ensures { (m : M) (limit : ℕ) → IsSearchedInOneWay (M.explored m) (M.sought m) (M.words m) (M.verdict m) limit }
 {}
 
-/// Where each node has a turn, or a place at which its turn breaks off, and each is sought, or another, or it can't be told, a search has a text.
+/// Where each node has a turn, or a place at which its turn breaks off, and each is sought, or another, or it can't be decided, a search has a text.
 pub fn some_search<M: Machine>()
     ensures { (m : M) (limit : ℕ) → EachNodeHasTurn (M.explored m) → EachIsTold (M.explored m) (M.sought m) → 1 ≤ limit → IsSomehowSearched (M.explored m) (M.sought m) (M.words m) (M.verdict m) limit }
 {}

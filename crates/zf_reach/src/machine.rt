@@ -14,7 +14,7 @@ use std::hash::Hash;
 pub enum Beginning {
     Regular,
     Stray,
-    /// Whether it is a stray can't be told.
+    /// Whether it is a stray can't be decided.
     Out,
 }
 
@@ -25,7 +25,7 @@ pub enum Found<N, L> {
     Edge(L, N),
     /// There is no further one.
     Over,
-    /// It can't be told.
+    /// It can't be decided.
     Out,
 }
 
@@ -68,7 +68,7 @@ pub trait Machine {
     /// How many edges are ahead at most.
     ghost ahead: { Self.Cursor → ℕ };
 
-    /// What can't be told.
+    /// What can't be decided.
     ghost stop: { Self.Cursor → List ℕ };
 
     /// The node that is first.

@@ -5,6 +5,6 @@
 pub enum Sight {
     Sought,
     Other,
-    /// It can't be told.
+    /// It can't be decided.
     Untold,
 }

@@ -8,7 +8,7 @@ abbrev pub tree_in : Option Resolved → Option ResolvedTree
 tree_in None = None
 tree_in (Some t) = Some (resolved_of t)
 
--- a term behind what is there
+-- a term after what is there
 abbrev pub behind : Option ResolvedTree → ResolvedTree → ResolvedTree
 behind None t = t
 behind (Some u) t = both_hold u t

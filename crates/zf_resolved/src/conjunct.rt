@@ -67,7 +67,7 @@ fn numbered<'a>(
     }
 }
 
-/// That a component lies in a declared set that a declaration names.
+/// That a component is a member of a declared set that a declaration names.
 #[tactic(auto, using(zf_term::proofs::ResolvedSeen::seen))]
 fn membership<'a>(
     arena: &'a Bump,
@@ -107,7 +107,7 @@ fn joined<'a>(
     }
 }
 
-/// What is there, if anything is, and the terms of further conjuncts behind it.
+/// What is there, if anything is, and the terms of further conjuncts after it.
 #[cycle(resolved)]
 fn all_joined<'a>(
     batch: &Batch<'a>,
@@ -124,7 +124,7 @@ fn all_joined<'a>(
     Ok(whole)
 }
 
-/// The term behind what is there, if anything is.
+/// The term after what is there, if anything is.
 #[tactic(auto, using(zf_term::proofs::ResolvedSeen::seen))]
 fn both<'a>(
     arena: &'a Bump,

@@ -2,7 +2,7 @@
 //!
 //! A line begins with a mark and a blank:
 //!
-//! | Mark | What is behind it |
+//! | Mark | What is after it |
 //! |---|---|
 //! | `#` | a remark |
 //! | `$` | the words of the command lines to come, parted by blanks |
@@ -10,8 +10,8 @@
 //! | `=` | the status that they end with, and they write nothing |
 //! | `!` | a line that they write |
 //! | `>` | a file with the lines that they write |
-//! | `(` | a line before the sources to come; with nothing behind it, there is none |
-//! | `)` | a line behind them; with nothing behind it, there is none |
+//! | `(` | a line before the sources to come; with nothing after it, there is none |
+//! | `)` | a line after them; with nothing after it, there is none |
 //! | `|` | a line of the next source |
 //! | `<` | a file that the next source has the text of |
 //! | `*` | a number, and words that the next source has so many times, with no end of a line |
@@ -144,7 +144,7 @@ fn push_file<R: Files + AllocGlobal>(text: &mut String, rt: &R, file: &str) -> i
     Ok(())
 }
 
-/// Pushes words behind a number so many times.
+/// Pushes words after a number so many times.
 fn push_often(text: &mut String, often: &str) -> io::Result<()> {
     let Some((number, words)) = often.split_once(' ') else {
         return Err(io::Error::from(ErrorKind::InvalidData));

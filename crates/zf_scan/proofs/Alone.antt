@@ -73,7 +73,7 @@ unfolding goes_on
 other front heads [] all a = unlisted front heads [] all refl
 other front heads (b ∷ s) all a = unlisted front heads (b ∷ s) all (apart_has b heads a)
 
--- ---- the bytes that signs begin with, and commands behind their backslash
+-- ---- the bytes that signs begin with, and commands after their backslash
 
 abbrev pub sign_heads : List ℕ
 sign_heads = 9 ∷ 10 ∷ 13 ∷ codes " ~;()[],:|@=<>+-*tf{}\\"

@@ -41,7 +41,7 @@ digit_stops : (x : ℕ) (rest : List ℕ) → is_ascii_digit x ≡ true → run_
 digit_stops x [] d = rw (digit_no_letter x d)
 digit_stops x (c ∷ cs) d = rw (digit_no_letter x d)
 
--- what stands behind the letters, where it is no letter
+-- what stands after the letters, where it is no letter
 behind_letters : (w x : List ℕ) → is_run Letters w ≡ true → run_len Letters x ≡ 0 → 0 < length w → (command_len (92 ∷ w ++ x) ≡ 1 + length w) × (drop (command_len (92 ∷ w ++ x)) (92 ∷ w ++ x) ≡ x)
 behind_letters w x h stop some =
     let m : run_len Letters (w ++ x) ≡ length w = run_exact Letters w x h stop in
@@ -55,7 +55,7 @@ long_is w x h stop some = let b = behind_letters w x h stop some in omega (arith
 abbrev Reaches : List ℕ → List ℕ → Type 0
 Reaches u t = (1 + length u ≤ command_len (92 ∷ t)) ⊎ (1 + length u ≡ long_len (92 ∷ t))
 
--- u is w with x behind it
+-- u is w with x after it
 fits_by : (w x u rest t : List ℕ) → t ≡ w ++ (x ++ rest) → length u ≡ length w + length x → is_run Letters w ≡ true → ends_well (length w) x ≡ true → Reaches u t
 fits_by w [] u rest t e n h g = inl (omega (arith, n, run_le Letters w rest h, ap (run_len Letters) e, letters_le t))
 fits_by w (x ∷ []) u rest t e n h g = by (length w == 0) refl

@@ -1,4 +1,4 @@
--- Runs: the longest at the front of a text, and what stands behind it.
+-- Runs: the longest at the front of a text, and what stands after it.
 use Rattle.zf_scan.proofs.Prelude.{◌++◌, ◌+◌, ◌∙◌, ◌∷◌, ◌≡◌, ◌≤◌, [], ap, arith, Bool, drop, false, length, List, refl, suc, sym, take, true, zero-add, ℕ, one-add, drop-drop, ◌&&◌, is_one, is_run, is_two, run_len, step_len, Run}
 
 pub and_left : (a b : Bool) → (a && b) ≡ true → a ≡ true
@@ -66,7 +66,7 @@ run_more run s n h k e =
 pub run_done : (run : Run) (s : List ℕ) (n : ℕ) → n + run_len run (drop n s) ≡ run_len run s → (k : ℕ) → k ≡ step_len run (drop n s) → k ≡ 0 → n ≡ run_len run s
 run_done run s n h k e z = let t = run_stop run (drop n s) (sym e ∙ z) in omega arith
 
--- behind a run, the longest goes on
+-- after a run, the longest goes on
 pub run_append : (run : Run) (u x : List ℕ) → is_run run u ≡ true → run_len run (u ++ x) ≡ length u + run_len run x
 run_append run [] x h = sym (zero-add (run_len run x))
 run_append run (b ∷ []) x h = run_len-one run b x h

@@ -1,4 +1,4 @@
--- What is told of a name by its lengths.
+-- What is said of a name by its lengths.
 use Rattle.zf_scan.proofs.Prelude.{◌+◌, ◌∙◌, ◌∷◌, ◌≡◌, ◌≤◌, [], ap, arith, drop, List, None, refl, suc, sym, take, zero, ℕ, drop-take, look_up, symbols, match_of, base_len, Match, found, or_else, strokes_len, word_len, word_found, Symbol, BeginSchema, Name}
 use Rattle.zf_scan.specs.declared.next.Next.TheVariants as next
 use Rattle.zf_scan.specs.declared.pieces.Lexeme.TheVariants as lexeme

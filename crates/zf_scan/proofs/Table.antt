@@ -13,7 +13,7 @@ hit test (row ∷ rows) p piece all e = by (bytes_eq p row.0) refl (hit test row
 
 -- ---- the rows of symbols
 
--- what stands behind the letters of a command: nothing, one byte, `_1`
+-- what stands after the letters of a command: nothing, one byte, `_1`
 abbrev pub ends_well : ℕ → List ℕ → Bool
 ends_well m [] = true
 ends_well m (x ∷ []) = m == 0 || is_ascii_digit x

@@ -1,4 +1,4 @@
--- Texts: fronts, what stands behind them, and branches.
+-- Texts: fronts, what stands after them, and branches.
 use Rattle.zf_scan.proofs.Prelude.{◌++◌, ◌∙◌, ◌∷◌, ◌≡◌, ◌≤◌, [], ap, arith, Bool, drop, false, length, length-append, List, refl, sym, take, true, ℕ, Decides-eqb, nat_tests, starts_is, bytes_decides, if◌then◌else◌, ◌==◌, bytes_eq, begins}
 
 -- what holds in both branches

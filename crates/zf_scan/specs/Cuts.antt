@@ -44,7 +44,7 @@ spot_line spot = 1 + newlines spot.before
 abbrev pub start : Spot
 start = record { place = places.Outside; before = [] }
 
--- the place behind a piece
+-- the place after a piece
 abbrev pub entered : Region → ℕ → Piece → Region
 entered place line (Symbol BeginZed) = places.Zed line
 entered place line (Symbol (BeginSchema name)) = places.Schema line

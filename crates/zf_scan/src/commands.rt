@@ -1,4 +1,4 @@
-//! The commands, by their first letter: each function reads what stands behind it.
+//! The commands, by their first letter: each function reads what stands after it.
 #![tactic(auto, unfolding(crate::specs::Pieces::symbols))]
 
 ghost use Rattle.std.specs.Prelude.{◌≡◌, ◌∷◌};

@@ -70,7 +70,7 @@ fn is_directive(comment: &[u8]) -> bool
     }
 }
 
-// A command, or the closing of the box. The most frequent ones are told by their second byte.
+// A command, or the closing of the box. The most frequent ones are recognized by their second byte.
 fn command_at(place: Region, rest: &[u8]) -> Match
     requires end_len { 2 ≤ length (steps.closing place) }
     requires end_second { slice_index_or (steps.closing place) 1 0 ≡ 101 }
@@ -143,7 +143,7 @@ fn command_len(rest: &[u8]) -> usize
     }
 }
 
-// What may belong to a command behind its letters: `_1` or a digit.
+// What may belong to a command after its letters: `_1` or a digit.
 fn tail_len(rest: &[u8]) -> usize
     ensures value { result ≡ steps.tail_len rest.now }
     ensures within { result ≤ length rest.now }

@@ -83,7 +83,7 @@ impl Placed {
         Ok(Kind::Name(base, strokes))
     }
 
-    /// What the token is. `End` is no symbol, and would be told as `EndBox`.
+    /// What the token is. `End` is no symbol, and would be reported as `EndBox`.
     fn kind(self, alloc: Global, text: &[u8]) -> Result<Kind, AllocError>
         ensures { IfOk result (λ kind. kind ≡ spec.kind_at text.now self) }
     {

@@ -44,7 +44,7 @@ impl Border {
 }
 
 /// The symbols of the next box, with their places, instead of those in the list; none where no box is left. The border is then
-/// the one behind the box; of a piece that is refused, its place; of a box that the source does not close, its end.
+/// the one after the box; of a piece that is refused, its place; of a box that the source does not close, its end.
 pub fn next_box(
     source: &[u8],
     border: &mut Border,
@@ -101,7 +101,7 @@ pub fn next_box(
     }
 }
 
-/// Whether the rest of a source is cut, behind the border; else the fault of the source, whose piece is then at the border. The
+/// Whether the rest of a source is cut, after the border; else the fault of the source, whose piece is then at the border. The
 /// list lends its room.
 pub fn cut_rest(
     source: &[u8],
@@ -183,7 +183,7 @@ fn piece_at(place: Region, rest: &[u8]) -> Match
     }
 }
 
-// Where the text behind a symbol stands.
+// Where the text after a symbol stands.
 fn behind(place: Region, line: u32, next: Next) -> Region
     ensures { (amount : ℕ) (text : List ℕ) → result ≡ cuts.entered place line (Symbol (kind_of next amount text)) }
 {
@@ -195,7 +195,7 @@ fn behind(place: Region, line: u32, next: Next) -> Region
     }
 }
 
-// A refusal at a line. A box that is not closed is told by the line of its `\begin`.
+// A refusal at a line. A box that is not closed is reported by the line of its `\begin`.
 fn fault_at(kind: TextFaultKind, place: Region, line: u32) -> TextFault
     ensures kind { result.kind ≡ kind }
     ensures line { result.line ≡ cuts.reported_line place line kind }

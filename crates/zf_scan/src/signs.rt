@@ -9,7 +9,7 @@ use crate::pieces::{Match, Lexeme, begins, front};
 use crate::symbols::fixed;
 use zf_tree::{Infix, Relation};
 
-/// A symbol. The most frequent ones are told by their first bytes.
+/// A symbol. The most frequent ones are recognized by their first bytes.
 #[tactic(auto, unfolding(crate::specs::Steps::symbol_found, crate::specs::Pieces::symbols))]
 pub fn symbol_at(rest: &[u8]) -> Match
     ensures { match_of rest.now result ≡ steps.symbol_found rest.now }

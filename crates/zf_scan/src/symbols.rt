@@ -90,7 +90,7 @@ fn equals(rest: &[u8]) -> Option<Lexeme>
     }
 }
 
-// A command, by what stands behind its backslash.
+// A command, by what stands after its backslash.
 fn command(text: &[u8]) -> Option<Lexeme>
     ensures { seen (92 ∷ text.now) result ≡ look_up (92 ∷ text.now) symbols }
 {

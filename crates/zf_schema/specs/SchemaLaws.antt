@@ -135,7 +135,7 @@ XiEquates =
 
 -- ---- the globals of a text
 
--- what is defined after globals stands behind them, so a global keeps its place
+-- what is defined after globals stands after them, so a global keeps its place
 abbrev pub GlobalsKept : Type 0
 GlobalsKept = (g : List Defined) (item : Item) (h : List Defined) → Defines g item h → (more : List Defined) × (h ≡ g ++ more)
 

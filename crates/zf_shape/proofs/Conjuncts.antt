@@ -70,7 +70,7 @@ nodes_either l left right ps whole is =
     let seen = ap (λ c. nodes (conjunct_of c)) is ∙ ap nodes (of-Either l left right ps) ∙ same_nodes (numbering ps) (one_holds l (all_in left) (all_in right)) in
     omega (arith, seen, nodes_of_joined l (all_in left), nodes_of_joined l (all_in right))
 
--- what is left of a room behind so many nodes
+-- what is left of a room after so many nodes
 abbrev pub IsLeft : Option ℕ → (room count : ℕ) → Type 0
 IsLeft o room n = MatchOption o (room < n) (λ left. left + n ≡ room)
 

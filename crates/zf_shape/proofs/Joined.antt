@@ -21,7 +21,7 @@ none_joined l (t ∷ ts) none = absurd (omega (arith, none))
 
 -- ---- heights
 
--- a term, or several that are joined, and others behind it
+-- a term, or several that are joined, and others after it
 joined_low : (n d a : ℕ) (t : ResolvedTree) (ts : List ResolvedTree) → a ≡ length ts → a ≤ d → (height (all_joined t ts) ≤ n) ↔ ((height t + a ≤ n) × AreLow n d a ts)
 joined_low n d a t [] e l = (λ h. (omega (arith, h, e), tt), λ h. omega (arith, h.0, e))
 joined_low n d a t (u ∷ us) e l =
@@ -129,7 +129,7 @@ batch_low n d a b =
     let same = low_moved (numbering b.places) n d a (trees b) in
     (λ h. same.0 (subst (AreLow n d a) (batch-seen b) h), λ h. subst (AreLow n d a) (sym (batch-seen b)) (same.1 h))
 
--- the batches before one, that one, and those behind it
+-- the batches before one, that one, and those after it
 first_of_all : (xs : List Batch) (i : ℕ) (x : Batch) → x ≡ get_or xs i x → i < length xs → all_in (take (suc i) xs) ≡ all_in (take i xs) ++ batch_of x
 first_of_all [] i x at l = absurd (omega arith)
 first_of_all (y ∷ xs) zero x at l = append-nil (batch_of y) ∙ ap batch_of (sym at)

@@ -46,7 +46,7 @@ module _ (m : System) (eq : Node → Node → Bool) (number : ℕ) (o : Operatio
       (subst (λ w. Goes (values_at o.others row) w) (sym (is'
       ∙ ap (values_at o.after) here)) (goes_on m eq a number o old new now h same row takes, begins_so m eq a number o old new now h same row takes))
 
-  -- to one that can't be told
+  -- to one that can't be decided
   pub goes_out : stop ≡ stopped m.form m.elements o given → Advances value_order (property m.environment o.schema.conjuncts) Breaks old new
       → GoesOn m eq number o old new founds.Out stop
   goes_out said (row, last, takes) = λ a now h.

@@ -34,7 +34,7 @@ module _ (m : System) (eq : Node → Node → Bool) (a : Node) (number : ℕ) (o
     pub event_in : (x : Event Value) → IsFoundAt m a o x → IsEvent value_order conjuncts ranges None x
     event_in x h = subst (λ rs. IsEvent value_order conjuncts rs None x) (one_ranges m.environment o.schema held h.ranges ranges h.of_components are) h.is
 
-    -- what a search has behind it is found first
+    -- what a search has after it is found first
     first_behind : (ahead : Ahead Value) (xs : List (Event Value)) → Behind value_order conjuncts ranges None ahead xs → AreFirst (searched m eq) a o xs
     first_behind ahead xs h = record {
       ascending = h.ascending;
@@ -120,7 +120,7 @@ module _ (m : System) (eq : Node → Node → Bool) (a : Node) (number : ℕ) (o
                 ∙ sym edges_more) part,
           )
 
-    -- a step that can't be told
+    -- a step that can't be decided
     pub breaks_so : (row : List Value) → Takes value_order conjuncts b.ranges b.after b.ahead (record { row = row; truth = Out }) d.ahead
         → BreaksTurn (searched m eq) a now (stop m o (record { row = row; truth = Out }))
     breaks_so row t =

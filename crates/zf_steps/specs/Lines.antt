@@ -28,7 +28,7 @@ result_line missing = codes "not found\n"
 result_line open_ended = codes "more\n"
 result_line (untold at) = codes "out of bounds at: " ++ at ++ codes "\n"
 
--- `2 states, 1 steps`; a number past 64 bits is told as the greatest
+-- `2 states, 1 steps`; a number past 64 bits is written as the greatest
 abbrev pub count_line : (states steps : ℕ) → List ℕ
 count_line states steps = decimal states ++ codes " states, " ++ decimal (min steps (2 ^ 64 - 1)) ++ codes " steps\n"
 

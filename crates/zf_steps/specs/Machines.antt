@@ -91,7 +91,7 @@ IsFound form elements number o s founds.Out stop = (s.step ≡ steps.Breaks) × 
 -- ---- what they come to
 
 module _ (m : System) (eq : Node → Node → Bool) where
-  -- the search for the steps of a part stands behind those of the turn so far
+  -- the search for the steps of a part stands after those of the turn so far
   pub record Stands {S : Type 0} (stage : S → Stage Value) (part : Part) (searched : Option S) (a : Node) (now : Turn Node Label) : Type 0 where
     pub of_node : IsPartOf part a
     pub search : S
@@ -99,7 +99,7 @@ module _ (m : System) (eq : Node → Node → Bool) where
     pub operation : Operation
     pub found : HasFound m eq a (number_of part) operation (stage search) now
 
-  -- the turn of a node begins so, or can't be told
+  -- the turn of a node begins so, or can't be decided
   abbrev pub BeginsState : Node → Beginning → (stop : List ℕ) → Type 0
   BeginsState a b stop = (now : Turn Node Label) × BeginsAs (exploration m eq) b a now stop × UnlessOut b (HasPassed m eq a 0 now)
 

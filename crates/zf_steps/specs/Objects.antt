@@ -28,7 +28,7 @@ result_object missing = codes "{\"not found\": true}\n"
 result_object open_ended = codes "{\"more\": true}\n"
 result_object (untold at) = codes "{\"out of bounds at\": " ++ at ++ codes "}\n"
 
--- `{"states": 2, "steps": 1}`; a number past 64 bits is told as the greatest
+-- `{"states": 2, "steps": 1}`; a number past 64 bits is written as the greatest
 abbrev pub count_object : (states steps : ℕ) → List ℕ
 count_object states steps = codes "{\"states\": " ++ decimal states ++ codes ", \"steps\": " ++ decimal (min steps (2 ^ 64 - 1)) ++ codes "}\n"
 

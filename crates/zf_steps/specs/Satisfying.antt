@@ -11,7 +11,7 @@ use Rattle.zf_ranges.specs.{IsHeld, IsInSets}
 use Rattle.zf_steps.specs.Shapes.{place_of}
 use Rattle.zf_steps.specs.Steps.{source_value}
 
--- a value for each component, which lies in its declared sets
+-- a value for each component, which is a member of its declared sets
 abbrev pub IsRowIn : Environment → List Comp → List Value → Type 0
 IsRowIn e [] [] = Unit {0}
 IsRowIn e [] (v ∷ row) = ⊥

@@ -17,7 +17,7 @@ module _ (m : System) (eq : Node → Node → Bool) where
   abbrev pub HasPassed : Node → ℕ → Turn Node Label → Type 0
   HasPassed a number now = IsStray m a now.stray × HasParts (searched m eq) a 0 (take number (parts_of m a)) now.edges
 
-  -- the search for the steps of the part of this number stands here, and its steps so far, behind those of the parts before, are the beginning of the turn
+  -- the search for the steps of the part of this number stands here, and its steps so far, after those of the parts before, are the beginning of the turn
   pub record HasFound (a : Node) (number : ℕ) (o : Operation) (b : Stage Value) (now : Turn Node Label) : Type 0 where
     pub stands : slice_get (parts_of m a) number ≡ Some o
     pub of_components : AreRanges m.environment o.schema.comps (held_by o.sources (values_of m a)) b.ranges

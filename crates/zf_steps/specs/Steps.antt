@@ -78,7 +78,7 @@ module _ (m : System) where
   abbrev pub stop : Operation → Event Value → List ℕ
   stop o x = stopped m.form m.elements o x.row
 
-  -- Whether a state is a stray, since it satisfies the schema by which states are tested in no way, or that it can't be told. What is before the initial states is none.
+  -- Whether a state is a stray, since it satisfies the schema by which states are tested in no way, or that it can't be decided. What is before the initial states is none.
   abbrev pub IsStray : Node → Bool → Type 0
   IsStray Root b = b ≡ Bool.false
   IsStray (State values) Bool.true = (x : Event Value) → IsEventOf m.environment m.test.schema (held_by m.test.sources values) x → ⊥

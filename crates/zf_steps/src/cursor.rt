@@ -35,7 +35,7 @@ pub struct Cursor<S> {
     pub init: S,
     pub operations: Vec<S>,
     pub part: Part,
-    /// What can't be told.
+    /// What can't be decided.
     pub stop: Vec<u8>,
 }
 

@@ -10,7 +10,7 @@ pub fn one_exploration()
     ensures sure { (m : System) → IsSure (exploration m nodes.ghosts.eq) }
 {}
 
-/// A state is at most one of sought, another, and one of which it can't be told; so a search for one has one text, and ends in one way.
+/// A state is at most one of sought, another, and one of which it can't be decided; so a search for one has one text, and ends in one way.
 pub fn one_search()
     ensures decisive { (m : System) → IsDecisive (explored_in m) (sought_in m) }
     ensures one { (m : System) (limit : ℕ) → IsSearchedInOneWay (explored_in m) (sought_in m) (words m) (verdict m) limit }

@@ -107,7 +107,7 @@ pub fn append_label<E: Surrounding, F: Schematic>(
         .append_row(line, system.elements, Layout::Line, &values)
 }
 
-/// Appends `end`, `more`, or what can't be told.
+/// Appends `end`, `more`, or what can't be decided.
 pub fn append_ending(line: &mut Vec<u8>, ending: Ending, stop: &[u8]) -> Result<(), AllocError>
     ensures { OnOk result (line.new.items ≡ line.old.items ++ ending_line (ending_of ending stop.now)) }
 {
@@ -118,7 +118,7 @@ pub fn append_ending(line: &mut Vec<u8>, ending: Ending, stop: &[u8]) -> Result<
     }
 }
 
-/// Appends what can't be told.
+/// Appends what can't be decided.
 fn append_broken(line: &mut Vec<u8>, stop: &[u8]) -> Result<(), AllocError>
     ensures { OnOk result (line.new.items ≡ line.old.items ++ ending_line (broken stop.now)) }
 {

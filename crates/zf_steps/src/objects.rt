@@ -161,7 +161,7 @@ fn append_result_object(line: &mut Vec<u8>, finding: Finding, stop: &[u8]) -> Re
     }
 }
 
-/// Appends what can't be told.
+/// Appends what can't be decided.
 fn append_broken_object(line: &mut Vec<u8>, stop: &[u8]) -> Result<(), AllocError>
     ensures { OnOk result (line.new.items ≡ line.old.items ++ ending_object (broken stop.now)) }
 {

@@ -21,7 +21,7 @@ pub fn append_verdict_lines(
     append_counts(line, nodes, edges)
 }
 
-/// Appends `found`, `not found`, `more`, or what can't be told.
+/// Appends `found`, `not found`, `more`, or what can't be decided.
 pub fn append_result(line: &mut Vec<u8>, finding: Finding, stop: &[u8]) -> Result<(), AllocError>
     ensures { OnOk result (line.new.items ≡ line.old.items ++ result_line (result_of finding stop.now)) }
 {

@@ -1,4 +1,4 @@
--- The references of a term behind others are the others and then its own.
+-- The references of a term after others are the others and then its own.
 use Rattle.zf_term.proofs.Prelude.{◌++◌, ◌∙◌, ◌≡◌, [], ap, append_assoc, List, refl, sym, Reference, all_onto, links_onto, onto, part_onto, ranges_onto, absent, binary, bracket, comprehension, chain, constant, empty_set, link, listed, no_links, no_ranges, no_terms, number, present, quantified, range, Ranges, reference, ResolvedLinks, ResolvedPart, ResolvedTree, ResolvedTrees, term, unary}
 use Rattle.std.proofs.lemmas.List.{append-nil}
 

@@ -2,7 +2,7 @@
 use Rattle.zf_term.proofs.Prelude.{◌∙◌, ◌∷◌, ◌≡◌, [], ap, List, map, refl, sym, ℕ, map-append, renumbered, Reference, all_onto, links_onto, onto, part_onto, ranges_onto, absent, binary, bracket, comprehension, chain, constant, empty_set, link, listed, no_links, no_ranges, no_terms, number, present, quantified, range, Ranges, reference, ResolvedLinks, ResolvedPart, ResolvedTree, ResolvedTrees, term, unary, all_moved, links_moved, moved, part_moved, ranges_moved}
 use Rattle.zf_term.specs.{ComponentsAloneNumbered, MovedKeepsVariables}
 
--- behind others, numbered anew with them
+-- after others, numbered anew with them
 mutual
   pub moved_onto : (f : ℕ → ℕ) (rs : List Reference) (t : ResolvedTree) → onto (map (renumbered f) rs) (moved f t) ≡ map (renumbered f) (onto rs t)
   moved_onto f rs (reference l r) = sym (map-append (renumbered f) rs (r ∷ []))

@@ -10,7 +10,7 @@ of_power a t e = ap type_text (ap type_of e ∙ of-Power t)
 pub of_product : (a : ZType) (ts : List ZType) → a ≡ v.Product ts → type_text (type_of a) ≡ codes "(" ++ parts_text (types (map type_of ts)) ++ codes ")"
 of_product a ts e = ap type_text (ap type_of e ∙ of-Product ts)
 
--- one text behind another
+-- one text after another
 pub both : (old mid new a b : List ℕ) {whole : List ℕ} → mid ≡ old ++ a → new ≡ mid ++ b → whole ≡ a ++ b → new ≡ old ++ whole
 both old mid new a b e f g = f ∙ ap (λ l. l ++ b) e ∙ append_assoc old a b ∙ ap (λ l. old ++ l) (sym g)
 

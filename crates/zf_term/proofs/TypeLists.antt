@@ -72,7 +72,7 @@ one_pair (x ∷ y ∷ z ∷ zs) a e l = absurd (omega (arith, l))
 
 -- ---- nodes
 
--- what is counted of the rest is counted of its first part, and of what is behind it
+-- what is counted of the rest is counted of its first part, and of what is after it
 counted_on : (xs : List ZType) (i : ℕ) (x : ZType) → x ≡ get_or xs i x → i < length xs
     → nodes_of_all (types (map type_of (drop i xs))) ≡ type_nodes (type_of x) + nodes_of_all (types (map type_of (drop (suc i) xs)))
 counted_on [] i x p l = absurd (omega arith)

@@ -1,4 +1,4 @@
--- What is left of the limits behind a schema.
+-- What is left of the limits after a schema.
 use Rattle.std.specs.Prelude.{◌≡◌, ℕ, ◌+◌}
 use Rattle.zf_term.specs.Schemas.{Schema}
 use Rattle.zf_term.specs.Shapes.{nodes}

@@ -54,6 +54,6 @@ KeepsTo limit.Conjuncts a = length a.conjuncts ≤ conjuncts_max
 KeepsTo limit.Nodes a = schema_nodes a ≤ nodes_max
 KeepsTo limit.Height a = AllByRecursion IsLow a.conjuncts
 
--- it passes one: which one is told
+-- it passes one: which one is reported
 abbrev pub IsTooLarge : Schema → Offence → Type 0
 IsTooLarge a o = (l : Limit) × (o ≡ too_large l) × (KeepsTo l a → ⊥)

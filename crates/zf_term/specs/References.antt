@@ -1,4 +1,4 @@
--- What the names of a resolved term stand for, from left to right, behind others.
+-- What the names of a resolved term stand for, from left to right, after others.
 use Rattle.std.specs.Prelude.{List, [], ◌∷◌, ◌++◌}
 use Rattle.zf_reference.specs.declared.reference.Reference.{Reference}
 use Rattle.zf_term.specs.ResolvedTrees.{ResolvedTree, reference, empty_set, bracket, listed, comprehension, unary, binary, chain, quantified, ResolvedTrees, no_terms, term, ResolvedLinks, no_links, link, Ranges, no_ranges, range, ResolvedPart, absent, present}

@@ -1,4 +1,4 @@
--- Types, without where they lie in memory (ZRM, 2.2).
+-- Types, without where they stand in memory (ZRM, 2.2).
 use Rattle.std.specs.Prelude.{ℕ, ◌+◌, Bool, true, false, ◌||◌, List, [], ◌∷◌, ◌≤◌}
 
 mutual

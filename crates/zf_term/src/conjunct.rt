@@ -21,7 +21,7 @@ pub type Places<'a> = Option<Lasting<'a, Items<'a, usize>>>;
 #[derive(Drop)]
 pub enum Conjunct<'a> {
     Term(Lasting<'a, Resolved<'a>>, Places<'a>),
-    /// That the component at the place lies in the set.
+    /// That the component at the place is a member of the set.
     Member(usize, Lasting<'a, Resolved<'a>>, Places<'a>),
     /// A disjunction of two schemas, with its line: that all conjuncts of the left side hold, or all of the right.
     Either(u32, Batches<'a>, Batches<'a>, Places<'a>),
@@ -55,7 +55,7 @@ impl<'a> Conjunct<'a> {
         Conjunct::Term(Lasting { inner: term }, None)
     }
 
-    /// That the component at the place lies in the set.
+    /// That the component at the place is a member of the set.
     #[tactic(auto, using(crate::proofs::ConjunctsSeen::own))]
     pub fn member(place: usize, set: Lasting<'a, Resolved<'a>>) -> Conjunct<'a>
         ensures { conjunct_of result ≡ is_member place (resolved_of set.entry) }

@@ -15,7 +15,7 @@ pub enum Domain<'a> {
     Plain(Lasting<'a, Resolved<'a>>),
     /// All values of the type: of a component that one side of a disjunction lacks.
     Carrier(ZType<'a>),
-    /// Both sides of a disjunction: what lies in all of the left or in all of the right.
+    /// Both sides of a disjunction: what is a member of all of the left or in all of the right.
     Either(Side<'a>, Side<'a>),
 }
 

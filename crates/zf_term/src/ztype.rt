@@ -60,7 +60,7 @@ impl<'a> ZType<'a> {
         self.room_after(MOST_NODES).is_some()
     }
 
-    /// How much of the room for nodes is left behind the type, where there is enough. Ends as soon as there isn't.
+    /// How much of the room for nodes is left after the type, where there is enough. Ends as soon as there isn't.
     #[cycle(room)]
     fn room_after(&self, room: u32) -> Option<u32>
         ensures { MatchOption result (room < type_nodes (type_of self.now)) (λ left. left + type_nodes (type_of self.now) ≡ room) }

@@ -8,7 +8,7 @@ pub fn front(text: &[u8], len: usize) -> &[u8]
     text.split_at(len.min(text.len())).0
 }
 
-/// The bytes behind a place.
+/// The bytes after a place.
 pub fn back(text: &[u8], start: usize) -> &[u8]
     ensures { result.now ≡ drop start text.now }
 {

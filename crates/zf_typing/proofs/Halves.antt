@@ -1,4 +1,4 @@
--- Variables that are looked through one by one, and those behind them.
+-- Variables that are looked through one by one, and those after them.
 use Rattle.zf_typing.proofs.Prelude.{◌++◌, ◌+◌, ◌-◌, ◌∙◌, ◌∷◌, ◌≡◌, [], ap, append_assoc, arith, length, List, map, None, refl, Some, suc, sym, take, zero, ℕ, take-append_seam, take-nil, last_named, Var}
 
 module _ {A : Type 0} where
@@ -19,7 +19,7 @@ module _ {X : Type 0} (f : X → Var) (x : List ℕ) where
   none_in_many (y ∷ few) many e = rw (sym (none_in_many few many e)) refl
 
 module _ {A : Type 0} where
-  -- one moves from what is ahead behind what is done
+  -- one moves from what is ahead after what is done
   pub one_moved : (done now : List A) (x : A) (rest ahead all : List A) → now ≡ done ++ x ∷ [] → ahead ≡ x ∷ rest → done ++ ahead ≡ all → now ++ rest ≡ all
   one_moved done now x rest ahead all e a h = ap (λ zs. zs ++ rest) e ∙ append_assoc done (x ∷ []) rest ∙ ap (λ zs. done ++ zs) (sym a) ∙ h
 

@@ -59,7 +59,7 @@ not_true : (t : Bool) → (t ≡ true → false ≡ true) → t ≡ false
 not_true true e = sym (e refl)
 not_true false e = refl
 
--- none behind the last of its bucket has the name
+-- none after the last of its bucket has the name
 none_behind : (x : List ℕ) (cs : List Chained) → found x cs ≡ found x (take (last_in (bucket x) cs) cs)
 none_behind x [] = refl
 none_behind x (c ∷ cs) = by (last_in (bucket x) cs) (none_behind x cs)
@@ -78,7 +78,7 @@ none_behind x (c ∷ cs) = by (last_in (bucket x) cs) (none_behind x cs)
     by zero e = ap (λ o. option_or (later o) (one (bytes_eq c.variable.name x))) e ∙ here (bucket x == bucket c.variable.name) same
     by (suc p) e = ap (λ o. option_or (later o) (one (bytes_eq c.variable.name x))) e
 
--- what is ahead while a name is looked for: none behind has it, and the last of these is in its bucket
+-- what is ahead while a name is looked for: none after has it, and the last of these is in its bucket
 pub record IsAhead (x : List ℕ) (cs : List Chained) (ahead : ℕ) : Type 0 where
   pub within : ahead ≤ length cs
   behind : found x cs ≡ found x (take ahead cs)

@@ -25,7 +25,7 @@ row_ahead xs i x e l = ap (λ ys. map var_type (map variable_of ys)) (sym (dropp
 pub none_ahead : (xs : List Variable) (i : ℕ) → length xs ≤ i → [] ≡ map var_type (map variable_of (drop i xs))
 none_ahead xs i h = ap (λ ys. map var_type (map variable_of ys)) (sym (drop_all i xs h))
 
--- those behind the ones outside
+-- those after the ones outside
 pub variables_within : (p : program.Scope) (s : Scope) (vs : List Var) (n : ℕ) → scope_of p ≡ with_variables s vs → n ≡ length s.locals → map variable_of (drop n p.locals) ≡ vs
 unfolding scope_of
 variables_within p s vs n h e = sym (drop-map variable_of n p.locals) ∙ ap (λ z. drop n z.locals) h ∙ ap (λ k. drop k (s.locals ++ vs)) e ∙ drop-append_seam s.locals vs

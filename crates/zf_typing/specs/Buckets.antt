@@ -1,4 +1,4 @@
--- Where bound variables are found: each in the bucket of its name, behind those of the bucket that were bound before it.
+-- Where bound variables are found: each in the bucket of its name, after those of the bucket that were bound before it.
 use Rattle.std.specs.Prelude.{◌≡◌, ◌⊎◌, ℕ, zero, suc, ◌+◌, ◌*◌, ◌%◌, ◌<◌, ◌==◌, if◌then◌else◌, List, [], ◌∷◌, get_or, length, take}
 use Rattle.zf_typing.specs.declared.index.Chained.{Chained}
 

@@ -1,4 +1,4 @@
--- What is wrong with a term that has no sort, or not one that its place takes. It is told apart from the checker, and has no order.
+-- What is wrong with a term that has no sort, or not one that its place takes. It is defined apart from the checker, and has no order.
 use Rattle.std.specs.Prelude.{◌≡◌, ◌⊎◌, ℕ, List, [], ◌∷◌, None}
 use Rattle.zf_tree.specs.declared.tree.Name.{Name}
 use Rattle.zf_tree.specs.{absent, binary, bracket, comprehension, chain, empty_set, left_need, line_of, link, Links, listed, named, need_of, no_decls, no_links, no_trees, Perhaps, present, quantified, relation_rule, right_need, rule_of, spelling, Tree, tree, unary, var_decl, VarDecls}
@@ -65,7 +65,7 @@ ListedTooLarge form s l es o m = (us : Tys) × (u : Ty) × AreMembers form s es 
 abbrev pub BuildsTooLarge : Scope → List Var → (line : ℕ) → Perhaps → Offence → ℕ → Type 0
 BuildsTooLarge s vs l e o m = (u : Ty) × HasMemberType s vs e u × (IsSmall (power u) → ⊥) × (o ≡ too_large TypeNodes) × (m ≡ l)
 
--- an offence of a term that stands where this is needed, with the line that it is told at
+-- an offence of a term that stands where this is needed, with the line that it is reported at
 abbrev mutual
   pub Offends : Scope → Need → Tree → Offence → ℕ → Type 0
   Offends s n (named x) o m = ((meaning s (spelling x) ≡ None) × (o ≡ not_declared (spelling x)) × (m ≡ x.line)) ⊎ Misplaced s n (named x) o m
@@ -95,7 +95,7 @@ abbrev mutual
   OneOffends s n no_trees o m = ⊥
   OneOffends s n (tree e es) o m = Offends s n e o m ⊎ OneOffends s n es o m
 
-  -- of what is left of a chain, behind its left operand
+  -- of what is left of a chain, after its left operand
   pub LinksOffend : Scope → Tree → Links → Offence → ℕ → Type 0
   LinksOffend s left no_links o m = ⊥
   LinksOffend s left (link r e ks) o m =

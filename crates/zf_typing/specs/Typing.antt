@@ -46,7 +46,7 @@ abbrev pub member_need : Listed → Need
 member_need Product = need.Set
 member_need _ = need.Expression
 
--- what a member is that this type is told of: of a product, a set of that type
+-- what a member is of which this type is said: of a product, a set of that type
 abbrev pub member_sort : Listed → Ty → Sort
 member_sort Product u = set_sort u
 member_sort _ u = typed u
@@ -79,12 +79,12 @@ abbrev mutual
   IsOf s (chain l e ks) z = (u : Ty) × IsOf s e (typed u) × LinksAreTyped s (typed u) ks × (z ≡ predicate)
   IsOf s (quantified l q ds p e) z = (vs : List Var) × AreApart (declared ds) × Declare s ds vs × PartIsPredicate (with_variables s vs) p × IsOf (with_variables s vs) e predicate × (z ≡ predicate)
 
-  -- the members are told by these types
+  -- the members are given by these types
   pub AreMembers : Listed → Scope → Trees → Tys → Type 0
   AreMembers form s no_trees us = us ≡ no_types
   AreMembers form s (tree e es) us = (v : Ty) × (vs : Tys) × IsOf s e (member_sort form v) × AreMembers form s es vs × (us ≡ type v vs)
 
-  -- what is left of a chain, behind an operand of this sort
+  -- what is left of a chain, after an operand of this sort
   pub LinksAreTyped : Scope → Sort → Links → Type 0
   LinksAreTyped s x no_links = Unit {0}
   LinksAreTyped s x (link r e ks) = (y : Sort) × IsOf s e y × Takes (relation_rule r) x y predicate × LinksAreTyped s y ks

@@ -96,7 +96,7 @@ impl<'a> Locals<'a> {
         self.few.truncate(len);
     }
 
-    /// Adds variables behind these.
+    /// Adds variables after these.
     pub fn append(&mut self, more: Locals<'a>) -> Result<(), AllocError>
         ensures ok { OnOk result (self.new ≡ self.old ++ more.entry) }
         ensures err { OnErr result (self.new ≡ self.old) }

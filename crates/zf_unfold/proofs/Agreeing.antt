@@ -4,7 +4,7 @@ use Rattle.std.proofs.lemmas.List.{append_assoc}
 use Rattle.zf_lift.specs.{variables_of}
 use Rattle.zf_lift.proofs.Forms as forms
 
--- whatever is bound, each name means what its other name means behind these values
+-- whatever is bound, each name means what its other name means after these values
 pub record Agrees (f : Reference → Reference) (g e : Environment) (row front : List Value) : Type 0 where
   pub names : (locals : List Value) (l : ℕ) (r : Reference) → IsSame (at g row locals) (reference l (f r)) (at e row (front ++ locals)) (reference l r)
   pub numbers : g.numbers ≡ e.numbers
@@ -14,7 +14,7 @@ variables_stay f no_ranges = refl
 variables_stay f (range n t rs) = ap (λ k. n + k) (variables_stay f rs)
 
 module _ (f : Reference → Reference) (g e : Environment) (row front : List Value) (h : Agrees f g e row front) where
-  -- behind further variables
+  -- after further variables
   further : (P : List Value → Type 0) (locals vs : List Value) → P (front ++ (locals ++ vs)) → P ((front ++ locals) ++ vs)
   further P locals vs k = subst P (sym (append_assoc front locals vs)) k
 

@@ -115,7 +115,7 @@ module _ (P : Value → Truth → Type 0) where
 
 -- ---- rows
 
--- where a quantifier says this of rows, it says that of those behind a first value
+-- where a quantifier says this of rows, it says that of those after a first value
 abbrev pub behind : (List Value → Truth → Type 0) → Value → List Value → Truth → Type 0
 behind P v vs = P (v ∷ vs)
 
@@ -140,7 +140,7 @@ module _ (P : List Value → Truth → Type 0) (s : Value) (ss : List Value) whe
   false_back [] r h = absurd r
   false_back (v ∷ vs) r h = (v, r.0, (vs, r.1, h))
 
-  -- behind a first value all rows are True, or one is Out
+  -- after a first value all rows are True, or one is Out
   settled_behind : ((vs : List Value) → AreFrom vs (s ∷ ss) → P vs True ⊎ P vs Out) → (v : Value) → IsMember v (members s) → first v True ⊎ first v Out
   settled_behind all v m =
       let each = λ (vs : List Value) (r : AreFrom vs ss). all (v ∷ vs) (m, r) in
@@ -160,7 +160,7 @@ module _ (P : List Value → Truth → Type 0) (s : Value) (ss : List Value) whe
 
 -- ---- quantifiers
 
--- what a quantifier says behind a first value of this set, where so many variables more and these others follow
+-- what a quantifier says after a first value of this set, where so many variables more and these others follow
 abbrev pub says_behind : (P : List Value → Truth → Type 0) (n : ℕ) (s : Value) (r : Several) → Value → Truth → Type 0
 says_behind P n s r v = IsQuantified ForAll (repeated n (Is s) r) (behind P v)
 
@@ -189,7 +189,7 @@ module _ (P : List Value → Truth → Type 0) (s : Value) where
   none_again False h = absurd h.1
   none_again Out h = absurd h.0.1
 
-  -- a quantifier says what it says behind every value of its first variable
+  -- a quantifier says what it says after every value of its first variable
   pub quantified_first : (n : ℕ) (r : Several) → HasMember s → (u : Truth)
       → IsEvery (members s) (says_behind P n s r) u ↔ IsQuantified ForAll (repeated (suc n) (Is s) r) P u
   quantified_first n (values ws) w u = rows_first P s (replicate n s ++ ws) u

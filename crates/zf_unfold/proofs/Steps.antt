@@ -106,7 +106,7 @@ base_added n e f is enough added = record {
       (subst (λ (h : Environment). slice_get h.outcomes (length e.outcomes) ≡ Some Undefined) (sym added) (at_end e.outcomes [] Undefined));
 }
 
--- names behind all globals stay so
+-- names after all globals stay so
 pub enough_later : (e f : Environment) → IsLonger e f → length e.globals ≤ length e.outcomes → length f.globals ≤ length f.outcomes
 enough_later e f h k = let same = ap length (longer_ones.same_globals e f h) in omega (arith, same, k, more_names e f h)
 

@@ -19,7 +19,7 @@ abbrev pub local_named : Option ℕ → ℕ → Reference
 local_named None i = Local i
 local_named (Some m) i = inside m i
 
--- the outermost bound variable has the name of the member, if there is one, and each global behind the first n that of the one behind them
+-- the outermost bound variable has the name of the member, if there is one, and each global after the first n that of the one after them
 unfoldable pub named : (n : ℕ) → (member : Option ℕ) → Reference → Reference
 named n m (Component i) = Component i
 named n m (Local i) = local_named m i

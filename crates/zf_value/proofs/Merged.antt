@@ -127,7 +127,7 @@ merging_equal a b i j out new x y v e l f m o k n h =
 members-parts : (xs : List Value) (n : ℕ) (w : Value) → IsMember w xs ↔ (IsMember w (take n xs) ⊎ IsMember w (drop n xs))
 members-parts xs n w = subst (λ us. IsMember w us ↔ (IsMember w (take n xs) ⊎ IsMember w (drop n xs))) (take-append-drop n xs) (members-append (take n xs) (drop n xs) w)
 
--- what is left of both comes behind
+-- what is left of both comes after
 merged_joined : (a b : List Value) (i j : ℕ) (out : List Value) → IsJoined (take i a) (take j b) out → IsJoined a b ((out ++ drop i a) ++ drop j b)
 unfolding IsJoined
 merged_joined a b i j out h w =

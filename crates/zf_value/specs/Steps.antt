@@ -58,7 +58,7 @@ place_at x (Value-F.Elem t i) = Less
 place_at x (Value-F.Tuple ys) = place_of_first x ys
 place_at x (Value-F.SetOf ys) = Greater
 
--- whether z stands before the tuples that begin with x, is one of them, or stands behind them
+-- whether z stands before the tuples that begin with x, is one of them, or stands after them
 abbrev pub place_beside : Value → Value → Ordering
 place_beside x z = place_at x (out-Value z)
 

@@ -245,7 +245,7 @@ fn give_room_back(values: &mut Vec<Value>)
     }
 }
 
-/// Copies the values behind the others.
+/// Copies the values after the others.
 pub(crate) fn copy_onto(
     alloc: Global,
     values: &mut Vec<Value>,

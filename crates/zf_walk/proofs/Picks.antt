@@ -48,7 +48,7 @@ slice_get-picked (r ∷ ranges) (i ∷ places) zero w h =
 slice_get-picked (r ∷ ranges) (i ∷ places) (suc k) w h =
     let c = picked-cons r ranges i places w in ap (λ xs. slice_get xs (suc k)) c.2 ∙ slice_get-picked ranges places k (AreWithin-tail r ranges i places w) (omega arith)
 
--- one place more, behind
+-- one place more, after
 pub AreWithin-push : {V : Type 0} (ranges : List (List V)) (places : List ℕ) (i : ℕ) (x : V) → AreWithin ranges places → length places < length ranges → IsNth (get_or ranges (length places) []) i x
     → AreWithin ranges (places ++ i ∷ [])
 AreWithin-push [] places i x w h n = absurd (omega arith)

@@ -8,7 +8,7 @@ picked [] places = []
 picked (range ∷ ranges) [] = []
 picked (range ∷ ranges) (i ∷ places) = option_to_list (slice_get range i) ++ picked ranges places
 
--- each place lies in its range
+-- each place is in its range
 pub record AreWithin {V : Type 0} (ranges : List (List V)) (places : List ℕ) : Type 0 where
   pub few : length places ≤ length ranges
   pub each : (k : ℕ) → k < length places → slice_index places k < length (slice_index_or ranges k [])

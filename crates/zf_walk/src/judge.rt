@@ -12,7 +12,7 @@ use std::alloc::AllocError;
 pub enum Truth {
     True,
     False,
-    /// It can't be told.
+    /// It can't be decided.
     Out,
 }
 

@@ -14,7 +14,7 @@ pub struct Used {
     pub count: usize,
 }
 
-/// The truths of a conjunct by the places of the values that it uses. These places are the digits of a number, that of the last component the lowest one, and the truth stands there. What lies behind the end is not known.
+/// The truths of a conjunct by the places of the values that it uses. These places are the digits of a number, that of the last component the lowest one, and the truth stands there. What lies after the end is not known.
 #[derive(Drop)]
 pub struct Table {
     pub used: Vec<Used>,
@@ -107,7 +107,7 @@ impl Table {
         Some(number)
     }
 
-    /// What is known with each last digit behind the others.
+    /// What is known with each last digit after the others.
     fn seen_at(&self, front: usize) -> Seen
         ensures { result ≡ slice_index_or self.now.seen.items front unseen }
     {

@@ -76,7 +76,7 @@ module _ (e : Environment) (held : List (Option Value)) (other : Value) where
   held_told p (Ok o) is h = subst (λ (b : Bool). AreOutcomes e held b (operands_of p) o) (sym is) (of_held p o is h)
   held_told p (Err x) is h = tt
 
--- nothing is told where a name is not held
+-- nothing is reported where a name is not held
 pub other_told : (e : Environment) (held : List (Option Value)) (p : ResolvedTree) → are_held held (references p) ≡ false → AreOperandsOf e held p None
 other_told e held p is = subst (λ (b : Bool). AreOutcomes e held b (operands_of p) None) (sym is) refl
 

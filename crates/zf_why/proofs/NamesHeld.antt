@@ -15,7 +15,7 @@ module _ (held : List (Option Value)) where
   names_lack [] = 0
   names_lack (r ∷ rs) = max (name_lacks held r) (names_lack rs)
 
-  -- ---- behind other references
+  -- ---- after other references
 
   behind : (rs : List Reference) (r : Reference) → names_lack (rs ++ r ∷ []) ≡ max (names_lack rs) (name_lacks held r)
   behind [] r = omega arith

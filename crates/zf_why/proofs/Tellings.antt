@@ -1,4 +1,4 @@
--- What is told of chosen conjuncts, one after another.
+-- What is reported of chosen conjuncts, one after another.
 use Rattle.zf_why.proofs.Prelude.{◌++◌, ◌+◌, ◌≤◌, ◌∙◌, ◌∷◌, ◌≡◌, [], add-one, ap, append-nil, append_assoc, Bool, drop, false, inl, inr, length, List, map, None, Option, refl, Some, subst, suc, sym, true, zero, ℕ, AllByRecursion, slice_get, slice_set, Comp, conjunct_of, ResolvedTree, Value, Environment, CanAsk, CanBegin, IsAllowed, RuleOut, chosen_of, IsChosen, AreAlone}
 use Rattle.std.proofs.lemmas.List.{drop_all}
 use Rattle.zf_term.specs.declared.conjunct.Batch.{Batch}
@@ -20,7 +20,7 @@ ahead (y ∷ ys) zero x at = let e : y ≡ x = cc in ap (λ z. z ∷ ys) e
 ahead (y ∷ ys) (suc i) x at = ahead ys i x at
 
 module _ (R : ℕ → ResolvedTree → Told → Type 0) (ps : List ResolvedTree) (m : List Bool) where
-  -- what is told so far, up to this place
+  -- what is reported so far, up to this place
   pub record AreToldUpTo (i : ℕ) (told : List Told) : Type 0 where
     pub further : (rest : List Told) → AreTellings R i (drop i ps) (drop i m) rest → AreTellings R 0 ps m (told ++ rest)
 
@@ -88,7 +88,7 @@ module _ (e : Environment) (cs : List Comp) (held : List (Option Value)) (ps : L
 pub others_seen : (cs others : List Conjunct) (m : List Bool) → others ≡ chosen_of cs m → map conjunct_of others ≡ chosen_of (map conjunct_of cs) m
 others_seen cs others m is = ap (map conjunct_of) is ∙ seen_chosen conjunct_of cs m
 
--- ---- what is told of each
+-- ---- what is reported of each
 
 module _ (e : Environment) (cs : List Comp) (held : List (Option Value)) where
   -- of one that rules out everything alone, that it does

@@ -8,7 +8,7 @@ use Rattle.zf_why.specs.declared.cause.Cause.TheVariants.{Empty, Alone, Together
 use Rattle.zf_why.specs.Told.{AreTold, nothing_beside, others_beside}
 use Rattle.zf_why.specs.Causes.{EmptiedBy, RefutedBy, RefutedTogetherBy}
 
--- Where a range is empty, the components of all such ranges; else, where a conjunct rules out everything alone, what is told of all that do; else what is told of a minimal set
+-- Where a range is empty, the components of all such ranges; else, where a conjunct rules out everything alone, what is reported of all that do; else what is reported of a minimal set
 -- of conjuncts that can't hold together, of each beside the others. These places of the conjuncts have disjunctions of schemas.
 abbrev pub Explains : Environment → Schema → (held : List (Option Value)) → (details : Bool) → (disjunctions : ℕ → Bool) → Cause → Type 0
 Explains e a held details disjunctions (Empty empty) = EmptiedBy e a held empty.items

@@ -1,4 +1,4 @@
--- What is told of a relation that names held components alone: the outcomes of its operands.
+-- What is reported of a relation that names held components alone: the outcomes of its operands.
 use Rattle.std.specs.Prelude.{◌≡◌, ℕ, Bool, true, false, cond, List, [], ◌∷◌, Option, Some, None, slice_get}
 use Rattle.zf_reference.specs.declared.reference.Reference.{Reference}
 use Rattle.zf_reference.specs.declared.reference.Reference.TheVariants.{Component, Local, Global}
@@ -51,7 +51,7 @@ HasHeld held row = (i : ℕ) (v : Value) → slice_get held i ≡ Some (Some v) 
 abbrev pub HasHeldOutcome : Environment → (held : List (Option Value)) → ResolvedTree → Outcome → Type 0
 HasHeldOutcome e held t o = (row : List Value) → HasHeld held row → HasOutcome (in_row e row) t o
 
--- ---- what is told
+-- ---- what is reported
 
 -- of a relation whose names are held the outcomes of both operands, else nothing
 abbrev pub AreOutcomes : Environment → (held : List (Option Value)) → (names_held : Bool) → Option (ResolvedTree × ResolvedTree) → Option Operands → Type 0

@@ -1,4 +1,4 @@
--- What is told of conjuncts that are to blame: their lines, of a disjunction of schemas those of both sides, and with details the outcomes of operands.
+-- What is reported of conjuncts that are to blame: their lines, of a disjunction of schemas those of both sides, and with details the outcomes of operands.
 use Rattle.std.specs.Prelude.{◌≡◌, ℕ, suc, Bool, true, false, List, [], ◌∷◌, map, slice_set, Option, Some, None}
 use Rattle.zf_term.specs.{Comp, one_holds, ResolvedTree, term_line}
 use Rattle.zf_value.specs.declared.plain.Value.{Value}
@@ -29,7 +29,7 @@ AreSidesOf e cs held given p true None = ⊥
 AreSidesOf e cs held given p false (Some sides) = ⊥
 AreSidesOf e cs held given p false None = Unit {0}
 
--- what is told of a predicate that can't hold together with the given ones
+-- what is reported of a predicate that can't hold together with the given ones
 pub record IsTelling (e : Environment) (cs : List Comp) (held : List (Option Value)) (details : Bool) (given : List ResolvedTree) (is_disjunction : Bool) (p : ResolvedTree) (told : Told) : Type 0 where
   pub line : told.line ≡ term_line p
   pub sides : AreSidesOf e cs held given p is_disjunction told.sides
@@ -43,14 +43,14 @@ AreTellings R i (p ∷ ps) (false ∷ chosen) told = AreTellings R (suc i) ps ch
 AreTellings R i (p ∷ ps) (true ∷ chosen) [] = ⊥
 AreTellings R i (p ∷ ps) (true ∷ chosen) (t ∷ told) = R i p t × AreTellings R (suc i) ps chosen told
 
--- what is told of each predicate that is chosen, beside others, where these places have disjunctions
+-- what is reported of each predicate that is chosen, beside others, where these places have disjunctions
 abbrev pub AreTold : Environment → List Comp → (held : List (Option Value)) → (details : Bool) → (beside : ℕ → List ResolvedTree) → (disjunctions : ℕ → Bool) → List ResolvedTree → (chosen : List Bool) → List Told → Type 0
 AreTold e cs held details beside disjunctions = AreTellings (λ i p told. IsTelling e cs held details (beside i) (disjunctions i) p told) 0
 
--- each is told by itself
+-- each is reported by itself
 abbrev pub nothing_beside : ℕ → List ResolvedTree
 nothing_beside i = []
 
--- each is told beside the others that are chosen
+-- each is reported beside the others that are chosen
 abbrev pub others_beside : List ResolvedTree → (chosen : List Bool) → ℕ → List ResolvedTree
 others_beside ps chosen i = chosen_of ps (slice_set chosen i false)

@@ -2,7 +2,7 @@
 
 use zf_value::Value;
 
-/// The values that are held, and whether what the operands of relations come to is told.
+/// The values that are held, and whether what the operands of relations come to is reported.
 #[derive(Drop)]
 pub struct Question<'s> {
     pub held: &'s [Option<Value>],

@@ -18,7 +18,7 @@ use zf_term::{Component, Conjunct, Flat};
 use zf_value::Value;
 use zf_walk::Step;
 
-/// The components of a schema in an environment, of which some values are held, and whether details are told.
+/// The components of a schema in an environment, of which some values are held, and whether details are reported.
 #[derive(Drop)]
 pub struct Setting<'s, 'g, 'a> {
     pub alloc: Global,

@@ -1,4 +1,4 @@
-//! What is told of conjuncts that are to blame.
+//! What is reported of conjuncts that are to blame.
 ghost use Rattle.std.specs.Prelude.{◌≡◌, ◌<◌, ◌++◌, ◌∷◌, ℕ, [], IfOk, Some, false, length, map, slice_get, slice_set};
 ghost use Rattle.zf_term.specs.{comp_of, conjunct_of, ResolvedTree, term_line};
 ghost use Rattle.zf_meaning.specs.{environment_of};
@@ -15,7 +15,7 @@ use zf_data::arena::{Chunked, Items};
 use zf_resolved::conjunct::resolved;
 use zf_term::Conjunct;
 
-/// What is told of the chosen conjuncts, which are those that rule out everything alone.
+/// What is reported of the chosen conjuncts, which are those that rule out everything alone.
 pub fn told_alone<'a>(
     setting: &Setting<'_, '_, 'a>,
     conjuncts: &[Conjunct<'a>],
@@ -35,7 +35,7 @@ pub fn told_alone<'a>(
     Ok(told)
 }
 
-/// What is told of the chosen conjuncts, which are a minimal set of those that can't hold together.
+/// What is reported of the chosen conjuncts, which are a minimal set of those that can't hold together.
 pub fn told_together<'a>(
     setting: &Setting<'_, '_, 'a>,
     conjuncts: &[Conjunct<'a>],
@@ -74,7 +74,7 @@ fn others<'a>(
     part.flat()
 }
 
-/// What is told of a conjunct that can't hold together with the given ones.
+/// What is reported of a conjunct that can't hold together with the given ones.
 fn told_of<'t, 's, 'g, 'a>(
     setting: &'t Setting<'s, 'g, 'a>,
     given: &'t [Conjunct<'a>],
@@ -108,7 +108,7 @@ fn details_told<'a>(
     operands_told(&term, setting.held, setting.env)
 }
 
-/// Of a disjunction of schemas what is told of both sides, each of which can't hold together with the given ones.
+/// Of a disjunction of schemas what is reported of both sides, each of which can't hold together with the given ones.
 fn sides_told<'t, 's, 'g, 'a>(
     setting: &'t Setting<'s, 'g, 'a>,
     given: &'t [Conjunct<'a>],

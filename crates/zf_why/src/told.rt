@@ -1,4 +1,4 @@
-//! What is told of a conjunct that is to blame.
+//! What is reported of a conjunct that is to blame.
 
 use zf_value::Outcome;
 

@@ -121,7 +121,7 @@ impl<'a, T: Drop + Share> Chunk<'a, T> {
         Ok(Chunk::new(Shared::new(arena, items)?))
     }
 
-    /// A copy, with these items behind.
+    /// A copy, with these items after.
     fn followed(&self, arena: &'a Bump, further: &[T]) -> Result<Chunk<'a, T>, AllocError>
         ensures { IfOk result (λ c. c ≡ self.now ++ further.now) }
     {
@@ -374,7 +374,7 @@ impl<'a, T: Drop + Share> Chunked<'a, T> {
         Some(chunk)
     }
 
-    /// Adds the items of a chunk. A small one is copied behind the last items, so that chunks stay few.
+    /// Adds the items of a chunk. A small one is copied after the last items, so that chunks stay few.
     fn append_chunk(&mut self, chunk: &Chunk<'a, T>) -> Result<(), AllocError>
         ensures { OnOk result (self.new ≡ self.old ++ chunk.now) }
     {
@@ -449,7 +449,7 @@ fn copied<'a, T: Drop + Share>(
     Ok(same)
 }
 
-/// The same items behind the others.
+/// The same items after the others.
 fn push_copies<'a, T: Drop + Share>(
     others: &mut Items<'a, T>,
     items: &[T],

@@ -323,7 +323,7 @@ fn built_at<'v, 'a, R: Row>(
     }
 }
 
-/// Adds what is built of the row that is bound, behind so many variables outside. False where that is out.
+/// Adds what is built of the row that is bound, after so many variables outside. False where that is out.
 #[cycle(meaning)]
 fn add_row<'v, 'a, R: Row>(
     term: &Resolved<'a>,

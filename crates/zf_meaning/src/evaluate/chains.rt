@@ -40,7 +40,7 @@ pub(super) fn chain<'v, 'a, R: Row>(
     linked(links.as_slice(), first, row, locals, env)
 }
 
-/// The truth of what is left of a chain, behind an operand of this outcome.
+/// The truth of what is left of a chain, after an operand of this outcome.
 #[cycle(meaning)]
 fn linked<'v, 'a, R: Row>(
     links: &[ResolvedLink<'a>],

@@ -45,7 +45,7 @@ pub(crate) struct Span {
     pub whole: usize,
 }
 
-/// How many variables are bound at a row, behind those outside.
+/// How many variables are bound at a row, after those outside.
 pub(super) fn span_of(outside: &[&Value], rows: &Rows<'_>) -> Span
     ensures outside { result.outside ≡ length outside.now }
     ensures whole { result.whole ≡ length rows.now.bound.items }
@@ -255,7 +255,7 @@ fn add<'t, 'a>(
     Ok(())
 }
 
-/// What an equation wants a variable of the binder to be, if its other side names earlier ones alone.
+/// What an equation needs a variable of the binder to be, if its other side names earlier ones alone.
 fn wanted_by<'t, 'a>(term: &'t Resolved<'a>, span: Span) -> Option<Wanted<'t, 'a>>
     ensures { IfSome result (IsWanted term.now span) }
 {
@@ -325,7 +325,7 @@ fn equated<'t, 'a>(term: &'t Resolved<'a>) -> Option<(&'t Resolved<'a>, &'t Reso
     }
 }
 
-/// The operand behind the one link of a chain, if that is an equation.
+/// The operand after the one link of a chain, if that is an equation.
 fn equal_to<'t, 'a>(links: &'t [ResolvedLink<'a>]) -> Option<&'t Resolved<'a>>
     ensures { IfSome result (λ x. (k : link.ResolvedLink) × (links.now ≡ k ∷ []) × (k.relation ≡ relations.Equal) × (k.right ≡ x.now)) }
 {

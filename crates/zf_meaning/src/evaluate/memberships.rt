@@ -23,7 +23,7 @@ use zf_term::{Infinite, Resolved};
 use zf_tree::{Constant, Infix, Listed, Operator, Prefix, Sign, Unary};
 use zf_value::Value;
 
-/// What an expression comes to. A set of a family is told by the values that it is made of.
+/// What an expression comes to. A set of a family is described by the values that it is made of.
 #[cycle(meaning)]
 #[tactic(auto, using(zf_term::proofs::ResolvedSeen::seen))]
 pub(crate) fn described<'v, 'a, R: Row>(
@@ -57,7 +57,7 @@ fn described_constant<'v>(constant: Constant, env: &Env<'_, '_>) -> Described<'v
     }
 }
 
-/// A symbol before or behind a term.
+/// A symbol before or after a term.
 #[cycle(meaning)]
 #[inline(never)]
 fn of_one<'v, 'a, R: Row>(

@@ -1,4 +1,4 @@
-//! Comparisons of numbers, told without values round the numbers.
+//! Comparisons of numbers, decided without values round the numbers.
 ghost use Rattle.std.specs.Prelude.{◌≡◌, ℕ, pos, IfSome, IsTrue, false, map, slice_get};
 ghost use Rattle.zf_tree.specs.declared.operator.Operator.TheVariants.{Application};
 ghost use Rattle.zf_extent.specs.{is_membership};
@@ -21,7 +21,7 @@ use zf_term::{Resolved, ResolvedLink};
 use zf_tree::{Infix, Operator, Relation};
 use zf_value::{Outcome, Truth, Value, applied, difference, modulus, product, quotient, sum};
 
-/// The truth of a predicate that compares two numbers, where these are told without values round them.
+/// The truth of a predicate that compares two numbers, where these are decided without values round them.
 #[tactic(auto, using(zf_term::proofs::ResolvedSeen::seen))]
 pub(crate) fn compared_in<'v, 'a, R: Row>(
     term: &Resolved<'a>,

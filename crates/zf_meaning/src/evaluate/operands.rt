@@ -16,7 +16,7 @@ use zf_term::Resolved;
 use zf_tree::{Listed, Operator, Unary};
 use zf_value::{Truth, Value};
 
-/// A symbol before or behind a term.
+/// A symbol before or after a term.
 #[cycle(meaning)]
 #[inline(never)]
 pub(super) fn unary<'v, 'a, R: Row>(
@@ -89,7 +89,7 @@ pub(super) fn gather<'v, 'a, R: Row>(
     Ok(gathered)
 }
 
-/// A symbol before or behind a term, as a predicate.
+/// A symbol before or after a term, as a predicate.
 #[cycle(meaning)]
 #[inline(never)]
 pub(super) fn not<'v, 'a, R: Row>(

@@ -18,7 +18,7 @@ impl<
     'a,
     F: Fn(&'a Bump, &mut Cursor<'a, '_>, u32, u8) -> Result<Tall<Boxed<'a, Term<'a>>>, TextFault>,
 > Grammar<'a, F> {
-    /// The term, and further ones at this place, each behind the symbol.
+    /// The term, and further ones at this place, each after the symbol.
     #[tactic(auto, unfolding(crate::specs::TermReading::further))]
     pub(super) fn further(
         &self,
@@ -51,7 +51,7 @@ impl<
         })
     }
 
-    /// The terms of a list, of which the first is given, and what stands behind them.
+    /// The terms of a list, of which the first is given, and what stands after them.
     #[tactic(auto, unfolding(crate::specs::TermReading::listed))]
     pub(super) fn listed(
         &self,
@@ -154,7 +154,7 @@ impl<
         })
     }
 
-    /// A part that may be left out, behind its symbol.
+    /// A part that may be left out, after its symbol.
     #[tactic(auto, unfolding(crate::specs::TermReading::part))]
     pub(super) fn part(
         &self,

@@ -19,7 +19,7 @@ use zf_sorts::{Offence, Refusal, Sort, refused};
 use zf_term::{Resolved, ZType, product_type, set_type};
 use zf_tree::{Listed, Need, Term};
 
-/// The members of one term, and the types that they are told by: of a set that of its members.
+/// The members of one term, and the types that they are given by: of a set that of its members.
 #[derive(Drop)]
 struct Members<'a> {
     resolved: Items<'a, Resolved<'a>>,

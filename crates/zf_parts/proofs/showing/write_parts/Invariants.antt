@@ -1,4 +1,4 @@
--- What is written so far, and then what is told of the parts ahead, is the whole.
+-- What is written so far, and then what is reported of the parts ahead, is the whole.
 use Rattle.zf_parts.proofs.Prelude.{◌≡◌}
 use Rattle.zf_lines.specs.{device_of, failures_of, HasLimit}
 use Rattle.zf_parts.specs.{part_wording}

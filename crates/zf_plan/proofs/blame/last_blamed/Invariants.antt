@@ -2,7 +2,7 @@ use Rattle.zf_plan.proofs.Prelude.{◌<◌, ◌≤◌, ℕ}
 use Rattle.zf_walk.specs.{HasBit}
 use Rattle.zf_plan.proofs.blame.last_blamed.Given as goal
 
--- The word has no bit behind those that are left.
+-- The word has no bit after those that are left.
 abbrev pub invariant-loop-depth : goal.invariant-loop-depth
 invariant-loop-depth l = (l.depth ≤ l.range) × ((i : ℕ) → l.depth ≤ i → i < l.range → HasBit l.word i → ⊥)
 

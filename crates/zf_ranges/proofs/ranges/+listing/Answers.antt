@@ -1,4 +1,4 @@
--- The values that lie in each of several declared sets.
+-- The values that are members of each of several declared sets.
 use Rattle.zf_ranges.proofs.Prelude.{◌∙◌, ◌≡◌, ap, List, map, subst, suc, sym, true, IsAscending, of-Either, DeclaredSet, set_of, sets_of, Domain, environment_of, IsOneOut, IsAllOf, IsAllOfEach, NarrowsAll}
 use Rattle.zf_finite.specs.Finite as spec
 use Rattle.zf_ranges.proofs.Lacks.{passed}

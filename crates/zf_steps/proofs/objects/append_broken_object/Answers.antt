@@ -1,4 +1,4 @@
--- What can't be told, with its newline.
+-- What can't be decided, with its newline.
 use Rattle.std.proofs.Common.{◌++◌}
 use Rattle.std.specs.Prelude.{codes}
 use Rattle.zf_lines.proofs.Fronts.{weaker_on_ok}

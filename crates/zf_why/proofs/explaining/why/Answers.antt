@@ -57,7 +57,7 @@ told_alone-requires c =
           (subst (λ (qs : List ResolvedTree). AreAlone e (map comp_of c.as_slice.result.now) held qs c.in_ok-alone.alone.items) (first ∙ sym second) c.in_ok-alone.ensures);
     }
 
--- what is told, of the conjuncts of the schema
+-- what is reported, of the conjuncts of the schema
 told_of_all : (e : Environment) (held : List (Option Value)) (details : Bool) (beside : List ResolvedTree → List Bool → ℕ
     → List ResolvedTree) (ds cs : List Comp) (ys xs : List Conjunct) (m n : List Bool) (told : List Told) → ds ≡ cs → ys ≡ xs → m ≡ n
     → AreTold e ds held details (beside (map conjunct_of ys) m) (disjunction_at ys) (map conjunct_of ys) m told
