@@ -60,9 +60,6 @@ sets_beside a b s n t m h g e w = omega (arith, counted_both set_count a.comps b
 pub nodes_beside : (a b : Schema) (s n t m : ℕ) → HasLeft a s n → HasLeft b t m → n < 65536 - m → KeepsTo limit.Nodes (conjoined a b) → ⊥
 nodes_beside a b s n t m h g e w = omega (arith, counted_both set_nodes a.comps b.comps, both_nodes a b, h.nodes, g.nodes, w)
 
-pub conjuncts_beside : (a b : Schema) → 4096 < length a.conjuncts + length b.conjuncts → KeepsTo limit.Conjuncts (conjoined a b) → ⊥
-conjuncts_beside a b e w = omega (arith, both_long a b, w)
-
 -- the components are joined, and the conjuncts follow them
 pub both_made : (a b : Schema) (cs : List Comp) (ts : List ResolvedTree) (ps : List ℕ) → cs ≡ with_comps a.comps b.comps → AreAt cs ps b.comps
     → ts ≡ a.conjuncts ++ map (moved (place_in ps)) b.conjuncts → schema_with cs ts ≡ conjoined a b

@@ -1,5 +1,5 @@
 -- A schema that has grown is within a limit only if it was before.
-use Rattle.zf_calculus.proofs.Prelude.{◌++◌, ◌+◌, ◌<◌, ◌∷◌, ◌≡◌, ◌≤◌, [], arith, length, length-append, List, ℕ, sum_by-append, sum_by_push, AllByRecursion, sum_by, Comp, Schema, ResolvedTree, set_count, set_nodes, height, nodes, constrained, grown, HasLeft, schema_nodes, IsLow, IsTooLarge, KeepsTo, Limit, Offence}
+use Rattle.zf_calculus.proofs.Prelude.{◌++◌, ◌+◌, ◌<◌, ◌∷◌, ◌≡◌, ◌≤◌, [], arith, length, length-append, List, ℕ, sum_by-append, AllByRecursion, sum_by, Comp, Schema, ResolvedTree, set_count, set_nodes, nodes, grown, HasLeft, IsLow, IsTooLarge, KeepsTo, Limit, Offence}
 use Rattle.zf_term.specs.declared.fault.Limit.TheVariants as limit
 use Rattle.zf_calculus.specs.{schema_with, with_comp}
 use Rattle.zf_calculus.proofs.Merging.{counts_more}
@@ -49,37 +49,3 @@ nodes_passed a c s n h e w = omega (arith, counts_more set_nodes a.comps c, h.no
 pub all_low : (ts us : List ResolvedTree) → AllByRecursion IsLow ts → AllByRecursion IsLow us → AllByRecursion IsLow (ts ++ us)
 all_low [] us h g = g
 all_low (t ∷ ts) us h g = (h.0, all_low ts us h.1 g)
-
-last_low : (ts : List ResolvedTree) (t : ResolvedTree) → AllByRecursion IsLow (ts ++ t ∷ []) → IsLow t
-last_low [] t h = h.0
-last_low (u ∷ ts) t h = last_low ts t h.1
-
-more_nodes : (a : Schema) (t : ResolvedTree) → schema_nodes (constrained a (t ∷ [])) ≡ schema_nodes a + nodes t
-more_nodes a t = omega (arith, sum_by_push nodes a.conjuncts t)
-
-pub left_taken : (a : Schema) (t : ResolvedTree) (s n m : ℕ) → HasLeft a s n → m + nodes t ≡ n → length a.conjuncts < 4096 → height t ≤ 256 → HasLeft (constrained a (t ∷ [])) s m
-left_taken a t s n m h e l low =
-    let p = more_nodes a t in
-    let q = length-append a.conjuncts (t ∷ []) in
-    let sets = h.sets in
-    let nodes = h.nodes in
-    record {
-      sets = h.sets;
-      nodes = omega arith;
-      within = record {
-        comps = h.within.comps;
-        sets = h.within.sets;
-        conjuncts = omega arith;
-        nodes = omega arith;
-        low = all_low a.conjuncts (t ∷ []) h.within.low (low, tt);
-      };
-    }
-
-pub term_passed : (a : Schema) (t : ResolvedTree) (s n : ℕ) → HasLeft a s n → n < nodes t → KeepsTo limit.Nodes (constrained a (t ∷ [])) → ⊥
-term_passed a t s n h e w = omega (arith, more_nodes a t, h.nodes, w)
-
-pub conjuncts_passed : (a : Schema) (t : ResolvedTree) → 4096 ≤ length a.conjuncts → KeepsTo limit.Conjuncts (constrained a (t ∷ [])) → ⊥
-conjuncts_passed a t e w = omega (arith, length-append a.conjuncts (t ∷ []), w)
-
-pub height_passed : (a : Schema) (t : ResolvedTree) → (height t ≤ 256 → ⊥) → KeepsTo limit.Height (constrained a (t ∷ [])) → ⊥
-height_passed a t e w = e (last_low a.conjuncts t w)

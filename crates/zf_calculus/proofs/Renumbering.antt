@@ -1,5 +1,5 @@
 -- The list of new places says where each component is.
-use Rattle.zf_calculus.proofs.Prelude.{◌++◌, ◌+◌, ◌<◌, ◌∙◌, ◌∷◌, ◌≡◌, ◌≤◌, [], ap, arith, get_or, length, List, map, refl, Some, subst, sym, ℕ, append_assoc, get_or-map, length-map, map-append, slice_get-get_or, slice_get_past, place_in, AreFirst, in_full, one_more, unmoved, comp_of, conjunct_of, ResolvedTree, moved, Component, comp_named, new_place, place_of, place_or}
+use Rattle.zf_calculus.proofs.Prelude.{◌++◌, ◌+◌, ◌<◌, ◌∙◌, ◌∷◌, ◌≡◌, ◌≤◌, [], ap, arith, get_or, length, List, map, refl, Some, sym, ℕ, append_assoc, get_or-map, length-map, map-append, slice_get-get_or, slice_get_past, place_in, AreFirst, in_full, unmoved, comp_of, conjunct_of, ResolvedTree, moved, Component, comp_named, new_place, place_of, place_or}
 use borrow.Author.Count.{below_more}
 use Rattle.zf_term.specs.declared.conjunct.Conjunct.{Conjunct}
 
@@ -13,10 +13,6 @@ at_place from among i c l e =
     ap (λ o. place_of o (map comp_of among) i) (slice_get-get_or (map comp_of from) i (comp_of c) (omega (arith, length-map from comp_of))
     ∙ ap Some (get_or-map comp_of from i c (comp_of c) l ∙ ap comp_of (sym e)))
 
-pub one_place_more : (places : List ℕ) (from among : List Component) (i n : ℕ) (c : Component) → length places ≡ i → i < length from → c ≡ get_or from i c
-    → n ≡ place_or (comp_named c.name (map comp_of among)) i → ArePlaces places from among → ArePlaces (places ++ n ∷ []) from among
-one_place_more places from among i n c m l e h = one_more places (new_place (map comp_of from) (map comp_of among)) n i m (h ∙ sym (at_place from among i c l e))
-
 pub all_places : (places : List ℕ) (from among : List Component) → length places ≡ length from → ArePlaces places from among → place_in places ≡ new_place (map comp_of from) (map comp_of among)
 all_places places from among l =
     in_full places (new_place (map comp_of from) (map comp_of among)) (λ k past. ap (λ o. place_of o (map comp_of among) k)
@@ -26,9 +22,6 @@ all_places places from among l =
 
 abbrev pub KeepsAll : List ℕ → ℕ → Type 0
 KeepsAll places i = (k : ℕ) → k < i → get_or places k k ≡ k
-
-pub one_more_kept : (places : List ℕ) (i n : ℕ) → n ≡ get_or places i n → n ≡ i → KeepsAll places i → KeepsAll places (i + 1)
-one_more_kept places i n at own before = below_more (λ (k : ℕ). get_or places k k ≡ k) i before (subst (λ (m : ℕ). get_or places i m ≡ m) own (sym at))
 
 pub none_moved : (places : List ℕ) (i : ℕ) → length places ≤ i → KeepsAll places i → (t : ResolvedTree) → moved (place_in places) t ≡ t
 none_moved places i past all t = ap (λ (f : ℕ → ℕ). moved f t) (in_full places (λ k. k) (λ k far. refl) (λ k l. all k (omega arith))) ∙ unmoved t

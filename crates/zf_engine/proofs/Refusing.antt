@@ -1,5 +1,5 @@
 -- The steps before the first binding make answers: refusals, in their order.
-use Rattle.zf_engine.proofs.Prelude.{◌==◌, ◌∙◌, ◌∷◌, ◌≡◌, ◌⊎◌, [], ap, arith, Bool, Err, false, IfErr, IfOk, inl, inr, length, List, map, None, Ok, Option, refl, Result, Some, subst, sym, true, ℕ, eqb-true, Value, Comp, Defined, Schema, AreWellTyped, Environment, spellings, Spelling, Portion, Status, AreHeld, Checks, HasSchema, IsAsked, IsNamed, IsNamedRow, Request, RefusesRequest, numbers_of, stated, UnreadAnswer, AnswersRequest, IfAnswered, IsRefused, IsUnfit, IsFaultLine, AreSmall, TellsInfinite, TellsMisfit, TellsNoSchema, TellsNumbers, TellsNoRow, TellsNoValues, TellsBounds, TellsMisnamed, TellsOut, TellsPlace, TellsPlaceHeld, Cited, Stop, Answered, OutOfMemory}
+use Rattle.zf_engine.proofs.Prelude.{◌==◌, ◌∙◌, ◌∷◌, ◌≡◌, ◌⊎◌, [], ap, arith, Bool, Err, false, IfErr, inl, inr, length, List, map, None, Ok, Option, refl, Result, Some, subst, sym, true, ℕ, eqb-true, Value, Comp, Defined, Schema, AreWellTyped, Environment, spellings, Spelling, Status, AreHeld, Checks, HasSchema, IsAsked, IsNamed, IsNamedRow, Request, RefusesRequest, numbers_of, stated, UnreadAnswer, AnswersRequest, IfAnswered, IsRefused, IsUnfit, IsFaultLine, AreSmall, TellsInfinite, TellsMisfit, TellsNoSchema, TellsNumbers, TellsNoRow, TellsNoValues, TellsBounds, TellsMisnamed, TellsOut, TellsPlace, TellsPlaceHeld, Cited, Stop, Answered, OutOfMemory}
 use Rattle.zf_finite.specs.{IsFinite}
 use Rattle.zf_scan.specs.declared.fault.TextFault.{TextFault}
 use Rattle.zf_scan.specs.{IsWantOfMemory}
@@ -10,9 +10,7 @@ use Rattle.zf_meaning.specs.{AreComplete, given_sets, IsEnvironment}
 use Rattle.zf_print.specs.{AreClear, binding_text, HaveClearNames, IsHeldLine, IsNoHeldLine, IsNoLine}
 use Rattle.law_names.proofs.Clear.{components_clear, globals_clear}
 use Rattle.zf_print.proofs.Chosen.{held_is_line, line_is_held}
-use Rattle.std.proofs.Common.{Global, Vec}
-use Rattle.zf_messages.specs.{IsWithout, LacksComponent}
-use Rattle.zf_engine.specs.{AreShown, IsWhole, NamesParts, row_after}
+use Rattle.zf_engine.specs.{AreShown, NamesParts, row_after}
 use Rattle.zf_places.specs.{comps_at}
 
 pub weaker : (stop : Stop) {P Q : List ℕ → Status → Type 0} → ((text : List ℕ) (status : Status) → P text status → Q text status) → IfAnswered stop P → IfAnswered stop Q
@@ -22,12 +20,6 @@ weaker OutOfMemory f h = tt
 pub weaker_err : {A : Type 0} (r : Result A Stop) (P Q : Stop → Type 0) → ((stop : Stop) → P stop → Q stop) → IfErr r P → IfErr r Q
 weaker_err (Ok x) P Q f h = tt
 weaker_err (Err stop) P Q f h = f stop h
-
--- a fact about a whole answer, or about the stop in its place, is one about the two
-pub made_whole : (P : List ℕ → Status → Type 0) (answer : Result (Vec ℕ Global × Status) Stop) (stop : Stop) → IsWhole answer stop → IfOk answer (λ p. P p.0.items p.1)
-    → IfErr answer (λ s. IfAnswered s P) → IfAnswered stop P
-made_whole P (Ok (text, status)) stop is ok err = subst (λ s. IfAnswered s P) (sym is) ok
-made_whole P (Err other) stop is ok err = subst (λ s. IfAnswered s P) (sym is) err
 
 pub unread_answers : (details : Bool) (file source : List ℕ) (fault : TextFault) (about : Cited) (stop : Stop) → IsWantOfMemory fault ⊎ RefusesSource source fault
     → IfAnswered stop (IsFaultLine details file fault about) → IfAnswered stop (UnreadAnswer details file source)
@@ -103,11 +95,6 @@ names_of r source a e is =
     let has = is.has_schema in
     let checks = has.checks in
     components_clear source e.globals a (record { boxes = checks.boxes; faults = []; place = has.named.0; name = r.name; reads = checks.reads; checked = checks.judged; there = has.named.1 })
-
--- the name of a schema without the component is reported, or nothing
-pub is_without : (g : List Defined) (component side : List ℕ) → LacksComponent g component side → IsWithout g component side
-is_without g component [] lacks = tt
-is_without g component (c ∷ side) lacks = lacks
 
 -- ---- the refusals of a schema
 

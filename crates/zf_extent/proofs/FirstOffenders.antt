@@ -1,6 +1,6 @@
 -- The first of several that offend, and how it is found from the front.
 use Rattle.std.proofs.Common.{◌≡◌, ℕ, ◌+◌, ◌-◌, ◌<◌, ◌≤◌, ◌==◌, Bool, Option, List, [], ◌∷◌, ◌++◌, length, map, take, drop, get_or, refl, sym, ap, ◌∙◌}
-use Rattle.std.proofs.lemmas.List.{drop_all, take_rest}
+use Rattle.std.proofs.lemmas.List.{take_rest}
 use Rattle.std.proofs.Math.Dec.{eqb-suc-zero}
 use Rattle.zf_term.specs.declared.resolved.Range.{Range}
 use Rattle.zf_term.specs.declared.resolved.Resolved.{Resolved}
@@ -10,7 +10,7 @@ use Rattle.zf_term.specs.{Defined, links, part_of, range_of, ranges, resolved_li
 use Rattle.zf_extent.specs.declared.offender.Offender.{Offender}
 use Rattle.zf_extent.specs.{all_offending, first, is_last, links_offending, offending, part_offending, ranges_offending, tested, unless}
 use Rattle.std.specs.Option.{option_or}
-use Rattle.zf_term.proofs.Choices.{or_none, or_else_assoc}
+use Rattle.zf_term.proofs.Choices.{or_else_assoc}
 use Rattle.zf_term.proofs.Walk.{dropped}
 use Rattle.zf_term.proofs.ResolvedSeen.{of-Comprehension, link-seen, range-seen}
 
@@ -86,13 +86,6 @@ ends_where (k ∷ ks) = eqb-suc-zero (length ks)
 -- none is after
 pub ends_at : (xs : List ResolvedLink) (n : ℕ) → (length (take (length xs - n) (drop n xs)) == 0) ≡ ends (drop n xs)
 ends_at xs n = ap (λ ks. length ks == 0) (take_rest xs n) ∙ ends_where (drop n xs)
-
--- no item is ahead
-pub first_end :
-    {X A : Type 0} (all : List X → List A) (xs : List X) (i : ℕ) (whole found : Option A)
-    → all [] ≡ [] → length xs ≤ i → whole ≡ option_or found (first (all (drop i xs))) → found ≡ whole
-first_end all xs i whole found none h before =
-    sym (before ∙ ap (λ ys. option_or found (first (all ys))) (drop_all i xs h) ∙ ap (λ os. option_or found (first os)) none ∙ or_none found)
 
 -- a comprehension: its ranges, the filter, and the term
 pub first_of_comprehension :

@@ -1,5 +1,5 @@
 -- The order of values, and lists that ascend in it.
-use Rattle.zf_families.proofs.Prelude.{tied_itself, is_eq, ordering_reverse, ordering_then, every_at, every_from, not_below_itself, ties, parts-Tuple, pair, IsAscending, IsMember, parts, row_order, value_order, Value, AllByRecursion}
+use Rattle.zf_families.proofs.Prelude.{tied_itself, is_eq, ordering_reverse, ordering_then, every_at, every_from, ties, parts-Tuple, pair, IsAscending, IsMember, parts, row_order, value_order, Value, AllByRecursion}
 use Rattle.std.proofs.Common.{◌≡◌, ◌↔◌, Bool, true, false, IsTrue, ap₂, List, [], ◌∷◌, map, refl, sym, ap, ◌∙◌, inl, inr, ⊎_elim, Less}
 use Rattle.zf_value.specs.contracts.plain.ValueOrd.TheImpl.Laws.{total-law}
 use Rattle.zf_families.proofs.Told.{tuple_order}
@@ -32,9 +32,6 @@ tied b v w x y e f h = same-test b (is_eq (value_order v w)) (v ≡ w) h (ties v
 -- of an ascending list the first is below each other member, and so is none of them
 pub below_rest : (x : Value) (xs : List Value) (z : Value) → IsAscending (x ∷ xs) → IsMember z xs → value_order x z ≡ Less
 below_rest x xs z h m = every_at (λ y. value_order x y ≡ Less) xs z h.0 m
-
-pub not_in_rest : (x : Value) (xs : List Value) → IsAscending (x ∷ xs) → IsMember x xs → ⊥
-not_in_rest x xs h m = not_below_itself x (below_rest x xs x h m)
 
 -- ---- pairs
 

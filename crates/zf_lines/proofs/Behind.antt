@@ -1,5 +1,5 @@
 -- The events that a walk has passed: they are those up to its last answer.
-use Rattle.zf_lines.proofs.Prelude.{◌++◌, ◌∙◌, ◌∷◌, ◌≡◌, ◌⊎◌, [], ap, arith, inl, inr, length, List, None, Option, Some, subst, sym, take, false≢true, take_all, IsTotalOrder, lists_total, slice_cmp, ordering_reverse, AllPairs, Contains, Ordering, Greater, Less, AllPairs-across, AllPairs-cons, AllPairs-head, AllPairs-nil, AllPairs-tail, Contains-cases, Contains-either, Contains-head, Contains-left, Contains-nil, Contains-right, Conjuncts, Event, IsEvent, Ahead, AreAllAhead, IsAhead, IsNoneAhead, past, SameAhead, Takes, ComesAfter, AreEventsUpTo}
+use Rattle.zf_lines.proofs.Prelude.{◌++◌, ◌∙◌, ◌∷◌, ◌≡◌, ◌⊎◌, [], ap, arith, inl, inr, length, List, None, Option, Some, subst, sym, take, false≢true, take_all, IsTotalOrder, lists_total, slice_cmp, ordering_reverse, AllPairs, Contains, Ordering, Greater, Less, AllPairs-across, AllPairs-cons, AllPairs-head, AllPairs-nil, AllPairs-tail, Contains-cases, Contains-either, Contains-head, Contains-left, Contains-nil, Contains-right, Conjuncts, Event, IsEvent, Ahead, AreAllAhead, IsAhead, IsNoneAhead, past, Takes, ComesAfter, AreEventsUpTo}
 use Rattle.zf_walk.proofs.Picks.{IsRowOf-length}
 
 -- one more element, above all others
@@ -27,13 +27,6 @@ module _ {V : Type 0} (cmp : V → V → Ordering) (s : Conjuncts V) (ranges : L
     covered = λ e i. inr (all e i);
   }
 
-  -- a step that was refused
-  pub as_behind : (a b : Ahead V) (events : List (Event V)) → SameAhead cmp s ranges after a b → Behind a events → Behind b events
-  as_behind a b events same h = record {
-    ascending = h.ascending;
-    are = h.are;
-    before = λ e f m i g. h.before e f m i ((same f i).1 g);
-    covered = λ e i. elim (h.covered e i) [ inl m ↦ inl m | inr g ↦ inr ((same e i).0 g) ];
   }
 
   long : (e f : Event V) → IsEvent cmp s ranges after e → IsEvent cmp s ranges after f → length f.row ≡ length e.row

@@ -1,5 +1,5 @@
 -- Parts of lines, and columns of them.
-use Rattle.zf_lines.proofs.Prelude.{◌++◌, ◌+◌, ◌<◌, ◌∙◌, ◌∷◌, ◌≡◌, ◌≤◌, [], ap, append_assoc, arith, get_or, inl, inr, length, length-append, List, map, None, Option, refl, Some, subst, suc, sym, take, zero, ℕ, set, length-map, length-set, length-take-le, map_more, take_all, slice_get_read, option_map, slice_get, slice_index_or, unwrap_or, Value, Comp, comp_of, comma_before, component_in, Format, name_in, Spelling, AreColumns, head_of, Keeps, part_at}
+use Rattle.zf_lines.proofs.Prelude.{◌++◌, ◌+◌, ◌<◌, ◌∙◌, ◌∷◌, ◌≡◌, ◌≤◌, [], ap, append_assoc, arith, get_or, inl, inr, length, length-append, List, map, Option, refl, Some, subst, suc, sym, take, zero, ℕ, set, length-map, length-set, length-take-le, map_more, take_all, slice_get_read, option_map, slice_get, slice_index_or, unwrap_or, Value, Comp, comp_of, comma_before, component_in, Format, name_in, Spelling, AreColumns, head_of, Keeps, part_at}
 use Rattle.zf_term.specs.declared.schema.Component.{Component}
 use Rattle.zf_print.specs.{value_in}
 use Rattle.zf_lines.specs.declared.column.Column.{Column}
@@ -9,10 +9,6 @@ module _ (head : List ℕ) (f : Format) (ss : List Spelling) (row : List Value) 
   -- the same value stands at both places
   pub same_part : (range : List Value) (place : ℕ) → slice_get row i ≡ slice_get range place → part_at head f ss range place ≡ part_at head f ss row i
   same_part range place is = ap (λ (o : Option Value). unwrap_or (option_map (λ v. head ++ value_in f ss v) o) []) (sym is)
-
-  -- the part is worked out
-  pub new_part : (v : Value) → slice_get row i ≡ Some v → head ++ value_in f ss v ≡ part_at head f ss row i
-  new_part v is = ap (λ (o : Option Value). unwrap_or (option_map (λ v. head ++ value_in f ss v) o) []) (sym is)
 
 -- a part is that of a component with its value
 pub part_of_component : (f : Format) (ss : List Spelling) (n : ℕ) (c : Comp) (values : List Value) (i : ℕ) (v : Value) (head : List ℕ) → head ≡ head_of f n c → slice_get values i ≡ Some v
@@ -40,11 +36,6 @@ at_map f (y ∷ xs) zero x e = let s : y ≡ x = (cc) in ap (λ z. Some (f z)) s
 at_map f (y ∷ xs) (suc i) x e = at_map f xs i x e
 
 module _ (f : Format) (ss : List Spelling) (ranges : List (List Value)) where
-  pub no_columns : AreColumns f ss [] ranges []
-  no_columns = record { all = refl; heads = λ i c column at here. absurd (never i c at); kept = λ i column here. absurd (never i column here) } where
-    never : {A : Type 0} (i : ℕ) (x : A) → slice_get {X = A} [] i ≡ Some x → ⊥
-    never zero x e = (cc)
-    never (suc i) x e = (cc)
 
   -- one component more
   pub one_more_column : (cs : List Comp) (columns : List Column) (c : Comp) (column : Column) (n : ℕ) → length cs ≡ n → column.head ≡ head_of f n c → ((f : ℕ → List ℕ) → Keeps f column)

@@ -29,9 +29,6 @@ drop_past (suc n) [] h = refl
 drop_past zero (x ∷ xs) h = absurd (omega arith)
 drop_past (suc n) (x ∷ xs) h = drop_past n xs (omega arith)
 
-pub given-all : (g : List Defined) (n : ℕ) (names : List (List ℕ)) → length g ≡ n → names ++ given_sets (drop n g) ≡ given_sets g → names ≡ given_sets g
-given-all g n names l h = sym (append-nil names) ∙ ap (λ xs. names ++ given_sets xs) (sym (drop_past n g l)) ∙ h
-
 -- ---- sizes
 
 counted : (stated : List Size) (name : List ℕ) (d : Definition) (o : Option ℕ) (later : List ℕ) (g : List Defined) → CountsFor stated name d o

@@ -173,9 +173,6 @@ pub in-interval : (m n : ℤ) (v : Value) (b : Bool) → (IsInterval m n Out →
 unfolding IsInDescribed IsInterval
 in-interval m n v b f h = in-set (IsBetweenNumbers m n) v b (interval-there m n f) h
 
-pub has-interval : (d : Described) (m n : ℤ) (v : Value) (b : Bool) → d ≡ Interval m n → IsWithin d → IsTrue b ↔ IsBetweenNumbers m n v → IsTrue b ↔ IsInDescribed d v
-has-interval d m n v b e w h = subst (λ k. IsTrue b ↔ IsInDescribed k v) (sym e) (in-interval m n v b (subst IsWithin e w).2 h)
-
 -- the numbers that are passed on are those that were given
 pub same-interval : (m n p q : ℤ) (v : Value) (b : Bool) → p ≡ m → q ≡ n → IsTrue b ↔ IsBetweenNumbers p q v → IsTrue b ↔ IsBetweenNumbers m n v
 same-interval m n p q v b e f h = subst (λ x. IsTrue b ↔ IsBetweenNumbers x n v) e (subst (λ y. IsTrue b ↔ IsBetweenNumbers p y v) f h)

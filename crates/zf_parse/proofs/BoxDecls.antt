@@ -48,9 +48,6 @@ pub record Stops (x : code.Next) : Type 0 where
   pub no_comma : is_mark mark.Comma x ≡ false
   pub no_colon : is_mark mark.Colon x ≡ false
 
-pub stops_at : (kind : Kind) (ts us : List Symbol) → Next kind ts us → Stops (next_of kind) → Stops (first ts)
-stops_at kind ts us h stop = subst (λ ts. Stops (first ts)) (sym h.1) stop
-
 pub not_at : (m : Mark) (kind : Kind) (ts us : List Symbol) → Next kind ts us → is_mark m (next_of kind) ≡ false → is_mark m (first ts) ≡ false
 not_at m kind ts us h not = ap (λ ts. is_mark m (first ts)) h.1 ∙ not
 

@@ -36,13 +36,3 @@ by_outcome n least t ts us (Err TooDeep) at h stop e = ⊎_elim (λ high. high) 
 -- a levelled tree that is spelled at its place, and with which what follows does not go on, is the one that is read, unless it is too high
 pub term_answers : (n least : ℕ) (t : Tree) (ts us : List Symbol) → IsAt least t → Spells t ts us → binds (first us) ≤ least → Answered n (read_term n least ts) t us
 term_answers n least t ts us at h stop = by_outcome n least t ts us (read_term n least ts) at h stop refl
-
--- no two levelled trees are spelled by the same symbols, if what follows does not go on with them
-pub one_term : (least : ℕ) (t u : Tree) (ts us vs : List Symbol) → IsAt least t → IsAt least u → Spells t ts us → Spells u ts vs → binds (first us) ≤ least
-    → binds (first vs) ≤ least → (t ≡ u) × (us ≡ vs)
-one_term least t u ts us vs at_t at_u h g stop_t stop_u =
-    let n = tree_height t + tree_height u in
-    let r = term_complete n least t ts us at_t.0 at_t.1 (omega arith) h stop_t in
-    let s = term_complete n least u ts vs at_u.0 at_u.1 (omega arith) g stop_u in
-    let same : (tall r.term (tree_height t), us) ≡ (tall s.term (tree_height u), vs) = ok_pair (tall r.term (tree_height t), us) (tall s.term (tree_height u), vs) (sym r.read ∙ s.read) in
-    (sym r.is ∙ ap (λ p. tree_of p.0.part) same ∙ s.is, ap (λ p. p.1) same)

@@ -1,5 +1,5 @@
 -- Digits that count numbers: one that changes, and what is carried over from it.
-use Rattle.zf_parts.proofs.Prelude.{◌+◌, ◌<◌, ◌∙◌, ◌∷◌, ◌≡◌, [], All, ap, arith, inl, inr, length, List, refl, subst, suc, sym, Value, zero, ℕ}
+use Rattle.zf_parts.proofs.Prelude.{◌+◌, ◌<◌, ◌∙◌, ◌∷◌, ◌≡◌, [], ap, arith, inl, inr, length, List, refl, subst, suc, sym, Value, zero, ℕ}
 use Rattle.std.proofs.Common.{◌*◌, ◌-◌, ◌≤◌, add-mul, drop, get_or, mul_assoc, replicate}
 use Rattle.std.proofs.Math.ListN.{set}
 use Rattle.std.proofs.Math.Nat.{mul-le-mul_right}
@@ -80,9 +80,6 @@ module _ (ranges : List (List Value)) (places : List ℕ) (whole : ℕ) where
   counting_first ds more long within is =
       let none : drop (length places) all ≡ [] = drop_all (length places) all (omega (arith, length_ranges ranges places)) in
       record { near = omega arith; long = long; within = within; is = ap (λ rs. counted all ds + more * total rs) none ∙ (omega (arith, is)) }
-
-  pub counting_last : (i left : ℕ) (ds : List ℕ) → Counting i left ds → left ≡ 0 → counted all ds ≡ whole
-  counting_last i left ds h none = let z : left * total (drop i all) ≡ 0 * total (drop i all) = ap (λ l. l * total (drop i all)) none in omega (arith, h.is, z)
 
   module _ (i left : ℕ) (ds : List ℕ) (h : Counting i left ds) (some : 0 < left) (fits : whole < total all) where
     -- before the first digit nothing is left

@@ -1,6 +1,6 @@
 -- What is marked of the parts that a search has met, with one event more.
-use Rattle.zf_parts.proofs.Prelude.{◌<◌, ◌∙◌, ◌≡◌, ◌⊎◌, [], ap, arith, Bool, cond, false, inl, inr, length, List, None, Option, refl, Some, subst, sym, true, ℕ, All, Event, ComesAfter, IsLater, Truth, Out, True, value_order, Value, values_at}
-use Rattle.std.proofs.Common.{◌≤◌, get_or, take}
+use Rattle.zf_parts.proofs.Prelude.{◌<◌, ◌∙◌, ◌≡◌, ◌⊎◌, [], ap, arith, cond, false, inl, inr, length, List, Option, refl, Some, subst, sym, true, ℕ, All, Event, ComesAfter, IsLater, Truth, Out, True, value_order, Value, values_at}
+use Rattle.std.proofs.Common.{◌≤◌, take}
 use Rattle.std.proofs.lemmas.Bool.{false≢true}
 use Rattle.std.proofs.lemmas.List.{take_all}
 use Rattle.std.specs.Prelude.{unwrap_or}
@@ -10,14 +10,12 @@ use Rattle.zf_lines.specs.{IsAtStart}
 use Rattle.zf_meaning.specs.{Environment}
 use Rattle.zf_term.specs.{Schema}
 use Rattle.zf_walk.proofs.Picks.{IsRowOf-length}
-use Rattle.zf_walk.specs.{Advances, Ahead, AreAscending, ended, IsAhead, IsEvent, past, SameRanges, Stage, Takes}
+use Rattle.zf_walk.specs.{Advances, Ahead, IsAhead, IsEvent, SameRanges, Stage, Takes}
 use Rattle.zf_walk.specs.declared.step.Step.{Step}
 use Rattle.zf_walk.specs.declared.step.Step.TheVariants.{Breaks, End, Holds}
 use Rattle.zf_parts.specs.declared.marks.Marks.{Marks}
 use Rattle.zf_parts.specs.declared.meeting.Met.{Met}
-use Rattle.zf_parts.specs.declared.weights.Weights.{Weights}
-use Rattle.zf_parts.specs.{AreAllMarked, AreMarked, AreWeights, is_marked, IsFirstOf, IsNumber, Meets, ranges_at, total}
-use Rattle.zf_parts.proofs.Keeping.{event_of}
+use Rattle.zf_parts.specs.{AreAllMarked, AreMarked, is_marked, IsFirstOf, IsNumber, Meets, ranges_at}
 use Rattle.zf_parts.proofs.Numbering.{ascending_all, one_number}
 
 module _ (e : Environment) (a : Schema) (ranges : List (List Value)) (named : Option (List Value)) (places : List ℕ) (after : Option (List Value)) where
@@ -122,19 +120,6 @@ pub record Meeting (places : List ℕ) (after : Option (List Value)) (a : Schema
   pub same : SameRanges b c
 
 module _ (places : List ℕ) (after : Option (List Value)) (a : Schema) (g : Goal) (b : Stage Value) (start : IsAtStart a g b) where
-  pub meeting_first : (w : Weights) (marks : Marks) → AreAscending value_order b.ranges → AreWeights b.ranges places w → ((n : ℕ) → is_marked marks n ≡ false)
-      → Meeting places after a g b g b (record { weights = w; marks = marks; end = w.count; out = None })
-  meeting_first w marks ascending weighs none = record {
-    marked = record {
-      ascending = ascending;
-      weights = weighs;
-      low = omega arith;
-      ends = weighs.count;
-      met = λ x i. inl (start.ahead x i);
-      holds = λ n l is. absurd (false≢true (sym (none n) ∙ is));
-    };
-    goal = refl;
-    same = record { ranges = refl; after = refl };
   }
 
   module _ (now : Goal) (c : Stage Value) (m : Met) (h : Meeting places after a g b now c m) (d : Stage Value) where
@@ -144,9 +129,6 @@ module _ (places : List ℕ) (after : Option (List Value)) (a : Schema) (g : Goa
     module _ (ranges : SameRanges c d) (over : List (List Value)) (spread : over ≡ d.ranges) where
       over_is : over ≡ b.ranges
       over_is = let before = h.same in spread ∙ ranges.ranges ∙ before.ranges
-
-      pub weighs_on : AreWeights over places m.weights
-      weighs_on = let marked = h.marked in subst (λ rs. AreWeights rs places m.weights) (sym over_is) marked.weights
 
       module _ (values : List Value) (given : values ≡ unwrap_or d.last []) where
         within_row : (row : List Value) → d.last ≡ Some row → (length row ≡ length b.ranges) → All (λ p. p < length values) places

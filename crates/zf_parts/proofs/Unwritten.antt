@@ -1,20 +1,19 @@
 -- The loop over the numbers of parts: those that are left have numbers from here on.
-use Rattle.zf_parts.proofs.Prelude.{◌++◌, ◌+◌, ◌<◌, ◌∙◌, ◌∷◌, ◌≡◌, ◌⊎◌, [], ap, append_assoc, arith, false, inl, inr, List, None, Option, refl, Some, subst, sym, true, ℕ, Contains, AllPairs-head, AllPairs-tail, Contains-cases, Contains-either, Contains-head, Contains-nil, Contains-right, option_map, Event, ComesAfter, IsLater, Out, True, value_order, Value, Part, values_at}
-use Rattle.std.proofs.Common.{◌≤◌, Err, IfOk, Ok, OnErr, Result}
+use Rattle.zf_parts.proofs.Prelude.{◌++◌, ◌+◌, ◌<◌, ◌∙◌, ◌∷◌, ◌≡◌, ◌⊎◌, [], ap, append_assoc, arith, inl, inr, List, None, Option, refl, Some, subst, sym, true, ℕ, Contains, AllPairs-head, AllPairs-tail, Contains-cases, Contains-either, Contains-head, Contains-nil, Contains-right, option_map, Event, ComesAfter, IsLater, True, value_order, Value, Part, values_at}
+use Rattle.std.proofs.Common.{◌≤◌}
 use Rattle.std.proofs.lemmas.Bool.{cases_eq, cases_lt, false≢true}
 use Rattle.std.specs.Io.KnownBytes.{Appends}
 use Rattle.zf_format.specs.declared.format.Format.{Format}
 use Rattle.zf_enum.specs.{property}
 use Rattle.zf_lines.specs.declared.fault.Status.{Status}
 use Rattle.zf_lines.specs.declared.fault.Status.TheVariants.{Done, PastBounds}
-use Rattle.zf_lines.specs.{AppendsFront, AreEventsUpTo, HasLimit, Wording}
-use Rattle.zf_lines.specs.declared.fault.RunFault.{RunFault}
+use Rattle.zf_lines.specs.{AppendsFront, HasLimit, Wording}
 use Rattle.zf_meaning.specs.{Environment}
 use Rattle.zf_term.specs.{Comp, Schema}
 use Rattle.zf_print.specs.declared.spelling.Spelling.{Spelling}
 use Rattle.zf_walk.specs.{ended, IsAhead, IsEvent, SameRanges, Stage}
 use Rattle.zf_parts.specs.declared.meeting.Met.{Met}
-use Rattle.zf_parts.specs.{AreAllMarked, AreFree, AreMarked, end_status, end_text, FindsParts, is_marked, IsEndOf, IsFirstOf, IsNumber, part_wording, ranges_at, StopsParts, total, WritesParts}
+use Rattle.zf_parts.specs.{AreAllMarked, AreFree, end_status, end_text, FindsParts, is_marked, IsEndOf, IsFirstOf, IsNumber, part_wording, ranges_at, StopsParts, total, WritesParts}
 use Rattle.zf_parts.proofs.Numbering.{ascending_all, in_order, number_below, one_number, one_row, some_number}
 use Rattle.zf_parts.proofs.Orders.{never_both, never_itself}
 use Rattle.zf_parts.proofs.Putting.{Ascends, Follows}
@@ -258,28 +257,7 @@ module _ (w : Wording Value) (limit : Option ℕ) (e : Environment) (a : Schema)
 -- ---- another stage of the same search
 
 module _ (e : Environment) (a : Schema) (b c : Stage Value) (same : SameRanges b c) (places : List ℕ) (after : Option (List Value)) where
-  pub marked_later : (m : Met) → AreAllMarked e a b places after m → AreAllMarked e a c places after m
-  marked_later m h = subst (λ rs. AreMarked e a rs c.after places after ended m) (sym same.ranges) (subst (λ n. AreMarked e a b.ranges n places after ended m) (sym same.after) h)
 
-  finds_before : (parts : List Part) → FindsParts e a c places after parts → FindsParts e a b places after parts
-  finds_before parts found = record {
-    events = found.events;
-    listed = let events = found.events in
-        subst (λ n. AreEventsUpTo value_order (property e a.conjuncts) b.ranges n None events) same.after
-        (subst (λ rs. AreEventsUpTo value_order (property e a.conjuncts) rs c.after None events) same.ranges found.listed);
-    are = found.are;
   }
 
   module _ (w : Wording Value) (limit : Option ℕ) where
-    pub writes_before : (text : List ℕ) (status : Status) → WritesParts w limit e a c places after text status → WritesParts w limit e a b places after text status
-    writes_before text status h = record { parts = h.parts; found = finds_before h.parts h.found; written = h.written }
-
-    pub all_before : (old new : Option (List ℕ)) (r : Result Status RunFault) → IfOk r (λ status. (text : List ℕ) × WritesParts w limit e a c places after text status × Appends old new text)
-        → IfOk r (λ status. (text : List ℕ) × WritesParts w limit e a b places after text status × Appends old new text)
-    all_before old new (Err f) h = tt
-    all_before old new (Ok status) (text, h, appends) = (text, writes_before text status h, appends)
-
-    pub stopped_before : (old new : Option (List ℕ)) (r : Result Status RunFault) → OnErr r (StopsParts w limit e a c places after old new) → OnErr r (StopsParts w limit e a b places after old new)
-    stopped_before old new (Ok status) h = tt
-    stopped_before old new (Err f) (inl none) = inl none
-    stopped_before old new (Err f) (inr (text, status, h, front)) = inr (text, status, writes_before text status h, front)

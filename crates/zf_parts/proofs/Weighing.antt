@@ -1,10 +1,8 @@
 -- What is weighed of components, from the last one on, and what is numbered of their values.
-use Rattle.zf_parts.proofs.Prelude.{◌+◌, ◌<◌, ◌∙◌, ◌∷◌, ◌≡◌, [], ap, arith, length, List, Option, refl, Some, subst, suc, sym, zero, ℕ, All, Value, values_at}
+use Rattle.zf_parts.proofs.Prelude.{◌+◌, ◌<◌, ◌∙◌, ◌∷◌, ◌≡◌, [], ap, arith, length, List, subst, sym, ℕ, All, Value, values_at}
 use Rattle.std.proofs.Common.{◌*◌, ◌≤◌, ◌^◌, drop, get_or}
-use Rattle.std.proofs.Math.ListN.{set}
-use Rattle.std.proofs.Math.Nat.{add_comm, mul_comm}
-use Rattle.std.proofs.lemmas.List.{drop-set, drop_all, drop_more, length-set}
-use Rattle.std.proofs.lemmas.List.Elements.{All-cons, All-nil}
+use Rattle.std.proofs.Math.Nat.{add_comm}
+use Rattle.std.proofs.lemmas.List.{drop_more}
 use Rattle.std.specs.Prelude.{slice_get, slice_index_or}
 use Rattle.zf_parts.specs.{AreWeights, IsNumber, ranges_at, total, weights}
 use Rattle.zf_parts.specs.declared.weights.Weights.{Weights}
@@ -21,40 +19,7 @@ module _ (ranges : List (List Value)) (places : List ℕ) where
     pub some : 0 < count
     pub few : count ≤ 134217728
 
-  pub weighing_first : (each : List ℕ) → length each ≡ length places → Weighing (length places) each 1
-  weighing_first each long =
-      let none : drop (length places) places ≡ [] = drop_all (length places) places (omega arith) in
-      record {
-        near = omega arith;
-        long = long;
-        below = subst (All (λ p. p < length ranges)) (sym none) (All-nil (λ p. p < length ranges));
-        are = drop_all (length places) each (omega (arith, long)) ∙ sym (ap (λ ps. weights (ranges_at ranges ps)) none);
-        is = sym (ap (λ ps. total (ranges_at ranges ps)) none);
-        some = omega arith;
-        few = omega arith;
-      }
-
   module _ (i j : ℕ) (next : i ≡ j + 1) where
-    rest_is : (near : i ≤ length places) (d : ℕ) → drop j places ≡ get_or places j d ∷ drop i places
-    rest_is near d = drop_more places j d (omega (arith, next, near)) ∙ ap (λ k. get_or places j d ∷ drop k places) (sym next)
-
-    pub weighing_next : (each : List ℕ) (count p values : ℕ) → Weighing i each count → p ≡ get_or places j p → p < length ranges → values ≡ length (slice_index_or ranges p [])
-        → 0 < values → count * values ≤ 134217728 → 0 < count * values → Weighing j (set each j count) (count * values)
-    weighing_next each count p values h at near is some few more =
-        let low = h.near in
-        let deep : j < length each = omega (arith, next, low, h.long) in
-        let rest : drop j places ≡ p ∷ drop i places = rest_is low p ∙ ap (λ q. q ∷ drop i places) (sym at) in
-        record {
-          near = omega (arith, next, low);
-          long = length-set each j count ∙ h.long;
-          below = subst (All (λ q. q < length ranges)) (sym rest) (All-cons (λ q. q < length ranges) p (drop i places) near h.below);
-          are = drop-set each j count deep ∙ ap (λ k. count ∷ drop k each) (sym next) ∙ ap (λ c. c ∷ drop i each) h.is
-              ∙ ap (λ ws. total (ranges_at ranges (drop i places)) ∷ ws) h.are ∙ sym (ap (λ ps. weights (ranges_at ranges ps)) rest);
-          is = ap (λ c. c * values) h.is ∙ ap (λ v. total (ranges_at ranges (drop i places)) * v) is
-              ∙ mul_comm (total (ranges_at ranges (drop i places))) (length (get_or ranges p [])) ∙ sym (ap (λ ps. total (ranges_at ranges ps)) rest);
-          some = more;
-          few = few;
-        }
 
   pub weighed : (i : ℕ) (w : Weights) → i ≡ 0 → Weighing i w.each.items w.count → AreWeights ranges places w
   weighed i w none h =
@@ -67,11 +32,6 @@ module _ (ranges : List (List Value)) (places : List ℕ) (row : List Value) whe
   pub record Numbering (i number : ℕ) : Type 0 where
     pub near : i ≤ length places
     pub is : IsNumber (ranges_at ranges (drop i places)) (values_at (drop i places) row) number
-
-  pub numbering_first : Numbering (length places) 0
-  numbering_first =
-      let none : drop (length places) places ≡ [] = drop_all (length places) places (omega arith) in
-      record { near = omega arith; is = subst (λ ps. IsNumber (ranges_at ranges ps) (values_at ps row) 0) (sym none) refl }
 
   pub numbered : (i number : ℕ) → i ≡ 0 → Numbering i number → IsNumber (ranges_at ranges places) (values_at places row) number
   numbered i number none h = let all : Numbering 0 number = subst (λ k. Numbering k number) none h in all.is

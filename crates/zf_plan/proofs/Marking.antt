@@ -1,5 +1,5 @@
 -- What was chosen stays a choice where the values of which it was made stay.
-use Rattle.zf_plan.proofs.Prelude.{◌++◌, ◌+◌, ◌<◌, ◌∙◌, ◌∷◌, ◌≡◌, ◌≤◌, ◌⊎◌, [], ap, arith, Bool, eqb, false, get_or, inl, inr, length, List, None, Option, refl, set, Some, subst, suc, sym, take, true, zero, ℕ, cases_eq, cases_lt, false≢true, get_or-set_other, get_or-set_same, get_or-take, ◌≢◌, slice_get, IsRowOf-length, length-picked, picked-cons, AreDueWithin, AreWithin, AreWithin-tail, bound, both, Conjuncts, either, False, HasLeavesWithin, IsAt, IsChoice, IsRowOf, IsTreeTruth, Lands, LandsNext, leaf, Narrows, negated, opposite, picked, Place, Tree, tree_at, Truth}
+use Rattle.zf_plan.proofs.Prelude.{◌++◌, ◌+◌, ◌<◌, ◌∙◌, ◌∷◌, ◌≡◌, ◌≤◌, ◌⊎◌, [], ap, arith, Bool, eqb, false, get_or, inl, inr, length, List, None, Option, refl, set, Some, subst, suc, sym, take, true, zero, ℕ, cases_eq, cases_lt, false≢true, get_or-set_other, get_or-set_same, get_or-take, ◌≢◌, slice_get, IsRowOf-length, length-picked, picked-cons, AreDueWithin, AreWithin, AreWithin-tail, bound, both, Conjuncts, either, False, HasLeavesWithin, IsAt, IsRowOf, IsTreeTruth, Lands, LandsNext, leaf, Narrows, negated, opposite, picked, Place, Tree, tree_at, Truth}
 use Rattle.std.proofs.lemmas.Bool.{eqb-true}
 use Rattle.std.specs.Vec.{with_item}
 use Rattle.zf_walk.proofs.Picks.{slice_get-picked}
@@ -119,11 +119,6 @@ module _ {V : Type 0} (l : Conjuncts V) (trees : List Tree) (ranges : List (List
 -- ---- marks
 
 module _ {V : Type 0} (l : Conjuncts V) (trees : List Tree) (ranges : List (List V)) where
-  -- a choice that is still one
-  pub still-choice : (stamps places : List ℕ) (k : ℕ) (choice : Option (List ℕ)) (mark : Mark) → IsKept l trees ranges stamps places k choice mark
-      → is_still stamps mark ≡ true → AreWithin ranges places → length places ≡ k
-      → IsChoice l trees ranges (picked ranges places) (get_or ranges k []) choice
-  still-choice stamps places k choice mark h is w long = h.still is (let f = h.few in omega arith) places w long refl
 
   -- all values, which are always a choice
   pub kept-all : (stamps places : List ℕ) (k : ℕ) (choice other : Option (List ℕ)) (mark : Mark) → (is_still stamps mark ≡ true → other ≡ None)

@@ -8,14 +8,6 @@ use Rattle.zf_print.proofs.Spelled.{cancel}
 
 -- ---- names
 
-pub ends_none : (bytes : List ℕ) → slice_get bytes 0 ≡ None → Ends bytes
-ends_none [] h = tt
-ends_none (b ∷ bytes) h = cc
-
-pub ends_so : (bytes : List ℕ) (b : ℕ) → slice_get bytes 0 ≡ Some b → is_in_word b ≡ false → Ends bytes
-ends_so [] b h k = tt
-ends_so (x ∷ bytes) b h k = let same : x ≡ b = same_Some x b h in ap is_in_word same ∙ k
-
 pub ends_not : (bytes : List ℕ) (b : ℕ) → slice_get bytes 0 ≡ Some b → is_in_word b ≡ true → GoesOn bytes
 unfolding GoesOn
 ends_not [] b h k e = cc

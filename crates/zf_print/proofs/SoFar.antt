@@ -89,9 +89,6 @@ module _ (ss : List Spelling) (e : Environment) where
     pub whole : (ws : List Value) (rest : List ℕ) → more ≡ goes_on (length vs) (map (value_text ss) ws) ++ rest → bytes ≡ parted (map (value_text ss) (vs ++ ws)) ++ rest
     pub none : AreNoMembers ss e t vs more → AreNoMembers ss e t [] bytes
 
-  pub members_begun : (t : Ty) (bytes : List ℕ) → MembersSoFar t bytes [] bytes
-  members_begun t bytes = record { members = record { ascending = tt; few = omega arith; values = tt }; whole = λ ws rest q. q; none = λ h. h }
-
   every_push : (P : Value → Type 0) (xs : List Value) (v : Value) → AllByRecursion P xs → P v → AllByRecursion P (xs ++ v ∷ [])
   every_push P [] v h p = (p, tt)
   every_push P (x ∷ xs) v h p = (h.0, every_push P xs v h.1 p)

@@ -1,14 +1,11 @@
 -- The values of a range where one may be held.
-use Rattle.zf_ranges.proofs.Prelude.{◌∷◌, ◌≡◌, [], Err, IfOk, inl, List, None, Ok, Result, Some, subst, sym, ⊎_elim, IsMember, Value, DeclaredSets, Environment, IsInSets, IsAllOfEach, IsAllWith, NarrowsAll, IsHeld, IsAscending}
+use Rattle.zf_ranges.proofs.Prelude.{◌∷◌, ◌≡◌, [], Err, IfOk, inl, List, Ok, Result, Some, subst, sym, ⊎_elim, IsMember, Value, DeclaredSets, Environment, IsInSets, IsAllWith, NarrowsAll, IsHeld, IsAscending}
 use Rattle.zf_ranges.proofs.Listing.{lists_same}
 
 pub ascending_alone : (w : Value) (ys : List Value) → ys ≡ w ∷ [] → IsAscending ys
 ascending_alone w ys is = subst IsAscending (sym is) (tt, tt)
 
 module _ (e : Environment) (ds : DeclaredSets) where
-  -- none is held
-  pub of_all : (xs : List Value) → IsAllOfEach e ds xs → IsAllWith e ds None xs
-  of_all xs h = (lists_same (IsInSets e ds) (λ v. IsInSets e ds v × IsHeld None v) xs (λ v. (λ i. (i, tt), λ i. i.0)) h.0, h.1)
 
   -- this one is held, and is a member of the declared sets or not
   pub of_one : (w : Value) (ys xs : List Value) → ys ≡ w ∷ [] → NarrowsAll e ds ys xs → IsAllWith e ds (Some w) xs

@@ -1,5 +1,5 @@
 -- Several declared sets, one after another, and the two sides of a disjunction.
-use Rattle.zf_ranges.proofs.Prelude.{◌+◌, ◌-◌, ◌<◌, ◌↔◌, ◌∙◌, ◌∷◌, ◌≡◌, ◌≤◌, ◌⊎◌, [], add-one, ap, arith, drop, get_or, inl, inr, length, List, map, Option, refl, subst, suc, sym, take, true, zero, ℕ, ⊎_elim, and_parts, length-drop, IsMember, IsAscending, Value, of-Either, DeclaredSet, DeclaredSets, Defined, set_of, sets_of, sides, Domain, bounds, one_bounds, Environment, IsInSet, IsInSets, IsOneOut, IsSetOut, BoundsAt, IsAllOf, IsAllOfEach, Lists, Narrows, NarrowsAll}
+use Rattle.zf_ranges.proofs.Prelude.{◌+◌, ◌-◌, ◌<◌, ◌↔◌, ◌∙◌, ◌∷◌, ◌≡◌, ◌≤◌, ◌⊎◌, [], add-one, ap, arith, drop, get_or, inl, inr, length, List, map, Option, refl, subst, suc, sym, take, true, zero, ℕ, ⊎_elim, and_parts, length-drop, IsMember, Value, of-Either, DeclaredSet, DeclaredSets, Defined, set_of, sets_of, sides, Domain, bounds, one_bounds, Environment, IsInSet, IsInSets, IsOneOut, IsSetOut, IsAllOf, IsAllOfEach, Lists, Narrows, NarrowsAll}
 use Rattle.zf_term.specs.declared.schema.Domain.TheVariants as domain
 use Rattle.zf_ranges.proofs.Listing.{lists_same}
 
@@ -32,10 +32,6 @@ out_at e [] i x at l h = absurd (omega arith)
 out_at e (y ∷ ys) zero x at l h = inl (subst (λ z. IsSetOut e (set_of z)) at h)
 out_at e (y ∷ ys) (suc i) x at l h = inr (out_at e ys i x at (omega arith) h)
 
-pub narrows_none : (e : Environment) (xs : List Domain) (vs found : List Value) → found ≡ vs → IsAscending vs → NarrowsAll e (front 0 xs) vs found
-narrows_none e xs vs found s h =
-    (subst (λ ys. Lists (λ v. IsMember v vs × Unit {0}) ys) (sym s) (record { ascending = h; members = λ v. (λ m. (m, tt), λ k. k.0) }), λ k. k)
-
 next : (e : Environment) (xs : List Domain) (i : ℕ) (x : Domain) (vs found new : List Value) → x ≡ get_or xs i x → i < length xs
     → NarrowsAll e (front i xs) vs found → Narrows e (set_of x) found new → NarrowsAll e (front (suc i) xs) vs new
 next e xs i x vs found new at l h k = (
@@ -56,9 +52,6 @@ all_taken [] zero l = refl
 all_taken [] (suc i) l = refl
 all_taken (x ∷ xs) zero l = absurd (omega arith)
 all_taken (x ∷ xs) (suc i) l = ap (λ ys. x ∷ ys) (all_taken xs i (omega arith))
-
-pub narrows_end : (e : Environment) (xs : List Domain) (i : ℕ) (vs found : List Value) → length xs ≤ i → NarrowsAll e (front i xs) vs found → NarrowsAll e (whole xs) vs found
-narrows_end e xs i vs found l h = subst (λ ys. NarrowsAll e (whole ys) vs found) (all_taken xs i l) h
 
 -- ---- before, at and after a place
 
@@ -132,8 +125,3 @@ pub sides_bound : (n : Option ℕ) (g : List Defined) (d : Domain) (left right :
     → (one_bounds n g (sets_of (map set_of left)) ≡ true) × (one_bounds n g (sets_of (map set_of right)) ≡ true)
 sides_bound n g d left right is b =
     and_parts (one_bounds n g (sets_of (map set_of left))) (one_bounds n g (sets_of (map set_of right))) (subst (λ (s : DeclaredSet). bounds n g s ≡ true) (ap set_of is ∙ of-Either left right) b)
-
--- the place of a set that bounds, by the same globals
-pub bounds_at : (n : Option ℕ) (g h : List Defined) (xs : List Domain) (place : ℕ) → g ≡ h → (one_bounds n g (whole xs) ≡ true → BoundsAt n g xs place)
-    → one_bounds n h (whole xs) ≡ true → BoundsAt n h xs place
-bounds_at n g h xs place e f b = subst (λ (k : List Defined). BoundsAt n k xs place) e (f (subst (λ (k : List Defined). one_bounds n k (whole xs) ≡ true) (sym e) b))

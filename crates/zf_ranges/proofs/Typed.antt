@@ -24,9 +24,6 @@ set_at e t xs v b is up h = (
   λ p. h.1 (subst (AreAllOf e t) (same_members p.0 xs (sym p.1 ∙ is)) (p.3, p.4)),
 )
 
-pub no_set : (e : Environment) (t : Ty) (v : Value) → ((xs : List Value) → v ≡ SetOf xs → ⊥) → IsTrue false ↔ IsOfType e (power t) v
-no_set e t v h = never (IsOfType e (power t) v) (λ p. h p.0 p.1)
-
 pub tuple_at : (e : Environment) (ts : Tys) (xs : List Value) (v : Value) (b : Bool) → v ≡ Tuple xs → IsTrue b ↔ AreOfTypes e ts xs → IsTrue b ↔ IsOfType e (product ts) v
 tuple_at e ts xs v b is h = (
   λ k. (xs, is, h.0 k),
@@ -78,9 +75,6 @@ module _ (P : Value → Type 0) where
   past (y ∷ ys) zero l = absurd (omega arith)
   past (y ∷ ys) (suc i) l = past ys i (omega arith)
 
-  pub every_end : (xs : List Value) (i : ℕ) → length xs ≤ i → AllByRecursion P xs ↔ AllByRecursion P (drop i xs) → AllByRecursion P xs
-  every_end xs i l h = h.1 (past xs i l)
-
 module _ (e : Environment) where
   abbrev Fit : List ZType → List Value → Type 0
   Fit ts xs = AreOfTypes e (types (map type_of ts)) xs
@@ -112,6 +106,3 @@ module _ (e : Environment) where
 
   gone : (ts : List ZType) (xs : List Value) (i : ℕ) → length ts ≤ i → length xs ≤ i → Fit (drop i ts) (drop i xs)
   gone ts xs i l m = subst (λ us. Fit us (drop i xs)) (sym (nothing ts i l)) (nothing xs i m)
-
-  pub fit_end : (ts : List ZType) (xs : List Value) (i : ℕ) → length ts ≤ i → length xs ≤ i → Fit ts xs ↔ Fit (drop i ts) (drop i xs) → Fit ts xs
-  fit_end ts xs i l m h = h.1 (gone ts xs i l m)

@@ -31,10 +31,6 @@ module _ {X : Type 0} (test : X → Bool) where
   place-some [] h = absurd (false≢true h)
   place-some (x ∷ xs) h = place-first x xs (place-some xs) (or_cases (test x) (list_any test xs) h)
 
--- the nodes with one more
-pub keys_after : {N : Type 0} (p_eq node_eq : N → N → Bool) → p_eq ≡ node_eq → (keys after : List N) (to : N) → after ≡ with_node node_eq keys to → after ≡ with_node p_eq keys to
-keys_after p_eq node_eq same keys after to kept = kept ∙ ap (λ f. with_node f keys to) (sym same)
-
 module _ {N L : Type 0} (w : Words N L) (p_eq node_eq : N → N → Bool) (same : p_eq ≡ node_eq) (keys after : List N) (to : N) (number : ℕ) (is_new : Bool)
     (new : is_new ≡ not (list_any (node_eq to) keys)) (placed : number ≡ position_or_len (node_eq to) keys) (kept : after ≡ with_node node_eq keys to) where
   -- what is laid out is the text of the edge
@@ -88,12 +84,3 @@ module _ {N : Type 0} (p_eq node_eq : N → N → Bool) (same : p_eq ≡ node_eq
               let l = ap (λ ks. length ks) (cond-false (list_any (node_eq to) keys) keys (keys ++ to ∷ []) absent) in
               let m = length-append keys (to ∷ []) in
               omega (arith, l, m, le, last, h)
-
-  pub full_known : (limit : ℕ) → is_new ≡ false → IsFull false p_eq keys to limit
-  full_known limit false' = subst (λ f. IsFull false f keys to limit) (sym same) room
-    where
-      present : list_any (node_eq to) keys ≡ true
-      present = elim (cases_Bool (list_any (node_eq to) keys)) [ inl h ↦ h | inr h ↦ absurd (false≢true (sym false' ∙ new ∙ ap not h)) ]
-
-      room : length keys ≤ limit → length (with_node node_eq keys to) ≤ limit
-      room le = let l = ap (λ ks. length ks) (cond-true (list_any (node_eq to) keys) keys (keys ++ to ∷ []) present) in omega (arith, l, le)

@@ -347,12 +347,6 @@ module _ {N L : Type 0} (p : Explored N L) (s : Sought N) (limit : ℕ) where
         next : ℕ
         next = next_count place t.inner
 
-        new_nodes : List N
-        new_nodes = nodes ++ to ∷ []
-
-        new_trail : List (Arrival L)
-        new_trail = trail ++ record { from = place; label = label } ∷ []
-
         before : length t.met ≡ length (nodes ++ to ∷ []) - 1
         before = let l = lengths Stands nodes trail place edges t in let k = length-append nodes (to ∷ []) in omega (arith, l, k)
 
@@ -446,11 +440,6 @@ module _ {N L : Type 0} (p : Explored N L) (s : Sought N) (limit : ℕ) (w : Wor
   -- what the lines of a way need
   pub shown_earlier : (finding : Finding) → finding ≡ findings.Found → Concludes p s limit w last finding stop nodes trail edges → IsEarlier trail
   shown_earlier finding is h = let f = subst (λ x. Concludes p s limit w last x stop nodes trail edges) is h in trail_earlier f.met trail f.shown.kept
-
-  pub shown_each : (finding : Finding) → finding ≡ findings.Found → Concludes p s limit w last finding stop nodes trail edges → length nodes ≡ length trail + 1
-  shown_each finding is h =
-      let f = subst (λ x. Concludes p s limit w last x stop nodes trail edges) is h in
-      ap (λ ns. length ns) f.shown.of_nodes ∙ length-map f.met (λ x. x.node) ∙ f.shown.kept.each
 
   module _ (first begun whole : List ℕ) (count : ℕ) (none : first ≡ []) (head : begun ≡ first ++ w.head) (counts : count ≡ length nodes - 1) where
     head_alone : begun ≡ w.head

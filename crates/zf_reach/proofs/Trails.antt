@@ -2,7 +2,7 @@
 use Rattle.zf_graph.proofs.Numbers.{way_text-push}
 use Rattle.zf_graph.proofs.Places.{at_map, one_at}
 use Rattle.zf_graph.specs.{end_of, Met, number_in, way_text}
-use Rattle.zf_reach.proofs.Prelude.{◌++◌, ◌-◌, ◌<◌, ◌∙◌, ◌∷◌, ◌≡◌, [], ap, append-nil, append_assoc, arith, Explored, length, List, refl, slice_get, Some, subst, sym, Words, ℕ}
+use Rattle.zf_reach.proofs.Prelude.{◌++◌, ◌-◌, ◌<◌, ◌∙◌, ◌∷◌, ◌≡◌, [], ap, append_assoc, arith, Explored, length, List, refl, slice_get, Some, subst, sym, Words, ℕ}
 use Rattle.std.proofs.lemmas.List.{length-append, same_from_push}
 use Rattle.zf_reach.specs.declared.trail.Arrival.{Arrival}
 use Rattle.zf_reach.specs.{by, edge, IsArrival, IsChain, over, SaysStep, SaysWay}
@@ -39,9 +39,6 @@ module _ {L : Type 0} (trail : List (Arrival L)) (target : ℕ) where
       (let l = ap (λ xs. length xs) (sym is ∙ split) in let k = length-append more (last ∷ []) in omega (arith, l, k))
 
 module _ {N L : Type 0} (p : Explored N L) (w : Words N L) (nodes : List N) (trail : List (Arrival L)) where
-  -- the way to the first is none
-  pub way_first : (old : List ℕ) → SaysWay p w nodes trail 0 old old
-  way_first old met item shown at = sym (append-nil old) ∙ ap (λ es. old ++ way_text w p.eq nodes p.root es) (sym (shown.kept.first item at))
 
   -- with the lines of the next node
   pub way_further : (number from : ℕ) (arrival : Arrival L) → 0 < number → slice_get trail (number - 1) ≡ Some arrival → arrival.from ≡ from

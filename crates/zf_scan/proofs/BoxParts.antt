@@ -132,11 +132,6 @@ closed Outside ts t opens e h = absurd (one_of_both t.kind (opens refl) e)
 closed (Zed line) ts t opens e h = record { begins = begins_still ts (t ∷ []) h.begins; ends = ends_last ts t h.no_end e }
 closed (Schema line) ts t opens e h = record { begins = begins_still ts (t ∷ []) h.begins; ends = ends_last ts t h.no_end e }
 
-pub at_outside : (place : Region) (ts : List Token) → IsPart place ts → place ≡ Outside → ts ≡ []
-at_outside Outside ts h e = h
-at_outside (Zed line) ts h e = absurd (cc)
-at_outside (Schema line) ts h e = absurd (cc)
-
 pub ended_outside : (place : Region) (line : ℕ) (kind : Kind) → ends_box kind ≡ true → Outside ≡ entered place line (Symbol kind)
 ended_outside place line EndBox e = refl
 ended_outside place line _ e = cc

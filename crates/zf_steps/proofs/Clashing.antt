@@ -1,6 +1,6 @@
 -- Components of the state whose name a schema has at another type, component by component.
-use Rattle.std.proofs.Common.{◌+◌, ◌<◌, ◌∙◌, ◌∷◌, ◌≡◌, ◌≤◌, ◌↔◌, ap, Bool, drop, get_or, inl, inr, IsTrue, length, List, map, None, refl, Some, subst, sym, true, ℕ}
-use Rattle.zf_graph.proofs.Places.{none_some, one_some}
+use Rattle.std.proofs.Common.{◌+◌, ◌<◌, ◌∙◌, ◌∷◌, ◌≡◌, ◌≤◌, ◌↔◌, ap, Bool, drop, get_or, inr, IsTrue, length, List, map, Some, subst, sym, ℕ}
+use Rattle.zf_graph.proofs.Places.{one_some}
 use Rattle.zf_term.specs.{Comp, comp_of, first_named}
 use Rattle.zf_term.specs.declared.schema.Component.{Component}
 use Rattle.zf_steps.proofs.Shapes.{ahead_got, nothing_ahead}
@@ -13,9 +13,6 @@ found_allows comps c d place b at same = (
       sym (ap (λ (p : ℕ × Comp). p.1.type) one) ∙ same.0 t,
   λ h. same.1 (h place d (sym at)),
 )
-
-pub none_allows : (comps : List Comp) (c : Comp) → None ≡ first_named (λ e. e.name) c.name comps → IsTrue true ↔ Allows comps c
-none_allows comps c at = (λ t other e there. absurd (none_some (other, e) (at ∙ there)), λ h. refl)
 
 -- what is still ahead decides
 pub record IsAhead (comps all rest : List Comp) : Type 0 where
@@ -34,9 +31,6 @@ module _ (comps all : List Comp) (xs : List Component) (i : ℕ) (x : Component)
     allows = λ rest. h.allows (subst (AllowsAll comps) (sym here) (allows, rest));
     clashes = λ name rest. h.clashes name (subst (λ cs. StateClashes comps cs name) (sym here) (inr (allows, rest)));
   }
-
-  pub clashed : (name : List ℕ) → (Allows comps (comp_of x) → ⊥) → name ≡ (comp_of x).name → StateClashes comps all name
-  clashed name none is = h.clashes name (subst (λ cs. StateClashes comps cs name) (sym here) (inl (none, is)))
 
 pub all_passed : (comps all : List Comp) (xs : List Component) (n : ℕ) → length xs ≤ n → IsAhead comps all (map comp_of (drop n xs)) → AllowsAll comps all
 all_passed comps all xs n l h = h.allows (subst (AllowsAll comps) (sym (ap (map comp_of) (nothing_ahead xs n l))) tt)

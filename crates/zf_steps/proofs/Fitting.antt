@@ -78,7 +78,3 @@ all_mapped P f (x ∷ xs) h = (h.0, all_mapped P f xs h.1)
 pub map_map : {X Y Z : Type 0} (g : Y → Z) (f : X → Y) (xs : List X) → map (λ x. g (f x)) xs ≡ map g (map f xs)
 map_map g f [] = refl
 map_map g f (x ∷ xs) = ap (λ zs. g (f x) ∷ zs) (map_map g f xs)
-
--- what a function gives of one more
-pub map_push : {X Y : Type 0} (f : X → Y) (xs ys : List X) (x : X) → ys ≡ xs ++ x ∷ [] → map f ys ≡ map f xs ++ f x ∷ []
-map_push f xs ys x e = ap (map f) e ∙ map-append f xs (x ∷ [])

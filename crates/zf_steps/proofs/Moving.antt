@@ -1,12 +1,10 @@
 -- The machine's searches, before and after its steps.
-use Rattle.std.proofs.Common.{◌+◌, ◌<◌, ◌∙◌, ◌≡◌, [], arith, Bool, Err, false, IfOk, length, List, map, Ok, OnOk, Option, refl, Result, Some, subst, sym, ℕ}
+use Rattle.std.proofs.Common.{◌+◌, ◌<◌, ◌∙◌, ◌≡◌, [], arith, Bool, Err, IfOk, length, List, map, Ok, OnOk, Option, refl, Result, Some, subst, sym, ℕ}
 use Rattle.std.proofs.lemmas.List.{length-map}
 use Rattle.std.specs.Prelude.{slice_get, slice_index_or, slice_set}
-use Rattle.zf_graph.proofs.Going.{begins_with_none}
 use Rattle.zf_graph.proofs.Places.{at_map, one_some}
 use Rattle.zf_graph.specs.{AreFirst, Explored, Turn}
 use Rattle.zf_meaning.specs.{Environment}
-use Rattle.zf_reach.specs.declared.machine.Beginning.TheVariants.{Regular}
 use Rattle.zf_reach.specs.declared.machine.Found.{Found}
 use Rattle.zf_reach.specs.declared.machine.Found.TheVariants.{Edge, Out, Over}
 use Rattle.zf_reach.specs.{AdvancesTo, HasFewer}
@@ -22,7 +20,7 @@ use Rattle.zf_steps.specs.declared.cursor.Part.TheVariants.{Initial, Operation}
 use Rattle.zf_steps.specs.declared.node.Label.{Label}
 use Rattle.zf_steps.specs.declared.node.Node.{Node}
 use Rattle.zf_steps.specs.declared.node.Node.TheVariants.{Root, State}
-use Rattle.zf_steps.specs.{BeginsFor, BeginsState, exploration, Fits, GoesOn, HasFound, HasPart, HasPassed, held_by, number_of, parts_of, rows_ahead, rows_ahead_at, search_of, searched, Stands, System}
+use Rattle.zf_steps.specs.{BeginsFor, exploration, Fits, GoesOn, HasFound, HasPart, HasPassed, held_by, number_of, parts_of, rows_ahead, rows_ahead_at, search_of, searched, Stands, System}
 use Rattle.zf_steps.specs.Systems as systems
 
 -- ---- the turn of what is before the initial states begins
@@ -35,38 +33,14 @@ module _ (m : System) (eq : Node → Node → Bool) where
     first = λ x y i f c. absurd (Contains-nil x i);
   }
 
-  pub begins_root : (stop : List ℕ) → BeginsState m eq Root Regular stop
-  begins_root stop = (
-    record { stray = false; edges = [] },
-    (
-      refl,
-      (
-        refl,
-        begins_with_none (searched m eq) Root 0
-            (parts_of m Root) nothing_first,
-      ),
-    ),
-    (refl, refl),
   )
 
 -- ---- the searches fit
 
 module _ {S : Type 0} (IsFor : S → Environment → Schema
     → Type 0) (m : System) (state init : S) (operations : List S) (part : Part) (h : Fits IsFor m state init operations part) where
-  pub fits_state : (s : S) → ((e : Environment) (a : Schema) → IsFor state e a → IsFor s e a) → Fits IsFor m s init operations part
-  fits_state s kept = record {
-    of_state = kept m.environment m.test.schema h.of_state;
-    of_init = h.of_init;
-    of_operations = h.of_operations;
-    has_part = h.has_part;
   }
 
-  pub fits_init : (s : S) (now : Part) → HasPart m now → ((e : Environment) (a : Schema) → IsFor init e a → IsFor s e a) → Fits IsFor m state s operations now
-  fits_init s now has kept = record {
-    of_state = h.of_state;
-    of_init = kept m.environment m.init.schema h.of_init;
-    of_operations = h.of_operations;
-    has_part = has;
   }
 
   pub fits_operation : (place : ℕ) (old s : S) (now : Part) → HasPart m now → slice_get operations place ≡ Some old

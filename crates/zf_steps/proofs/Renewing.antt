@@ -95,13 +95,6 @@ emptied r s e a env flat none f = record {
   goes_by = subst (λ o. GoesBy o s.given.items e a) (sym none) tt;
 }
 
-pub begins_for : (r : Renewed) (e : Environment) (a : Schema) (i : Instances) (held : List (Option Value)) → IsFor r e a
-    → Begins (environment_of r.env.now) (schema_of r.flat.now) (portion None held) (planted_goal i.names i.search) i.search.stage
-    → BeginsFor e a held i.search.stage
-begins_for r e a i held f h =
-    let b = begins_as (environment_of r.env.now) e (schema_of r.flat.now) a i held f.environment f.schema h in
-    record { ranges = b.ranges; named = b.named; ahead = b.ahead }
-
 -- of a search that is made of another with the same environment and schema
 pub begins_again : (r s : Renewed) (e : Environment) (a : Schema) (i : Instances) (held : List (Option Value)) → s.env ≡ r.env → s.flat ≡ r.flat
     → Begins (environment_of s.env.now) (schema_of s.flat.now) (portion None held) (planted_goal i.names i.search) i.search.stage → IsFor r e a → BeginsFor e a held i.search.stage

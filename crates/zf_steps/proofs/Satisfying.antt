@@ -6,12 +6,12 @@ use Rattle.zf_value.specs.declared.plain.Value.{Value}
 use Rattle.zf_value.specs.{IsMember}
 use Rattle.zf_walk.proofs.Lists.{Contains-cases, Contains-head, Contains-later, Contains-nil}
 use Rattle.zf_walk.specs.declared.judge.Truth.{Truth}
-use Rattle.zf_walk.specs.declared.judge.Truth.TheVariants.{False, Out, True}
+use Rattle.zf_walk.specs.declared.judge.Truth.TheVariants.{False, True}
 use Rattle.zf_walk.specs.{Event, IsRowOf}
 use Rattle.zf_meaning.specs.{Environment}
 use Rattle.zf_ranges.specs.{AreRanges}
 use Rattle.zf_steps.specs.declared.node.Node.TheVariants.{State}
-use Rattle.zf_steps.specs.{AgreesWith, HasRow, held_by, IsDoubtful, IsEventOf, IsOther, IsRowIn, IsSought, Operation, Satisfies, sources_of, System, test_in}
+use Rattle.zf_steps.specs.{AgreesWith, HasRow, held_by, IsEventOf, IsOther, IsRowIn, IsSought, Operation, Satisfies, sources_of, System, test_in}
 
 is_member : (xs : List Value) (v : Value) → Contains xs v → IsMember v xs
 is_member [] v k = absurd (Contains-nil v k)
@@ -72,9 +72,6 @@ module _ (m : System) (state : List Comp) (name : List ℕ) (a : Schema) (test :
 
   pub sought_satisfies : IsSought m (State values) → Satisfies m.environment a state values
   sought_satisfies (row, first) = by_test (record { row = row; truth = True }) first.event
-
-  pub doubt_is_out : (at : List ℕ) → IsDoubtful m (State values) at → HasRow m.environment a state values Out
-  doubt_is_out at (row, first, said) = by_test (record { row = row; truth = Out }) first.event
 
   -- another state satisfies the schema in no way
   pub other_has_none : (ranges : List (List Value)) → AreRanges m.environment a.comps (held_by (sources_of state a.comps) values) ranges

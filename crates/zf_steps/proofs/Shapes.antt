@@ -1,10 +1,9 @@
 -- The schemas of a machine, component by component.
-use Rattle.std.proofs.Common.{◌++◌, ◌+◌, ◌<◌, ◌∙◌, ◌∷◌, ◌≡◌, ◌≤◌, ◌⊎◌, ◌↔◌, [], add-one, ap, append_assoc, arith, Bool, drop, Err, false, get_or, IfOk, inl, inr, IsTrue, length, List, map, MatchOption, None, Ok, Option, refl, Result, Some, subst, suc, sym, take, true, zero, ℕ}
-use Rattle.std.proofs.lemmas.Bool.{false≢true}
-use Rattle.std.proofs.lemmas.List.{append-nil, map-append, map_more, take_more}
+use Rattle.std.proofs.Common.{◌++◌, ◌+◌, ◌<◌, ◌∙◌, ◌∷◌, ◌≡◌, ◌≤◌, ◌⊎◌, ◌↔◌, [], add-one, ap, append_assoc, arith, Bool, drop, Err, get_or, IfOk, inl, inr, IsTrue, length, List, map, MatchOption, None, Ok, Option, refl, Result, Some, subst, suc, sym, take, zero, ℕ}
+use Rattle.std.proofs.lemmas.List.{append-nil, map-append, map_more}
 use Rattle.std.proofs.lemmas.Option.{slice_get-get_or}
 use Rattle.std.specs.List.{filter_map}
-use Rattle.std.specs.Prelude.{cond, option_to_list, slice_get}
+use Rattle.std.specs.Prelude.{cond, slice_get}
 use Rattle.zf_graph.proofs.Places.{none_some, one_some}
 use Rattle.zf_term.specs.{Comp, comp_of, first_named, Schema}
 use Rattle.zf_term.specs.declared.schema.Component.{Component}
@@ -69,9 +68,6 @@ found_has comps c d place b at same = (
   λ h. same.1 (let one : (place, d) ≡ (h.place, h.component) = one_some (place, d) (h.place, h.component) (at ∙ h.named) in ap (λ (p : ℕ × Comp). p.1.type) one ∙ h.typed),
 )
 
-pub none_has : (comps : List Comp) (c : Comp) → None ≡ first_named (λ e. e.name) c.name comps → IsTrue false ↔ Has comps c
-none_has comps c at = (λ t. absurd (false≢true t), λ h. absurd (none_some (h.place, h.component) (at ∙ h.named)))
-
 -- what is still ahead decides
 pub record IsAhead (comps all rest : List Comp) : Type 0 where
   pub has : HasAll comps rest → HasAll comps all
@@ -86,9 +82,6 @@ module _ (comps all : List Comp) (xs : List Component) (i : ℕ) (x : Component)
     has = λ rest. h.has (subst (HasAll comps) (sym here) (has, rest));
     lacks = λ name rest. h.lacks name (subst (λ cs. Lacks comps cs name) (sym here) (inr (has, rest)));
   }
-
-  pub lacked : (name : List ℕ) → (Has comps (comp_of x) → ⊥) → name ≡ (comp_of x).name → Lacks comps all name
-  lacked name none is = h.lacks name (subst (λ cs. Lacks comps cs name) (sym here) (inl (none, is)))
 
 pub all_passed : (comps all : List Comp) (xs : List Component) (n : ℕ) → length xs ≤ n → IsAhead comps all (map comp_of (drop n xs)) → HasAll comps all
 all_passed comps all xs n l h = h.has (subst (HasAll comps) (sym (ap (map comp_of) (nothing_ahead xs n l))) tt)
@@ -137,10 +130,6 @@ filter_mapped {X} {Y} {Z} f g (x ∷ xs) = by (f (g x)) refl (filter_mapped f g 
   by : (o : Option Z) → f (g x) ≡ o → filter_map (λ x. f (g x)) xs ≡ filter_map f (map g xs) → filter_map (λ x. f (g x)) (x ∷ xs) ≡ filter_map f (map g (x ∷ xs))
   by None e h = rw e h
   by (Some z) e h = rw e (ap (λ zs. z ∷ zs) h)
-
--- initial states have strokes, or else none
-pub init_stroked : (state : List Comp) (name : List ℕ) (a : Schema) (o : Operation) → HasAll a.comps (with_strokes state) → o ≡ init_in (with_strokes state) name a → IsInit state name a o
-init_stroked state name a o has is = inl (has, is)
 
 pub init_plain : (state : List Comp) (name component : List ℕ) (a : Schema) (o : Operation) → Lacks a.comps (with_strokes state) component → HasAll a.comps (with_strokes state) ⊎ HasAll a.comps state
     → o ≡ init_in state name a → IsInit state name a o

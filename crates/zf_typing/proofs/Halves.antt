@@ -1,5 +1,5 @@
 -- Variables that are looked through one by one, and those after them.
-use Rattle.zf_typing.proofs.Prelude.{◌++◌, ◌+◌, ◌-◌, ◌∙◌, ◌∷◌, ◌≡◌, [], ap, append_assoc, arith, length, List, map, None, refl, Some, suc, sym, take, zero, ℕ, take-append_seam, take-nil, last_named, Var}
+use Rattle.zf_typing.proofs.Prelude.{◌++◌, ◌+◌, ◌-◌, ◌∙◌, ◌∷◌, ◌≡◌, [], ap, arith, length, List, map, None, refl, Some, suc, sym, take, zero, ℕ, take-append_seam, take-nil, last_named, Var}
 
 module _ {A : Type 0} where
   pub take_both : (n : ℕ) (few many : List A) → take n few ++ take (n - length few) many ≡ take n (few ++ many)
@@ -19,15 +19,9 @@ module _ {X : Type 0} (f : X → Var) (x : List ℕ) where
   none_in_many (y ∷ few) many e = rw (sym (none_in_many few many e)) refl
 
 module _ {A : Type 0} where
-  -- one moves from what is ahead after what is done
-  pub one_moved : (done now : List A) (x : A) (rest ahead all : List A) → now ≡ done ++ x ∷ [] → ahead ≡ x ∷ rest → done ++ ahead ≡ all → now ++ rest ≡ all
-  one_moved done now x rest ahead all e a h = ap (λ zs. zs ++ rest) e ∙ append_assoc done (x ∷ []) rest ∙ ap (λ zs. done ++ zs) (sym a) ∙ h
 
   abbrev pub BeginsWith : List A → List A → Type 0
   BeginsWith old now = (xs : List A) × (now ≡ old ++ xs)
-
-  pub still_begins : (old done now : List A) (x : A) → now ≡ done ++ x ∷ [] → BeginsWith old done → BeginsWith old now
-  still_begins old done now x e b = (b.0 ++ x ∷ [], e ∙ ap (λ zs. zs ++ x ∷ []) b.1 ∙ append_assoc old b.0 (x ∷ []))
 
   pub front_kept : (old now : List A) → BeginsWith old now → take (length old) now ≡ old
   front_kept old now b = ap (take (length old)) b.1 ∙ take-append_seam old b.0

@@ -7,9 +7,6 @@ use Rattle.zf_value.proofs.Gathered.{same_pair}
 abbrev pub IsOnly : List Value → Option (Bor Value) → Type 0
 IsOnly xs r = MatchOption r ((u y : Value) → Relates xs u y → ⊥) (λ w. (u : Value) × Relates xs u w.now × ((v y : Value) → Relates xs v y → pair v y ≡ pair u w.now))
 
-pub only_none : IsOnly [] None
-only_none u y m = absurd m
-
 pub only_pass : (xs : List Value) (i : ℕ) (z : Value) (r : Option (Bor Value)) → z ≡ get_or xs i z → i < length xs → ((x y : Value) → z ≡ pair x y → ⊥)
     → IsOnly (take i xs) r → IsOnly (take (i + 1) xs) r
 only_pass xs i z None e l n h = rw add-one (λ u y m. ⊎_elim (λ k. h u y k) (λ s. n u y s) ((members-take_more xs i z e l (pair u y)).0 m))

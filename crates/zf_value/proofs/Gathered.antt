@@ -56,14 +56,6 @@ same_pair x y u v e =
 
 -- ---- what just one value passes
 
-pub gives_one : (P : Value → Type 0) (w : Bor Value) → ((v : Value) → P v ↔ (w.now ≡ v)) → GivesJust P (Some w)
-unfolding GivesJust
-gives_one P w f = f
-
-pub gives_none : (P : Value → Type 0) → ((v : Value) → P v → ⊥) → GivesJust P None
-unfolding GivesJust
-gives_none P f = f
-
 pub given : (P : Value → Type 0) (r : Option (Bor Value)) (w : Bor Value) → r ≡ Some w → GivesJust P r → (v : Value) → P v ↔ (w.now ≡ v)
 unfolding GivesJust
 given P r w e h = subst (GivesJust P) e h

@@ -1,5 +1,5 @@
 -- Each operation has one outcome at most.
-use Rattle.zf_value.proofs.Prelude.{◌↔◌, ◌∙◌, ◌∷◌, ◌≡◌, ◌≤◌, [], ap, arith, Equal, Greater, inl, inr, length, Less, List, None, Option, Ordering, refl, Some, subst, sym, ℕ, ℤ, ⊎_elim, ordering_reverse, IsNumber, OnNumber, OnNumbers, IsDifference, IsInterval, IsNegation, IsProduct, IsSum, IsAscending, IsMember, IsSetOf, value_order, SetOf, Value, Outcome, Is, Out, Undefined}
+use Rattle.zf_value.proofs.Prelude.{◌↔◌, ◌∙◌, ◌∷◌, ◌≡◌, ◌≤◌, [], ap, arith, Equal, Greater, inl, inr, length, Less, List, None, Option, Ordering, refl, Some, subst, sym, ℤ, ⊎_elim, ordering_reverse, IsNumber, OnNumber, OnNumbers, IsDifference, IsInterval, IsNegation, IsProduct, IsSum, IsAscending, IsMember, IsSetOf, value_order, SetOf, Value, Outcome, Is, Out, Undefined}
 use Rattle.zf_value.specs.contracts.plain.ValueOrd.TheImpl.Laws.{total-law}
 use Rattle.zf_value.specs.Operations as op
 use Rattle.zf_value.proofs.Among.{every_at, not_below_itself}
@@ -84,10 +84,6 @@ one_Cross a o p h k = one_set _ o p h k
 pub one_Power : (a : List Value) → HasOne (op.IsPower a)
 unfolding op.IsPower
 one_Power a o p h k = one_set _ o p h k
-
-pub one_Elements : (n k : ℕ) → HasOne (op.AreElements n k)
-unfolding op.AreElements
-one_Elements n k o p h e = one_set _ o p h e
 
 pub one_Domain : (a : List Value) → HasOne (op.IsDomain a)
 unfolding op.IsDomain

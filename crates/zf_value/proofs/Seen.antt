@@ -10,9 +10,6 @@ members-SetOf xs = ap members_at (outs-SetOf xs)
 pub parts-Tuple : (xs : List Value) → parts (Tuple xs) ≡ xs
 parts-Tuple xs = ap parts_at (outs-Tuple xs)
 
-pub parts-SetOf : (xs : List Value) → parts (SetOf xs) ≡ xs
-parts-SetOf xs = ap parts_at (outs-SetOf xs)
-
 members_none : (v : Value) (x : Value-F Value) → out-Value v ≡ x → ((xs : List Value) → v ≡ SetOf xs → ⊥) → members v ≡ []
 members_none v (Value-F.SetOf xs) e h = absurd (h xs (sym (roll-out-Value v) ∙ ap roll-Value e ∙ rolls-SetOf xs))
 members_none v (Value-F.Int n) e h = ap members_at e

@@ -1,5 +1,5 @@
 -- The truths that a table has marked, a bit each.
-use Rattle.zf_walk.proofs.Prelude.{◌*◌, ◌++◌, ◌+◌, ◌-◌, ◌<◌, ◌∙◌, ◌∷◌, ◌≡◌, ◌⊎◌, [], ap, arith, drop, get_or, inl, inr, length, List, refl, set, subst, sym, ℕ, cases_eq, drop_more, get_or-set_other, get_or-set_same, get_or_append_left, Contains, combinations, HavePlaces, number, Truth, False, Out, True, Table, Used}
+use Rattle.zf_walk.proofs.Prelude.{◌*◌, ◌++◌, ◌+◌, ◌-◌, ◌<◌, ◌∙◌, ◌∷◌, ◌≡◌, ◌⊎◌, [], ap, arith, drop, get_or, inl, inr, length, List, refl, subst, sym, ℕ, cases_eq, drop_more, get_or_append_left, Contains, combinations, HavePlaces, number, Truth, False, Out, True, Table, Used}
 use Rattle.std.specs.Prelude.{◌/◌, ◌%◌, bit_and, bit_or, max, min}
 use Rattle.std.specs.Int.{bit_at}
 use Rattle.std.proofs.Math.Seq.{get_or-append_seam}
@@ -27,15 +27,6 @@ one_number n m w a b = sym (div-add-mod' n w) ∙ ap (λ d. d * w + n % w) a ∙
 -- what is marked where one truth more is
 module _ (old seen : List Seen) (new : Seen) (number w : ℕ) (truth : Truth) (same : (k : ℕ) → get_or seen k unseen ≡ get_or old k unseen) (there : number / w < length seen)
     (with-it : (i : ℕ) (t : Truth) → IsSeen new i t → IsSeen (get_or seen (number / w) unseen) i t ⊎ ((i ≡ number % w) × (t ≡ truth))) where
-  pub marks-more : (n : ℕ) (t : Truth) → IsSeen (get_or (set seen (number / w) new) (n / w) unseen) (n % w) t → IsSeen (get_or old (n / w) unseen) (n % w) t ⊎ ((n ≡ number) × (t ≡ truth))
-  marks-more n t m = elim (cases_eq (n / w) (number / w)) [
-    | inl here ↦
-        let now : get_or (set seen (number / w) new) (n / w) unseen ≡ new = ap (λ k. get_or (set seen (number / w) new) k unseen) here ∙ get_or-set_same seen (number / w) new unseen there in
-        elim (with-it (n % w) t (subst (λ s. IsSeen s (n % w) t) now m)) [
-          | inl before ↦ inl (subst (λ s. IsSeen s (n % w) t) (same (number / w) ∙ ap (λ k. get_or old k unseen) (sym here)) before)
-          | inr both ↦ inr (one_number n number w here both.0, both.1)
-        ]
-    | inr other ↦ inl (subst (λ s. IsSeen s (n % w) t) (get_or-set_other seen (number / w) (n / w) new unseen other ∙ same (n / w)) m)
   ]
 
 -- ---- several conjuncts

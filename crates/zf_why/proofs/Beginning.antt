@@ -14,16 +14,8 @@ module _ (e : Environment) (cs : List Comp) where
   finite_each [] h = tt
   finite_each (p ∷ ps) h = (h.0.finite, finite_each ps h.1)
 
-  due_each : (ps : List ResolvedTree) → AllByRecursion (CanAsk e (length cs)) ps → (c : ℕ) → c < length ps → due_of (slice_get ps c) ≤ length cs
-  due_each [] h c l = absurd (omega arith)
-  due_each (p ∷ ps) h zero l = h.0.due
-  due_each (p ∷ ps) h (suc c) l = due_each ps h.1 c (omega arith)
-
   pub is_finite : (ps : List ResolvedTree) → CanBegin e cs ps → IsFinite e.numbers e.globals (schema_with cs ps)
   is_finite ps h = record { bounded = h.ranges.bounded; sets = h.ranges.sets; conjuncts = finite_each ps h.predicates }
-
-  pub are_due : (ps : List ResolvedTree) → CanBegin e cs ps → AreDueWithin (property e ps) (length cs)
-  are_due ps h = due_each ps h.predicates
 
   each_asked : (ps : List ResolvedTree) → AllByRecursion (λ t. unless e.numbers (offending e.globals t) ≡ []) ps
       → ((c : ℕ) → c < length ps → due_of (slice_get ps c) ≤ length cs) → AllByRecursion (CanAsk e (length cs)) ps

@@ -82,9 +82,6 @@ other_told e held p is = subst (λ (b : Bool). AreOutcomes e held b (operands_of
 
 -- ---- where details are asked for
 
-pub no_details : (e : Environment) (held : List (Option Value)) (details : Bool) (p : ResolvedTree) → details ≡ false → AreOperands e held details p None
-no_details e held details p is = subst (λ (b : Bool). AreOperands e held b p None) (sym is) refl
-
 pub with_details : {E : Type 0} (e : Environment) (held : List (Option Value)) (details : Bool) (p q : ResolvedTree) (r : Result (Option Operands) E)
     → details ≡ true → q ≡ p → IfOk r (AreOperandsOf e held q) → IfOk r (AreOperands e held details p)
 with_details e held details p q r is same h = subst (λ (b : Bool). IfOk r (AreOperands e held b p)) (sym is) (subst (λ (t : ResolvedTree). IfOk r (AreOperandsOf e held t)) same h)
