@@ -1,5 +1,5 @@
 -- What some components have in events is shown in one way, and in some way.
-use Rattle.law_answered.proofs.Prelude.{◌∙◌, ◌≡◌, ap, inl, inr, List, None, Option, refl, Some, subst, sym, ℕ, AllByRecursion, IsTrue, Contains, AllPairs, Event, IsEvent, ComesAfter, value_order, Value, Comp, Defined, Schema, sets_of, one_bounds, Environment, AreClear, spellings, one_ranges, Portion, property, AreEventsUpTo, HasEvents, Status, False, IsNamedRow, NamesParts, Request, ShowsParts, Wording}
+use Rattle.law_answered.proofs.Prelude.{◌≡◌, List, None, Option, subst, ℕ, Event, ComesAfter, value_order, Value, Defined, Schema, Environment, AreClear, spellings, one_ranges, Portion, property, AreEventsUpTo, HasEvents, Status, IsNamedRow, NamesParts, Request, ShowsParts, Wording}
 use Rattle.zf_value.specs.contracts.plain.ValueOrd.TheImpl.Laws as order_laws
 use Rattle.zf_walk.proofs.Lists.{AllPairs-unique}
 use Rattle.law_exists.proofs.Searches.{some_list}

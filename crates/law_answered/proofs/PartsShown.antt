@@ -1,5 +1,5 @@
 -- What is written of parts is written of exactly the values that bindings have at the places.
-use Rattle.law_answered.proofs.Prelude.{◌++◌, ◌<◌, ◌↔◌, ◌∙◌, ◌∷◌, ◌≡◌, ◌⊎◌, [], ap, append-nil, arith, inl, inr, length, List, map, None, Option, refl, Some, subst, sym, ℕ, All-contains, AllPairs, AllPairs-across, AllPairs-head, AllPairs-mapped, AllPairs-nil, Contains, Contains-cases, Contains-either, Contains-head, Contains-left, Contains-map, Contains-mapped, Contains-nil, Contains-right, ComesAfter, Defined, Environment, Event, False, flat_map, flat_map-map, HasEvents, HasLimit, IsBefore, IsBelow, IsBinding, IsEvent, IsInDoubt, IsLater, IsNotPast, length-map, Out, Portion, property, Request, Schema, ShowsParts, Status, True, Truth, Value, value_order, AreEventsUpTo, Wording, map-append, spellings}
+use Rattle.law_answered.proofs.Prelude.{◌++◌, ◌<◌, ◌↔◌, ◌∙◌, ◌∷◌, ◌≡◌, ◌⊎◌, [], ap, append-nil, arith, inl, inr, length, List, map, None, Option, refl, Some, subst, sym, ℕ, All-contains, AllPairs, AllPairs-across, AllPairs-head, AllPairs-mapped, Contains, Contains-cases, Contains-either, Contains-head, Contains-left, Contains-map, Contains-mapped, Contains-nil, Contains-right, ComesAfter, Defined, Environment, Event, False, flat_map, flat_map-map, HasLimit, IsBefore, IsBelow, IsBinding, IsEvent, IsInDoubt, IsLater, IsNotPast, length-map, Out, Portion, property, Request, Schema, ShowsParts, Status, True, Truth, Value, value_order, AreEventsUpTo, Wording, map-append, spellings}
 use Rattle.zf_lines.specs.declared.fault.Status.TheVariants.{Done, PastBounds}
 use Rattle.zf_value.specs.contracts.plain.ValueOrd.TheImpl.Laws as order_laws
 use Rattle.zf_value.proofs.Exact.{exact}

@@ -4,7 +4,6 @@ ghost use Rattle.zf_term.specs.declared.schema.Component.{Component};
 ghost use Rattle.zf_term.specs.{AreFew, clash, Comp, comp_of, components_max, too_large, type_of};
 ghost use Rattle.zf_reference.specs.{place_in};
 ghost use Rattle.zf_term.specs.declared.fault.Limit.TheVariants as limit;
-ghost use Rattle.zf_calculus.specs.Calculus as spec;
 ghost use Rattle.zf_calculus.specs.{Agree, Agrees, AreAt, AreOnce, Clashes, comp_named, enriched, IfStopped, new_place, OneClashes, place_named, place_or, with_comp, with_comps};
 
 use crate::limits::COMPONENTS_MAX;

@@ -1,5 +1,5 @@
 //! Readers and writers that fail at a stated place, and count how often they are called.
-ghost use Rattle.std.specs.Prelude.{◌≡◌, Some};
+ghost use Rattle.std.specs.Prelude.{Some};
 
 use std::alloc::Global;
 use std::io;

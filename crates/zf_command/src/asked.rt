@@ -1,8 +1,7 @@
 //! What the words of a command line ask for.
-ghost use Rattle.std.specs.Prelude.{◌≡◌, ◌≢◌, ◌⊎◌, [], IfOk, IsErrOf, codes, map, true};
-ghost use Rattle.std.specs.List.{AllZip};
+ghost use Rattle.std.specs.Prelude.{◌≡◌, [], IfOk, IsErrOf, codes, map, true};
 ghost use Rattle.clap.specs.Words.{found_of, first_of, rows_of};
-ghost use Rattle.zf_command.specs.{AreNames, Asks, HasBadLimit, HasBadNumber, HasBadSetting, IsAsked, IsBare, IsExploration, IsJob, IsLimit, IsNumberOf, IsRefused, IsRequest, IsSetting, IsShown, lists_objects, other_words, Refuses, RefusesExploration, RefusesShown, size_words, values_of, words_after};
+ghost use Rattle.zf_command.specs.{Asks, HasBadNumber, HasBadSetting, IsAsked, IsBare, IsExploration, IsJob, IsNumberOf, IsRefused, IsRequest, IsSetting, IsShown, lists_objects, other_words, Refuses, RefusesExploration, RefusesShown, size_words, values_of};
 ghost use Rattle.zf_command.specs.declared.job.UsageFault.TheVariants.{BadWords};
 
 use crate::clashes::{counts_parts, draws_objects, lists_objects};

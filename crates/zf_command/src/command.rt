@@ -1,5 +1,5 @@
 //! The command that `clap` is given, one small function for each argument.
-ghost use Rattle.std.specs.Prelude.{◌≡◌, IfOk, codes};
+ghost use Rattle.std.specs.Prelude.{IfOk, codes};
 ghost use Rattle.clap.specs.Words.{App};
 ghost use Rattle.zf_command.specs.Apps as spec;
 ghost use Rattle.zf_command.specs.{check_app, details_rule, flag_rule, IsArg, IsCommand, IsTop, operations_rule, option_rule, reach_app, required_rule, show_app, sizes_rule, types_rule, why_app, zf_app, zf_top};

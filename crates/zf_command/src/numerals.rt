@@ -1,5 +1,5 @@
 //! Numbers that texts of digits spell.
-ghost use Rattle.std.specs.Prelude.{◌≡◌, ◌↔◌, IfOk, IsErrOf, IsTrue, MatchOption, EachIndex, option_map, slice_index};
+ghost use Rattle.std.specs.Prelude.{◌↔◌, IfOk, IsErrOf, IsTrue, MatchOption, EachIndex, option_map, slice_index};
 ghost use Rattle.std.specs.Int.{IsInRange};
 ghost use Rattle.std.specs.Str.Parse.{IsNumeral};
 ghost use Rattle.zf_command.specs.{HasBadNumber, IsNumberOf, ReadsNumber};

@@ -1,5 +1,5 @@
 -- How the parts of an answer that are written come together.
-use Rattle.zf_engine.proofs.Prelude.{◌++◌, ◌∙◌, ◌∷◌, ◌≡◌, ◌⊎◌, [], append-nil, Bool, Err, false, IfOk, inl, inr, List, Ok, None, OnErr, Option, refl, Some, Result, subst, sym, true, ℕ, Appends-kept, Appends-nil, false≢true, Appends, Keeps, Stage, Value, Schema, Environment, spellings, Portion, property, Goal, Status, Answer, AnswersReader, AnswersSource, AreHeld, IsAsked, IsNamedRow, IsSearch, Request, RequestAnswer, ShowAnswer, ShowBegins, StopsInReader, StopsInSource, AnswersRequest, AreMessages, IfAnswered, IsRefused, IsUnexplored, Shows, Tells, ToldOfFaults, wording, Writes, WritesText, Stop, Answered, OutOfMemory}
+use Rattle.zf_engine.proofs.Prelude.{◌++◌, ◌∙◌, ◌∷◌, ◌≡◌, ◌⊎◌, [], append-nil, Bool, Err, false, IfOk, inl, inr, List, Ok, None, OnErr, Option, refl, Some, Result, subst, sym, true, ℕ, Appends-kept, Appends-nil, false≢true, Appends, Keeps, Stage, Value, Schema, Environment, spellings, Portion, property, Goal, Status, Answer, AnswersReader, AnswersSource, IsNamedRow, IsSearch, Request, RequestAnswer, ShowAnswer, ShowBegins, StopsInReader, StopsInSource, AnswersRequest, AreMessages, IfAnswered, IsRefused, IsUnexplored, Shows, Tells, ToldOfFaults, wording, Writes, WritesText, Stop, Answered, OutOfMemory}
 use Rattle.std.specs.Result.{IsErr}
 use Rattle.zf_command.specs.declared.job.Job.{Job}
 use Rattle.zf_command.specs.declared.job.Exploration.{Exploration}

@@ -1,6 +1,5 @@
 -- The objects of a cause: what `why` tells of a component or a conjunct, for programs.
 use Rattle.std.specs.Prelude.{ℕ, List, [], ◌++◌, codes, decimal, map, Option, Some, None}
-use Rattle.zf_format.specs.declared.format.Format.TheVariants.{Objects}
 use Rattle.zf_format.specs.{string_text}
 use Rattle.zf_term.specs.{Comp, sets_of}
 use Rattle.zf_finite.specs.{first_plain}

@@ -1,6 +1,6 @@
 -- What a search begins with.
-use Rattle.std.specs.Prelude.{◌≡◌, List, map, None}
-use Rattle.zf_term.specs.{Comp, resolved_of, Schema}
+use Rattle.std.specs.Prelude.{◌≡◌, map, None}
+use Rattle.zf_term.specs.{resolved_of, Schema}
 use Rattle.zf_value.specs.declared.plain.Value.{Value}
 use Rattle.zf_value.specs.{value_order}
 use Rattle.zf_walk.specs.{AreAllAhead, Stage}

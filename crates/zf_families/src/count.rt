@@ -1,5 +1,5 @@
 //! How many members a set has, counted no further than one more than a set may have.
-ghost use Rattle.std.specs.Prelude.{◌≡◌, ◌+◌, ◌*◌, ◌^◌, ◌<◌, ◌≤◌, min, length};
+ghost use Rattle.std.specs.Prelude.{◌≡◌, ◌+◌, ◌*◌, ◌^◌, ◌<◌, min, length};
 ghost use Rattle.zf_families.specs.Counts as counts;
 ghost use Rattle.zf_families.specs.{stepped};
 

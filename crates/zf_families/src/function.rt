@@ -1,5 +1,5 @@
 //! Relations and functions from a set to a set.
-ghost use Rattle.std.specs.Prelude.{◌≡◌, ◌∷◌, [], ◌↔◌, ◌⊎◌, IsTrue, IfOk, map};
+ghost use Rattle.std.specs.Prelude.{◌≡◌, [], ◌↔◌, ◌⊎◌, IsTrue, IfOk, map};
 ghost use Rattle.zf_value.specs.declared.plain.Value as plain;
 ghost use Rattle.zf_value.specs.{ArePartialFunctions, AreRelations, AreTotalFunctions, members, pair};
 ghost use Rattle.zf_families.specs.{fits_any, IsPartialFunction, IsRelation, IsTotalFunction, pairs, whole};

@@ -1,6 +1,6 @@
 -- Bytes, lines and colons of a text, one after another.
-use Rattle.std.proofs.Common.{◌++◌, ◌+◌, ◌<◌, ◌∙◌, ◌∷◌, ◌≡◌, ◌≤◌, [], ap, add-one, append_assoc, arith, Bool, codes, drop, Err, false, get_or, length, List, None, Ok, Option, refl, Result, Some, suc, sym, take, true, zero, ℕ}
-use Rattle.std.proofs.lemmas.List.{drop_more, length-drop}
+use Rattle.std.proofs.Common.{◌++◌, ◌+◌, ◌<◌, ◌∙◌, ◌∷◌, ◌≡◌, ◌≤◌, [], ap, add-one, append_assoc, arith, Bool, codes, drop, Err, false, length, List, None, Ok, Option, refl, Result, Some, suc, sym, take, true, zero, ℕ}
+use Rattle.std.proofs.lemmas.List.{length-drop}
 use Rattle.std.proofs.lemmas.Str.{is_utf8-from_IsUtf8, IsUtf8-from_is_utf8}
 use Rattle.std.specs.List.{after_first, before_first, flat_map, onto_first, position_or_len, starts_with}
 use Rattle.std.specs.Prelude.{is_ok, IsUtf8, MatchResult, nat_eq, option_map}

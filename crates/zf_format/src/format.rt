@@ -1,5 +1,4 @@
 //! How an answer is written.
-ghost use Rattle.std.specs.Prelude.{◌≡◌};
 
 /// How an answer is written.
 #[derive(Clone, Copy, PartialEq, Eq)]

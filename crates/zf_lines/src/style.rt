@@ -1,5 +1,4 @@
 //! In which style the rows of a search are written.
-ghost use Rattle.std.specs.Prelude.{◌≡◌};
 
 use std::alloc::Global;
 use zf_format::Format;

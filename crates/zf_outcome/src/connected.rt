@@ -1,6 +1,5 @@
 //! What connectives and quantifiers tell of two truths.
 ghost use Rattle.std.specs.Prelude.{◌≡◌};
-ghost use Rattle.zf_value.specs.declared.value.Truth as value;
 ghost use Rattle.zf_outcome.specs.Truths as spec;
 ghost use Rattle.zf_outcome.specs.Connected as connected;
 

@@ -1,5 +1,5 @@
 -- A source that is read box by box: what the boxes so far are, and what one that is refused says of the whole.
-use Rattle.zf_parse.proofs.Prelude.{◌++◌, ◌∙◌, ◌∷◌, ◌≡◌, ◌≤◌, [], ap, append_assoc, arith, Bool, Err, false, inl, inr, length, List, map, Ok, refl, Result, subst, sym, true, ℕ, append-nil, map-append, AllByRecursion, if◌then◌else◌, ◌==◌, ◌||◌, ◌⊎◌, box_of, BoxTree, ZBox, begins_box, BeginsBox, ends_box, Follows, IsBoxAtMost, IsCutOn, IsCutUpTo, IsWantOfMemory, token_at, canonical, closes, is_separator, opens, reduced, reduced_after, starts_closed, Symbol, symbol_of, TextFault, TextFaultKind, Placed, Kind, Token, AreSoFar, Later, ReadsBox, ReadsOneBox, ReadsUpTo, RefusesBox, SpellsUpTo, read_box, read_only, box_height, height_limit, highest, BoxIsLevelled, ReadsSource, RefusesTokens, RefusesSource, first, is_end, Reads, SpellsBox, SpellsBoxes, Fails, Gives, Refused, TooDeep}
+use Rattle.zf_parse.proofs.Prelude.{◌++◌, ◌∙◌, ◌∷◌, ◌≡◌, ◌≤◌, [], ap, append_assoc, arith, Bool, Err, false, inl, inr, length, List, map, Ok, refl, subst, sym, true, ℕ, append-nil, map-append, AllByRecursion, if◌then◌else◌, ◌==◌, ◌||◌, ◌⊎◌, box_of, BoxTree, ZBox, begins_box, BeginsBox, ends_box, Follows, IsBoxAtMost, IsCutOn, IsCutUpTo, IsWantOfMemory, token_at, canonical, closes, is_separator, opens, reduced, reduced_after, starts_closed, Symbol, symbol_of, TextFaultKind, Placed, Kind, Token, AreSoFar, Later, ReadsBox, ReadsUpTo, RefusesBox, SpellsUpTo, read_box, read_only, box_height, height_limit, highest, BoxIsLevelled, ReadsSource, RefusesTokens, RefusesSource, first, is_end, Reads, SpellsBox, SpellsBoxes, Fails, Refused, TooDeep}
 use Rattle.zf_scan.specs.declared.fault.TextFaultKind.TheVariants as fault
 use Rattle.zf_scan.specs.declared.scan.Border.{Border}
 use Rattle.zf_scan.specs.declared.token.Kind.TheVariants as k

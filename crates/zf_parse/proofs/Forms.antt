@@ -1,5 +1,5 @@
 -- What a term is seen as, by its form, and what a link of a chain is.
-use Rattle.zf_parse.proofs.Prelude.{◌≡◌, List, Tree, tree_step, link_of, tree_of, var_decl_of, Relation, Link, Name, Term, VarDecl}
+use Rattle.zf_parse.proofs.Prelude.{List, Tree, tree_step, link_of, tree_of, var_decl_of, Relation, Link, Name, Term, VarDecl}
 use Rattle.zf_tree.specs.declared.tree.Term.TheOpen.{Term-F}
 use Rattle.zf_tree.specs.declared.tree.Term.TheFolds.{map-Term}
 

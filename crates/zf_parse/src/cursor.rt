@@ -1,5 +1,5 @@
 //! The symbols of a text that are left to be read.
-ghost use Rattle.std.specs.Prelude.{◌≡◌, ◌⊎◌, true, length, map};
+ghost use Rattle.std.specs.Prelude.{◌≡◌, true, length, map};
 ghost use Rattle.zf_parse.specs.BoxReading as boxes;
 ghost use Rattle.zf_scan.specs.{is_mark, symbol_at};
 ghost use Rattle.zf_parse.specs.Reading as spec;

@@ -1,5 +1,5 @@
 //! Trees out of tokens, and out of a source.
-ghost use Rattle.std.specs.Prelude.{◌≡◌, ◌≤◌, ◌<◌, ◌⊎◌, ◌++◌, ℕ, List, IfOk, IfErr, OnOk, length, map, slice_index_or, slice_set};
+ghost use Rattle.std.specs.Prelude.{◌≡◌, ◌≤◌, ◌<◌, ◌⊎◌, ◌++◌, ℕ, List, IfErr, OnOk, length, map, slice_index_or, slice_set};
 ghost use Rattle.zf_parse.specs.{Parses, ReadsOneBox, ReadsSpec, ReadsUpTo, RefusesSource};
 ghost use Rattle.zf_scan.specs.{IsBorder, IsBoxAtMost, IsCutOn, IsCutUpTo, IsStuck, IsWantOfMemory, reduced, starts_closed, symbol_at, token_at, unplaced};
 ghost use Rattle.zf_parse.specs.Reads.{Reads};

@@ -15,7 +15,6 @@ use Rattle.zf_lines.specs.declared.fault.Status.{Status}
 use Rattle.zf_lines.specs.declared.fault.Status.TheVariants.{Done, PastBounds}
 use Rattle.zf_lines.specs.{AppendsFront, HasLimit, IsAtStart, Wording}
 use Rattle.zf_term.specs.{Schema}
-use Rattle.zf_value.specs.contracts.plain.ValueOrd.TheImpl.Laws as order_laws
 use Rattle.zf_walk.proofs.Picks.{IsRowOf-length}
 use Rattle.zf_walk.specs.{Advances, Ahead, IsAhead, IsEvent, past, SameRanges, Stage, Takes}
 use Rattle.zf_walk.specs.declared.step.Step.{Step}

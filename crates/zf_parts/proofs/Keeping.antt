@@ -1,5 +1,5 @@
 -- What is kept of parts, with one event more.
-use Rattle.zf_parts.proofs.Prelude.{◌++◌, ◌∙◌, ◌∷◌, ◌≡◌, ◌⊎◌, [], ap, Bool, cond, false, inl, inr, List, None, Option, refl, Some, subst, sym, true, ℕ, slice_cmp, match_ordering, Contains, Ordering, Equal, Greater, Less, Contains-cases, Contains-head, Contains-later, Contains-nil, Event, ComesAfter, IsLater, Truth, Out, True, value_order, Value, Part, values_at}
+use Rattle.zf_parts.proofs.Prelude.{◌++◌, ◌∙◌, ◌∷◌, ◌≡◌, [], ap, Bool, cond, false, inl, inr, List, None, Option, refl, Some, subst, sym, true, ℕ, slice_cmp, match_ordering, Contains, Ordering, Equal, Greater, Less, Contains-cases, Contains-head, Contains-later, Contains-nil, Event, ComesAfter, IsLater, Out, True, value_order, Value, Part, values_at}
 use Rattle.std.proofs.lemmas.Bool.{false≢true}
 use Rattle.std.specs.BTreeMap.{insert_entry, is_at}
 use Rattle.std.specs.Map.{lookup}

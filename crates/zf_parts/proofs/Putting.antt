@@ -1,5 +1,5 @@
 -- A part that is put at its place among others.
-use Rattle.zf_parts.proofs.Prelude.{◌∙◌, ◌∷◌, ◌≡◌, ◌⊎◌, [], ap, inl, inr, List, refl, subst, sym, slice_cmp, match_ordering, AllPairs, Contains, Ordering, Equal, Greater, Less, AllPairs-cons, AllPairs-head, AllPairs-nil, AllPairs-tail, Contains-cases, Contains-head, Contains-later, Contains-nil, ComesAfter, value_order, Value, Part}
+use Rattle.zf_parts.proofs.Prelude.{◌∷◌, ◌≡◌, ◌⊎◌, [], inl, inr, List, refl, subst, sym, slice_cmp, match_ordering, AllPairs, Contains, Ordering, Equal, Greater, Less, AllPairs-cons, AllPairs-head, AllPairs-tail, Contains-cases, Contains-head, Contains-later, Contains-nil, ComesAfter, value_order, Value, Part}
 use Rattle.zf_parts.proofs.Orders.{comes_on, one_or_other, reversed, same_row}
 
 abbrev pub Ascends : List Part → Type 0

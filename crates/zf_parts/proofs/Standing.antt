@@ -1,5 +1,5 @@
 -- Where the search for parts stands.
-use Rattle.zf_parts.proofs.Prelude.{◌++◌, ◌∙◌, ◌∷◌, ◌≡◌, [], ap, Bool, cond, false, List, None, Option, refl, Some, subst, sym, true, ℕ, Contains, Contains-head, Event, ComesAfter, Truth, Out, True, value_order, Value}
+use Rattle.zf_parts.proofs.Prelude.{◌++◌, ◌∙◌, ◌∷◌, ◌≡◌, [], ap, Bool, false, List, Option, refl, Some, subst, sym, true, ℕ, Event, value_order, Value}
 use Rattle.std.specs.Prelude.{unwrap_or}
 use Rattle.zf_enum.specs.{conjuncts_of, Goal, property}
 use Rattle.zf_lines.proofs.Behind.{Behind, none_behind, one_behind, up_to_end}

@@ -1,5 +1,5 @@
 -- The loop over the numbers of parts: those that are left have numbers from here on.
-use Rattle.zf_parts.proofs.Prelude.{◌++◌, ◌+◌, ◌<◌, ◌∙◌, ◌∷◌, ◌≡◌, ◌⊎◌, [], ap, append_assoc, arith, inl, inr, List, None, Option, refl, Some, subst, sym, true, ℕ, Contains, AllPairs-head, AllPairs-tail, Contains-cases, Contains-either, Contains-head, Contains-nil, Contains-right, option_map, Event, ComesAfter, IsLater, True, value_order, Value, Part, values_at}
+use Rattle.zf_parts.proofs.Prelude.{◌++◌, ◌+◌, ◌<◌, ◌∙◌, ◌∷◌, ◌≡◌, [], ap, append_assoc, arith, inl, inr, List, None, Option, refl, Some, subst, sym, true, ℕ, Contains, AllPairs-head, AllPairs-tail, Contains-cases, Contains-either, Contains-head, Contains-nil, Contains-right, option_map, Event, ComesAfter, IsLater, True, value_order, Value, Part, values_at}
 use Rattle.std.proofs.Common.{◌≤◌}
 use Rattle.std.proofs.lemmas.Bool.{cases_eq, cases_lt, false≢true}
 use Rattle.std.specs.Io.KnownBytes.{Appends}

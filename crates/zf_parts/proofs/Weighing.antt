@@ -1,6 +1,6 @@
 -- What is weighed of components, from the last one on, and what is numbered of their values.
 use Rattle.zf_parts.proofs.Prelude.{◌+◌, ◌<◌, ◌∙◌, ◌∷◌, ◌≡◌, [], ap, arith, length, List, subst, sym, ℕ, All, Value, values_at}
-use Rattle.std.proofs.Common.{◌*◌, ◌≤◌, ◌^◌, drop, get_or}
+use Rattle.std.proofs.Common.{◌*◌, ◌≤◌, drop, get_or}
 use Rattle.std.proofs.Math.Nat.{add_comm}
 use Rattle.std.proofs.lemmas.List.{drop_more}
 use Rattle.std.specs.Prelude.{slice_get, slice_index_or}

@@ -1,5 +1,5 @@
 -- The loop over what is kept of parts: what is written so far, and then what is reported of those ahead, is the whole.
-use Rattle.zf_parts.proofs.Prelude.{◌++◌, ◌+◌, ◌<◌, ◌∙◌, ◌∷◌, ◌≡◌, ◌⊎◌, [], ap, append-nil, append_assoc, arith, inl, inr, List, None, Option, refl, Some, subst, suc, sym, zero, ℕ, Contains, Contains-cases, Contains-nil, option_map, Out, True, Value, Part}
+use Rattle.zf_parts.proofs.Prelude.{◌++◌, ◌+◌, ◌∙◌, ◌∷◌, ◌≡◌, ◌⊎◌, [], ap, append-nil, append_assoc, arith, inl, inr, List, None, Option, refl, Some, subst, suc, sym, zero, ℕ, Contains-cases, Contains-nil, option_map, Out, True, Value, Part}
 use Rattle.std.proofs.KnownBytes.{Appends-nil, Appends-trans}
 use Rattle.std.specs.Io.KnownBytes.{Appends}
 use Rattle.zf_lines.proofs.Fronts.{front_behind, front_longer}

@@ -1,6 +1,5 @@
 -- What is claimed of parts alone.
 use Rattle.std.specs.Prelude.{◌≡◌, ◌↔◌, ℕ, List, Option, AllPairs, Contains}
-use Rattle.zf_term.specs.{Schema}
 use Rattle.zf_value.specs.declared.plain.Value.{Value}
 use Rattle.zf_value.specs.{value_order}
 use Rattle.zf_walk.specs.declared.judge.Truth.TheVariants.{False}

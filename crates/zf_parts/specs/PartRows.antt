@@ -1,5 +1,5 @@
 -- How a row of a part is seen: for its model alone. No public clause rests on this file.
-use Rattle.std.specs.Prelude.{◌≡◌, ℕ, ◌<◌, List, length, All}
+use Rattle.std.specs.Prelude.{ℕ, List}
 use Rattle.zf_value.specs.declared.plain.Value.{Value}
 
 -- the ranges of its values, and the places of these

@@ -1,5 +1,5 @@
 -- What is written of the parts of a search that stands at its beginning.
-use Rattle.std.specs.Prelude.{◌≡◌, ◌⊎◌, ℕ, List, [], Option, None}
+use Rattle.std.specs.Prelude.{◌⊎◌, ℕ, List, [], Option, None}
 use Rattle.std.specs.Io.KnownBytes.{Appends}
 use Rattle.zf_term.specs.{Schema}
 use Rattle.zf_value.specs.declared.plain.Value.{Value}

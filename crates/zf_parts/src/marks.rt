@@ -1,5 +1,5 @@
 //! Numbers that are marked.
-ghost use Rattle.std.specs.Prelude.{◌≡◌, ◌⊎◌, ◌+◌, ◌<◌, ◌≤◌, ◌/◌, ◌%◌, ◌^◌, ℕ, eqb, false, true, MatchOption, IfOk, OnOk};
+ghost use Rattle.std.specs.Prelude.{◌≡◌, ◌⊎◌, ◌+◌, ◌<◌, ◌≤◌, ◌/◌, ◌%◌, ℕ, eqb, false, true, MatchOption, IfOk, OnOk};
 ghost use Rattle.zf_parts.specs.{AreFree, has_in, is_marked, IsPlaced, IsSight, word_at};
 
 use crate::page::{Page, Sight, bit_ahead, entry_ahead, has_bit, page_of, set_bit};

@@ -1,5 +1,5 @@
 //! Words in pages, of which each word or each bit has a number.
-ghost use Rattle.std.specs.Prelude.{◌≡◌, ◌⊎◌, ◌+◌, ◌*◌, ◌<◌, ◌≤◌, ◌/◌, ◌%◌, ◌^◌, ℕ, eqb, true};
+ghost use Rattle.std.specs.Prelude.{◌≡◌, ◌⊎◌, ◌+◌, ◌*◌, ◌<◌, ◌≤◌, ◌/◌, ◌%◌, ℕ, eqb, true};
 ghost use Rattle.zf_parts.specs.{bit_of, IsSight, reached};
 
 /// Sixteen words of 64 bits.

@@ -16,7 +16,6 @@ pub struct Walk<'a, V: Ord, J: Guide<V>> {
 }
 
 impl<'a, V: Ord, J: Guide<V>> Model for Walk<'a, V, J> {
-    ghost use Rattle.std.specs.Prelude.{IsTrue};
     ghost use Rattle.zf_walk.specs.Progress.{Progress};
     ghost use Rattle.zf_plan.specs.Progress.{counted};
     ghost use Rattle.zf_plan.specs.Walks.{IsWalk};

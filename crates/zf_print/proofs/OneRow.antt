@@ -1,5 +1,5 @@
 -- Rows of one schema with one line, or with one object, are one.
-use Rattle.zf_print.proofs.Prelude.{◌++◌, ◌∙◌, ◌∷◌, ◌≡◌, [], ap, append-nil, codes, Format, Lines, List, Objects, refl, sym, ℕ, append_assoc, Value, Comp, Environment, IsOfType, IsRow, component_in, components_in, name_in, row_text, AreClear, Closes, Ends, EndsAs, later_parts, parted, value_in, Spelling}
+use Rattle.zf_print.proofs.Prelude.{◌++◌, ◌∙◌, ◌∷◌, ◌≡◌, [], ap, codes, Format, Lines, List, Objects, refl, sym, ℕ, append_assoc, Value, Comp, Environment, IsOfType, IsRow, component_in, components_in, name_in, row_text, AreClear, Closes, Ends, EndsAs, later_parts, parted, value_in, Spelling}
 use Rattle.zf_print.proofs.Spelled.{cancel}
 use Rattle.zf_print.proofs.OneFront.{ends_as, ends_later, one_front}
 

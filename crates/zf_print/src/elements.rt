@@ -1,6 +1,6 @@
 //! Elements by their spellings.
-ghost use Rattle.std.specs.Prelude.{◌≡◌, ◌+◌, ◌≤◌, ◌<◌, ◌^◌, ◌++◌, ℕ, Some, List, length, drop, codes, decimal, slice_get, IfOk, IfErr, MatchOption};
-ghost use Rattle.zf_meaning.specs.{environment_of, type_number};
+ghost use Rattle.std.specs.Prelude.{◌≡◌, ◌+◌, ◌≤◌, ◌<◌, ◌^◌, ◌++◌, ℕ, Some, length, drop, codes, decimal, slice_get, IfOk, IfErr, MatchOption};
+ghost use Rattle.zf_meaning.specs.{environment_of};
 ghost use Rattle.zf_term.specs.{basic};
 ghost use Rattle.zf_print.specs.{HasNoElements, IfMisfit, IsNoSpelledType, IsNoValue, IsSpelledType, IsValueAt, or_empty, spelled, SpellsNone};
 

@@ -1,8 +1,8 @@
 //! Values and rows as they are printed.
-ghost use Rattle.std.specs.Prelude.{◌≡◌, ◌<◌, ◌∷◌, ◌++◌, [], ℕ, List, IfOk, OnOk, codes, map};
+ghost use Rattle.std.specs.Prelude.{◌≡◌, ◌<◌, ◌∷◌, ◌++◌, [], ℕ, List, OnOk, map};
 ghost use Rattle.std.specs.Fmt.{decimal, signed_decimal};
 ghost use Rattle.zf_term.specs.{comp_of, schema_of};
-ghost use Rattle.zf_print.specs.{comma_before, component_in, components_in, element_in, element_text, name_in, parted, row_text, set_in, spelled, spelled_if, tuple_in, value_in};
+ghost use Rattle.zf_print.specs.{comma_before, component_in, components_in, element_in, element_text, name_in, parted, row_text, set_in, spelled, tuple_in, value_in};
 
 use crate::spelling::Spelling;
 use itoa::Buffer;

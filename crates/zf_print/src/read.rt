@@ -1,5 +1,5 @@
 //! Values and bindings as they are read back.
-ghost use Rattle.std.specs.Prelude.{◌≡◌, ◌↔◌, ◌≤◌, ◌++◌, [], ◌∷◌, length, map, drop, IsTrue, IfOk, IfErr};
+ghost use Rattle.std.specs.Prelude.{◌↔◌, ◌≤◌, ◌++◌, [], ◌∷◌, length, map, drop, IsTrue, IfOk, IfErr};
 ghost use Rattle.zf_meaning.specs.{environment_of};
 ghost use Rattle.zf_term.specs.{comp_of, int, power, product, schema_of, type_of, types};
 ghost use Rattle.zf_value.specs.{IsAscending};

@@ -1,5 +1,5 @@
 //! How elements are spelled.
-ghost use Rattle.std.specs.Prelude.{◌≡◌, ◌+◌, ◌++◌, ℕ, List, drop, IfOk, OnOk};
+ghost use Rattle.std.specs.Prelude.{◌≡◌, ◌+◌, ◌++◌, List, drop, IfOk, OnOk};
 ghost use Rattle.zf_term.specs.{definition_of, globals_of};
 ghost use Rattle.zf_print.specs.declared.spelling.Spelling as declared;
 ghost use Rattle.zf_print.specs.{spellings, with_spelling};

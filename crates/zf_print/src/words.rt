@@ -1,5 +1,5 @@
 //! The words and items of a line, by their places.
-ghost use Rattle.std.specs.Prelude.{◌≡◌, ◌+◌, ◌≤◌, ◌<◌, ◌^◌, ◌++◌, ℕ, ℤ, List, length, drop, take, codes, decimal, IsTrue, IfOk, IfErr, MatchOption, MatchBool, FitsSigned};
+ghost use Rattle.std.specs.Prelude.{◌≡◌, ◌+◌, ◌≤◌, ◌<◌, ◌^◌, ◌++◌, ℕ, ℤ, length, drop, decimal, IfOk, IfErr, MatchOption, MatchBool, FitsSigned};
 ghost use Rattle.std.specs.Fmt.{signed_decimal};
 ghost use Rattle.std.specs.Int.{w64};
 ghost use Rattle.zf_print.specs.Words as spec;

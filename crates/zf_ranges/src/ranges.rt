@@ -1,6 +1,6 @@
 //! The values that are members of declared sets.
-ghost use Rattle.std.specs.Prelude.{◌≡◌, ◌≤◌, ◌<◌, true, IfOk, IfErr, MatchOption, length, map, option_map, slice_get};
-ghost use Rattle.zf_term.specs.{globals_of, set_of, sets_of};
+ghost use Rattle.std.specs.Prelude.{◌≡◌, ◌<◌, true, IfOk, IfErr, map, option_map};
+ghost use Rattle.zf_term.specs.{set_of, sets_of};
 ghost use Rattle.zf_meaning.specs.{environment_of};
 ghost use Rattle.zf_finite.specs.Finite as spec;
 ghost use Rattle.zf_value.specs.{IsAscending};

@@ -1,5 +1,5 @@
 -- One piece stands at a place.
-use Rattle.zf_scan.proofs.Prelude.{◌++◌, ◌+◌, ◌<◌, ◌∙◌, ◌∷◌, ◌≡◌, ◌≤◌, ◌⊎◌, [], ap, arith, Bool, drop, false, inl, inr, length, length-append, List, None, Option, refl, Some, sym, take, true, unwrap_or, ℕ, ⊎_elim, one-add, bytes_decides, if◌then◌else◌, ◌==◌, codes, bytes_eq, Stands, StandsInside, StandsOutside, comment, InsideKind, is_base, is_letter, is_number, is_run, IsCommand, look_up, number_piece, OutsideKind, SpellsInside, SpellsOutside, turn, openings, symbols, base_len, run_len, Piece, Plain, Refused, Symbol, Region, Base, Letters, Strokes, BeginSchema, EndBox, Name, is_ascii_digit}
+use Rattle.zf_scan.proofs.Prelude.{◌++◌, ◌+◌, ◌<◌, ◌∙◌, ◌∷◌, ◌≡◌, ◌≤◌, ◌⊎◌, [], ap, arith, Bool, drop, false, inl, inr, length, length-append, List, None, Option, refl, Some, sym, take, true, unwrap_or, ℕ, ⊎_elim, one-add, bytes_decides, if◌then◌else◌, ◌==◌, codes, bytes_eq, Stands, StandsInside, StandsOutside, comment, InsideKind, is_base, is_letter, is_number, is_run, look_up, number_piece, OutsideKind, SpellsInside, SpellsOutside, turn, openings, symbols, base_len, run_len, Piece, Plain, Refused, Symbol, Region, Base, Letters, Strokes, BeginSchema, EndBox, Name, is_ascii_digit}
 use Rattle.zf_scan.specs.declared.fault.TextFaultKind.TheVariants as faults
 use Rattle.zf_scan.specs.declared.pieces.Region.TheVariants as places
 use Rattle.zf_scan.specs.Pieces

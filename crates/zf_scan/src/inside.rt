@@ -1,5 +1,5 @@
 //! The piece that begins a text inside a box.
-ghost use Rattle.std.specs.Prelude.{◌≡◌, ◌<◌, ◌≤◌, ℕ, List, ◌∷◌, IsTrue, length, slice_index_or, nat_le, if◌then◌else◌, Some, None};
+ghost use Rattle.std.specs.Prelude.{◌≡◌, ◌<◌, ◌≤◌, IsTrue, length, slice_index_or, nat_le, if◌then◌else◌, Some, None};
 ghost use Rattle.zf_scan.specs.Pieces as spec;
 ghost use Rattle.zf_scan.specs.{look_up, seen, symbols, match_of};
 ghost use Rattle.zf_scan.specs.Steps as steps;

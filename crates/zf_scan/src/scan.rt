@@ -1,13 +1,11 @@
 //! From bytes to tokens.
 ghost use Rattle.std.specs.Prelude.{◌≡◌, ◌≤◌, ◌<◌, ◌⊎◌, ◌++◌, [], ℕ, List, IsTrue, length, take, map, IfOk, IfErr, OnOk};
-ghost use Rattle.zf_scan.specs.{IsBorder, IsBoxAtMost, IsCutOn, IsCutUpTo, kind_of, piece_of, token_at, match_of};
+ghost use Rattle.zf_scan.specs.{IsBorder, IsBoxAtMost, IsCutOn, IsCutUpTo, kind_of, token_at, match_of};
 ghost use Rattle.zf_scan.specs.Cuts as cuts;
 ghost use Rattle.zf_scan.specs.CutLaws as cuts_laws;
 ghost use Rattle.zf_scan.specs.CutViews as cuts_views;
 ghost use Rattle.zf_scan.specs.Steps as steps;
-ghost use Rattle.zf_scan.specs.declared.next.Next.{Next as NextSymbol};
 ghost use Rattle.zf_scan.specs.declared.pieces.Piece.TheVariants.{Plain, Symbol};
-ghost use Rattle.zf_scan.specs.declared.pieces.Lexeme.TheVariants as lexemes;
 ghost use Rattle.zf_scan.specs.declared.token.Token.{Token};
 
 use crate::fault::{TextFault, TextFaultKind};

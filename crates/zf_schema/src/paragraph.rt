@@ -8,7 +8,6 @@ ghost use Rattle.zf_term.specs.{definition_of, globals_of, next_number, Ty};
 ghost use Rattle.zf_typing.specs.{IsOf, Offends, resolved};
 ghost use Rattle.zf_sorts.specs.{IfFault, typed};
 ghost use Rattle.zf_schema.specs.{a_box, abbreviated, Constructs, Defines, DefinesParagraph, elements, Gives, IsNew, IsTaken, OffendsConstructors, OffendsGiven, OffendsItem, OffendsParagraph, outside, with_global};
-ghost use Rattle.zf_schema.specs.Checking as spec;
 
 use crate::expression::schema_of_expression;
 use crate::text::{scope_over, text_of};

@@ -1,6 +1,6 @@
 //! References to schemas.
-ghost use Rattle.std.specs.Prelude.{◌≡◌, ◌⊎◌, ℕ, IfErr, IfOk, MatchOption, Some, None};
-ghost use Rattle.zf_term.specs.{Defined, definition_of, first_named, globals_of, schema, schema_of};
+ghost use Rattle.std.specs.Prelude.{◌≡◌, IfErr, IfOk, MatchOption, Some, None};
+ghost use Rattle.zf_term.specs.{definition_of, globals_of, schema, schema_of};
 ghost use Rattle.zf_sorts.specs.{IfFault, offence_of};
 ghost use Rattle.zf_schema.specs.{IsNamed, IsNoSchema, LacksSchema, OffendsRef, Refers};
 ghost use Rattle.zf_calculus.specs.{IsGrowing};

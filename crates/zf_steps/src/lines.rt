@@ -1,5 +1,5 @@
 //! The lines of states and steps, each with its newline.
-ghost use Rattle.std.specs.Prelude.{◌≡◌, ◌-◌, ◌^◌, ◌++◌, ℕ, OnOk, Some, codes, decimal, min, slice_get};
+ghost use Rattle.std.specs.Prelude.{◌≡◌, ◌-◌, ◌^◌, ◌++◌, ℕ, OnOk, Some, decimal, min, slice_get};
 ghost use Rattle.zf_graph.specs.{broken};
 ghost use Rattle.zf_reach.specs.{ending_of};
 ghost use Rattle.zf_steps.specs.declared.node.Node.TheVariants.{State};

@@ -1,5 +1,5 @@
 //! The objects of states and steps, each with its newline.
-ghost use Rattle.std.specs.Prelude.{◌≡◌, ◌-◌, ◌^◌, ◌++◌, ℕ, OnOk, Some, codes, decimal, min, slice_get};
+ghost use Rattle.std.specs.Prelude.{◌≡◌, ◌-◌, ◌^◌, ◌++◌, ℕ, OnOk, Some, min, slice_get};
 ghost use Rattle.zf_graph.specs.{broken};
 ghost use Rattle.zf_reach.specs.{ending_of, result_of};
 ghost use Rattle.zf_steps.specs.declared.node.Node.TheVariants.{State};

@@ -1,20 +1,13 @@
 -- New numbers of components by a list, and of parts of a term; the nodes and the height of several terms.
 use Rattle.std.specs.Prelude.{ℕ, ◌+◌, max, List, Option, Some, None}
-use Rattle.zf_tree.specs.declared.symbol.Relation.{Relation}
 use Rattle.zf_reference.specs.{place_in}
-use Rattle.zf_term.specs.ResolvedTrees.{Ranges, ResolvedLinks, ResolvedPart, ResolvedTree, ResolvedTrees}
-use Rattle.zf_term.specs.Shapes.{links_measure, moved, part_measure, ranges_measure, terms_measure}
+use Rattle.zf_term.specs.ResolvedTrees.{Ranges, ResolvedLinks, ResolvedPart, ResolvedTrees}
+use Rattle.zf_term.specs.Shapes.{links_measure, part_measure, ranges_measure, terms_measure}
 
 -- by a list, where there is one
 abbrev pub numbering : Option (List ℕ) → ℕ → ℕ
 numbering None i = i
 numbering (Some places) i = place_in places i
-
-abbrev pub link_moved : (ℕ → ℕ) → Relation × ResolvedTree → Relation × ResolvedTree
-link_moved f l = (l.0, moved f l.1)
-
-abbrev pub range_moved : (ℕ → ℕ) → ℕ × ResolvedTree → ℕ × ResolvedTree
-range_moved f r = (r.0, moved f r.1)
 
 -- ---- nodes
 

@@ -5,7 +5,7 @@ use Rattle.zf_term.specs.declared.conjunct.Batch.{Batch}
 use Rattle.zf_term.specs.declared.conjunct.Conjunct.{Conjunct}
 use Rattle.zf_term.specs.declared.conjunct.Conjunct.TheVariants as conjunct
 use Rattle.zf_term.specs.declared.resolved.Resolved.{Resolved}
-use Rattle.zf_cores.proofs.Choosing.{beside, seen_chosen}
+use Rattle.zf_cores.proofs.Choosing.{seen_chosen}
 use Rattle.zf_why.specs.{AreSidesOf, AreTellings, disjunction_at, has_sides, HasSides, is_disjunction, is_one, IsTelling}
 use Rattle.zf_why.specs.declared.told.Sides.{Sides}
 use Rattle.zf_why.specs.declared.told.Told.{Told}

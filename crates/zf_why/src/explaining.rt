@@ -1,5 +1,5 @@
 //! Why a schema has no binding.
-ghost use Rattle.std.specs.Prelude.{◌≡◌, ◌++◌, ◌∷◌, [], IfOk, length, map};
+ghost use Rattle.std.specs.Prelude.{◌++◌, [], IfOk, length, map};
 ghost use Rattle.zf_term.specs.{comp_of, conjunct_of, schema_of};
 ghost use Rattle.zf_finite.specs.{IsFinite};
 ghost use Rattle.zf_walk.specs.{AreDueWithin};

@@ -1,8 +1,8 @@
 //! What is reported of conjuncts that are to blame.
-ghost use Rattle.std.specs.Prelude.{◌≡◌, ◌<◌, ◌++◌, ◌∷◌, ℕ, [], IfOk, Some, false, length, map, slice_get, slice_set};
-ghost use Rattle.zf_term.specs.{comp_of, conjunct_of, ResolvedTree, term_line};
+ghost use Rattle.std.specs.Prelude.{◌≡◌, ◌<◌, ◌++◌, ◌∷◌, [], IfOk, Some, false, length, map, slice_set};
+ghost use Rattle.zf_term.specs.{comp_of, conjunct_of, term_line};
 ghost use Rattle.zf_meaning.specs.{environment_of};
-ghost use Rattle.zf_cores.specs.{chosen_of, IsChosen};
+ghost use Rattle.zf_cores.specs.{chosen_of};
 ghost use Rattle.zf_why.specs.{AreAlone, AreBlamed, AreOperands, AreSidesOf, AreTold, CanBegin, disjunction_at, is_disjunction, IsCore, IsTelling, nothing_beside, others_beside, RuleOut};
 
 use crate::explaining::core;

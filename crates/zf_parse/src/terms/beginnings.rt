@@ -1,5 +1,5 @@
 //! What begins a term.
-ghost use Rattle.std.specs.Prelude.{◌≡◌, ◌+◌, ◌≤◌, IfOk};
+ghost use Rattle.std.specs.Prelude.{◌+◌, ◌≤◌, IfOk};
 ghost use Rattle.zf_parse.specs.Nests.{Nests};
 ghost use Rattle.zf_parse.specs.TermReading as spec;
 ghost use Rattle.zf_parse.specs.{Gives, read_term};

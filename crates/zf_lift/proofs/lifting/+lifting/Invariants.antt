@@ -1,4 +1,4 @@
-use Rattle.zf_lift.proofs.Prelude.{◌≡◌, map, take, range_of, resolved_link_of, resolved_of, environment_of, AreEach, Follows, IsLonger, IsLift, IsLinkLift, IsRangeLift}
+use Rattle.zf_lift.proofs.Prelude.{map, take, range_of, resolved_link_of, resolved_of, environment_of, AreEach, Follows, IsLonger, IsLift, IsLinkLift, IsRangeLift}
 use Rattle.zf_lift.proofs.lifting.+lifting.Given as goal
 
 abbrev pub invariant-lifted_terms-loop-term : goal.invariant-lifted_terms-loop-term

@@ -1,5 +1,4 @@
 use Rattle.zf_lift.proofs.Prelude.{◌≤◌, ◌∙◌, arith, length, List, subst, sym, Defined, resolved_of, environment_of}
-use Rattle.zf_meaning.specs.{IsBehind}
 use Rattle.zf_lift.proofs.Arms.{all_told}
 use Rattle.zf_lift.proofs.lifting.worked_out.Goals as goal
 

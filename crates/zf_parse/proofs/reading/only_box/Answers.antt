@@ -1,4 +1,4 @@
-use Rattle.zf_parse.proofs.Prelude.{◌∙◌, ◌≡◌, ap, List, map, Ok, subst, symbol_at, token_at, reduced, height_limit, ReadsBox, RefusesBox, box_of, read_only, Symbol, Fails}
+use Rattle.zf_parse.proofs.Prelude.{◌∙◌, ◌≡◌, ap, List, map, subst, symbol_at, token_at, reduced, height_limit, ReadsBox, box_of, read_only, Symbol, Fails}
 use Rattle.zf_parse.proofs.BoxByBox.{box_read, only_refused}
 use Rattle.zf_parse.proofs.reading.only_box.Goals as goal
 

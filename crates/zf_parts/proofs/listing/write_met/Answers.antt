@@ -1,9 +1,9 @@
 -- Each way out says what is written of the parts.
 use Rattle.zf_parts.proofs.Prelude.{◌<◌, ◌∙◌, ◌≡◌, ap, arith, subst, sym}
-use Rattle.std.proofs.Common.{◌≤◌, ℕ}
+use Rattle.std.proofs.Common.{◌≤◌}
 use Rattle.std.specs.Io.KnownBytes.{Appends}
 use Rattle.zf_lines.proofs.Fronts.{always_on_err}
-use Rattle.zf_lines.specs.{AppendsFront, IsPrinted}
+use Rattle.zf_lines.specs.{IsPrinted}
 use Rattle.zf_parts.specs.{AreFree, counted, part_wording, ranges_at, total}
 use Rattle.zf_parts.proofs.Counting.{at_number}
 use Rattle.zf_parts.proofs.Passing.{as_status}

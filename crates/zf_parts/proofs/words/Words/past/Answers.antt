@@ -1,4 +1,3 @@
-use Rattle.zf_parts.proofs.Prelude.{subst}
 use Rattle.zf_parts.proofs.Marking.{none_in_kept}
 use Rattle.zf_parts.proofs.words.Words.past.Goals as goal
 
