@@ -2,7 +2,7 @@
 #![tactic(auto)]
 
 mod conjunct;
-mod infinite;
+pub mod infinite;
 mod offender;
 
 pub use conjunct::offending_after;
