@@ -4,7 +4,8 @@ use Rattle.std.proofs.Math.Path.{fun_ext}
 use Rattle.std.proofs.Math.Seq.{map-set_same}
 use Rattle.zf_term.specs.declared.schema.Domain.TheVariants as v
 use Rattle.zf_term.specs.declared.fault.Limit.TheVariants as limit
-use Rattle.zf_calculus.specs.{constraints, either_comps}
+use Rattle.zf_constraints.specs.{constraints}
+use Rattle.zf_calculus.specs.{either_comps}
 use Rattle.zf_calculus.proofs.Merging.{known_in_place, known_is, new_last, none_shorter}
 use Rattle.zf_calculus.proofs.Placing.{TooMany}
 use Rattle.zf_calculus.proofs.Renumbering.{all_same}

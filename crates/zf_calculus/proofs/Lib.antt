@@ -11,5 +11,4 @@ pub mod Stopping
 pub mod Equalities
 pub mod Decorating
 pub mod Changing
-pub mod Memberships
 pub mod Disjoining

@@ -1,5 +1,5 @@
 -- The schema calculus: what schemas are made of others by inclusion, decoration, `\Delta`, `\Xi`, conjunction and disjunction.
-use Rattle.std.specs.Prelude.{◌≡◌, ℕ, ◌+◌, List, [], ◌∷◌, ◌++◌, map, fold, flat_map, Option, slice_get, if◌then◌else◌}
+use Rattle.std.specs.Prelude.{◌≡◌, ℕ, ◌+◌, List, [], ◌∷◌, ◌++◌, map, fold, Option, slice_get, if◌then◌else◌}
 use Rattle.std.specs.List.{AllByRecursion}
 use Rattle.std.specs.Str.{bytes_eq}
 use Rattle.std.specs.Option.{IfSome, option_map_or}
@@ -7,7 +7,8 @@ use Rattle.zf_tree.specs.declared.symbol.Relation.TheVariants.{Equal}
 use Rattle.zf_tree.specs.declared.tree.RefMark.{RefMark}
 use Rattle.zf_tree.specs.declared.tree.RefMark.TheVariants.{Plain, Delta, Xi}
 use Rattle.zf_reference.specs.declared.reference.Reference.TheVariants.{Component}
-use Rattle.zf_term.specs.{carrier, chain, Comp, DeclaredSet, first_named, is_member, link, moved, no_links, one_holds, plain, reference, ResolvedTree, Schema, sets_of, sides, Ty}
+use Rattle.zf_term.specs.{carrier, chain, Comp, DeclaredSet, first_named, link, moved, no_links, one_holds, reference, ResolvedTree, Schema, sets_of, sides, Ty}
+use Rattle.zf_constraints.specs.{constraints}
 pub use Rattle.zf_term.specs.{joined}
 
 abbrev pub comp : List ℕ → Ty → List DeclaredSet → Comp
@@ -101,19 +102,6 @@ abbrev pub either_comps : List Comp → List Comp → List Comp
 either_comps cs ds =
     map (λ c. comp c.name c.type (sides (sets_of (sets_on (comp_named c.name cs) c.type)) (sets_of (sets_on (comp_named c.name ds) c.type)) ∷ []))
     (with_comps cs ds)
-
--- `x \in E`, of a declared set that a declaration names; other declared sets give no constraint
-abbrev pub membership : (place : ℕ) → DeclaredSet → List ResolvedTree
-membership i (plain e) = is_member i e ∷ []
-membership i _ = []
-
-abbrev pub memberships : (place : ℕ) → List Comp → List ResolvedTree
-memberships i [] = []
-memberships i (c ∷ cs) = flat_map (membership i) c.sets ++ memberships (i + 1) cs
-
--- what a schema says of its components: that they are members of their declared sets, and its conjuncts
-abbrev pub constraints : Schema → List ResolvedTree
-constraints a = memberships 0 a.comps ++ a.conjuncts
 
 abbrev pub disjoined : (line : ℕ) → Schema → Schema → Schema
 disjoined l a b =

@@ -4,9 +4,9 @@ use Rattle.std.specs.List.{sum_by}
 use Rattle.std.specs.Option.{option_map_or}
 use Rattle.zf_tree.specs.declared.symbol.Relation.TheVariants.{Equal}
 use Rattle.zf_term.specs.declared.schema.Component.{Component}
-use Rattle.zf_term.specs.declared.schema.Domain.{Domain}
 use Rattle.zf_reference.specs.declared.reference.Reference.TheVariants as place
 use Rattle.zf_term.specs.{AreFew, chain, clash, Comp, DeclaredSet, HasLeft, link, no_links, Offence, one_holds, reference, ResolvedTree, Schema, schema_of, sets_of, sides, too_large, type_of}
+use Rattle.zf_constraints.specs.{constraints}
 use Rattle.zf_calculus.specs.declared.growing.Growing.{Growing}
 use Rattle.zf_calculus.specs.declared.stop.Stop.{Stop}
 use Rattle.zf_calculus.specs.declared.stop.Stop.TheVariants.{Clash, TooLarge, OutOfMemory}
@@ -42,10 +42,6 @@ IfStopped (Clash c) P = P (clash c.name (type_of c.left) (type_of c.right))
 IfStopped (TooLarge l) P = P (too_large l)
 IfStopped OutOfMemory P = Unit {0}
 
--- a component with further declared sets
-abbrev pub enriched : Component → List Domain → Component
-enriched c domains = record { name = c.name; ztype = c.ztype; domains = c.domains ++ domains }
-
 -- with one more component, whatever type one of its name has
 abbrev pub grown : Schema → Comp → Schema
 grown a c = calculus.schema_with (with_comp a.comps c) a.conjuncts
@@ -75,7 +71,7 @@ either_comp cs ds c = calculus.comp c.name c.type (sides (sets_of (calculus.sets
 
 -- the disjunction, which has these components
 abbrev pub disjoined_over : List Comp → (line : ℕ) → Schema → Schema → Schema
-disjoined_over all l a b = calculus.schema_with all (one_holds l (calculus.constraints a) (calculus.carried b.comps all (calculus.constraints b)) ∷ [])
+disjoined_over all l a b = calculus.schema_with all (one_holds l (constraints a) (calculus.carried b.comps all (constraints b)) ∷ [])
 
 -- the place that is found, or else this one
 abbrev pub place_or : Option (ℕ × Comp) → ℕ → ℕ

@@ -4,7 +4,8 @@ ghost use Rattle.zf_term.specs.declared.schema.Component.{Component};
 ghost use Rattle.zf_term.specs.{AreFew, clash, Comp, comp_of, components_max, too_large, type_of};
 ghost use Rattle.zf_reference.specs.{place_in};
 ghost use Rattle.zf_term.specs.declared.fault.Limit.TheVariants as limit;
-ghost use Rattle.zf_calculus.specs.{Agree, Agrees, AreAt, AreOnce, Clashes, comp_named, enriched, IfStopped, new_place, OneClashes, place_named, place_or, with_comp, with_comps};
+ghost use Rattle.zf_constraints.specs.{enriched};
+ghost use Rattle.zf_calculus.specs.{Agree, Agrees, AreAt, AreOnce, Clashes, comp_named, IfStopped, new_place, OneClashes, place_named, place_or, with_comp, with_comps};
 
 use crate::limits::COMPONENTS_MAX;
 use crate::stop::Stop;
@@ -12,8 +13,9 @@ use bumpalo::Bump;
 use std::alloc::AllocError;
 use std::mem;
 use std::mem::ManuallyDrop;
-use zf_data::arena::{Chunked, Items, Shared};
-use zf_term::{Clash, Component, Domain, Domains, Limit, component_of};
+use zf_constraints::enrich;
+use zf_data::arena::Items;
+use zf_term::{Clash, Component, Domains, Limit, component_of};
 
 /// That none of the others has another type than the component that has its name.
 pub fn agree<'a>(components: &[Component<'a>], others: &[Component<'a>]) -> Result<(), Stop<'a>>
@@ -151,43 +153,6 @@ fn gain<'a>(
         items: ManuallyDrop::new(all),
     };
     gained
-}
-
-/// The component gains declared sets.
-fn enrich<'a>(
-    arena: &'a Bump,
-    component: &mut Component<'a>,
-    domains: Domains<'a>,
-) -> Result<(), AllocError>
-    ensures { OnOk result (component.new ≡ enriched component.old domains.entry) }
-{
-    let first = mem::replace(&mut component.domains, domains);
-    component.domains = both(arena, first, component.domains.get())?;
-    Ok(())
-}
-
-/// The declared sets of both lists. Where the first one has no other owner, it grows, so that a component that is declared often
-/// costs no more for each time.
-fn both<'a>(
-    arena: &'a Bump,
-    first: Domains<'a>,
-    further: &Chunked<'a, Domain<'a>>,
-) -> Result<Domains<'a>, AllocError>
-    ensures { IfOk result (λ ds. ds ≡ first.entry ++ further.now) }
-{
-    let mut all = owned(first, further.len())?;
-    all.append(further)?;
-    Shared::new(arena, all)
-}
-
-/// The list itself where it has no other owner, and else another one of the same declared sets, with room for so many more.
-fn owned<'a>(domains: Domains<'a>, more: usize) -> Result<Chunked<'a, Domain<'a>>, AllocError>
-    ensures { IfOk result (λ ds. ds ≡ domains.entry) }
-{
-    match domains.into_value() {
-        Ok(list) => Ok(list),
-        Err(shared) => shared.get().share(more),
-    }
 }
 
 /// Where the components of the one list are in the other, by their names; one that is not there keeps its place.

@@ -10,7 +10,8 @@ use Rattle.zf_tree.specs.Trees as text
 use Rattle.zf_tree.specs.declared.operator.Operator.TheVariants.{Connective}
 use Rattle.zf_term.specs.{Ty}
 use Rattle.zf_term.proofs.SameNames.{is_itself}
-use Rattle.zf_calculus.specs.{all_unchanged, carried, comp, comp_named, conjoined, constraints, decorated, delta, disjoined, either_comps, empty_schema, joined, marked, membership, memberships, new_place, place_of, place_or, prime, with_comp, with_comps, xi}
+use Rattle.zf_constraints.specs.{constraints, membership, memberships}
+use Rattle.zf_calculus.specs.{all_unchanged, carried, comp, comp_named, conjoined, decorated, delta, disjoined, either_comps, empty_schema, joined, marked, new_place, place_of, place_or, prime, with_comp, with_comps, xi}
 use Rattle.zf_schema.specs.{AddsAll, Constrains, Declares, DeclaresOne, inside, IsSchema, outside, Refers, TakesAll}
 use Rattle.zf_engine.proofs.Within.{joins, first_below, resolved_within, AreDue, due_joined, due_longer, due_both, conjuncts_due, moved_due}
 

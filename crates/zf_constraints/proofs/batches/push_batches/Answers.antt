@@ -1,6 +1,6 @@
-use Rattle.zf_calculus.proofs.Prelude.{all_of, batch_of, map}
-use Rattle.zf_calculus.proofs.Memberships.{pieces_step}
-use Rattle.zf_calculus.proofs.disjunction.push_batches.Goals as goal
+use Rattle.zf_constraints.proofs.Prelude.{all_of, batch_of, map}
+use Rattle.zf_constraints.proofs.Memberships.{pieces_step}
+use Rattle.zf_constraints.proofs.batches.push_batches.Goals as goal
 
 pub loop-piece-preserved : goal.loop-piece-preserved
 loop-piece-preserved c =

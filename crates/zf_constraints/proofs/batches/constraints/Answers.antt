@@ -1,13 +1,13 @@
-use Rattle.zf_calculus.proofs.Prelude.{◌∙◌, ◌≡◌, ◌++◌, ap, IfOk-weaker, List, map, all_of, batch_of, Batch, comp_of, conjunct_of, Conjunct, Component, moved, numbering, schema_of, memberships}
-use Rattle.zf_calculus.specs.Calculus as spec
-use Rattle.zf_calculus.proofs.Memberships.{constraints_made}
-use Rattle.zf_calculus.proofs.disjunction.constraints.Goals as goal
+use Rattle.zf_constraints.proofs.Prelude.{◌∙◌, ◌≡◌, ◌++◌, ap, IfOk-weaker, List, map, all_of, batch_of, Batch, comp_of, conjunct_of, Conjunct, Component, moved, numbering, schema_of, memberships}
+use Rattle.zf_constraints.specs.{constraints}
+use Rattle.zf_constraints.proofs.Memberships.{constraints_made}
+use Rattle.zf_constraints.proofs.batches.constraints.Goals as goal
 
 pub returns : goal.returns
 returns c =
     let ps = c.args.places.now in
     let components = c.args.flat.now.components in
-    let whole = map (moved (numbering ps)) (spec.constraints (schema_of c.args.flat.now)) in
+    let whole = map (moved (numbering ps)) (constraints (schema_of c.args.flat.now)) in
     let listed : map conjunct_of c.push_all_memberships.new.made ≡ memberships 0 (map comp_of components) =
     c.in_ok-push_all_memberships.ensures
     ∙ ap (λ (cs : List Conjunct). map conjunct_of cs ++ memberships 0 (map comp_of c.as_slice.result.now)) c.new-memberships.ensures

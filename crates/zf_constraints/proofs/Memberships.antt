@@ -1,5 +1,5 @@
 -- That components are members of their declared sets.
-use Rattle.zf_calculus.proofs.Prelude.{◌++◌, ◌∙◌, ◌∷◌, ◌≡◌, [], all_of, ap, append-nil, append_assoc, arith, batch_of, Batch, conjunct_of, Conjunct, DeclaredSet, Domain, is_member, length, List, map, map-append, membership, moved, numbering, of-Carrier, of-Either, of-Plain, Option, Resolved, resolved_of, ResolvedTree, set_of, sym, ZType, ℕ}
+use Rattle.zf_constraints.proofs.Prelude.{◌++◌, ◌∙◌, ◌∷◌, ◌≡◌, [], all_of, ap, append-nil, append_assoc, arith, batch_of, Batch, conjunct_of, Conjunct, DeclaredSet, Domain, is_member, length, List, map, map-append, membership, moved, numbering, of-Carrier, of-Either, of-Plain, Option, Resolved, resolved_of, ResolvedTree, set_of, sym, ZType, ℕ}
 use Rattle.std.proofs.Common.{◌+◌, ◌<◌, add-one, get_or, suc, take, zero}
 use Rattle.std.proofs.lemmas.List.Concat.{flat_map-append}
 use Rattle.zf_term.specs.declared.schema.Domain.TheVariants as domains

@@ -1,6 +1,6 @@
-use Rattle.zf_calculus.proofs.Prelude.{◌∙◌, ap, on_ok_weaker, resolved_of, is_member}
-use Rattle.zf_calculus.proofs.Memberships.{pushed, none_of_carrier, none_of_sides}
-use Rattle.zf_calculus.proofs.disjunction.push_membership.Goals as goal
+use Rattle.zf_constraints.proofs.Prelude.{◌∙◌, ap, on_ok_weaker, resolved_of, is_member}
+use Rattle.zf_constraints.proofs.Memberships.{pushed, none_of_carrier, none_of_sides}
+use Rattle.zf_constraints.proofs.batches.push_membership.Goals as goal
 
 pub returns-in-Plain : goal.returns-in-Plain
 returns-in-Plain c =
