@@ -1,3 +1,2 @@
 pub mod Laws
-
 pub use Rattle.law_resumed.specs.Laws.{LinesAreRows}

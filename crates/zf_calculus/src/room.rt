@@ -6,8 +6,7 @@ ghost use Rattle.zf_calculus.specs.{counted};
 
 use crate::limits::HEIGHT_MAX;
 use zf_data::arena::Chunked;
-use zf_shape::conjunct;
-use zf_shape::{room_after_nodes, room_after_sets};
+use zf_shape::{conjunct, room_after_nodes, room_after_sets};
 use zf_term::{Component, Conjunct, Domain};
 
 /// How much of the room for declared sets is left after these, where there is enough.

@@ -6,8 +6,8 @@ ghost use Rattle.zf_checker.specs.Listing as spec;
 use std::alloc::{AllocError, Global};
 use zf_data::Text;
 use zf_data::arena::Lent;
-use zf_term::{Component, Entry, Flat, Globals, ZType};
 use zf_term::type_text::append_type;
+use zf_term::{Component, Entry, Flat, Globals, ZType};
 
 /// The text of all that is defined, in the order of definition.
 pub fn listing(alloc: Global, globals: &Globals) -> Result<Text, AllocError>

@@ -12,7 +12,6 @@ pub mod Answers
 pub mod Stops
 pub mod Subjects
 pub mod Statuses
-
 pub use Rattle.zf_engine.specs.Faults.{Gave, GaveAtMost}
 pub use Rattle.zf_engine.specs.SourceLines.{first_line, further_lines, lines_behind, trimmed, without_end, without_start}
 pub use Rattle.zf_engine.specs.Objects.{side_objects, source_object}

@@ -23,13 +23,13 @@ use bumpalo::Bump;
 use std::alloc::Global;
 use std::io::Write;
 use zf_command::{Job, Request};
-use zf_lines::{Counted, RunFault, Status, Style};
 use zf_lines::show::{show, show_with_tests};
+use zf_lines::{Counted, RunFault, Status, Style};
 use zf_meaning::Env;
 use zf_messages::Report;
 use zf_parts::{Parts, are_first, show_fronts, show_parts};
-use zf_term::{Flat, Globals};
 use zf_print::spellings_of;
+use zf_term::{Flat, Globals};
 use zf_value::Value;
 
 /// Writes the answer of a job for a source, as it is found.

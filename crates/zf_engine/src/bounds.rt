@@ -15,8 +15,8 @@ use std::alloc::Global;
 use zf_data::Word;
 use zf_meaning::Env;
 use zf_places::schema_at;
-use zf_term::Flat;
 use zf_print::Spelling;
+use zf_term::Flat;
 use zf_value::Value;
 
 /// Components that alone are shown: their places, and a schema of them.

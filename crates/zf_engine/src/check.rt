@@ -10,13 +10,13 @@ ghost use Rattle.zf_sorts.specs.{fault_of};
 use crate::stop::Stop;
 use bumpalo::Bump;
 use std::alloc::{AllocError, Global};
-use zf_checker::{Checked, check_spec};
 use zf_checker::listing::listing;
+use zf_checker::{Checked, check_spec};
 use zf_lines::Status;
 use zf_messages::{Quoting, Report, text_fault_lines, type_fault_lines};
+use zf_parse::{About, read_spec};
 use zf_scan::{TextFault, TextFaultKind};
 use zf_sorts::TypeFault;
-use zf_parse::{About, read_spec};
 use zf_tree::Spec;
 
 /// What a source defines, and its faults of types. Its trees stand in an arena of their own, which asks for its room while the

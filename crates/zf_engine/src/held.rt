@@ -11,8 +11,8 @@ use zf_data::Word;
 use zf_lines::Status;
 use zf_meaning::Env;
 use zf_messages::texts;
-use zf_term::Flat;
 use zf_print::{AfterFault, Spelling, read_held};
+use zf_term::Flat;
 use zf_value::Value;
 
 /// The values that are held, by the components' places, if a line of some components is given. The answer where the

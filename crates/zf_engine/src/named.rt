@@ -11,8 +11,8 @@ use zf_data::Word;
 use zf_lines::Status;
 use zf_meaning::Env;
 use zf_messages::texts;
-use zf_term::Flat;
 use zf_print::{AfterFault, Spelling, read_binding};
+use zf_term::Flat;
 use zf_value::Value;
 
 /// The row that is named, if one is. The answer where the text is no line of a row.

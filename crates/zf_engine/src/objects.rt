@@ -10,8 +10,8 @@ use std::alloc::AllocError;
 use zf_finite::first_plain;
 use zf_format::{Format, append_string};
 use zf_messages::Report;
-use zf_term::Component;
 use zf_print::{Spelling, append_value};
+use zf_term::Component;
 use zf_value::Outcome;
 use zf_why::{Operands, Sides, Told};
 

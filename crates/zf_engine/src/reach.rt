@@ -28,11 +28,11 @@ use zf_lines::{Counted, RunFault, Status};
 use zf_machines::{Named, Schemas, Specification, explore_schemas, lack_of, seek_schemas};
 use zf_meaning::Env;
 use zf_messages::{Report, texts};
+use zf_print::spellings_of;
 use zf_ranges::component::ranges;
 use zf_reach::{Ending, Finding};
 use zf_steps::Form;
 use zf_term::{Flat, Globals};
-use zf_print::spellings_of;
 
 /// What is explored, and how faults of the source are reported.
 #[derive(Clone, Copy)]

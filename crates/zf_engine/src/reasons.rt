@@ -15,8 +15,8 @@ use zf_format::Format;
 use zf_lines::Style;
 use zf_messages::Report;
 use zf_messages::texts::fault_line;
-use zf_term::{Component, Flat};
 use zf_print::{Spelling, append_value};
+use zf_term::{Component, Flat};
 use zf_value::Outcome;
 use zf_why::{Cause, Operands, Sides, Told};
 

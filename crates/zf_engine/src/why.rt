@@ -23,8 +23,8 @@ use zf_format::Format;
 use zf_lines::{Status, Style, append_out_line, append_row_line};
 use zf_meaning::{Env, Row};
 use zf_messages::Report;
-use zf_term::{Flat, Globals};
 use zf_print::spellings_of;
+use zf_term::{Flat, Globals};
 use zf_walk::Step;
 use zf_why::{Question, why};
 

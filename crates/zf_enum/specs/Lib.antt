@@ -16,7 +16,6 @@ pub mod Spans
 pub mod Sums
 pub mod Spreads
 pub mod Instances
-
 pub use Rattle.zf_enum.specs.Property.{due, due_of, greatest_place, HasTruth, place_named, property, told}
 pub use Rattle.zf_enum.specs.Uses.{is_among, is_component, uses, uses_of}
 pub use Rattle.zf_enum.specs.PropertyLaws.{follows_outcome, one_truth_in, uses_first}

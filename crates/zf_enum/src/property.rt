@@ -14,8 +14,7 @@ use std::alloc::{AllocError, Global};
 use zf_meaning::{Env, truth_of};
 use zf_plan::{Guide, Means};
 use zf_term::Resolved;
-use zf_value::value;
-use zf_value::Value;
+use zf_value::{Value, value};
 use zf_walk::{Judge, Range, Row, Truth};
 
 /// The conjuncts of a schema, in an environment.

@@ -7,7 +7,9 @@ ghost use Rattle.std.specs.Option.{option_or};
 use crate::offender::Offender;
 use zf_data::arena::{Boxed, Items};
 use zf_reference::Reference;
-use zf_term::{Entry, Extent, Globals, Infinite, Links, Part, Range, Resolved, ResolvedLink, Terms};
+use zf_term::{
+    Entry, Extent, Globals, Infinite, Links, Part, Range, Resolved, ResolvedLink, Terms,
+};
 use zf_tree::{Constant, Relation};
 
 /// The infinite set that the term is, within brackets or without.

@@ -8,8 +8,8 @@ ghost use Rattle.zf_families.specs.{fits_any, IsTupleFrom, sizes, whole};
 use crate::count;
 use crate::rows::{Fits, copied, set_of_tuples, whole_rows};
 use std::alloc::{AllocError, Global};
-use zf_value::{Items, Lent, Outcome, SET_MAX, Value};
 use zf_value::set::is_member;
+use zf_value::{Items, Lent, Outcome, SET_MAX, Value};
 
 /// `s_1 \cross s_2 \cross ..`, of sets.
 pub fn cross(alloc: Global, sets: &[Lent<'_>]) -> Result<Outcome, AllocError>

@@ -6,8 +6,8 @@ ghost use Rattle.zf_value.specs.{IsPower, IsSubset, members};
 use crate::count;
 use crate::rows::{Fits, set_of_sets, single_layers, some_rows};
 use std::alloc::{AllocError, Global};
-use zf_value::{Outcome, SET_MAX, Value};
 use zf_value::set::are_among;
+use zf_value::{Outcome, SET_MAX, Value};
 
 /// `\power a`, and `\finset a`.
 pub fn power(alloc: Global, a: &Value) -> Result<Outcome, AllocError>

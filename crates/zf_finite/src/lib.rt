@@ -5,5 +5,5 @@ mod finiteness;
 pub mod laws;
 mod not_finite;
 
-pub use not_finite::NotFinite;
 pub use finiteness::{bounds, finite, first_plain, is_bounded};
+pub use not_finite::NotFinite;

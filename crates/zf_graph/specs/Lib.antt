@@ -8,7 +8,6 @@ pub mod Seeking
 pub mod SeekingLaws
 pub mod Parts
 pub mod PartLaws
-
 pub use Rattle.zf_graph.specs.Edges.{Edge}
 pub use Rattle.zf_graph.specs.Graphs.{along, at_root, end_of, Follows, Graph, IsReachable, IsShortest, IsWay}
 pub use Rattle.zf_graph.specs.Explorations.{arrive, arrive_all, at_first, beyond, Explored, Explores, ExploresAll, ExploresUpTo, is_met, IsMet, Met, nodes_of, number_in, Turn, with_ends, with_node}

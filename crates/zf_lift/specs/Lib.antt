@@ -4,7 +4,6 @@ pub mod Needs
 pub mod Lifts
 pub mod Lists
 pub mod Gathering
-
 pub use Rattle.zf_lift.specs.Lifted.{AreEach, AreLifted, IsLifted, IsLonger}
 pub use Rattle.zf_lift.specs.Same.{AreSame, AreSameLinks, AreSameRanges, IsSame, IsSamePart}
 pub use Rattle.zf_lift.specs.Needs.{all_need, links_need, need, part_need, place, ranges_need}

@@ -36,7 +36,6 @@ at_map f (y ∷ xs) zero x e = let s : y ≡ x = (cc) in ap (λ z. Some (f z)) s
 at_map f (y ∷ xs) (suc i) x e = at_map f xs i x e
 
 module _ (f : Format) (ss : List Spelling) (ranges : List (List Value)) where
-
   -- one component more
   pub one_more_column : (cs : List Comp) (columns : List Column) (c : Comp) (column : Column) (n : ℕ) → length cs ≡ n → column.head ≡ head_of f n c → ((f : ℕ → List ℕ) → Keeps f column)
       → AreColumns f ss cs ranges columns → AreColumns f ss (cs ++ c ∷ []) ranges (columns ++ column ∷ [])

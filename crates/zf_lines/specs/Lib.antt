@@ -8,7 +8,6 @@ pub mod Searches
 pub mod Shown
 pub mod Ends
 pub mod LastLine
-
 pub use Rattle.zf_lines.specs.Counts.{device_of, failures_of}
 pub use Rattle.zf_lines.specs.CountViews.{count_after, is_failed_write}
 pub use Rattle.zf_lines.specs.Faults.{read_failures, write_failures}

@@ -8,8 +8,8 @@ ghost use Rattle.zf_value.specs.declared.plain.Value as value;
 use crate::style::Style;
 use std::alloc::{AllocError, Global};
 use zf_data::Text;
-use zf_term::Flat;
 use zf_print::append_name;
+use zf_term::Flat;
 
 /// How many bytes all that is kept of a search may take.
 const ROOM: usize = 2_097_152;

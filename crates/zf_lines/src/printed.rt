@@ -12,8 +12,8 @@ use crate::style::Style;
 use std::alloc::AllocError;
 use zf_enum::Located;
 use zf_format::Format;
-use zf_term::Flat;
 use zf_print::append_value;
+use zf_term::Flat;
 
 /// A part of a line: where its value stands in the range, and where the part ends.
 #[derive(Drop)]

@@ -7,8 +7,8 @@ use itoa::Buffer;
 use std::alloc::AllocError;
 use zf_format::Format;
 use zf_meaning::Row;
-use zf_term::Flat;
 use zf_print::{Spelling, append_row};
+use zf_term::Flat;
 
 /// Appends the line of a row. A refusal leaves a part of it.
 pub fn append_row_line<R: Row>(

@@ -16,9 +16,9 @@ use std::alloc::Global;
 use std::io::Write;
 use zf_lines::{Counted, RunFault};
 use zf_meaning::Env;
+use zf_print::Spelling;
 use zf_reach::Ending;
 use zf_steps::{Form, explore_flat};
-use zf_print::Spelling;
 
 /// The schemas of a machine in an environment, with how elements are spelled, and the form in which it is written.
 #[derive(Drop)]

@@ -9,9 +9,9 @@ ghost use Rattle.zf_term.specs.{schema_of};
 use crate::schemas::{Named, Schemas};
 use bumpalo::Bump;
 use std::alloc::{AllocError, Global};
+use zf_print::Spelling;
 use zf_steps::{Form, Operation, States, System, init_in, operation_in, test_in, with_strokes};
 use zf_term::Flat;
-use zf_print::Spelling;
 
 /// The machine that these schemas make, in whatever environment.
 pub fn machine_of<'s, 'p, 'a>(

@@ -19,7 +19,6 @@ pub mod Building
 pub mod Needs
 pub mod Early
 pub mod Counting
-
 pub use Rattle.zf_meaning.specs.Environments.{before, Context, definition_number, element, element_count, Environment, globally, IsTypeSet, outcome_in, type_number, within}
 pub use Rattle.zf_meaning.specs.NumberSets.{infinite_in, IsNumberSet, least, unended}
 pub use Rattle.zf_meaning.specs.Meaning.{AreLinked, Builds, constant_truth, HasOutcome, HaveOutcomes, HaveRanges, infinite_right, IsBuilt, IsBuiltBy, IsBuiltOver, IsConstantOutcome, IsConstraint, IsOutOfBounds, IsTruth, IsWithinBounds, row_value}

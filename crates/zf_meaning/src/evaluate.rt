@@ -26,8 +26,7 @@ use zf_outcome::Found;
 use zf_reference::Reference;
 use zf_term::{Infinite, Resolved};
 use zf_tree::Constant;
-use zf_value::{Form, Lent, Outcome, Truth, Value};
-use zf_value::set;
+use zf_value::{Form, Lent, Outcome, Truth, Value, set};
 
 /// The outcome of an expression.
 #[cycle(meaning)]

@@ -12,12 +12,12 @@ use itoa::Buffer;
 use std::alloc::{AllocError, Global};
 use zf_extent::Offender;
 use zf_finite::NotFinite;
-use zf_scan::{TextFault, TextFaultKind};
-use zf_scan::scan::SOURCE_MAX;
-use zf_sorts::{Offence, Sort, TypeFault};
-use zf_term::{Clash, Globals, Limit, ZType};
-use zf_term::type_text::append_type;
 use zf_parse::About;
+use zf_scan::scan::SOURCE_MAX;
+use zf_scan::{TextFault, TextFaultKind};
+use zf_sorts::{Offence, Sort, TypeFault};
+use zf_term::type_text::append_type;
+use zf_term::{Clash, Globals, Limit, ZType};
 use zf_tree::Constant;
 
 /// `    WORD: TEXT`. As for all that follow, a refusal leaves a part of it.

@@ -7,9 +7,9 @@ use crate::details::name_at;
 use bumpalo::Bump;
 use std::alloc::{AllocError, Global};
 use zf_finite::is_bounded;
+use zf_parse::read_spec;
 use zf_scan::TextFaultKind;
 use zf_term::{Component, Entry, Flat, Globals, component_of, global_of};
-use zf_parse::read_spec;
 use zf_tree::{Decl, Name, Paragraph, RefMark, SchemaExp, SchemaRef, ZBox};
 
 /// A component of a schema, by the places of both.

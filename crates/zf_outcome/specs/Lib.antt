@@ -7,7 +7,6 @@ pub mod Gathered
 pub mod Tallies
 pub mod Connected
 pub mod Arithmetic
-
 pub use Rattle.zf_outcome.specs.Outcomes.{OnBoth, one_more, one_out, one_undefined, OnOne, OnSeveral, repeated, Several, values}
 pub use Rattle.zf_outcome.specs.Truths.{HasTwo, IsAtom, IsConjunction, IsConnected, IsDisjunction, IsEquivalence, IsExists, IsExistsOne, IsForAll, IsLink, IsOver, IsQuantified, IsTest, IsTold, opposite, Tells}
 pub use Rattle.zf_outcome.specs.Symbols.{ArrowOutcome, BinaryOutcome, Compares, Holds, HoldsOf, InfixOutcome, IsIn, ListedOutcome, PrefixOutcome, SignOutcome, UnaryOutcome}

@@ -12,11 +12,15 @@ use crate::gathered::{Gathered, Lack};
 use crate::relation::atom;
 use std::alloc::{AllocError, Global};
 use zf_families::cross::{is_cross_out, is_in_cross};
-use zf_families::{are_partial_functions_out, are_partial_injections_out, are_relations_out, are_total_functions_out, are_total_injections_out, is_partial_function, is_partial_injection, is_relation, is_total_function, is_total_injection};
 use zf_families::power::{is_in_power, is_power_out};
+use zf_families::{
+    are_partial_functions_out, are_partial_injections_out, are_relations_out,
+    are_total_functions_out, are_total_injections_out, is_partial_function, is_partial_injection,
+    is_relation, is_total_function, is_total_injection,
+};
 use zf_tree::{Arrow, Relation};
-use zf_value::{Lent, Outcome, Truth, Value, is_in_interval, is_interval_out};
 use zf_value::set::is_member;
+use zf_value::{Lent, Outcome, Truth, Value, is_in_interval, is_interval_out};
 
 /// What an expression comes to; a set is described by what it is made of where it need not be built.
 #[derive(Drop)]

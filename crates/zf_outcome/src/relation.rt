@@ -8,8 +8,8 @@ ghost use Rattle.zf_outcome.specs.{AreOrdered, Compares, found_outcome, Holds, H
 use crate::found::Found;
 use zf_term::Infinite;
 use zf_tree::Relation;
-use zf_value::{Form, Truth, Value, relates};
 use zf_value::set::{are_among, is_member};
+use zf_value::{Form, Truth, Value, relates};
 
 /// The truth of a link between two outcomes, where the right one may be an infinite set instead.
 pub fn link(infinite: Option<Infinite>, relation: Relation, x: &Found<'_>, y: &Found<'_>) -> Truth

@@ -7,11 +7,17 @@ use crate::found::Found;
 use crate::gathered::{Gathered, Lack};
 use std::alloc::{AllocError, Global};
 use zf_families::cross::cross;
-use zf_families::{partial_functions, partial_injections, relations, total_functions, total_injections};
 use zf_families::power::power;
+use zf_families::{
+    partial_functions, partial_injections, relations, total_functions, total_injections,
+};
 use zf_tree::{Arrow, Infix, Listed, Operator, Prefix, Sign, Unary};
-use zf_value::{Lent, Outcome, Value, applied, composition, difference, domain, domain_restriction, domain_subtraction, image, interval, inverse, modulus, negation, overriding, product, quotient, range, range_restriction, range_subtraction, sum};
 use zf_value::set::{display, intersection, pair, set_difference, size, tuple, union};
+use zf_value::{
+    Lent, Outcome, Value, applied, composition, difference, domain, domain_restriction,
+    domain_subtraction, image, interval, inverse, modulus, negation, overriding, product, quotient,
+    range, range_restriction, range_subtraction, sum,
+};
 
 /// A symbol between two outcomes.
 pub fn on_both(

@@ -9,7 +9,6 @@ pub mod TermReading
 pub mod BoxReading
 pub mod BoxByBox
 pub mod Nests
-
 pub use Rattle.zf_parse.specs.Levels.{AreAt, AreEnough, AreTwo, atom_level, BoxIsLevelled, chain_level, DeclIsLevelled, DeclsAreLevelled, expression_level, infix_level, IsAt, IsLevelled, left_place, level, LinksAreLevelled, listed_level, member_place, negation_level, operator_level, ParagraphIsLevelled, PartIsAt, postfix_level, priority, product_level, quantifier_level, right_place, schema_level, SchemaIsLevelled, sign_level, unary_level}
 pub use Rattle.zf_parse.specs.Height.{box_height, decl_height, decls_height, height_limit, highest, links_height, most, paragraph_height, perhaps_height, schema_height, tree_height, trees_height}
 pub use Rattle.zf_parse.specs.Spelling.{After, Before, Behind, Between, Closes, IsFirstLine, IsOn, Next, Opens, PartedBy, parting, sign_kind, Spells, SpellsBox, SpellsBoxes, SpellsDecl, SpellsDecls, SpellsFurther, SpellsItems, SpellsLinks, SpellsMarked, SpellsName, SpellsNames, SpellsParagraph, SpellsPart, SpellsPredicates, SpellsRef, SpellsSchema, Starts}

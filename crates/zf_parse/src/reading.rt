@@ -15,8 +15,10 @@ use bumpalo::Bump;
 use bumpalo::collections::into_bump_slice;
 use std::alloc::Global;
 use zf_data::Items;
-use zf_scan::{Border, Laid, Placed, TextFault, TextFaultKind, Token, lay_out, refused_at, refused_place};
 use zf_scan::scan::{cut_rest, next_box};
+use zf_scan::{
+    Border, Laid, Placed, TextFault, TextFaultKind, Token, lay_out, refused_at, refused_place,
+};
 use zf_tree::{Spec, ZBox};
 
 /// Whether a separator before these symbols is dropped.

@@ -3,7 +3,10 @@ use std::alloc::Global;
 use std::fmt::Display;
 use std::{fmt, io};
 use zf_data::arena::Boxed;
-use zf_tree::{Decl, Link, Listed, Name, Operator, Paragraph, Part, SchemaExp, SchemaRef, Sign, Spec, Term, Unary, VarDecl, ZBox};
+use zf_tree::{
+    Decl, Link, Listed, Name, Operator, Paragraph, Part, SchemaExp, SchemaRef, Sign, Spec, Term,
+    Unary, VarDecl, ZBox,
+};
 
 /// The text of the boxes; with lines, that of each name and term stands after it and `@`.
 pub fn printed(alloc: Global, spec: &Spec<'_>, has_lines: bool) -> io::Result<String> {

@@ -25,8 +25,8 @@ use bumpalo::Bump;
 use std::alloc::{AllocError, Global};
 use std::io;
 use std::io::ErrorKind;
-use zf_scan::TextFault;
 use zf_parse::read_spec;
+use zf_scan::TextFault;
 use zf_tree::Spec;
 
 /// What came of rows.

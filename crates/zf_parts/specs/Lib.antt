@@ -5,7 +5,6 @@ pub mod Laws
 pub mod Collected
 pub mod Numbers
 pub mod PartRows
-
 pub use Rattle.zf_parts.specs.Parts.{AreParts, HasParts, IsFirstWith, Part}
 pub use Rattle.zf_parts.specs.Written.{AllHold, ArePartsWritten, breaks, ends, part_lines, part_wording, pauses}
 pub use Rattle.zf_parts.specs.Shown.{FindsParts, StopsParts, WritesParts}

@@ -16,8 +16,8 @@ use crate::last::{write_last, write_out};
 use std::alloc::{AllocError, Global};
 use std::io::Write;
 use zf_enum::{Passing, Search};
-use zf_lines::{Counted, Printed, RunFault, Status, Style, is_spent, one_less};
 use zf_lines::show::write_row;
+use zf_lines::{Counted, Printed, RunFault, Status, Style, is_spent, one_less};
 use zf_places::values_at;
 use zf_walk::Step;
 

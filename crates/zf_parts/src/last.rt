@@ -8,7 +8,10 @@ ghost use Rattle.zf_term.specs.{schema_of};
 use std::alloc::AllocError;
 use std::io::Write;
 use zf_format::Format;
-use zf_lines::{Counted, RunFault, Status, Style, append_end_line, append_more_line, append_out_line, write_text};
+use zf_lines::{
+    Counted, RunFault, Status, Style, append_end_line, append_more_line, append_out_line,
+    write_text,
+};
 use zf_meaning::Row;
 use zf_term::Flat;
 

@@ -12,8 +12,8 @@ use crate::meeting::Met;
 use crate::part_row::PartRow;
 use std::io::Write;
 use zf_enum::Ranged;
-use zf_lines::{Counted, Printed, RunFault, Status, Style, is_spent, one_less};
 use zf_lines::show::write_row;
+use zf_lines::{Counted, Printed, RunFault, Status, Style, is_spent, one_less};
 use zf_term::Flat;
 use zf_value::{Items, Value};
 

@@ -119,7 +119,6 @@ module _ {V : Type 0} (l : Conjuncts V) (trees : List Tree) (ranges : List (List
 -- ---- marks
 
 module _ {V : Type 0} (l : Conjuncts V) (trees : List Tree) (ranges : List (List V)) where
-
   -- all values, which are always a choice
   pub kept-all : (stamps places : List ℕ) (k : ℕ) (choice other : Option (List ℕ)) (mark : Mark) → (is_still stamps mark ≡ true → other ≡ None)
       → IsKept l trees ranges stamps places k choice mark → IsKept l trees ranges stamps places k other mark

@@ -19,7 +19,6 @@ pub mod Exchanges
 pub mod Counts
 pub mod Searches
 pub mod Walks
-
 pub use Rattle.zf_plan.specs.Trees.{both, due_of, EachLeaf, either, HasLeavesWithin, HaveLeavesWithin, IsFlat, IsOfBoth, IsOfEither, IsTreeTruth, leaf, negated, opposite, planted, Tree, tree_at}
 unfoldable pub use Rattle.zf_plan.specs.Groves.{trees_made}
 pub use Rattle.zf_plan.specs.Groves.{Grove, Grows, IsGrown, IsOver, IsPart, Takes, tree_of, trees_of, trees_onto}

@@ -10,7 +10,6 @@ pub mod HeldLaws
 pub mod Laws
 pub mod Readings
 pub mod Steps
-
 pub use Rattle.zf_print.specs.Spellings.{element_text, spelled, spellings, with_spelling}
 unfoldable pub use Rattle.zf_print.specs.ValueTexts.{value_in}
 pub use Rattle.zf_print.specs.ValueTexts.{element_in, later_parts, parted, set_in, tuple_in, value_object, value_step, value_text}

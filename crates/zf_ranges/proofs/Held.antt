@@ -6,7 +6,6 @@ pub ascending_alone : (w : Value) (ys : List Value) → ys ≡ w ∷ [] → IsAs
 ascending_alone w ys is = subst IsAscending (sym is) (tt, tt)
 
 module _ (e : Environment) (ds : DeclaredSets) where
-
   -- this one is held, and is a member of the declared sets or not
   pub of_one : (w : Value) (ys xs : List Value) → ys ≡ w ∷ [] → NarrowsAll e ds ys xs → IsAllWith e ds (Some w) xs
   of_one w ys xs is h =

@@ -4,7 +4,6 @@ pub mod StartFaults
 pub mod Parts
 pub mod Components
 pub mod OfTypes
-
 pub use Rattle.zf_ranges.specs.DeclaredSets.{has_endless, IsCarrierOut, IsInCarrier, IsInOne, IsInPlain, IsInSet, IsInSets, IsOneOut, IsPlainOut, IsSetOut}
 pub use Rattle.zf_ranges.specs.Ranges.{AreRanges, first_held, IsComponentRange, IsFirstOut, IsHeld, IsNoneOut, IsOutAt, later_held}
 pub use Rattle.zf_ranges.specs.StartFaults.{RefusesStart}

@@ -39,7 +39,6 @@ module _ {L : Type 0} (trail : List (Arrival L)) (target : ℕ) where
       (let l = ap (λ xs. length xs) (sym is ∙ split) in let k = length-append more (last ∷ []) in omega (arith, l, k))
 
 module _ {N L : Type 0} (p : Explored N L) (w : Words N L) (nodes : List N) (trail : List (Arrival L)) where
-
   -- with the lines of the next node
   pub way_further : (number from : ℕ) (arrival : Arrival L) → 0 < number → slice_get trail (number - 1) ≡ Some arrival → arrival.from ≡ from
       → (first old new : List ℕ) → SaysWay p w nodes trail from first old → SaysStep w nodes trail number old new

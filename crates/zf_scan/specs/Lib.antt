@@ -9,7 +9,6 @@ pub mod Placing
 pub mod Laying
 pub mod Choosing
 pub mod Boxes
-
 unfoldable pub use Rattle.zf_scan.specs.Pieces.{openings, symbols}
 pub use Rattle.zf_scan.specs.Pieces.{comment, digits, escape, fixed, informal, InsideKind, is_base, is_directive, is_letter, is_number, is_one, is_run, is_two, IsCommand, IsComment, look_up, name, number_max, number_piece, opening, OutsideKind, remark, schema_opening, SpellsInside, SpellsOutside, turn, unknown, value}
 pub use Rattle.zf_scan.specs.Cuts.{entered, Fails, HasFault, IsCutInto, IsRead, IsStuck, newlines, past, reported_line, Spot, spot_line, Stands, StandsInside, StandsOutside, start, tokens_from, tokens_of}

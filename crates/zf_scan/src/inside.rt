@@ -7,7 +7,7 @@ ghost use Rattle.zf_scan.specs.Steps as steps;
 use crate::fault::TextFaultKind;
 use crate::next::Next;
 use crate::pieces::{
-    Match, Region, Run, Lexeme, after, begins, front, is_digit, is_letter, run_len, step,
+    Lexeme, Match, Region, Run, after, begins, front, is_digit, is_letter, run_len, step,
 };
 use crate::signs::symbol_at;
 use crate::symbols::fixed;

@@ -6,7 +6,7 @@ ghost use Rattle.zf_scan.specs.Steps as steps;
 use crate::fault::TextFaultKind;
 use crate::inside::{base_len, comment_at};
 use crate::next::Next;
-use crate::pieces::{Match, Lexeme, after, begins, front};
+use crate::pieces::{Lexeme, Match, after, begins, front};
 use crate::symbols::fixed;
 
 /// The piece at the front of a text outside the boxes.

@@ -12,7 +12,7 @@ use crate::fault::{TextFault, TextFaultKind};
 use crate::inside::inside_at;
 use crate::next::Next;
 use crate::outside::outside_at;
-use crate::pieces::{Match, Region, Lexeme, after, front};
+use crate::pieces::{Lexeme, Match, Region, after, front};
 use crate::placed::Placed;
 use crate::token::Token;
 use std::alloc::{AllocError, Global};
@@ -65,7 +65,11 @@ pub fn next_box(
             start += 1;
             continue;
         }
-        let Match { lexeme, amount, len } = piece_at(place, rest);
+        let Match {
+            lexeme,
+            amount,
+            len,
+        } = piece_at(place, rest);
         match lexeme {
             Lexeme::Plain => line += newlines(front(rest, len)),
             Lexeme::Symbol(next) => {

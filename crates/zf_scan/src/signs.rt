@@ -5,7 +5,7 @@ ghost use Rattle.zf_scan.specs.Steps as steps;
 
 use crate::fault::TextFaultKind;
 use crate::next::Next;
-use crate::pieces::{Match, Lexeme, begins, front};
+use crate::pieces::{Lexeme, Match, begins, front};
 use crate::symbols::fixed;
 use zf_tree::{Infix, Relation};
 

@@ -3,7 +3,6 @@ pub mod SchemaOffences
 pub mod Checking
 pub mod SchemaLaws
 pub mod Refusing
-
 pub use Rattle.zf_schema.specs.Expressions.{AddsAll, Constrains, ConstrainsOne, Declares, DeclaresOne, inside, IsSchema, IsText, outside, Refers, TakesAll}
 pub use Rattle.zf_schema.specs.SchemaOffences.{AnyByRecursion, CantRefer, IsNoSchema, name_line, OffendsAfter, OffendsAlone, OffendsConjuncts, OffendsDecls, OffendsNames, OffendsPredicates, OffendsRef, OffendsSchema, OffendsText, OneConstrainsTooMuch, OneOffendsAfter, StopsEither}
 pub use Rattle.zf_schema.specs.Checking.{a_box, a_paragraph, abbreviated, ChecksAll, ChecksOne, Constructs, Defines, DefinesParagraph, Gives, IsChecked, IsNew, IsTaken, Item, items, items_in, next_number, OffendsConstructors, OffendsGiven, OffendsItem, OffendsParagraph, with_global}

@@ -7,6 +7,6 @@ mod reference;
 mod stop;
 mod text;
 
-pub use paragraph::{define, define_box};
 pub use expression::schema_of_expression;
+pub use paragraph::{define, define_box};
 pub use text::text_of;

@@ -18,8 +18,8 @@ use zf_extent::extent_of;
 use zf_sorts::{Offence, Refusal, refused};
 use zf_term::{Entry, Globals};
 use zf_tree::{Decl, Name, Need, Paragraph, SchemaExp, Term};
-use zf_typing::judge::judge;
 use zf_typing::Judged;
+use zf_typing::judge::judge;
 
 /// Defines what the paragraph does, or leaves the globals as they were. Keeps the number of the next given set or free type.
 pub fn define<'a>(

@@ -20,8 +20,8 @@ use zf_data::arena::{Boxed, Chunked, Items, Lasting, Shared};
 use zf_sorts::Refusal;
 use zf_term::{Component, Conjunct, Domain, Globals, Measured, Resolved, ZType};
 use zf_tree::{Decl, Name, Need, SchemaRef, Term};
-use zf_typing::{Judged, Locals, Scope, push_conjuncts};
 use zf_typing::judge::judge;
+use zf_typing::{Judged, Locals, Scope, push_conjuncts};
 
 /// The schema of these declarations, and then of these predicates over them.
 pub fn text_of<'a>(

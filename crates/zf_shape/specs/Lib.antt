@@ -1,3 +1,2 @@
 pub mod Joined
-
 pub use Rattle.zf_shape.specs.Joined.{AreLow}

@@ -1,5 +1,7 @@
 //! How the symbols of terms are spelled in the markup.
-use zf_tree::{Arrow, Connective, Constant, Infix, Listed, Operator, Prefix, Quantifier, Relation, Sign, Unary};
+use zf_tree::{
+    Arrow, Connective, Constant, Infix, Listed, Operator, Prefix, Quantifier, Relation, Sign, Unary,
+};
 
 fn infix(op: Infix) -> &'static [u8] {
     match op {

@@ -8,8 +8,8 @@ use std::alloc::AllocError;
 use std::marker::Brand;
 use zf_format::Format;
 use zf_meaning::Row;
-use zf_term::Flat;
 use zf_print::{Spelling, append_row};
+use zf_term::Flat;
 
 /// What an environment means, in proofs alone: at `Brand` a caller picks it.
 pub trait Surrounding {

@@ -7,8 +7,8 @@ ghost use Rattle.zf_print.specs.{component_text};
 use std::alloc::AllocError;
 use zf_format::Format;
 use zf_meaning::Row;
-use zf_term::{Component, Flat};
 use zf_print::{Spelling, append_name, append_value};
+use zf_term::{Component, Flat};
 use zf_value::Value;
 
 /// Appends each component of a row on a line of its own. A refusal leaves a part of it.

@@ -20,7 +20,6 @@ pub mod FirstNamed
 pub mod Likeness
 pub mod FoundViews
 pub mod TermLaws
-
 pub use Rattle.zf_term.specs.Types.{basic, has_numbers, have_numbers, int, IsSmall, no_types, nodes_of_all, pair_type, power, product, Ty, type, type_nodes, type_nodes_max, types, Tys}
 unfoldable pub use Rattle.zf_term.specs.TypeViews.{type_of}
 pub use Rattle.zf_term.specs.TypeViews.{type_step}

@@ -3,7 +3,6 @@ pub mod NameViews
 pub mod Trees
 pub mod TreeViews
 pub mod Operators
-
 pub use Rattle.zf_tree.specs.Names.{spelling}
 pub use Rattle.zf_tree.specs.NameViews.{Ident, ident_of, is_bare, name_at}
 pub use Rattle.zf_tree.specs.Trees.{abbreviation, absent, binary, both, BoxTree, bracket, comprehension, chain, constant, DeclTree, definition, either, empty_set, free, given, include, line_of, link, Links, listed, named, no_decls, no_links, no_trees, numeral, ParagraphTree, Perhaps, present, quantified, schema_box, schema_bracket, schema_reference, schema_text, SchemaTree, Tree, tree, unary, var_decl, VarDecls, vars, zed}

@@ -9,4 +9,7 @@ mod tree;
 pub use ends::{back, front};
 pub use operator::{Listed, Need, Operator, Rule, Sign, Unary, relation_rule};
 pub use symbol::{Arrow, Connective, Constant, Infix, Prefix, Quantifier, Relation};
-pub use tree::{Decl, Ident, Link, Name, Paragraph, Part, RefMark, SchemaExp, SchemaRef, Spec, Term, Terms, VarDecl, ZBox};
+pub use tree::{
+    Decl, Ident, Link, Name, Paragraph, Part, RefMark, SchemaExp, SchemaRef, Spec, Term, Terms,
+    VarDecl, ZBox,
+};

@@ -19,7 +19,6 @@ module _ {X : Type 0} (f : X → Var) (x : List ℕ) where
   none_in_many (y ∷ few) many e = rw (sym (none_in_many few many e)) refl
 
 module _ {A : Type 0} where
-
   abbrev pub BeginsWith : List A → List A → Type 0
   BeginsWith old now = (xs : List A) × (now ≡ old ++ xs)
 

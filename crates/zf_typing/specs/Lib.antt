@@ -6,7 +6,6 @@ pub mod Resolving
 pub mod Offences
 pub mod Laws
 pub mod Judging
-
 unfoldable pub use Rattle.zf_typing.specs.Buckets.{AreHeads, bucket, IsIndexed}
 pub use Rattle.zf_typing.specs.Buckets.{before, bucket_from, last_in}
 pub use Rattle.zf_typing.specs.Scopes.{component_meaning, definition_sort, global_meaning, global_sort, last_named, meaning, Scope, Var, variable_meaning, with_variables}

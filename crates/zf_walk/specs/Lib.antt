@@ -12,7 +12,6 @@ pub mod Picked
 pub mod Order
 pub mod Seen
 pub mod Tables
-
 pub use Rattle.zf_walk.specs.Conjuncts.{IsTruthOf}
 pub use Rattle.zf_walk.specs.ConjunctLaws.{FollowUsed, HaveOneTruth, KeepTruths}
 pub use Rattle.zf_walk.specs.Rows.{ComesAfter, IsFrontOf, IsLater, IsRowOf}

@@ -9,7 +9,6 @@ pub mod Searching
 pub mod Besides
 pub mod Unheld
 pub mod HeldRows
-
 pub use Rattle.zf_why.specs.Rows.{HasRow, IsAllowed, IsHeldRow, IsInHeldRange, RuleOut}
 pub use Rattle.zf_why.specs.Cores.{AreAlone, AreEmpty, ArePicked, HasNoValue, HasValue, IsCore}
 unfoldable pub use Rattle.zf_why.specs.Disjunctions.{is_disjunction}

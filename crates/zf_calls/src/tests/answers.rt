@@ -3,10 +3,10 @@ use bumpalo::Bump;
 use std::test::Fail;
 use zf_checker::check_spec;
 use zf_checker::listing::listing;
+use zf_parse::parse;
 use zf_scan::scan::scan;
 use zf_term::Entry;
 use zf_term::type_text::type_text;
-use zf_parse::parse;
 
 const SOURCE: &str = r"\begin{zed}
 [NAME]; X == \num \cross NAME

@@ -3,10 +3,10 @@ use crate::tests::holds::holds;
 use bumpalo::Bump;
 use std::test::Fail;
 use zf_checker::check_spec;
+use zf_parse::read_spec;
 use zf_reference::Reference;
 use zf_resolved::conjunct::resolved;
 use zf_term::{Conjunct, Globals, Resolved};
-use zf_parse::read_spec;
 
 /// A bound variable that has the decorated name of a component.
 const CAPTURES: &str = r"\begin{schema}{S}

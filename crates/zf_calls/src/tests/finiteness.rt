@@ -6,8 +6,8 @@ use std::test::Fail;
 use zf_checker::check_spec;
 use zf_extent::direct;
 use zf_finite::finite;
-use zf_term::{Entry, Globals, Infinite};
 use zf_parse::read_spec;
+use zf_term::{Entry, Globals, Infinite};
 
 /// What stands before the schema: direct infinite sets, an open name and two closed ones.
 const BEFORE: &str = r"\begin{zed}

@@ -14,9 +14,9 @@ use zf_data::Text;
 use zf_enum::{Bindings, Instances, Search};
 use zf_finite::finite;
 use zf_meaning::{Env, Size};
+use zf_parse::read_spec;
 use zf_ranges::StartFault;
 use zf_term::Globals;
-use zf_parse::read_spec;
 use zf_walk::Step;
 
 const SOURCE: &str = r"\begin{zed}

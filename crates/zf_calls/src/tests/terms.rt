@@ -6,9 +6,9 @@ use std::test::Fail;
 use zf_checker::check_spec;
 use zf_data::Text;
 use zf_meaning::{Env, Size, carrier_of, truth_of, value_of};
+use zf_parse::read_spec;
 use zf_resolved::conjunct::resolved;
 use zf_term::{Conjunct, Entry, Globals, Resolved};
-use zf_parse::read_spec;
 use zf_value::{Form, Outcome, Truth, Value};
 
 const SOURCE: &str = r"\begin{zed}

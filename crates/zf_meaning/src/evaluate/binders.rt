@@ -23,8 +23,7 @@ use std::alloc::{AllocError, Global};
 use zf_outcome::connected::{connected, connective_of, decided};
 use zf_outcome::{Found, Lack, Tally};
 use zf_term::{Part, Resolved};
-use zf_value::{Form, Items, Outcome, Truth, Value};
-use zf_value::set;
+use zf_value::{Form, Items, Outcome, Truth, Value, set};
 
 /// A quantified predicate.
 #[cycle(meaning)]

@@ -18,7 +18,9 @@ use crate::env::Env;
 use crate::number_set::described_numbers;
 use crate::row::Row;
 use std::alloc::AllocError;
-use zf_outcome::{Described, Found, interval_between, on_both, on_one, on_several, power_of, product_of};
+use zf_outcome::{
+    Described, Found, interval_between, on_both, on_one, on_several, power_of, product_of,
+};
 use zf_term::{Infinite, Resolved};
 use zf_tree::{Constant, Infix, Listed, Operator, Prefix, Sign, Unary};
 use zf_value::Value;
