@@ -27,8 +27,6 @@ module _ {V : Type 0} (cmp : V → V → Ordering) (s : Conjuncts V) (ranges : L
     covered = λ e i. inr (all e i);
   }
 
-  }
-
   long : (e f : Event V) → IsEvent cmp s ranges after e → IsEvent cmp s ranges after f → length f.row ≡ length e.row
   long e f i j = IsRowOf-length ranges f.row j.within ∙ sym (IsRowOf-length ranges e.row i.within)
 

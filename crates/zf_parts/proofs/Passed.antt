@@ -120,8 +120,6 @@ pub record Meeting (places : List ℕ) (after : Option (List Value)) (a : Schema
   pub same : SameRanges b c
 
 module _ (places : List ℕ) (after : Option (List Value)) (a : Schema) (g : Goal) (b : Stage Value) (start : IsAtStart a g b) where
-  }
-
   module _ (now : Goal) (c : Stage Value) (m : Met) (h : Meeting places after a g b now c m) (d : Stage Value) where
     by_goal : (step : Step) → Advances value_order (conjuncts_of now) step c d → Advances value_order (conjuncts_of g) step c d
     by_goal step answer = subst (λ (f : Goal). Advances value_order (conjuncts_of f) step c d) h.goal answer

@@ -11,7 +11,7 @@ use Rattle.zf_lines.specs.{AppendsFront, HasLimit, Wording}
 use Rattle.zf_meaning.specs.{Environment}
 use Rattle.zf_term.specs.{Comp, Schema}
 use Rattle.zf_print.specs.declared.spelling.Spelling.{Spelling}
-use Rattle.zf_walk.specs.{ended, IsAhead, IsEvent, SameRanges, Stage}
+use Rattle.zf_walk.specs.{ended, IsAhead, IsEvent, Stage}
 use Rattle.zf_parts.specs.declared.meeting.Met.{Met}
 use Rattle.zf_parts.specs.{AreAllMarked, AreFree, end_status, end_text, FindsParts, is_marked, IsEndOf, IsFirstOf, IsNumber, part_wording, ranges_at, StopsParts, total, WritesParts}
 use Rattle.zf_parts.proofs.Numbering.{ascending_all, in_order, number_below, one_number, one_row, some_number}
@@ -253,11 +253,3 @@ module _ (w : Wording Value) (limit : Option ℕ) (e : Environment) (a : Schema)
 
       pub stops_by : (later : Option (List ℕ)) (text : List ℕ) → text ≡ end_of w m.out → AppendsFront new later text → StopsParts w limit e a b places after old later
       stops_by later text same front = stops_there later (subst (AppendsFront new later) same front)
-
--- ---- another stage of the same search
-
-module _ (e : Environment) (a : Schema) (b c : Stage Value) (same : SameRanges b c) (places : List ℕ) (after : Option (List Value)) where
-
-  }
-
-  module _ (w : Wording Value) (limit : Option ℕ) where

@@ -19,8 +19,6 @@ module _ (ranges : List (List Value)) (places : List ℕ) where
     pub some : 0 < count
     pub few : count ≤ 134217728
 
-  module _ (i j : ℕ) (next : i ≡ j + 1) where
-
   pub weighed : (i : ℕ) (w : Weights) → i ≡ 0 → Weighing i w.each.items w.count → AreWeights ranges places w
   weighed i w none h =
       let all : Weighing 0 w.each.items w.count = subst (λ k. Weighing k w.each.items w.count) none h in

@@ -33,16 +33,10 @@ module _ (m : System) (eq : Node → Node → Bool) where
     first = λ x y i f c. absurd (Contains-nil x i);
   }
 
-  )
-
 -- ---- the searches fit
 
 module _ {S : Type 0} (IsFor : S → Environment → Schema
     → Type 0) (m : System) (state init : S) (operations : List S) (part : Part) (h : Fits IsFor m state init operations part) where
-  }
-
-  }
-
   pub fits_operation : (place : ℕ) (old s : S) (now : Part) → HasPart m now → slice_get operations place ≡ Some old
       → ((e : Environment) (a : Schema) → IsFor old e a → IsFor s e a)
       → Fits IsFor m state init (slice_set operations place s) now

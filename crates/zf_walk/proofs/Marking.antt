@@ -9,7 +9,6 @@ use Rattle.std.proofs.lemmas.Nat.{div-add-mod'}
 use Rattle.std.proofs.lemmas.Nat.Bits.{bit_at-lt, bit_at-zero, bit_at_and, bit_at_or}
 use Rattle.zf_walk.proofs.Numbering.{digit_small, next_digit, one_digit}
 use Rattle.zf_walk.specs.{HasBit, IsMarked, IsSeen, unseen}
-use Rattle.zf_walk.specs.declared.seen.Seen.{Seen}
 
 pub unseen-nothing : (i : ℕ) (t : Truth) → IsSeen unseen i t → ⊥
 unseen-nothing i False m = let z = bit_at-zero i in omega (arith, z, m)
@@ -23,11 +22,6 @@ unmarked-new t n u none m = unseen-nothing (n % t.width) u (subst (λ ss. IsSeen
 -- numbers with the same digits are the same
 one_number : (n m w : ℕ) → n / w ≡ m / w → n % w ≡ m % w → n ≡ m
 one_number n m w a b = sym (div-add-mod' n w) ∙ ap (λ d. d * w + n % w) a ∙ ap (λ r. m / w * w + r) b ∙ div-add-mod' m w
-
--- what is marked where one truth more is
-module _ (old seen : List Seen) (new : Seen) (number w : ℕ) (truth : Truth) (same : (k : ℕ) → get_or seen k unseen ≡ get_or old k unseen) (there : number / w < length seen)
-    (with-it : (i : ℕ) (t : Truth) → IsSeen new i t → IsSeen (get_or seen (number / w) unseen) i t ⊎ ((i ≡ number % w) × (t ≡ truth))) where
-  ]
 
 -- ---- several conjuncts
 
