@@ -1,7 +1,7 @@
 -- What the rows of functions and injections are, and how many there are.
 use Rattle.zf_families.proofs.Prelude.{◌+◌, ◌<◌, ◌^◌, ◌∙◌, ◌∷◌, ◌≡◌, ◌≤◌, [], ap, arith, get_or, length, List, ltb, map, min, refl, Result, suc, sym, ℕ, length-map, IfOk, AllocError, IsFunctional, IsRelationThat, IsTotal, pair, ArePartialFunctions, AreTotalFunctions, IsAscending, SET_MAX, SetOf, Value, Outcome, Is, Out, AreSets, fits_any, pairs, some, whole}
 use Rattle.zf_families.proofs.Told.{TellsOut, are_sets, out_by_size, built_result}
-use Rattle.zf_families.proofs.Relations.{relation_ascends}
+use Rattle.zf_families.proofs.RelationSets.{relation_ascends}
 use Rattle.zf_families.proofs.Counts.{length_some, length_whole, sizes_same}
 use Rattle.zf_families.proofs.Functions.{partial_told, total_told}
 use Rattle.zf_families.proofs.FunctionLaws.{functions}

@@ -1,7 +1,7 @@
 -- What the rows of injections are, and how many there are.
 use Rattle.zf_families.proofs.Prelude.{◌*◌, ◌++◌, ◌+◌, ◌-◌, ◌<◌, ◌∙◌, ◌∷◌, ◌≡◌, ◌≤◌, [], ap, arith, false, get_or, length, List, ltb, map, min, refl, Result, suc, sym, zero, ℕ, nil_from_length, filter, IfOk, AllocError, IsFunctional, IsInjective, IsRelationThat, IsTotal, pair, ArePartialInjections, AreTotalInjections, IsAscending, SET_MAX, SetOf, Value, Outcome, Is, Out, falling, partial_injection_count, AreSets, fits_apart, pairs, some, whole}
 use Rattle.zf_families.proofs.Told.{TellsOut, are_sets, Tells, out_by_size, built_result}
-use Rattle.zf_families.proofs.Relations.{relation_ascends}
+use Rattle.zf_families.proofs.RelationSets.{relation_ascends}
 use Rattle.zf_families.proofs.InjectionCounts.{length_injections, length_partial_injections, filter_map_none, seconds, other_itself}
 use Rattle.zf_families.proofs.Functions.{partial_told, total_told}
 use Rattle.zf_families.proofs.FunctionLaws.{injections}

@@ -10,7 +10,7 @@ pub mod Functions
 pub mod FunctionLaws
 pub mod Families
 pub mod Counts
-pub mod Relations
+pub mod RelationSets
 pub mod Tested
 pub mod Belonging
 pub mod InjectionCounts

@@ -1,6 +1,6 @@
 use Rattle.zf_families.proofs.Prelude.{ltb, AreRelations, members, SET_MAX}
 use Rattle.zf_families.proofs.Told.{TellsOut}
-use Rattle.zf_families.proofs.Relations.{relations_out}
+use Rattle.zf_families.proofs.RelationSets.{relations_out}
 use Rattle.zf_families.proofs.function.are_relations_out.Goals as goal
 
 pub returns : goal.returns

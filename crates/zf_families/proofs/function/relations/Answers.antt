@@ -1,5 +1,5 @@
 use Rattle.zf_families.proofs.Prelude.{◌∷◌, ◌≡◌, [], subst, iff_false, IsAscending, members, fits_any, singles, some}
-use Rattle.zf_families.proofs.Relations.{product_of, relations_built, relations_sets}
+use Rattle.zf_families.proofs.RelationSets.{product_of, relations_built, relations_sets}
 use Rattle.zf_families.proofs.function.relations.Goals as goal
 
 pub set_of_sets-requires : goal.set_of_sets-requires
