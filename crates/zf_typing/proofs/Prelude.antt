@@ -28,7 +28,8 @@ pub use Rattle.zf_term.specs.{Comp, comp_of, conjuncts, Defined, entry_of, first
 pub use Rattle.std.specs.Option.{option_or}
 pub use Rattle.zf_term.specs.declared.fault.Limit.TheVariants.{TypeNodes}
 pub use Rattle.zf_term.specs.declared.ztype.ZType.{ZType}
-pub use Rattle.zf_typing.specs.{AreAll, AreApart, AreMembers, AreNew, AreRepeated, before, bound, bucket_from, BuildsTooLarge, Clash, component_meaning, DeclarationsOffend, Declare, declared, Differ, DiffersAt, Disagree, global_meaning, global_sort, HasMemberType, is_conjunction, IsApart, IsBound, IsJudged, IsOf, IsOther, IsPart, IsRepeated, last_in, last_named, LinksAreTyped, LinksOffend, ListedTooLarge, Makes, MakesTooLarge, MakeTooLarge, meaning, meant, member_need, member_sort, Misplaced, Offends, OneDiffers, OneOffends, PartIsPredicate, PartOffends, referent, Repeats, resolved, resolved_all, resolved_links, resolved_part, resolved_ranges, row_type, Scope, SetsOffend, types_of, Var, var_type, variable_meaning, variable_of, variables, with_variables}
+pub use Rattle.zf_typing.specs.Typing.{declared}
+pub use Rattle.zf_typing.specs.{AreAll, AreApart, AreMembers, AreNew, AreRepeated, before, bound, bucket_from, BuildsTooLarge, Clash, component_meaning, DeclarationsOffend, Declare, Differ, DiffersAt, Disagree, global_meaning, global_sort, HasMemberType, is_conjunction, IsApart, IsBound, IsJudged, IsOf, IsOther, IsPart, IsRepeated, last_in, last_named, LinksAreTyped, LinksOffend, ListedTooLarge, Makes, MakesTooLarge, MakeTooLarge, meaning, meant, member_need, member_sort, Misplaced, Offends, OneDiffers, OneOffends, PartIsPredicate, PartOffends, referent, Repeats, resolved, resolved_all, resolved_links, resolved_part, resolved_ranges, row_type, Scope, SetsOffend, types_of, Var, var_type, variable_meaning, variable_of, variables, with_variables}
 unfoldable pub use Rattle.zf_typing.specs.{AreHeads, bucket, IsIndexed, Judges, JudgesPart, scope_of}
 pub use Rattle.zf_sorts.specs.{a_schema, Disagreement, IfFault, IsRefusal, IsSmallSort, IsStill, Meets, number_sort, offence_of, predicate, PrefixTakes, set_sort, SignTakes, Sort, sort_of, Takes, typed, UnaryTakes}
 unfoldable pub use Rattle.zf_sorts.specs.{IsMade, IsMadeOfOne}

@@ -11,7 +11,7 @@ pub use Rattle.zf_typing.specs.Buckets.{before, bucket_from, last_in}
 pub use Rattle.zf_typing.specs.Scopes.{component_meaning, definition_sort, global_meaning, global_sort, last_named, meaning, Scope, Var, variable_meaning, with_variables}
 unfoldable pub use Rattle.zf_typing.specs.ScopeViews.{scope_of}
 pub use Rattle.zf_typing.specs.ScopeViews.{meant, variable_of}
-pub use Rattle.zf_typing.specs.Typing.{AreAll, AreApart, AreMembers, Binds, Declare, declared, HasMemberType, IsApart, IsOf, LinksAreTyped, Makes, member_need, member_sort, PartIsPredicate, row_type, types_of, variables}
+pub use Rattle.zf_typing.specs.Typing.{AreAll, AreApart, AreMembers, Binds, Declare, HasMemberType, IsApart, IsOf, LinksAreTyped, Makes, member_need, member_sort, PartIsPredicate, row_type, types_of, variables}
 pub use Rattle.zf_typing.specs.Resolving.{bound, referent, resolved, resolved_all, resolved_links, resolved_part, resolved_ranges}
 pub use Rattle.zf_typing.specs.Offences.{BuildsTooLarge, Clash, Differ, Disagree, IsRepeated, LinksOffend, ListedTooLarge, MakesTooLarge, MakeTooLarge, Misplaced, Offends, OneDiffers, OneOffends, PartOffends, Repeats, SetsOffend}
 pub use Rattle.zf_typing.specs.Laws.{NoOffence, OneSort}
