@@ -38,7 +38,7 @@ tokens_spelled (p ∷ ps) spot source end rest h =
     )
 
 cut_spelled : (source : List ℕ) (tokens : List Token) → IsCutInto source tokens → AreTokensOf tokens source
-cut_spelled source tokens c = subst (λ ts. AreTokensOf ts source) (sym c.told) (tokens_spelled c.pieces start source c.end [] c.cuts)
+cut_spelled source tokens c = subst (λ ts. AreTokensOf ts source) (sym c.tokens_are) (tokens_spelled c.pieces start source c.end [] c.cuts)
 
 -- ---- without needless separators
 

@@ -1,7 +1,7 @@
 //! The property of a schema in an environment, as the judge of a walk.
 ghost use Rattle.std.specs.Prelude.{◌≡◌, ◌<◌, ◌^◌, ℕ, IfOk, map, slice_get};
 ghost use Rattle.zf_term.specs.{resolved_of};
-ghost use Rattle.zf_enum.specs.{due, due_of, told};
+ghost use Rattle.zf_enum.specs.Property.{due, due_of, told};
 
 use crate::candidates::{Tie, gather_candidates, gather_spread, gather_value, is_tried};
 use crate::conjuncts::Conjuncts;

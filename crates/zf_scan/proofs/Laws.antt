@@ -75,7 +75,7 @@ finished source at line place tokens b over out short = record {
   end = b.spot;
   cuts = subst (λ rest. Cuts b.pieces start source b.spot rest) (drop_of_length-le source over) b.cuts;
   closed = sym b.place_is ∙ out;
-  match_of = sym (append-nil tokens) ∙ sym (b.match_of []) ∙ ap (tokens_from start) (append-nil b.pieces);
+  tokens_are = sym (append-nil tokens) ∙ sym (b.tokens_are []) ∙ ap (tokens_from start) (append-nil b.pieces);
 }
 
 pub cut_whole : (source : List ℕ) (border : Border) (tokens : List Token) → IsCutUpTo source border tokens → length source ≤ border.start → IsCutInto source tokens
@@ -114,7 +114,7 @@ pub is_cut_once : IsCutOnce
 is_cut_once source one two c d =
     let same : c.pieces ≡ d.pieces = ⊎_elim (λ g. sym (one_end c.pieces d.pieces c.end d.end g)) (λ g. one_end d.pieces c.pieces d.end c.end g)
     (compared c.pieces d.pieces start source c.end [] d.end [] c.cuts d.cuts) in
-    (same, c.match_of ∙ ap (tokens_from start) same ∙ sym d.match_of)
+    (same, c.tokens_are ∙ ap (tokens_from start) same ∙ sym d.tokens_are)
 
 pub is_not_both : IsNotBoth
 is_not_both source tokens fault c (inl t) = omega (arith, c.short, t.0)

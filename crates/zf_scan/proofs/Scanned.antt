@@ -53,7 +53,7 @@ newlines_le (x ∷ a) = by (x == 10) (newlines_le a)
     by false h = omega arith
 
 pub begun : (source : List ℕ) → Before source 0 1 places.Outside []
-begun source = record { pieces = []; spot = start; cuts = (refl, refl); match_of = λ qs. refl; at_is = refl; line_is = refl; place_is = refl }
+begun source = record { pieces = []; spot = start; cuts = (refl, refl); tokens_are = λ qs. refl; at_is = refl; line_is = refl; place_is = refl }
 
 cuts_more : (ps : List (Piece × List ℕ)) (p : Piece × List ℕ) (a b : Spot) (source rest after : List ℕ) → Cuts ps a source b rest → rest ≡ p.1 ++ after
     → Stands b.place p.0 p.1 after → IsRead p.0 → Cuts (ps ++ p ∷ []) a source (past b p) after
@@ -67,7 +67,7 @@ turned source at line place tokens b f s r = record {
   spot = past b.spot (f.piece, text);
   cuts = subst (λ rest. Cuts (b.pieces ++ (f.piece, text) ∷ []) start source (past b.spot (f.piece, text)) rest) (drop-drop f.len at source)
       (cuts_more b.pieces (f.piece, text) start b.spot source rest after b.cuts (sym (take-append-drop f.len rest)) (subst (λ place. Stands place f.piece text after) b.place_is s.stands) r);
-  match_of = λ qs. ap (tokens_from start) (append_assoc b.pieces ((f.piece, text) ∷ []) qs) ∙ b.match_of ((f.piece, text) ∷ qs)
+  tokens_are = λ qs. ap (tokens_from start) (append_assoc b.pieces ((f.piece, text) ∷ []) qs) ∙ b.tokens_are ((f.piece, text) ∷ qs)
       ∙ sym (append_assoc tokens (tokens_of b.spot f.piece text) (tokens_from (past b.spot (f.piece, text)) qs));
   at_is = omega (arith, b.at_is, length-append b.spot.before text, length-take-le f.len rest s.within);
   line_is = omega (arith, b.line_is, newlines_append b.spot.before text);

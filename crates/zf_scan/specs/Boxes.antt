@@ -15,7 +15,7 @@ pub record Before (source : List ℕ) (at line : ℕ) (place : Region) (tokens :
   pub pieces : List (Piece × List ℕ)
   pub spot : Spot
   pub cuts : Cuts pieces start source spot (drop at source)
-  pub match_of : (qs : List (Piece × List ℕ)) → tokens_from start (pieces ++ qs) ≡ tokens ++ tokens_from spot qs
+  pub tokens_are : (qs : List (Piece × List ℕ)) → tokens_from start (pieces ++ qs) ≡ tokens ++ tokens_from spot qs
   pub at_is : at ≡ length spot.before
   pub line_is : line ≡ spot_line spot
   pub place_is : place ≡ spot.place

@@ -80,7 +80,7 @@ pub record IsCutInto (source : List ℕ) (tokens : List Token) : Type 0 where
   pub end : Spot
   pub cuts : Cuts pieces start source end []
   pub closed : end.place ≡ places.Outside
-  pub match_of : tokens ≡ tokens_from start pieces
+  pub tokens_are : tokens ≡ tokens_from start pieces
 
 -- ---- faults
 
