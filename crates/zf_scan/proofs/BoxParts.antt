@@ -1,10 +1,10 @@
 -- What the list of the symbols of a box is while the scanner fills it.
-use Rattle.zf_scan.proofs.Prelude.{◌++◌, ◌∙◌, ◌∷◌, ◌≡◌, ◌≤◌, [], ap, append_assoc, Bool, false, inl, inr, length, List, refl, Some, subst, sym, take, true, ℕ, append-nil, list_all, if◌then◌else◌, bytes_eq, begins_box, BeginsBox, ends_box, EndsOnce, Follows, IsBox, IsBoxAtMost, IsCutOn, IsCutUpTo, entered, escape, informal, is_directive, look_up, opening, OutsideKind, remark, schema_opening, SpellsOutside, openings, kind_of, Match, NotInProfile, Next, Piece, Plain, Refused, Symbol, Region, Border, Kind, BeginSchema, BeginZed, EndBox, Token}
+use Rattle.zf_scan.proofs.Prelude.{◌++◌, ◌∙◌, ◌∷◌, ◌≡◌, ◌≤◌, [], ap, append_assoc, Bool, false, inl, inr, length, List, refl, subst, sym, take, true, ℕ, append-nil, list_all, if◌then◌else◌, begins_box, BeginsBox, ends_box, EndsOnce, Follows, IsBox, IsBoxAtMost, IsCutOn, IsCutUpTo, entered, escape, informal, is_directive, opening, OutsideKind, remark, schema_opening, SpellsOutside, openings, kind_of, Match, NotInProfile, Next, Piece, Plain, Refused, Symbol, Region, Border, Kind, BeginSchema, BeginZed, EndBox, Token}
 use Rattle.zf_scan.specs.declared.next.Next.TheVariants as next
 use Rattle.zf_scan.specs.declared.pieces.Region.TheVariants.{Outside, Zed, Schema}
 use Rattle.zf_scan.proofs.Laws.{cut_whole}
-use Rattle.zf_scan.proofs.Runs.{and_left, and_right}
 use Rattle.zf_scan.proofs.Scanned.{StandsAt}
+use Rattle.zf_scan.proofs.Table.{hit}
 
 -- ---- a symbol outside of a box begins one
 
@@ -16,23 +16,12 @@ all_open : list_all (λ row. is_opening row.1) openings ≡ true
 unfolding openings
 all_open = refl
 
-row_opens : (rows : List (List ℕ × Piece)) (p : List ℕ) (piece : Piece) → list_all (λ row. is_opening row.1) rows ≡ true → look_up p rows ≡ Some piece → is_opening piece ≡ true
-row_opens [] p piece all e = absurd (cc)
-row_opens (row ∷ rows) p piece all e = by (bytes_eq p row.0) refl (row_opens rows p piece (and_right (is_opening row.1) (list_all (λ row. is_opening row.1) rows) all))
-  where
-    by : (t : Bool) → bytes_eq p row.0 ≡ t → (look_up p rows ≡ Some piece → is_opening piece ≡ true) → is_opening piece ≡ true
-    by true f more =
-        let g : Some row.1 ≡ Some piece = rw f at e in
-        let same : row.1 ≡ piece = cc g in
-        ap is_opening (sym same) ∙ and_left (is_opening row.1) (list_all (λ row. is_opening row.1) rows) all
-    by false f more = let g : look_up p rows ≡ Some piece = rw f at e in more g
-
 no_remark : (p : List ℕ) (kind : Kind) (t : Bool) → Symbol kind ≡ (if t then Refused NotInProfile else Plain) → ⊥
 no_remark p kind true e = cc
 no_remark p kind false e = cc
 
 outside_begins : (form : OutsideKind) (kind : Kind) (p : List ℕ) → SpellsOutside form (Symbol kind) p → begins_box kind ≡ true
-outside_begins opening kind p h = row_opens openings p (Symbol kind) all_open h
+outside_begins opening kind p h = hit (λ _ piece. is_opening piece) openings p (Symbol kind) all_open h
 outside_begins schema_opening kind p h =
     let e = h.4 in
     let same : kind ≡ BeginSchema h.0 = cc e in

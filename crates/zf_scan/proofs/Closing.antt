@@ -1,10 +1,10 @@
 -- Inside a box: commands and the closing of the box, and all pieces together.
-use Rattle.zf_scan.proofs.Prelude.{◌++◌, ◌+◌, ◌<◌, ◌∙◌, ◌∷◌, ◌≡◌, ◌≤◌, ◌⊎◌, [], ap, append_assoc, arith, Bool, drop, false, inl, inr, length, length-append, length-drop, length-take-le, List, min, None, Option, refl, Some, subst, sym, take, take-append-drop, true, ℕ, ⊎_elim, one-add, nat_tests, ◌&&◌, ◌==◌, codes, not, closing, fixed, InsideKind, is_letter, is_run, IsCommand, look_up, name, digits, remark, SpellsInside, unknown, symbols, begins, command_len, found, long_len, or_else, run_len, step_len, tail_len, command_found, comment_found, inside_found, number_found, short_command, Piece, Refused, Symbol, Digits, Letters, EndBox, is_ascii_digit}
+use Rattle.zf_scan.proofs.Prelude.{◌++◌, ◌+◌, ◌<◌, ◌∙◌, ◌∷◌, ◌≡◌, ◌≤◌, ◌⊎◌, [], ap, append_assoc, arith, Bool, drop, false, inl, inr, length, length-append, length-drop, length-take-le, List, min, None, refl, Some, subst, sym, take, take-append-drop, true, ℕ, ⊎_elim, one-add, nat_tests, ◌&&◌, ◌==◌, codes, not, closing, fixed, InsideKind, is_letter, is_run, IsCommand, look_up, name, digits, remark, SpellsInside, unknown, symbols, begins, command_len, long_len, run_len, step_len, tail_len, command_found, comment_found, inside_found, short_command, Piece, Refused, Symbol, Digits, Letters, EndBox, is_ascii_digit, drop-append_seam, StandsInside}
 use Rattle.zf_scan.specs.declared.fault.TextFaultKind.TheVariants as faults
 use Rattle.zf_scan.proofs.Runs.{and_left, and_right, run_le, run_exact, run_all, run_within}
-use Rattle.zf_scan.proofs.Texts.{pick, eq_is, both, back_is, taken, front_le, tail_is, begins_is, is_begun}
+use Rattle.zf_scan.proofs.Texts.{pick, eq_is, both, taken, front_le, tail_is, begins_is, is_begun}
 use Rattle.zf_scan.proofs.Table.{fits_command, ends_well}
-use Rattle.zf_scan.proofs.Longest.{At, Bound, at_from, Next, headed, listed_from, digit_no_letter, either, comment_at, number_at, word_next, symbol_next}
+use Rattle.zf_scan.proofs.Longest.{At, Bound, at_from, NextInside, headed, listed_from, listed_or, digit_no_letter, either, comment_next, number_next, word_next, symbol_next}
 
 -- ---- commands
 
@@ -47,7 +47,7 @@ behind_letters w x h stop some =
     let m : run_len Letters (w ++ x) ≡ length w = run_exact Letters w x h stop in
     let c : (run_len Letters (w ++ x) == 0) ≡ false = grind (arith, nat_tests) in
     let n : command_len (92 ∷ w ++ x) ≡ 1 + length w = command_is (w ++ x) c ∙ ap (λ m. 1 + m) m in
-    (n, ap (λ n. drop n (92 ∷ w ++ x)) (n ∙ one-add (length w)) ∙ back_is w x)
+    (n, ap (λ n. drop n (92 ∷ w ++ x)) (n ∙ one-add (length w)) ∙ drop-append_seam w x)
 
 long_is : (w x : List ℕ) → is_run Letters w ≡ true → run_len Letters x ≡ 0 → 0 < length w → long_len (92 ∷ w ++ x) ≡ 1 + length w + tail_len x
 long_is w x h stop some = let b = behind_letters w x h stop some in omega (arith, b.0, ap tail_len b.1)
@@ -137,14 +137,10 @@ short_bound z t unclosed none other piece r rest h e =
     absurd (cc (k.1, unlisted))) (λ k. absurd (both (begins (92 ∷ t) (92 ∷ z)) k.1 unclosed)) k)
     (at_backslash z t other piece r rest h e)
 
-short_at : (z t : List ℕ) → Bound (92 ∷ z) (92 ∷ t) (command_len (92 ∷ t)) → Next (92 ∷ z) (92 ∷ t) (short_command (92 ∷ t) (command_len (92 ∷ t)))
+short_at : (z t : List ℕ) → Bound (92 ∷ z) (92 ∷ t) (command_len (92 ∷ t)) → NextInside z (92 ∷ t) (short_command (92 ∷ t) (command_len (92 ∷ t)))
 unfolding short_command
-short_at z t bound = by (look_up (take (command_len (92 ∷ t)) (92 ∷ t)) symbols) refl
-  where
-    by : (o : Option Piece) → look_up (take (command_len (92 ∷ t)) (92 ∷ t)) symbols ≡ o
-        → Next (92 ∷ z) (92 ∷ t) (or_else o (command_len (92 ∷ t)) (found (Refused faults.UnknownCommand) (command_len (92 ∷ t))))
-    by (Some piece) e = inl (at_from (92 ∷ z) (92 ∷ t) piece (command_len (92 ∷ t)) fixed (command_within t) e bound)
-    by None e = inl (at_from (92 ∷ z) (92 ∷ t) (Refused faults.UnknownCommand) (command_len (92 ∷ t)) unknown (command_within t) (short_text t, e, refl) bound)
+short_at z t bound = listed_or z (92 ∷ t) (command_len (92 ∷ t)) _ (command_within t) bound
+    (λ e. inl (at_from z (92 ∷ t) (Refused faults.UnknownCommand) (command_len (92 ∷ t)) unknown (command_within t) (short_text t, e, refl) bound))
 
 -- the closing of a box is longer than any command
 abbrev pub Closes : List ℕ → Type 0
@@ -158,43 +154,32 @@ closing_bound z t closes yet other piece r rest h e =
     (λ k. ⊎_elim (λ k. omega (arith, k.0, long, closes (drop (length (92 ∷ z)) (92 ∷ t)))) (λ k. omega (arith, k.0)) k)
     (at_backslash z t other piece r rest h e)
 
-closing_at : (z t : List ℕ) → Closes z → begins (92 ∷ t) (92 ∷ z) ≡ true → At (92 ∷ z) (92 ∷ t) (Symbol EndBox) (length (92 ∷ z))
+closing_at : (z t : List ℕ) → Closes z → begins (92 ∷ t) (92 ∷ z) ≡ true → At (StandsInside (92 ∷ z)) (92 ∷ t) (Symbol EndBox) (length (92 ∷ z))
 closing_at z t closes e =
     let is = begins_is (92 ∷ t) (92 ∷ z) e in
-    at_from (92 ∷ z) (92 ∷ t) (Symbol EndBox) (length (92 ∷ z)) closing (front_le (92 ∷ t) (92 ∷ z) _ is) (taken (92 ∷ t) (92 ∷ z) _ (length (92 ∷ z)) is refl, refl) (closing_bound z t closes e)
+    at_from z (92 ∷ t) (Symbol EndBox) (length (92 ∷ z)) closing (front_le (92 ∷ t) (92 ∷ z) _ is)
+    (taken (92 ∷ t) (92 ∷ z) _ (length (92 ∷ z)) is refl, refl) (closing_bound z t closes e)
 
-command_next : (z t : List ℕ) → Closes z → Next (92 ∷ z) (92 ∷ t) (command_found (92 ∷ z) (92 ∷ t))
+command_next : (z t : List ℕ) → Closes z → NextInside z (92 ∷ t) (command_found (92 ∷ z) (92 ∷ t))
 unfolding command_found
-command_next z t closes = pick (Next (92 ∷ z) (92 ∷ t)) (begins (92 ∷ t) (92 ∷ z)) _ _ (λ e. inl (closing_at z t closes e))
-    (λ unclosed. by unclosed (look_up (take (long_len (92 ∷ t)) (92 ∷ t)) symbols) refl)
-  where
-    by : begins (92 ∷ t) (92 ∷ z) ≡ false → (o : Option Piece) → look_up (take (long_len (92 ∷ t)) (92 ∷ t)) symbols ≡ o
-        → Next (92 ∷ z) (92 ∷ t) (or_else o (long_len (92 ∷ t)) (short_command (92 ∷ t) (command_len (92 ∷ t))))
-    by unclosed (Some piece) e = inl (at_from (92 ∷ z) (92 ∷ t) piece (long_len (92 ∷ t)) fixed (long_within t) e (long_bound z t unclosed))
-    by unclosed None e = short_at z t (short_bound z t unclosed e)
+command_next z t closes = pick (NextInside z (92 ∷ t)) (begins (92 ∷ t) (92 ∷ z)) _ _ (λ e. inl (closing_at z t closes e))
+    (λ unclosed. listed_or z (92 ∷ t) (long_len (92 ∷ t)) _ (long_within t) (long_bound z t unclosed) (λ e. short_at z t (short_bound z t unclosed e)))
 
 -- ---- all
 
-remark_next : (z bs : List ℕ) → Next (92 ∷ z) (37 ∷ bs) (comment_found (37 ∷ bs))
-unfolding comment_found
-remark_next z bs = inl (comment_at z bs)
-
-numeral_next : (z : List ℕ) (b : ℕ) (bs : List ℕ) → is_ascii_digit b ≡ true → Next (92 ∷ z) (b ∷ bs) (number_found (b ∷ bs))
-unfolding number_found
-numeral_next z b bs e = inl (number_at z b bs e)
-
-pub inside_next : (z s : List ℕ) → Closes z → 0 < length s → Next (92 ∷ z) s (inside_found (92 ∷ z) s)
+pub inside_next : (z s : List ℕ) → Closes z → 0 < length s → NextInside z s (inside_found (92 ∷ z) s)
 unfolding inside_found
 inside_next z [] closes some = absurd (omega arith)
 inside_next z (b ∷ bs) closes some =
-    pick (Next (92 ∷ z) (b ∷ bs)) (b == 37) _ _ (λ e. subst (λ b. Next (92 ∷ z) (b ∷ bs) (comment_found (b ∷ bs))) (sym (eq_is b 37 e)) (remark_next z bs))
-    (λ percent. pick (Next (92 ∷ z) (b ∷ bs)) (b == 92) _ _ (λ e. subst (λ b. Next (92 ∷ z) (b ∷ bs) (command_found (92 ∷ z) (b ∷ bs))) (sym (eq_is b 92 e)) (command_next z bs closes))
-    (λ backslash. pick (Next (92 ∷ z) (b ∷ bs)) (is_letter b) _ _ (λ e. word_next z b bs e)
-    (λ letter. pick (Next (92 ∷ z) (b ∷ bs)) (is_ascii_digit b) _ _ (λ e. numeral_next z b bs e)
+    pick (NextInside z (b ∷ bs)) (b == 37) _ _ (λ e. subst (λ b. NextInside z (b ∷ bs) (comment_found (b ∷ bs))) (sym (eq_is b 37 e)) (comment_next z bs))
+    (λ percent. pick (NextInside z (b ∷ bs)) (b == 92) _ _ (λ e. subst (λ b. NextInside z (b ∷ bs) (command_found (92 ∷ z) (b ∷ bs))) (sym (eq_is b 92 e))
+    (command_next z bs closes))
+    (λ backslash. pick (NextInside z (b ∷ bs)) (is_letter b) _ _ (λ e. word_next z b bs e)
+    (λ letter. pick (NextInside z (b ∷ bs)) (is_ascii_digit b) _ _ (λ e. number_next z b bs e)
     (λ digit. symbol_next z b bs (record { percent = percent; backslash = backslash; letter = letter; digit = digit })))))
 
-pub zed_next : (s : List ℕ) → 0 < length s → Next (codes "\\end{zed}") s (inside_found (codes "\\end{zed}") s)
+pub zed_next : (s : List ℕ) → 0 < length s → NextInside (codes "end{zed}") s (inside_found (codes "\\end{zed}") s)
 zed_next s some = inside_next (codes "end{zed}") s (λ rest. omega arith) some
 
-pub schema_next : (s : List ℕ) → 0 < length s → Next (codes "\\end{schema}") s (inside_found (codes "\\end{schema}") s)
+pub schema_next : (s : List ℕ) → 0 < length s → NextInside (codes "end{schema}") s (inside_found (codes "\\end{schema}") s)
 schema_next s some = inside_next (codes "end{schema}") s (λ rest. omega arith) some

@@ -1,28 +1,23 @@
 -- Outside the boxes: what is found at the front of a text is of the first kind that fits.
-use Rattle.zf_scan.proofs.Prelude.{◌++◌, ◌+◌, ◌<◌, ◌∙◌, ◌∷◌, ◌≡◌, ◌≤◌, ◌⊎◌, [], ap, append_assoc, arith, Bool, drop, false, inl, inr, length, length-append, length-take-le, List, min, None, Option, refl, Some, subst, sym, take, take-append-drop, true, ℕ, ⊎_elim, one-add, nat_tests, list_all, if◌then◌else◌, ◌==◌, ◌||◌, codes, not, bytes_eq, StandsOutside, escape, informal, is_base, is_letter, is_run, look_up, opening, OutsideKind, remark, schema_opening, SpellsOutside, turn, openings, symbols, base_len, begins, Match, has_no_name, plain, run_len, comment_found, opening_found, other_opening_found, outside_found, schema_found, Piece, Plain, Refused, Symbol, Base, Line, BeginSchema, BeginZed}
+use Rattle.zf_scan.proofs.Prelude.{◌++◌, ◌+◌, ◌<◌, ◌∙◌, ◌∷◌, ◌≡◌, ◌≤◌, ◌⊎◌, [], ap, append_assoc, arith, Bool, drop, false, inl, inr, length, length-append, length-take-le, List, min, None, Option, refl, Some, subst, sym, take, take-append-drop, true, ℕ, ⊎_elim, one-add, nat_tests, list_all, nat_le, if◌then◌else◌, ◌==◌, ◌||◌, codes, not, StandsOutside, escape, informal, is_base, is_letter, is_run, look_up, opening, OutsideKind, remark, schema_opening, SpellsOutside, turn, openings, symbols, base_len, begins, Match, has_no_name, plain, run_len, comment_found, opening_found, other_opening_found, outside_found, schema_found, Piece, Plain, Refused, Symbol, Base, Line, BeginSchema, take-append_seam, drop-append_seam}
 use Rattle.std.specs.Option.{is_some}
 use Rattle.zf_scan.specs.declared.fault.TextFaultKind.TheVariants as faults
 use Rattle.zf_scan.proofs.Runs.{and_left, and_right, run_le, run_exact, run_within}
-use Rattle.zf_scan.proofs.Texts.{pick, eq_is, both, front_is, back_is, taken, front_le, head_is, tail_is, begins_is, is_begun, bytes_same}
+use Rattle.zf_scan.proofs.Texts.{pick, eq_is, both, taken, front_le, head_is, tail_is, begins_is, is_begun}
 use Rattle.zf_scan.proofs.Table.{hit}
-use Rattle.zf_scan.proofs.Longest.{either, no_step, comment_text, base_text, base_within}
+use Rattle.zf_scan.proofs.Longest.{At, either, no_step, comment_text, base_text, base_within}
 
 abbrev Order : OutsideKind → ℕ → OutsideKind → ℕ → Type 0
 Order kind n other m = (turn kind < turn other) ⊎ ((turn kind ≡ turn other) × (m ≤ n))
 
--- a piece at the front of a text, of the first kind that fits
-pub record At (s : List ℕ) (piece : Piece) (n : ℕ) : Type 0 where
-  pub some : 0 < n
-  pub within : n ≤ length s
-  pub stands : StandsOutside piece (take n s) (drop n s)
-
 abbrev pub Next : List ℕ → Match → Type 0
-Next s f = At s f.piece f.len
+Next s f = At StandsOutside s f.piece f.len
 
 abbrev Bound : List ℕ → OutsideKind → ℕ → Type 0
 Bound s kind n = (other : OutsideKind) (piece : Piece) (r rest : List ℕ) → SpellsOutside other piece r → s ≡ r ++ rest → Order kind n other (length r)
 
-at_from : (s : List ℕ) (piece : Piece) (n : ℕ) (kind : OutsideKind) → 0 < n → n ≤ length s → SpellsOutside kind piece (take n s) → Bound s kind n → At s piece n
+at_from : (s : List ℕ) (piece : Piece) (n : ℕ) (kind : OutsideKind) → 0 < n → n ≤ length s → SpellsOutside kind piece (take n s) → Bound s kind n
+    → At StandsOutside s piece n
 at_from s piece n kind some within spells bound = record {
   some = some;
   within = within;
@@ -35,35 +30,15 @@ at_from s piece n kind some within spells bound = record {
 
 -- ---- openings
 
-abbrev is_opening : List ℕ → Bool
-is_opening p = bytes_eq p (codes "\\begin{zed}") || (bytes_eq p (codes "\\begin{schema}") ||
-    (bytes_eq p (codes "\\begin{axdef}") || (bytes_eq p (codes "\\begin{gendef}") || bytes_eq p (codes "\\begin{syntax}"))))
-
-all_open : list_all (λ row. is_opening row.0) openings ≡ true
-unfolding openings
-all_open = refl
-
--- the cases of an opening
-by_opening : {C : Type 0} (r : List ℕ) (piece : Piece) → look_up r openings ≡ Some piece
-    → (r ≡ codes "\\begin{zed}" → C) → (r ≡ codes "\\begin{schema}" → C) → (r ≡ codes "\\begin{axdef}" → C) → (r ≡ codes "\\begin{gendef}" → C) → (r ≡ codes "\\begin{syntax}" → C) → C
-by_opening r piece h zed bare axdef gendef syntax =
-    either _ _ (hit is_opening openings r piece all_open h) (λ e. zed (bytes_same r _ e))
-    (λ f. either _ _ f (λ e. bare (bytes_same r _ e))
-    (λ f. either _ _ f (λ e. axdef (bytes_same r _ e))
-    (λ f. either _ _ f (λ e. gendef (bytes_same r _ e)) (λ e. syntax (bytes_same r _ e)))))
-
--- a text that begins with r begins with what r begins with
-at_front : (s r rest front : List ℕ) (more : List ℕ) → s ≡ r ++ rest → r ≡ front ++ more → begins s front ≡ true
-at_front s r rest front more e f = is_begun s front (more ++ rest) (e ∙ ap (λ r. r ++ rest) f ∙ append_assoc front more rest)
-
 opening_begins : (s r rest : List ℕ) (piece : Piece) → look_up r openings ≡ Some piece → s ≡ r ++ rest → begins s (codes "\\begin{") ≡ true
-opening_begins s r rest piece h e = by_opening r piece h (at_front s r rest (codes "\\begin{") (codes "zed}") e)
-    (at_front s r rest (codes "\\begin{") (codes "schema}") e) (at_front s r rest (codes "\\begin{") (codes "axdef}") e)
-    (at_front s r rest (codes "\\begin{") (codes "gendef}") e) (at_front s r rest (codes "\\begin{") (codes "syntax}") e)
+unfolding openings
+opening_begins s r rest piece h e =
+    let is = begins_is r (codes "\\begin{") (hit (λ r _. begins r (codes "\\begin{")) openings r piece refl h) in
+    is_begun s (codes "\\begin{") (drop 7 r ++ rest) (e ∙ ap (λ r. r ++ rest) is ∙ append_assoc (codes "\\begin{") (drop 7 r) rest)
 
-pub opening_le : (r : List ℕ) (piece : Piece) → look_up r openings ≡ Some piece → length r ≤ 14
-opening_le r piece h = by_opening r piece h (λ e. omega (arith, ap length e)) (λ e. omega (arith, ap length e)) (λ e. omega (arith, ap length e))
-    (λ e. omega (arith, ap length e)) (λ e. omega (arith, ap length e))
+opening_le : (r : List ℕ) (piece : Piece) → look_up r openings ≡ Some piece → length r ≤ 14
+unfolding openings
+opening_le r piece h = let k = hit (λ r _. nat_le (length r) 14) openings r piece refl h in grind (arith, nat_tests)
 
 -- a schema's opening with its name
 pub schema_is : (s r rest name : List ℕ) → r ≡ codes "\\begin{schema}{" ++ name ++ codes "}" → s ≡ r ++ rest → s ≡ codes "\\begin{schema}{" ++ ((name ++ codes "}") ++ rest)
@@ -136,58 +111,48 @@ escape_next t none nameless = at_from (92 ∷ t) Plain (min (length (92 ∷ t)) 
 
 -- ---- the openings of boxes
 
--- the length bounds every opening
-opened : (s q : List ℕ) (piece : Piece) → 0 < length q → look_up q openings ≡ Some piece → begins s q ≡ true
-    → ((found : Piece) (r rest : List ℕ) → look_up r openings ≡ Some found → s ≡ r ++ rest → length r ≤ length q)
-    → ((found : Piece) (r rest : List ℕ) → SpellsOutside schema_opening found r → s ≡ r ++ rest → length r ≤ length q)
-    → At s piece (length q)
-opened s q piece some listed e fixed named = at_from s piece (length q) opening some (front_le s q _ is) (ap (λ p. look_up p openings) (taken s q _ (length q) is refl) ∙ listed) bound
+-- how long the texts of a kind are that begin a text
+abbrev Within : List ℕ → OutsideKind → ℕ → Type 0
+Within s kind n = (piece : Piece) (r rest : List ℕ) → SpellsOutside kind piece r → s ≡ r ++ rest → length r ≤ n
+
+bound_by : (s : List ℕ) (n : ℕ) → Within s opening n → Within s schema_opening n → Bound s opening n
+bound_by s n fixed named opening piece r rest h e = inr (refl, fixed piece r rest h e)
+bound_by s n fixed named schema_opening piece r rest h e = inr (refl, named piece r rest h e)
+bound_by s n fixed named escape piece r rest h e = inl (omega arith)
+bound_by s n fixed named remark piece r rest h e = inl (omega arith)
+bound_by s n fixed named informal piece r rest h e = inl (omega arith)
+
+-- no longer opening begins like this one
+opened : (s q : List ℕ) (piece : Piece) → 0 < length q → look_up q openings ≡ Some piece
+    → ((rest : List ℕ) → list_all (λ row. nat_le (length row.0) (length q) || not (begins (row.0 ++ rest) q)) openings ≡ true)
+    → begins s q ≡ true → Within s schema_opening (length q) → At StandsOutside s piece (length q)
+opened s q piece some listed alone e named =
+    at_from s piece (length q) opening some (front_le s q _ is) (ap (λ p. look_up p openings) (taken s q _ (length q) is refl) ∙ listed)
+    (bound_by s (length q) fixed named)
   where
     is : s ≡ q ++ drop (length q) s
     is = begins_is s q e
 
-    bound : Bound s opening (length q)
-    bound opening piece r rest h e = inr (refl, fixed piece r rest h e)
-    bound schema_opening piece r rest h e = inr (refl, named piece r rest h e)
-    bound escape piece r rest h e = inl (omega arith)
-    bound remark piece r rest h e = inl (omega arith)
-    bound informal piece r rest h e = inl (omega arith)
+    fixed : Within s opening (length q)
+    fixed found r rest h f =
+        let k : begins (r ++ rest) q ≡ true = sym (ap (λ s. begins s q) f) ∙ e in
+        either (nat_le (length r) (length q)) (not (begins (r ++ rest) q))
+        (hit (λ r _. nat_le (length r) (length q) || not (begins (r ++ rest) q)) openings r found (alone rest) h)
+        (λ g. grind (arith, nat_tests)) (λ g. absurd (both false (sym (ap not k) ∙ g) refl))
 
-nameless_bound : (s : List ℕ) (n : ℕ) → begins s (codes "\\begin{schema}{") ≡ false → (found : Piece) (r rest : List ℕ) → SpellsOutside schema_opening found r → s ≡ r ++ rest → length r ≤ n
+nameless_bound : (s : List ℕ) (n : ℕ) → begins s (codes "\\begin{schema}{") ≡ false → Within s schema_opening n
 nameless_bound s n nameless piece r rest h e = absurd (both _ (schema_begins s r rest piece h e) nameless)
 
--- two openings do not begin one text
-apart : {C : Type 0} (s r rest q text : List ℕ) → s ≡ r ++ rest → r ≡ text → begins s q ≡ true → begins (text ++ rest) q ≡ false → C
-apart s r rest q text e f h g = both (begins (text ++ rest) q) (sym (ap (λ s. begins s q) (e ∙ ap (λ r. r ++ rest) f)) ∙ h) g
-
-zed_next : (s : List ℕ) → begins s (codes "\\begin{schema}{") ≡ false → begins s (codes "\\begin{zed}") ≡ true → At s (Symbol BeginZed) 11
+unnamed_next : (s : List ℕ) → begins s (codes "\\begin{schema}") ≡ true → Within s schema_opening 14 → At StandsOutside s (Refused faults.BadByte) 14
 unfolding openings
-zed_next s nameless e = opened s (codes "\\begin{zed}") (Symbol BeginZed) (omega arith) refl e
-    (λ found r rest h f. by_opening r found h (λ g. omega (arith, ap length g)) (λ g. apart s r rest (codes "\\begin{zed}") _ f g e refl)
-    (λ g. apart s r rest (codes "\\begin{zed}") _ f g e refl) (λ g. apart s r rest (codes "\\begin{zed}") _ f g e refl)
-    (λ g. apart s r rest (codes "\\begin{zed}") _ f g e refl))
-    (nameless_bound s 11 nameless)
+unnamed_next s e named = opened s (codes "\\begin{schema}") (Refused faults.BadByte) (omega arith) refl (λ rest. refl) e named
 
-axdef_next : (s : List ℕ) → begins s (codes "\\begin{schema}{") ≡ false → begins s (codes "\\begin{axdef}") ≡ true → At s (Refused faults.NotInProfile) 13
+unopened : (s : List ℕ) → begins s (codes "\\begin{zed}") ≡ false → begins s (codes "\\begin{schema}") ≡ false → begins s (codes "\\begin{axdef}") ≡ false
+    → begins s (codes "\\begin{gendef}") ≡ false → begins s (codes "\\begin{syntax}") ≡ false → NoOpening s
 unfolding openings
-axdef_next s nameless e = opened s (codes "\\begin{axdef}") (Refused faults.NotInProfile) (omega arith) refl e
-    (λ found r rest h f. by_opening r found h (λ g. omega (arith, ap length g)) (λ g. apart s r rest (codes "\\begin{axdef}") _ f g e refl)
-    (λ g. omega (arith, ap length g)) (λ g. apart s r rest (codes "\\begin{axdef}") _ f g e refl)
-    (λ g. apart s r rest (codes "\\begin{axdef}") _ f g e refl))
-    (nameless_bound s 13 nameless)
-
-gendef_next : (s : List ℕ) → begins s (codes "\\begin{schema}{") ≡ false → begins s (codes "\\begin{gendef}") ≡ true → At s (Refused faults.NotInProfile) 14
-unfolding openings
-gendef_next s nameless e = opened s (codes "\\begin{gendef}") (Refused faults.NotInProfile) (omega arith) refl e (λ found r rest h f. opening_le r found h) (nameless_bound s 14 nameless)
-
-syntax_next : (s : List ℕ) → begins s (codes "\\begin{schema}{") ≡ false → begins s (codes "\\begin{syntax}") ≡ true → At s (Refused faults.NotInProfile) 14
-unfolding openings
-syntax_next s nameless e = opened s (codes "\\begin{syntax}") (Refused faults.NotInProfile) (omega arith) refl e (λ found r rest h f. opening_le r found h) (nameless_bound s 14 nameless)
-
-unnamed_next : (s : List ℕ) → begins s (codes "\\begin{schema}") ≡ true → ((found : Piece) (r rest : List ℕ) → SpellsOutside schema_opening found r → s ≡ r ++ rest
-    → length r ≤ 14) → At s (Refused faults.BadByte) 14
-unfolding openings
-unnamed_next s e named = opened s (codes "\\begin{schema}") (Refused faults.BadByte) (omega arith) refl e (λ found r rest h f. opening_le r found h) named
+unopened s zed bare axdef gendef syntax piece r rest h e =
+    let none : list_all (λ row. not (begins s row.0)) openings ≡ true = rw (zed, bare, axdef, gendef, syntax) in
+    both false (sym (ap not (is_begun s r rest e)) ∙ hit (λ r _. not (begins s r)) openings r piece none h) refl
 
 two_next : (t : List ℕ) → begins (92 ∷ t) (codes "\\begin{") ≡ true → begins (92 ∷ t) (codes "\\begin{schema}{") ≡ false → NoOpening (92 ∷ t) → Next (92 ∷ t) (plain 2)
 two_next t e nameless none =
@@ -195,19 +160,16 @@ two_next t e nameless none =
     subst (λ n. Next (92 ∷ t) (plain n)) n (escape_next t none nameless)
 
 other_next : (t : List ℕ) → begins (92 ∷ t) (codes "\\begin{") ≡ true → begins (92 ∷ t) (codes "\\begin{schema}{") ≡ false → Next (92 ∷ t) (other_opening_found (92 ∷ t))
-unfolding other_opening_found
+unfolding other_opening_found openings
 other_next t e nameless =
-    pick (Next (92 ∷ t)) (begins (92 ∷ t) (codes "\\begin{zed}")) _ _ (λ h. zed_next (92 ∷ t) nameless h)
-    (λ zed. pick (Next (92 ∷ t)) (begins (92 ∷ t) (codes "\\begin{schema}")) _ _ (λ h. unnamed_next (92 ∷ t) h (nameless_bound (92 ∷ t) 14 nameless))
-    (λ bare. pick (Next (92 ∷ t)) (begins (92 ∷ t) (codes "\\begin{axdef}")) _ _ (λ h. axdef_next (92 ∷ t) nameless h)
-    (λ axdef. pick (Next (92 ∷ t)) (begins (92 ∷ t) (codes "\\begin{gendef}")) _ _ (λ h. gendef_next (92 ∷ t) nameless h)
-    (λ gendef. pick (Next (92 ∷ t)) (begins (92 ∷ t) (codes "\\begin{syntax}")) _ _ (λ h. syntax_next (92 ∷ t) nameless h)
-    (λ syntax. two_next t e nameless (λ piece r rest h f. by_opening r piece h
-    (λ g. both _ (at_front (92 ∷ t) r rest (codes "\\begin{zed}") [] f g) zed)
-    (λ g. both _ (at_front (92 ∷ t) r rest (codes "\\begin{schema}") [] f g) bare)
-    (λ g. both _ (at_front (92 ∷ t) r rest (codes "\\begin{axdef}") [] f g) axdef)
-    (λ g. both _ (at_front (92 ∷ t) r rest (codes "\\begin{gendef}") [] f g) gendef)
-    (λ g. both _ (at_front (92 ∷ t) r rest (codes "\\begin{syntax}") [] f g) syntax)))))))
+    let s = 92 ∷ t in
+    let named : (n : ℕ) → Within s schema_opening n = λ n. nameless_bound s n nameless in
+    pick (Next s) (begins s (codes "\\begin{zed}")) _ _ (λ h. opened s (codes "\\begin{zed}") _ (omega arith) refl (λ rest. refl) h (named 11))
+    (λ zed. pick (Next s) (begins s (codes "\\begin{schema}")) _ _ (λ h. unnamed_next s h (named 14))
+    (λ bare. pick (Next s) (begins s (codes "\\begin{axdef}")) _ _ (λ h. opened s (codes "\\begin{axdef}") _ (omega arith) refl (λ rest. refl) h (named 13))
+    (λ axdef. pick (Next s) (begins s (codes "\\begin{gendef}")) _ _ (λ h. opened s (codes "\\begin{gendef}") _ (omega arith) refl (λ rest. refl) h (named 14))
+    (λ gendef. pick (Next s) (begins s (codes "\\begin{syntax}")) _ _ (λ h. opened s (codes "\\begin{syntax}") _ (omega arith) refl (λ rest. refl) h (named 14))
+    (λ syntax. two_next t e nameless (unopened s zed bare axdef gendef syntax))))))
 
 -- ---- the opening of a schema box with its name
 
@@ -220,8 +182,10 @@ named (c ∷ cs) rest h k =
     let n : base_len (c ∷ cs ++ 125 ∷ rest) ≡ 1 + length cs = rw (and_left (is_letter c) (is_run Base cs) h)
     (ap (λ n. 1 + n) (run_exact Base cs (125 ∷ rest) (and_right (is_letter c) (is_run Base cs) h) (no_step 125 rest refl refl))) in
     let long : base_len (c ∷ cs ++ 125 ∷ rest) ≡ length (c ∷ cs) = n ∙ one-add (length cs) in
-    let front : take (base_len (c ∷ cs ++ 125 ∷ rest)) (c ∷ cs ++ 125 ∷ rest) ≡ c ∷ cs = ap (λ n. take n (c ∷ cs ++ 125 ∷ rest)) long ∙ front_is (c ∷ cs) (125 ∷ rest) in
-    let back : drop (base_len (c ∷ cs ++ 125 ∷ rest)) (c ∷ cs ++ 125 ∷ rest) ≡ 125 ∷ rest = ap (λ n. drop n (c ∷ cs ++ 125 ∷ rest)) long ∙ back_is (c ∷ cs) (125 ∷ rest) in
+    let front : take (base_len (c ∷ cs ++ 125 ∷ rest)) (c ∷ cs ++ 125 ∷ rest) ≡ c ∷ cs = ap (λ n. take n (c ∷ cs ++ 125 ∷ rest)) long ∙ take-append_seam
+    (c ∷ cs) (125 ∷ rest) in
+    let back : drop (base_len (c ∷ cs ++ 125 ∷ rest)) (c ∷ cs ++ 125 ∷ rest) ≡ 125 ∷ rest = ap (λ n. drop n (c ∷ cs ++ 125 ∷ rest)) long ∙ drop-append_seam
+    (c ∷ cs) (125 ∷ rest) in
     let some : (base_len (c ∷ cs ++ 125 ∷ rest) == 0) ≡ false = not_zero (base_len (c ∷ cs ++ 125 ∷ rest)) (omega (arith, n)) in
     let brace : begins (drop (base_len (c ∷ cs ++ 125 ∷ rest)) (c ∷ cs ++ 125 ∷ rest)) (codes "}") ≡ true = ap (λ s. begins s (codes "}")) back in
     let free : is_some (look_up (take (base_len (c ∷ cs ++ 125 ∷ rest)) (c ∷ cs ++ 125 ∷ rest)) symbols) ≡ false = ap (λ p. is_some (look_up p symbols)) front ∙ ap is_some k in
@@ -267,7 +231,8 @@ schema_text s e n =
     let all : t ≡ take (base_len t) t ++ (codes "}" ++ drop 1 (drop (base_len t) t)) = sym (take-append-drop (base_len t) t) ∙ ap (λ x. take (base_len t) t ++ x) behind in
     begins_is s (codes "\\begin{schema}{") e ∙ ap (λ t. codes "\\begin{schema}{" ++ t) (all ∙ sym (append_assoc (take (base_len t) t) (codes "}") (drop 1 (drop (base_len t) t))))
 
-named_next : (s : List ℕ) → begins s (codes "\\begin{schema}{") ≡ true → Named (drop 15 s) → At s (Symbol (BeginSchema (take (base_len (drop 15 s)) (drop 15 s)))) (16 + base_len (drop 15 s))
+named_next : (s : List ℕ) → begins s (codes "\\begin{schema}{") ≡ true → Named (drop 15 s)
+    → At StandsOutside s (Symbol (BeginSchema (take (base_len (drop 15 s)) (drop 15 s)))) (16 + base_len (drop 15 s))
 named_next s e n = at_from s _ (16 + base_len t) schema_opening (omega arith) (omega (
   arith,
   front_le s (codes "\\begin{schema}{" ++ take (base_len (drop 15 s)) (drop 15 s) ++ codes "}") (drop 1 (drop (base_len (drop 15 s)) (drop 15 s))) is,
@@ -285,11 +250,9 @@ named_next s e n = at_from s _ (16 + base_len t) schema_opening (omega arith) (o
     long = omega (arith, length-append (take (base_len (drop 15 s)) (drop 15 s)) (codes "}"), length-take-le (base_len (drop 15 s)) (drop 15 s) (base_within (drop 15 s)))
 
     bound : Bound s schema_opening (16 + base_len (drop 15 s))
-    bound opening piece r rest h e = inr (refl, omega (arith, opening_le r piece h))
-    bound schema_opening piece r rest h e = inr (refl, omega (arith, (schema_long s r rest piece h e).0))
-    bound escape piece r rest h e = inl (omega arith)
-    bound remark piece r rest h e = inl (omega arith)
-    bound informal piece r rest h e = inl (omega arith)
+    bound =
+        bound_by s (16 + base_len (drop 15 s)) (λ piece r rest h e. omega (arith, opening_le r piece h))
+        (λ piece r rest h e. omega (arith, (schema_long s r rest piece h e).0))
 
 schema_next : (s : List ℕ) → begins s (codes "\\begin{schema}{") ≡ true → Next s (schema_found s)
 unfolding schema_found

@@ -1,5 +1,5 @@
 -- That tokens laid out in a text are its symbols.
-use Rattle.zf_scan.proofs.Prelude.{◌++◌, ◌-◌, ◌∙◌, ◌∷◌, ◌≡◌, ◌≤◌, [], ap, arith, drop, length, length-append, length-drop, List, map, refl, sym, take, ℕ, drop-append_seam, take-append_seam, append-nil, drop-append-le, map-append, take-append-le, next_of, amount, AreWithin, IsLaid, spelling, between, symbol_at, unplaced, kind_of, Placed, Kind, Token}
+use Rattle.zf_scan.proofs.Prelude.{◌++◌, ◌-◌, ◌∙◌, ◌∷◌, ◌≡◌, ◌≤◌, [], ap, arith, drop, length, length-append, length-drop, List, map, refl, sym, take, ℕ, drop-append_seam, take-append_seam, drop-append-le, map-append, take-append-le, next_of, amount, AreWithin, IsLaid, spelling, between, symbol_at, unplaced, kind_of, Placed, Kind, Token, take_all}
 use Rattle.zf_scan.specs.declared.token.Kind.TheVariants as k
 use Rattle.zf_scan.specs.{symbol}
 
@@ -17,18 +17,15 @@ within : (n m : ℕ) (ps : List Placed) (p : Placed) → AreWithin n ps → n �
 within n m [] p w h s e = (s, e, tt)
 within n m (q ∷ ps) p w h s e = (w.0, omega (arith, w.1), within n m ps p w.2 h s e)
 
-all_taken : (s : List ℕ) → take (length s) s ≡ s
-all_taken s = ap (take (length s)) (sym (append-nil s)) ∙ take-append_seam s []
-
 spelled : (kind : Kind) → kind_of (next_of kind) (amount kind) (spelling kind) ≡ kind
-spelled (k.BeginSchema base) = ap k.BeginSchema (all_taken base)
+spelled (k.BeginSchema base) = ap k.BeginSchema (take_all (length base) base (omega arith))
 spelled (k.Name base strokes) = ap (λ b. k.Name b (drop (length base) (base ++ strokes))) (take-append_seam base strokes) ∙ ap (k.Name base) (drop-append_seam base strokes)
 spelled _ = refl
 
 at_end : (text more : List ℕ) → between (length text) (length (text ++ more)) (text ++ more) ≡ more
 at_end text more =
     let len : length (text ++ more) - length text ≡ length more = omega (arith, length-append text more) in
-    ap (λ n. take n (drop (length text) (text ++ more))) len ∙ ap (take (length more)) (drop-append_seam text more) ∙ all_taken more
+    ap (λ n. take n (drop (length text) (text ++ more))) len ∙ ap (take (length more)) (drop-append_seam text more) ∙ take_all (length more) more (omega arith)
 
 pub added : (text : List ℕ) (ps : List Placed) (tokens : List Token) (t : Token) → IsLaid text ps tokens
     → IsLaid (text ++ spelling t.kind) (ps ++ record {

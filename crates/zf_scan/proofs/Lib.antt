@@ -3,7 +3,6 @@ pub mod Runs
 pub mod Numbers
 pub mod Texts
 pub mod Table
-pub mod Alone
 pub mod Longest
 pub mod Closing
 pub mod First

@@ -1,34 +1,23 @@
 -- Inside a box: what is found at the front of a text is the longest, and where nothing is found no piece fits.
-use Rattle.zf_scan.proofs.Prelude.{◌++◌, ◌+◌, ◌<◌, ◌∙◌, ◌∷◌, ◌≡◌, ◌≤◌, ◌⊎◌, [], ap, append_assoc, arith, Bool, drop, false, inl, inr, length, length-append, length-drop, length-take-le, List, None, Option, refl, Some, sym, take, take-append-drop, true, ℕ, one-add, take-add, nat_tests, ◌&&◌, ◌==◌, ◌||◌, codes, StandsInside, closing, comment, fixed, InsideKind, is_base, is_letter, is_number, is_one, is_run, is_two, IsComment, look_up, name, number_piece, digits, remark, SpellsInside, unknown, symbols, base_len, begins, Match, found, name_of, or_else, run_len, strokes_len, symbol_len, word_len, symbol_found, word_found, Piece, Refused, Symbol, Base, Digits, Line, Strokes, is_ascii_digit}
+use Rattle.zf_scan.proofs.Prelude.{◌++◌, ◌+◌, ◌<◌, ◌∙◌, ◌∷◌, ◌≡◌, ◌≤◌, ◌⊎◌, [], ap, append_assoc, arith, Bool, drop, false, inl, inr, length, length-append, length-drop, length-take-le, List, None, Option, refl, Some, sym, take, take-append-drop, true, ℕ, one-add, take-add, nat_tests, ◌&&◌, ◌==◌, ◌||◌, codes, StandsInside, closing, fixed, InsideKind, is_base, is_letter, is_number, is_one, is_run, is_two, IsComment, look_up, name, digits, remark, SpellsInside, unknown, symbols, base_len, begins, Match, or_else, run_len, strokes_len, symbol_len, word_len, comment_found, number_found, symbol_found, word_found, Piece, Refused, Base, Digits, Line, Strokes, is_ascii_digit, drop-append_seam}
 use Rattle.zf_scan.specs.declared.fault.TextFaultKind.TheVariants as faults
 use Rattle.zf_scan.proofs.Runs.{and_left, and_right, run_le, run_exact, run_all, run_within, run_len-one}
-use Rattle.zf_scan.proofs.Texts.{pick, eq_is, both, back_is, taken, front_le, head_is, tail_is, begins_is, is_begun, bytes_same}
+use Rattle.zf_scan.proofs.Texts.{pick, eq_is, both, taken, front_le, head_is, tail_is, begins_is, is_begun, bytes_same}
 use Rattle.zf_scan.proofs.Table.{row_fits, fits_symbol, listed_fits}
 
--- a piece at the front of a text, no shorter than any
-pub record At (end s : List ℕ) (piece : Piece) (n : ℕ) : Type 0 where
+-- a piece at the front of a text, where S says which piece stands before which text
+pub record At (S : Piece → List ℕ → List ℕ → Type 0) (s : List ℕ) (piece : Piece) (n : ℕ) : Type 0 where
+  pub some : 0 < n
   pub within : n ≤ length s
-  pub stands : StandsInside end piece (take n s) (drop n s)
+  pub stands : S piece (take n s) (drop n s)
+
+-- the piece that was found stands there, or no piece does
+abbrev pub Next : (Piece → List ℕ → List ℕ → Type 0) → List ℕ → Match → Type 0
+Next S s f = At S s f.piece f.len ⊎ ((f.piece ≡ Refused faults.BadByte) × ((piece : Piece) (p after : List ℕ) → s ≡ p ++ after → S piece p after → ⊥))
 
 -- what bounds every piece that begins the text
 abbrev pub Bound : List ℕ → List ℕ → ℕ → Type 0
 Bound end s n = (other : InsideKind) (piece : Piece) (r rest : List ℕ) → SpellsInside end other piece r → s ≡ r ++ rest → length r ≤ n
-
-pub at_from : (end s : List ℕ) (piece : Piece) (n : ℕ) (kind : InsideKind) → n ≤ length s → SpellsInside end kind piece (take n s) → Bound end s n → At end s piece n
-at_from end s piece n kind within spells bound = record {
-  within = within;
-  stands = record {
-    kind = kind;
-    spells = spells;
-    longest = λ other q r rest t e. omega (arith, length-take-le n s within, bound other q r rest t (sym (take-append-drop n s) ∙ e));
-  };
-}
-
-abbrev pub NoneFits : List ℕ → List ℕ → Type 0
-NoneFits end s = (other : InsideKind) (piece : Piece) (r rest : List ℕ) → SpellsInside end other piece r → s ≡ r ++ rest → ⊥
-
-abbrev pub Next : List ℕ → List ℕ → Match → Type 0
-Next end s f = At end s f.piece f.len ⊎ ((f.piece ≡ Refused faults.BadByte) × NoneFits end s)
 
 -- ---- first bytes
 
@@ -97,6 +86,30 @@ spelled_some z digits piece [] h = absurd (both false h.0 refl)
 spelled_some z digits piece (b ∷ bs) h = omega arith
 spelled_some z unknown piece p h = omega (arith, ap length h.0.1)
 
+pub at_from : (z s : List ℕ) (piece : Piece) (n : ℕ) (kind : InsideKind) → n ≤ length s → SpellsInside (92 ∷ z) kind piece (take n s) → Bound (92 ∷ z) s n
+    → At (StandsInside (92 ∷ z)) s piece n
+at_from z s piece n kind within spells bound = record {
+  some = omega (arith, spelled_some z kind piece (take n s) spells, length-take-le n s within);
+  within = within;
+  stands = record {
+    kind = kind;
+    spells = spells;
+    longest = λ other q r rest t e. omega (arith, length-take-le n s within, bound other q r rest t (sym (take-append-drop n s) ∙ e));
+  };
+}
+
+abbrev pub NextInside : List ℕ → List ℕ → Match → Type 0
+NextInside z s f = Next (StandsInside (92 ∷ z)) s f
+
+-- the longer text where it is listed, else what else is found
+pub listed_or : (z s : List ℕ) (n : ℕ) (other : Match) → n ≤ length s → Bound (92 ∷ z) s n → (look_up (take n s) symbols ≡ None → NextInside z s other)
+    → NextInside z s (or_else (look_up (take n s) symbols) n other)
+listed_or z s n other within bound unlisted = by (look_up (take n s) symbols) refl
+  where
+    by : (o : Option Piece) → look_up (take n s) symbols ≡ o → NextInside z s (or_else o n other)
+    by (Some piece) e = inl (at_from z s piece n fixed within e bound)
+    by None e = unlisted e
+
 -- ---- comments
 
 comment_bound : (z bs : List ℕ) → Bound (92 ∷ z) (37 ∷ bs) (1 + run_len Line bs)
@@ -112,8 +125,9 @@ comment_bound z bs unknown piece r rest h e = let k = headed z unknown piece r r
 pub comment_text : (bs : List ℕ) → IsComment (take (1 + run_len Line bs) (37 ∷ bs))
 comment_text bs = (take (run_len Line bs) bs, rw one-add, run_all Line bs)
 
-pub comment_at : (z bs : List ℕ) → At (92 ∷ z) (37 ∷ bs) (comment (take (1 + run_len Line bs) (37 ∷ bs))) (1 + run_len Line bs)
-comment_at z bs = at_from (92 ∷ z) (37 ∷ bs) _ (1 + run_len Line bs) remark (omega (arith, run_within Line bs)) (comment_text bs, refl) (comment_bound z bs)
+pub comment_next : (z bs : List ℕ) → NextInside z (37 ∷ bs) (comment_found (37 ∷ bs))
+unfolding comment_found
+comment_next z bs = inl (at_from z (37 ∷ bs) _ (1 + run_len Line bs) remark (omega (arith, run_within Line bs)) (comment_text bs, refl) (comment_bound z bs))
 
 -- ---- numbers
 
@@ -141,8 +155,10 @@ number_text b bs d =
     let is : take (run_len Digits (b ∷ bs)) (b ∷ bs) ≡ b ∷ take (run_len Digits bs) bs = rw (long, one-add) in
     ap is_number is ∙ sym (ap (is_run Digits) is) ∙ run_all Digits (b ∷ bs)
 
-pub number_at : (z : List ℕ) (b : ℕ) (bs : List ℕ) → is_ascii_digit b ≡ true → At (92 ∷ z) (b ∷ bs) (number_piece (take (run_len Digits (b ∷ bs)) (b ∷ bs))) (run_len Digits (b ∷ bs))
-number_at z b bs d = at_from (92 ∷ z) (b ∷ bs) _ (run_len Digits (b ∷ bs)) digits (run_within Digits (b ∷ bs)) (number_text b bs d, refl) (number_bound z b bs d)
+pub number_next : (z : List ℕ) (b : ℕ) (bs : List ℕ) → is_ascii_digit b ≡ true → NextInside z (b ∷ bs) (number_found (b ∷ bs))
+unfolding number_found
+number_next z b bs d =
+    inl (at_from z (b ∷ bs) _ (run_len Digits (b ∷ bs)) digits (run_within Digits (b ∷ bs)) (number_text b bs d, refl) (number_bound z b bs d))
 
 -- ---- words
 
@@ -179,7 +195,8 @@ name_bound b bs cs [] rest l h k e =
     omega (arith, n, run_le Base cs rest h, ap (run_len Base) e)
 name_bound b bs cs (d ∷ ds) rest l h k e =
     let n : base_len (b ∷ bs) ≡ 1 + length cs = rw l (ap (λ n. 1 + n) (ap (run_len Base) e ∙ base_ends cs (d ∷ ds) rest h k (omega arith))) in
-    let behind : drop (base_len (b ∷ bs)) (b ∷ bs) ≡ d ∷ ds ++ rest = ap (λ n. drop n (b ∷ bs)) (n ∙ one-add (length cs)) ∙ ap (drop (length cs)) e ∙ back_is cs (d ∷ ds ++ rest) in
+    let behind : drop (base_len (b ∷ bs)) (b ∷ bs) ≡ d ∷ ds ++ rest = ap (λ n. drop n (b ∷ bs)) (n ∙ one-add (length cs)) ∙ ap (drop (length cs)) e
+    ∙ drop-append_seam cs (d ∷ ds ++ rest) in
     omega (arith, n, run_le Strokes (d ∷ ds) rest k, ap (run_len Strokes) behind)
 
 word_bound : (z : List ℕ) (b : ℕ) (bs : List ℕ) → is_letter b ≡ true → Bound (92 ∷ z) (b ∷ bs) (word_len (b ∷ bs))
@@ -213,24 +230,19 @@ base_within (b ∷ bs) = pick (λ n. n ≤ length (b ∷ bs)) (is_letter b) _ _ 
 word_within : (s : List ℕ) → word_len s ≤ length s
 word_within s = omega (arith, base_within s, run_within Strokes (drop (base_len s) s), length-drop (base_len s) s)
 
-pub word_next : (z : List ℕ) (b : ℕ) (bs : List ℕ) → is_letter b ≡ true → Next (92 ∷ z) (b ∷ bs) (word_found (b ∷ bs))
+pub word_next : (z : List ℕ) (b : ℕ) (bs : List ℕ) → is_letter b ≡ true → NextInside z (b ∷ bs) (word_found (b ∷ bs))
 unfolding word_found
-word_next z b bs l = by (look_up (take (word_len (b ∷ bs)) (b ∷ bs)) symbols) refl
-  where
-    by : (o : Option Piece) → look_up (take (word_len (b ∷ bs)) (b ∷ bs)) symbols ≡ o
-        → Next (92 ∷ z) (b ∷ bs) (or_else o (word_len (b ∷ bs)) (found (Symbol
-        (name_of (take (base_len (b ∷ bs)) (b ∷ bs)) (take (strokes_len (b ∷ bs)) (drop (base_len (b ∷ bs)) (b ∷ bs))))) (word_len (b ∷ bs))))
-    by (Some piece) e = inl (at_from (92 ∷ z) (b ∷ bs) piece (word_len (b ∷ bs)) fixed (word_within (b ∷ bs)) e (word_bound z b bs l))
-    by None e = inl (at_from (92 ∷ z) (b ∷ bs) _ (word_len (b ∷ bs)) name (word_within (b ∷ bs)) (
-      take (base_len (b ∷ bs)) (b ∷ bs),
-      take (strokes_len (b ∷ bs)) (drop (base_len (b ∷ bs)) (b ∷ bs)),
-      take-add (base_len (b ∷ bs)) (strokes_len (b ∷ bs)) (b ∷ bs),
+word_next z b bs l =
+    let s = b ∷ bs in
+    listed_or z s (word_len s) _ (word_within s) (word_bound z b bs l) (λ unlisted. inl (at_from z s _ (word_len s) name (word_within s) (
+      take (base_len s) s,
+      take (strokes_len s) (drop (base_len s) s),
+      take-add (base_len s) (strokes_len s) s,
       base_text b bs l,
-      run_all Strokes (drop (base_len (b ∷ bs)) (b ∷ bs)),
-      e,
+      run_all Strokes (drop (base_len s) s),
+      unlisted,
       refl,
-    )
-        (word_bound z b bs l))
+    ) (word_bound z b bs l)))
 
 -- ---- symbols
 
@@ -300,14 +312,17 @@ other_bound z b bs o name piece r rest h e = absurd (both (is_letter b) (headed 
 other_bound z b bs o digits piece r rest h e = absurd (both (is_ascii_digit b) (headed z digits piece r rest b bs h e) o.digit)
 other_bound z b bs o unknown piece r rest h e = absurd (both (b == 92) (ap (λ b. b == 92) (headed z unknown piece r rest b bs h e)) o.backslash)
 
-pub symbol_next : (z : List ℕ) (b : ℕ) (bs : List ℕ) → Other b → Next (92 ∷ z) (b ∷ bs) (symbol_found (b ∷ bs))
+pub symbol_next : (z : List ℕ) (b : ℕ) (bs : List ℕ) → Other b → NextInside z (b ∷ bs) (symbol_found (b ∷ bs))
 unfolding symbol_found
-symbol_next z b bs o = by (look_up (take (symbol_len (b ∷ bs)) (b ∷ bs)) symbols) refl
+symbol_next z b bs o =
+    listed_or z (b ∷ bs) (symbol_len (b ∷ bs)) _ (symbol_within b bs) bound
+    (λ unlisted. inr (refl, λ piece p after e h. none unlisted h.kind piece p after h.spells e))
   where
     bound : Bound (92 ∷ z) (b ∷ bs) (symbol_len (b ∷ bs))
     bound other piece r rest h e = symbol_lens (b ∷ bs) r rest e (other_bound z b bs o other piece r rest h e).1
 
-    none : look_up (take (symbol_len (b ∷ bs)) (b ∷ bs)) symbols ≡ None → NoneFits (92 ∷ z) (b ∷ bs)
+    none : look_up (take (symbol_len (b ∷ bs)) (b ∷ bs)) symbols ≡ None → (other : InsideKind) (piece : Piece) (r rest : List ℕ)
+        → SpellsInside (92 ∷ z) other piece r → b ∷ bs ≡ r ++ rest → ⊥
     none e other piece r rest h f =
         let n = symbol_none (b ∷ bs) e in
         let l = (other_bound z b bs o other piece r rest h f).0 in
@@ -315,8 +330,3 @@ symbol_next z b bs o = by (look_up (take (symbol_len (b ∷ bs)) (b ∷ bs)) sym
         let is : take (symbol_len (b ∷ bs)) (b ∷ bs) ≡ r = taken (b ∷ bs) r rest (symbol_len (b ∷ bs)) f (one ∙ sym n) in
         let no : look_up r symbols ≡ None = ap (λ p. look_up p symbols) (sym is) ∙ e in
         cc (l, no)
-
-    by : (o : Option Piece) → look_up (take (symbol_len (b ∷ bs)) (b ∷ bs)) symbols ≡ o
-        → Next (92 ∷ z) (b ∷ bs) (or_else o (symbol_len (b ∷ bs)) (found (Refused faults.BadByte) (symbol_len (b ∷ bs))))
-    by (Some piece) e = inl (at_from (92 ∷ z) (b ∷ bs) piece (symbol_len (b ∷ bs)) fixed (symbol_within b bs) e bound)
-    by None e = inr (refl, none e)

@@ -1,10 +1,9 @@
 -- No newline stands in the text of a symbol; which letters begin a word of one spelling.
-use Rattle.zf_scan.proofs.Prelude.{◌++◌, ◌∙◌, ◌∷◌, ◌≡◌, ◌≤◌, [], ap, arith, Bool, false, length, List, None, Option, refl, slice_index_or, Some, subst, sym, take, true, ℕ, list_all, ◌&&◌, ◌==◌, ◌||◌, codes, not, bytes_eq, newlines, closing, escape, fixed, informal, InsideKind, is_base, is_letter, is_one, is_run, is_two, look_up, name, digits, opening, OutsideKind, remark, schema_opening, SpellsInside, SpellsOutside, unknown, openings, symbols, Match, Piece, Plain, Symbol, Region, Run, Base, Digits, Letters, Line, Strokes, Kind}
+use Rattle.zf_scan.proofs.Prelude.{◌++◌, ◌∙◌, ◌∷◌, ◌≡◌, ◌≤◌, [], ap, arith, Bool, false, length, List, None, refl, slice_index_or, Some, subst, sym, take, true, ℕ, list_all, ◌==◌, ◌||◌, codes, not, bytes_eq, newlines, closing, escape, fixed, informal, InsideKind, is_base, is_letter, is_one, is_run, is_two, look_up, name, digits, opening, OutsideKind, remark, schema_opening, SpellsInside, SpellsOutside, unknown, openings, symbols, Match, Plain, Symbol, Region, Run, Base, Digits, Letters, Line, Strokes, Kind, rules}
 use Rattle.zf_scan.specs.declared.pieces.Region.TheVariants as places
-use Rattle.zf_scan.proofs.Alone.{differ}
-use Rattle.zf_scan.proofs.Runs.{and_left, and_right}
+use Rattle.zf_scan.proofs.Runs.{and_left, and_right, by_steps, is_run-one}
 use Rattle.zf_scan.proofs.Scanned.{StandsAt, newlines_append}
-use Rattle.zf_scan.proofs.Table.{hit}
+use Rattle.zf_scan.proofs.Table.{hit, missed}
 use Rattle.zf_scan.proofs.Texts.{both, eq_is, bytes_same}
 
 -- ---- runs
@@ -41,19 +40,10 @@ more : (b : ℕ) (u : List ℕ) → (b == 10) ≡ false → newlines u ≡ 0 →
 more b u e h = rw (e, h)
 
 run_quiet : (run : Run) (p : List ℕ) → is_run run p ≡ true → newlines p ≡ 0
-run_quiet run [] h = refl
-run_quiet run (b ∷ []) h = more b [] (other_byte b (λ b. is_one run b ≡ true) h (no_one run)) refl
-run_quiet run (b ∷ c ∷ bs) h = by (is_one run b) refl (run_quiet run (c ∷ bs)) (run_quiet run bs)
-  where
-    by : (t : Bool) → is_one run b ≡ t → (is_run run (c ∷ bs) ≡ true → newlines (c ∷ bs) ≡ 0) → (is_run run bs ≡ true → newlines bs ≡ 0) → newlines (b ∷ c ∷ bs) ≡ 0
-    by true e one two =
-        let k : is_run run (c ∷ bs) ≡ true = rw e at h in
-        more b (c ∷ bs) (other_byte b (λ b. is_one run b ≡ true) e (no_one run)) (one k)
-    by false e one two =
-        let k : (is_two run b c && is_run run bs) ≡ true = rw e at h in
-        let pair : is_two run b c ≡ true = and_left (is_two run b c) (is_run run bs) k in
-        more b (c ∷ bs) (other_byte b (λ b. is_two run b c ≡ true) pair (no_first run c))
-        (more c bs (other_byte c (λ c. is_two run b c ≡ true) pair (no_second run b)) (two (and_right (is_two run b c) (is_run run bs) k)))
+run_quiet run p = by_steps run (λ p. is_run run p ≡ true → newlines p ≡ 0) (λ _. refl) (λ b e h. absurd (both (is_one run b) h e))
+    (λ b u e quiet h. more b u (other_byte b (λ b. is_one run b ≡ true) e (no_one run)) (quiet (sym (is_run-one run b u e) ∙ h)))
+    (λ b c u e f quiet. rw (e, f) (λ h. more b (c ∷ u) (other_byte b (λ b. is_two run b c ≡ true) f (no_first run c))
+    (more c u (other_byte c (λ c. is_two run b c ≡ true) f (no_second run b)) (quiet h)))) (λ b c u e f. rw (e, f) (λ h. absurd (both false h refl))) p
 
 base_quiet : (p : List ℕ) → is_base p ≡ true → newlines p ≡ 0
 base_quiet [] h = refl
@@ -76,7 +66,7 @@ no_line : (kind : Kind) (p : List ℕ) → look_up p symbols ≡ Some (Symbol ki
 no_line kind p e is = let f : Some Plain ≡ Some (Symbol kind) = sym line_is_plain ∙ sym (ap (λ p. look_up p symbols) is) ∙ e in absurd (cc)
 
 fixed_quiet : (kind : Kind) (p : List ℕ) → look_up p symbols ≡ Some (Symbol kind) → newlines p ≡ 0
-fixed_quiet kind p e = by (newlines p == 0) refl (hit row_quiet symbols p (Symbol kind) all_quiet e)
+fixed_quiet kind p e = by (newlines p == 0) refl (hit (λ p _. row_quiet p) symbols p (Symbol kind) all_quiet e)
   where
     by : (t : Bool) → (newlines p == 0) ≡ t → (t || bytes_eq p (10 ∷ [])) ≡ true → newlines p ≡ 0
     by true f h = eq_is (newlines p) 0 f
@@ -96,7 +86,7 @@ inside_quiet end quiet digits k (b ∷ bs) h = run_quiet Digits (b ∷ bs) h.0
 inside_quiet end quiet unknown k p h = absurd (cc)
 
 outside_quiet : (kind : OutsideKind) (k : Kind) (p : List ℕ) → SpellsOutside kind (Symbol k) p → newlines p ≡ 0
-outside_quiet opening k p h = eq_is (newlines p) 0 (hit (λ p. newlines p == 0) openings p (Symbol k) openings_quiet h)
+outside_quiet opening k p h = eq_is (newlines p) 0 (hit (λ p _. newlines p == 0) openings p (Symbol k) openings_quiet h)
 outside_quiet schema_opening k p h =
     let opened : newlines (codes "\\begin{schema}{") ≡ 0 = refl in
     let closed : newlines (codes "}") ≡ 0 = refl in
@@ -125,11 +115,10 @@ all_may = refl
 
 -- of the words of one spelling each begins with `t` or `f`
 no_word : (b : ℕ) (u : List ℕ) → is_letter b ≡ true → (b == 116) ≡ false → (b == 102) ≡ false → look_up (b ∷ u) symbols ≡ None
-no_word b u l t f = by (look_up (b ∷ u) symbols) refl
-  where
-    by : (o : Option Piece) → look_up (b ∷ u) symbols ≡ o → look_up (b ∷ u) symbols ≡ None
-    by None e = e
-    by (Some piece) e = absurd (both (may_begin (b ∷ u)) (hit may_begin symbols (b ∷ u) piece all_may e) (rw (l, t, f)))
+no_word b u l t f = missed may_begin symbols (b ∷ u) all_may (rw (l, t, f))
+
+differ : (b h : ℕ) → (b ≡ h → ⊥) → (b == h) ≡ false
+differ b h d = search rules
 
 pub no_fixed_word : (p : List ℕ) → 1 ≤ length p → is_letter (slice_index_or p 0 0) ≡ true → (slice_index_or p 0 0 ≡ 116 → ⊥) → (slice_index_or p 0 0 ≡ 102 → ⊥) → look_up p symbols ≡ None
 no_fixed_word [] some l t f = absurd (omega arith)

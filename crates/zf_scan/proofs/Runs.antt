@@ -13,7 +13,7 @@ two-add : (n : ℕ) → 2 + n ≡ suc (suc n)
 two-add n = omega arith
 
 -- a run that begins with a single byte
-is_run-one : (run : Run) (b : ℕ) (x : List ℕ) → is_one run b ≡ true → is_run run (b ∷ x) ≡ is_run run x
+pub is_run-one : (run : Run) (b : ℕ) (x : List ℕ) → is_one run b ≡ true → is_run run (b ∷ x) ≡ is_run run x
 is_run-one run b [] e = e
 is_run-one run b (c ∷ x) e = rw e
 
@@ -21,39 +21,38 @@ pub run_len-one : (run : Run) (b : ℕ) (x : List ℕ) → is_one run b ≡ true
 run_len-one run b [] e = rw e
 run_len-one run b (c ∷ x) e = rw e
 
+step_len-one : (run : Run) (b : ℕ) (x : List ℕ) → is_one run b ≡ true → step_len run (b ∷ x) ≡ 1
+step_len-one run b [] e = rw e
+step_len-one run b (c ∷ x) e = rw e
+
+-- where a run stops at once, or goes on by a byte or two, so at each text
+pub by_steps : (run : Run) (P : List ℕ → Type 0) → P [] → ((b : ℕ) → is_one run b ≡ false → P (b ∷ []))
+    → ((b : ℕ) (x : List ℕ) → is_one run b ≡ true → P x → P (b ∷ x))
+    → ((b c : ℕ) (x : List ℕ) → is_one run b ≡ false → is_two run b c ≡ true → P x → P (b ∷ c ∷ x))
+    → ((b c : ℕ) (x : List ℕ) → is_one run b ≡ false → is_two run b c ≡ false → P (b ∷ c ∷ x)) → (s : List ℕ) → P s
+by_steps run P none last one two stop [] = none
+by_steps run P none last one two stop (b ∷ []) = by (is_one run b) refl
+  where
+    by : (t : Bool) → is_one run b ≡ t → P (b ∷ [])
+    by true e = one b [] e none
+    by false e = last b e
+by_steps run P none last one two stop (b ∷ c ∷ bs) =
+    by (is_one run b) (is_two run b c) refl refl (by_steps run P none last one two stop (c ∷ bs)) (by_steps run P none last one two stop bs)
+  where
+    by : (t u : Bool) → is_one run b ≡ t → is_two run b c ≡ u → P (c ∷ bs) → P bs → P (b ∷ c ∷ bs)
+    by true u e f p q = one b (c ∷ bs) e p
+    by false true e f p q = two b c bs e f q
+    by false false e f p q = stop b c bs e f
+
 -- one step, and then the rest
 pub run_turn : (run : Run) (s : List ℕ) → run_len run s ≡ step_len run s + run_len run (drop (step_len run s) s)
-run_turn run [] = refl
-run_turn run (b ∷ []) = by (is_one run b) refl
-  where
-    by : (t : Bool) → is_one run b ≡ t → run_len run (b ∷ []) ≡ step_len run (b ∷ []) + run_len run (drop (step_len run (b ∷ [])) (b ∷ []))
-    by true e = rw e
-    by false e = rw (e, e)
-run_turn run (b ∷ c ∷ bs) = by (is_one run b) refl
-  where
-    both : (t : Bool) → is_one run b ≡ false → is_two run b c ≡ t → run_len run (b ∷ c ∷ bs) ≡ step_len run (b ∷ c ∷ bs) + run_len run (drop (step_len run (b ∷ c ∷ bs)) (b ∷ c ∷ bs))
-    both true f e = rw (f, e)
-    both false f e = rw (f, e, f, e)
-
-    by : (t : Bool) → is_one run b ≡ t → run_len run (b ∷ c ∷ bs) ≡ step_len run (b ∷ c ∷ bs) + run_len run (drop (step_len run (b ∷ c ∷ bs)) (b ∷ c ∷ bs))
-    by true e = rw e
-    by false e = both (is_two run b c) e refl
+run_turn run s = by_steps run (λ s. run_len run s ≡ step_len run s + run_len run (drop (step_len run s) s)) refl (λ b e. rw (e, e))
+    (λ b x e _. run_len-one run b x e ∙ ap (λ n. n + run_len run (drop n (b ∷ x))) (sym (step_len-one run b x e))) (λ b c x e f _. rw (e, f))
+    (λ b c x e f. rw (e, f, e, f)) s
 
 pub run_stop : (run : Run) (s : List ℕ) → step_len run s ≡ 0 → run_len run s ≡ 0
-run_stop run [] h = refl
-run_stop run (b ∷ []) h = h
-run_stop run (b ∷ c ∷ bs) h = by (is_one run b) (is_two run b c) refl refl
-  where
-    one_stops : is_one run b ≡ true → ⊥
-    one_stops e = let k : step_len run (b ∷ c ∷ bs) ≡ 1 = rw e in omega (arith, k, h)
-
-    two_stops : is_one run b ≡ false → is_two run b c ≡ true → ⊥
-    two_stops e f = let k : step_len run (b ∷ c ∷ bs) ≡ 2 = rw (e, f) in omega (arith, k, h)
-
-    by : (t u : Bool) → is_one run b ≡ t → is_two run b c ≡ u → run_len run (b ∷ c ∷ bs) ≡ 0
-    by true u e f = absurd (one_stops e)
-    by false true e f = absurd (two_stops e f)
-    by false false e f = rw (e, f)
+run_stop run s = by_steps run (λ s. step_len run s ≡ 0 → run_len run s ≡ 0) (λ _. refl) (λ b e h. rw e)
+    (λ b x e _ h. absurd (omega (arith, h, step_len-one run b x e))) (λ b c x e f _. rw (e, f) (λ h. absurd (omega (arith, h)))) (λ b c x e f h. rw (e, f)) s
 
 -- one turn of the loop, and its end
 pub run_more : (run : Run) (s : List ℕ) (n : ℕ) → n + run_len run (drop n s) ≡ run_len run s → (k : ℕ) → k ≡ step_len run (drop n s) → n + k + run_len run (drop (n + k) s) ≡ run_len run s
@@ -68,19 +67,9 @@ run_done run s n h k e z = let t = run_stop run (drop n s) (sym e ∙ z) in omeg
 
 -- after a run, the longest goes on
 pub run_append : (run : Run) (u x : List ℕ) → is_run run u ≡ true → run_len run (u ++ x) ≡ length u + run_len run x
-run_append run [] x h = sym (zero-add (run_len run x))
-run_append run (b ∷ []) x h = run_len-one run b x h
-run_append run (b ∷ c ∷ bs) x h = by (is_one run b) refl (run_append run (c ∷ bs) x) (run_append run bs x)
-  where
-    by : (t : Bool) → is_one run b ≡ t → (is_run run (c ∷ bs) ≡ true → run_len run (c ∷ bs ++ x) ≡ length (c ∷ bs) + run_len run x)
-        → (is_run run bs ≡ true → run_len run (bs ++ x) ≡ length bs + run_len run x)
-        → run_len run (b ∷ c ∷ bs ++ x) ≡ length (b ∷ c ∷ bs) + run_len run x
-    by true e one two = let k : is_run run (c ∷ bs) ≡ true = rw e at h in run_len-one run b (c ∷ bs ++ x) e ∙ omega (arith, one k)
-    by false e one two =
-        let k : (is_two run b c && is_run run bs) ≡ true = rw e at h in
-        let pair = and_left (is_two run b c) (is_run run bs) k in
-        let more = two (and_right (is_two run b c) (is_run run bs) k) in
-        rw (e, pair) (omega (arith, more))
+run_append run u x = by_steps run (λ u. is_run run u ≡ true → run_len run (u ++ x) ≡ length u + run_len run x) (λ _. sym (zero-add (run_len run x)))
+    (λ b e h. absurd (cc (e, h))) (λ b u e more h. run_len-one run b (u ++ x) e ∙ omega (arith, more (sym (is_run-one run b u e) ∙ h)))
+    (λ b c u e f more. rw (e, f) (λ h. omega (arith, more h))) (λ b c u e f. rw (e, f) (λ h. absurd (cc h))) u
 
 pub run_le : (run : Run) (u x : List ℕ) → is_run run u ≡ true → length u ≤ run_len run (u ++ x)
 run_le run u x h = omega (arith, run_append run u x h)
@@ -89,30 +78,11 @@ pub run_exact : (run : Run) (u x : List ℕ) → is_run run u ≡ true → run_l
 run_exact run u x h stop = omega (arith, run_append run u x h)
 
 pub run_all : (run : Run) (s : List ℕ) → is_run run (take (run_len run s) s) ≡ true
-run_all run [] = refl
-run_all run (b ∷ []) = by (is_one run b) refl
-  where
-    by : (t : Bool) → is_one run b ≡ t → is_run run (take (run_len run (b ∷ [])) (b ∷ [])) ≡ true
-    by true e = rw e e
-    by false e = rw e refl
-run_all run (b ∷ c ∷ bs) = by (is_one run b) (is_two run b c) refl refl (run_all run (c ∷ bs)) (run_all run bs)
-  where
-    by : (t u : Bool) → is_one run b ≡ t → is_two run b c ≡ u → is_run run (take (run_len run (c ∷ bs)) (c ∷ bs)) ≡ true
-        → is_run run (take (run_len run bs) bs) ≡ true → is_run run (take (run_len run (b ∷ c ∷ bs)) (b ∷ c ∷ bs)) ≡ true
-    by true u e f one two = rw (e, one-add) (is_run-one run b (take (run_len run (c ∷ bs)) (c ∷ bs)) e ∙ one)
-    by false true e f one two = rw (e, f, two-add) (rw (e, f) two)
-    by false false e f one two = rw (e, f) refl
+run_all run s = by_steps run (λ s. is_run run (take (run_len run s) s) ≡ true) refl (λ b e. rw e refl)
+    (λ b x e more. ap (λ n. is_run run (take n (b ∷ x))) (run_len-one run b x e ∙ one-add (run_len run x)) ∙ is_run-one run b (take (run_len run x) x) e ∙ more)
+    (λ b c x e f more. rw (e, f, two-add) (rw (e, f) more)) (λ b c x e f. rw (e, f) refl) s
 
 pub run_within : (run : Run) (s : List ℕ) → run_len run s ≤ length s
-run_within run [] = omega arith
-run_within run (b ∷ []) = by (is_one run b) refl
-  where
-    by : (t : Bool) → is_one run b ≡ t → run_len run (b ∷ []) ≤ length (b ∷ [])
-    by true e = rw e (omega arith)
-    by false e = rw e (omega arith)
-run_within run (b ∷ c ∷ bs) = by (is_one run b) (is_two run b c) refl refl (run_within run (c ∷ bs)) (run_within run bs)
-  where
-    by : (t u : Bool) → is_one run b ≡ t → is_two run b c ≡ u → run_len run (c ∷ bs) ≤ length (c ∷ bs) → run_len run bs ≤ length bs → run_len run (b ∷ c ∷ bs) ≤ length (b ∷ c ∷ bs)
-    by true u e f one two = rw e (omega arith)
-    by false true e f one two = rw (e, f) (omega arith)
-    by false false e f one two = rw (e, f) (omega arith)
+run_within run s =
+    by_steps run (λ s. run_len run s ≤ length s) (omega arith) (λ b e. rw e (omega arith)) (λ b x e more. omega (arith, run_len-one run b x e, more))
+    (λ b c x e f more. rw (e, f) (omega (arith, more))) (λ b c x e f. rw (e, f) (omega arith)) s

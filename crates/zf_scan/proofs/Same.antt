@@ -1,13 +1,13 @@
 -- One piece stands at a place.
-use Rattle.zf_scan.proofs.Prelude.{◌++◌, ◌+◌, ◌<◌, ◌∙◌, ◌∷◌, ◌≡◌, ◌≤◌, ◌⊎◌, [], ap, arith, Bool, drop, false, inl, inr, length, length-append, List, None, Option, refl, Some, sym, take, true, unwrap_or, ℕ, ⊎_elim, one-add, bytes_decides, if◌then◌else◌, ◌==◌, codes, bytes_eq, Stands, StandsInside, StandsOutside, comment, InsideKind, is_base, is_letter, is_number, is_run, look_up, number_piece, OutsideKind, SpellsInside, SpellsOutside, turn, openings, symbols, base_len, run_len, Piece, Plain, Refused, Symbol, Region, Base, Letters, Strokes, BeginSchema, EndBox, Name, is_ascii_digit}
+use Rattle.zf_scan.proofs.Prelude.{◌++◌, ◌+◌, ◌<◌, ◌∙◌, ◌∷◌, ◌≡◌, ◌≤◌, ◌⊎◌, [], ap, arith, Bool, drop, false, inl, inr, length, length-append, List, None, refl, Some, sym, take, true, unwrap_or, ℕ, ⊎_elim, one-add, bytes_decides, if◌then◌else◌, ◌==◌, codes, bytes_eq, Stands, StandsInside, StandsOutside, comment, InsideKind, is_base, is_letter, is_number, is_run, look_up, number_piece, OutsideKind, SpellsInside, SpellsOutside, turn, openings, symbols, base_len, run_len, Piece, Plain, Refused, Symbol, Region, Base, Letters, Strokes, BeginSchema, EndBox, Name, is_ascii_digit, nat_le, nat_tests, take-append_seam, drop-append_seam}
 use Rattle.zf_scan.specs.declared.fault.TextFaultKind.TheVariants as faults
 use Rattle.zf_scan.specs.declared.pieces.Region.TheVariants as places
 use Rattle.zf_scan.specs.Pieces
 use Rattle.zf_scan.proofs.Runs.{and_left, and_right, run_exact}
-use Rattle.zf_scan.proofs.Texts.{both, fronts, front_is, back_is, bytes_same}
-use Rattle.zf_scan.proofs.Table.{row_fits, listed_fits}
+use Rattle.zf_scan.proofs.Texts.{both, fronts, bytes_same}
+use Rattle.zf_scan.proofs.Table.{all_fit, missed, row_fits}
 use Rattle.zf_scan.proofs.Longest.{letter_byte, digit_byte, digit_no_letter, digit_row, run_head, stroke_byte, no_step, spelled_some}
-use Rattle.zf_scan.proofs.First.{opening_le, named}
+use Rattle.zf_scan.proofs.First.{named}
 
 -- ---- inside
 
@@ -26,13 +26,6 @@ pub record Closer (z : List ℕ) : Type 0 where
   pub unlisted : look_up (92 ∷ z) symbols ≡ None
   pub letters : is_run Letters z ≡ false
   pub long : 1 < length z
-
-unlisted : (p : List ℕ) → row_fits p ≡ false → look_up p symbols ≡ None
-unlisted p f = by (look_up p symbols) refl
-  where
-    by : (o : Option Piece) → look_up p symbols ≡ o → look_up p symbols ≡ None
-    by (Some piece) e = both _ (listed_fits p piece e) f
-    by None e = e
 
 -- the steps of `meaning`
 listed_is : (end p : List ℕ) (piece : Piece) → look_up p symbols ≡ Some piece → meaning end p ≡ piece
@@ -87,8 +80,8 @@ name_told z (c ∷ cs) strokes p e f g h = of_name (sym (ap (λ p. look_up p sym
     of_name : look_up (c ∷ cs ++ strokes) symbols ≡ None → Symbol (Name (c ∷ cs) strokes) ≡ meaning (92 ∷ z) (c ∷ cs ++ strokes)
     of_name h = sym (unlisted_is (92 ∷ z) (c ∷ cs ++ strokes) h ∙ other_is z c (cs ++ strokes) (letter_byte c letter).1 ∙ letter_is c (cs ++ strokes) (letter_byte c letter).0 letter
         ∙ ap (λ n. Symbol (Name (take n (c ∷ cs ++ strokes)) (drop n (c ∷ cs ++ strokes)))) long
-        ∙ ap (λ a. Symbol (Name a (drop (length (c ∷ cs)) (c ∷ cs ++ strokes)))) (front_is (c ∷ cs) strokes)
-        ∙ ap (λ b. Symbol (Name (c ∷ cs) b)) (back_is (c ∷ cs) strokes))
+        ∙ ap (λ a. Symbol (Name a (drop (length (c ∷ cs)) (c ∷ cs ++ strokes)))) (take-append_seam (c ∷ cs) strokes)
+        ∙ ap (λ b. Symbol (Name (c ∷ cs) b)) (drop-append_seam (c ∷ cs) strokes))
 
 closing_told : (z : List ℕ) → Closer z → meaning (92 ∷ z) (92 ∷ z) ≡ Symbol EndBox
 closing_told z closer = unlisted_is (92 ∷ z) (92 ∷ z) closer.unlisted ∙ itself
@@ -100,7 +93,8 @@ number_told : (z p : List ℕ) → is_number p ≡ true → meaning (92 ∷ z) p
 number_told z [] h = absurd (cc)
 number_told z (c ∷ cs) h =
     let d = run_head c cs h in
-    unlisted_is (92 ∷ z) (c ∷ cs) (unlisted (c ∷ cs) (digit_row c cs d)) ∙ other_is z c cs (digit_byte c d).1 ∙ digit_is c cs (digit_byte c d).0 d
+    unlisted_is (92 ∷ z) (c ∷ cs) (missed row_fits symbols (c ∷ cs) all_fit (digit_row c cs d)) ∙ other_is z c cs (digit_byte c d).1 ∙ digit_is c cs
+    (digit_byte c d).0 d
 
 command_differs : (z w : List ℕ) → Closer z → (is_run Letters w ≡ true) ⊎ (length w ≡ 1) → bytes_eq w z ≡ false
 command_differs z w closer h = by (bytes_eq w z) refl
@@ -119,7 +113,8 @@ told_inside : (z : List ℕ) → Closer z → (kind : InsideKind) (piece : Piece
 told_inside z closer Pieces.fixed piece p h = sym (listed_is (92 ∷ z) p piece h)
 told_inside z closer Pieces.closing piece p h = h.1 ∙ sym (ap (meaning (92 ∷ z)) h.0 ∙ closing_told z closer)
 told_inside z closer InsideKind.remark piece p h = h.1 ∙ ap comment h.0.1
-    ∙ sym (ap (meaning (92 ∷ z)) h.0.1 ∙ unlisted_is (92 ∷ z) (37 ∷ h.0.0) (unlisted (37 ∷ h.0.0) refl) ∙ other_is z 37 h.0.0 refl ∙ comment_is h.0.0)
+    ∙ sym (ap (meaning (92 ∷ z)) h.0.1 ∙ unlisted_is (92 ∷ z) (37 ∷ h.0.0) (missed row_fits symbols (37 ∷ h.0.0) all_fit refl) ∙ other_is z 37 h.0.0 refl
+    ∙ comment_is h.0.0)
 told_inside z closer Pieces.name piece p h = h.6 ∙ name_told z h.0 h.1 p h.2 h.3 h.4 h.5
 told_inside z closer Pieces.digits piece p h = h.1 ∙ sym (number_told z p h.0)
 told_inside z closer Pieces.unknown piece p h = h.2 ∙ sym (ap (meaning (92 ∷ z)) h.0.1 ∙ unknown_told z h.0.0 closer h.0.2 (sym (ap (λ p. look_up p symbols) h.0.1) ∙ h.1))
@@ -132,11 +127,8 @@ meaning_outside t p =
     else (if t == 3 then comment p else Plain)
 
 unopened : (p : List ℕ) → 14 < length p → look_up p openings ≡ None
-unopened p h = by (look_up p openings) refl
-  where
-    by : (o : Option Piece) → look_up p openings ≡ o → look_up p openings ≡ None
-    by (Some piece) e = absurd (omega (arith, opening_le p piece e))
-    by None e = e
+unfolding openings
+unopened p h = missed (λ p. nat_le (length p) 14) openings p refl (grind (arith, nat_tests))
 
 told_outside : (kind : OutsideKind) (piece : Piece) (p : List ℕ) → SpellsOutside kind piece p → piece ≡ meaning_outside (turn kind) p
 unfolding meaning_outside
@@ -144,7 +136,8 @@ told_outside Pieces.opening piece p h = let e : look_up p openings ≡ Some piec
 told_outside Pieces.schema_opening piece p h =
     let behind : drop 15 p ≡ h.0 ++ 125 ∷ [] = ap (drop 15) h.1 in
     let n = named h.0 [] h.2 h.3 in
-    let front : take (base_len (drop 15 p)) (drop 15 p) ≡ h.0 = ap (λ t. take (base_len t) t) behind ∙ ap (λ k. take k (h.0 ++ 125 ∷ [])) n.0 ∙ front_is h.0 (125 ∷ []) in
+    let front : take (base_len (drop 15 p)) (drop 15 p) ≡ h.0 = ap (λ t. take (base_len t) t) behind ∙ ap (λ k. take k (h.0 ++ 125 ∷ [])) n.0
+    ∙ take-append_seam h.0 (125 ∷ []) in
     let e : look_up p openings ≡ None = unopened p (omega (arith, ap length h.1, length-append h.0 (125 ∷ []))) in
     rw e (h.4 ∙ ap (λ name. Symbol (BeginSchema name)) (sym front))
 told_outside Pieces.escape piece p h = h.1

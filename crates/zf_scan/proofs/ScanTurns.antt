@@ -1,18 +1,48 @@
 -- One turn of the scanner's loop: a blank, another piece without a token, a symbol.
-use Rattle.zf_scan.proofs.Prelude.{◌++◌, ◌+◌, ◌<◌, ◌∙◌, ◌∷◌, ◌≡◌, [], ap, arith, drop, inl, inr, length, length-take-le, List, map, refl, subst, sym, take, ℕ, Before, entered, IsRead, newlines, token_at, kind_of, piece_of, match_of, Match, found, found_at, Plain, Symbol, Region, Placed, Token}
+use Rattle.zf_scan.proofs.Prelude.{◌++◌, ◌+◌, ◌<◌, ◌∙◌, ◌∷◌, ◌≡◌, [], ap, arith, drop, inl, inr, length, length-take-le, List, map, refl, subst, sym, take, ℕ, Before, entered, IsRead, newlines, token_at, kind_of, piece_of, match_of, Match, found, found_at, Plain, Symbol, Region, Placed, Token, length-drop, between, begins_box, true, map-append}
 use Rattle.zf_scan.specs.declared.next.Next as symbol
 use Rattle.zf_scan.specs.declared.pieces.Match as code
+use Rattle.zf_scan.specs.declared.pieces.Lexeme.{Lexeme}
 use Rattle.zf_scan.specs.declared.pieces.Lexeme.TheVariants as lexemes
+use Rattle.zf_scan.specs.declared.pieces.Region.TheVariants.{Outside}
+use Rattle.zf_scan.proofs.BoxParts.{begins_same, begins_there}
 use Rattle.zf_scan.proofs.Quiet.{quiet}
-use Rattle.zf_scan.proofs.Scanned.{StandsAt, Next, found_next, seen_at, goes, turned, moved, told_plain, told_symbol, placed_told}
+use Rattle.zf_scan.proofs.Scanned.{StandsAt, Next, found_next, goes, turned, moved, told_plain, told_symbol, placed_told}
 
--- what was seen stands there
-pub plain_stands : (place : Region) (s rest : List ℕ) (f : code.Match) → rest ≡ s → match_of rest f ≡ found_at place rest → 0 < length s → f.lexeme ≡ lexemes.Plain → StandsAt place s (match_of s f)
-plain_stands place s rest f e g some is = goes place s (match_of s f) (seen_at place s rest f e g some) (subst (λ lexeme. IsRead (piece_of lexeme f.amount (take f.len s))) (sym is) tt)
+-- what the scanner has seen at the front of a text that is not empty
+pub record Seen (place : Region) (s rest : List ℕ) (f : code.Match) : Type 0 where
+  pub same : rest ≡ s
+  pub found : match_of rest f ≡ found_at place rest
+  pub some : 0 < length s
 
-pub symbol_stands : (place : Region) (s rest : List ℕ) (f : code.Match) (next : symbol.Next) → rest ≡ s → match_of rest f ≡ found_at place rest → 0 < length s
-    → f.lexeme ≡ lexemes.Symbol next → StandsAt place s (match_of s f)
-symbol_stands place s rest f next e g some is = goes place s (match_of s f) (seen_at place s rest f e g some) (subst (λ lexeme. IsRead (piece_of lexeme f.amount (take f.len s))) (sym is) tt)
+pub seen_there : {place : Region} {rest : List ℕ} {f : code.Match} (at : ℕ) (source : List ℕ) → rest ≡ drop at source
+    → match_of rest f ≡ found_at place rest → at < length source
+    → Seen place (drop at source) rest f
+seen_there at source same found within = record { same = same; found = found; some = omega (arith, length-drop at source, within) }
+
+pub seen_next : {place : Region} {s rest : List ℕ} {f : code.Match} → Seen place s rest f → Next place s (match_of s f)
+seen_next {place} {s} {rest} {f} v = subst (λ f. Next place s f) (sym (subst (λ r. match_of r f ≡ found_at place r) v.same v.found)) (found_next place s v.some)
+
+-- unless it is refused, it stands there
+pub stands : {place : Region} {s rest : List ℕ} {f : code.Match} {lexeme : Lexeme} → Seen place s rest f → f.lexeme ≡ lexeme
+    → IsRead (piece_of lexeme f.amount (take f.len s))
+    → StandsAt place s (match_of s f)
+stands {place} {s} {rest} {f} v is read =
+    goes place s (match_of s f) (seen_next v) (subst (λ lexeme. IsRead (piece_of lexeme f.amount (take f.len s))) (sym is) read)
+
+-- a symbol outside of a box begins one
+pub opens : {place : Region} {s rest : List ℕ} {f : code.Match} {next : symbol.Next} → Seen place s rest f → f.lexeme ≡ lexemes.Symbol next
+    → (source : List ℕ) (p : Placed) → p.next ≡ next → place ≡ Outside → begins_box (token_at source p).kind ≡ true
+opens {place} {s} {rest} {f} {next} v is source p same out =
+    let text = between p.start p.stop source in
+    ap (λ next. begins_box (kind_of next p.amount text)) same
+    ∙ begins_same next p.amount f.amount text (take f.len s)
+    ∙ begins_there place s (match_of s f) _ (stands v is tt) (ap (λ lexeme. piece_of lexeme f.amount (take f.len s)) is) out
+
+-- the tokens with one more
+pub one_more : (source : List ℕ) (symbols : List Placed) (p : Placed) (more : List Placed) → more ≡ symbols ++ p ∷ []
+    → map (token_at source) more ≡ map (token_at source) symbols ++ token_at source p ∷ []
+one_more source symbols p more e = ap (map (token_at source)) e ∙ map-append (token_at source) symbols (p ∷ [])
 
 blank_stands : (place : Region) (s : List ℕ) → Next place s (found Plain 1) → StandsAt place s (found Plain 1)
 blank_stands place s (inl a) = a
@@ -33,24 +63,25 @@ blank_read source at line place tokens b rest e some h lines n =
     plain_turn source at line place tokens b (found Plain 1) (blank_stands place (drop at source) next) refl lines (n ∙ ap (λ t. newlines (take 1 t)) e)
 
 pub plain_read : (source : List ℕ) (at line : ℕ) (place : Region) (tokens : List Token) → Before source at line place tokens → (rest : List ℕ) (f : code.Match)
-    → rest ≡ drop at source → match_of rest f ≡ found_at place rest → 0 < length (drop at source) → f.lexeme ≡ lexemes.Plain
-    → (lines : ℕ) → lines ≡ newlines (take f.len rest) → Before source (at + f.len) (line + lines) place tokens
-plain_read source at line place tokens b rest f e g some is lines n =
+    → Seen place (drop at source) rest f → f.lexeme ≡ lexemes.Plain → (lines : ℕ) → lines ≡ newlines (take f.len rest)
+    → Before source (at + f.len) (line + lines) place tokens
+plain_read source at line place tokens b rest f v is lines n =
     let s = drop at source in
-    plain_turn source at line place tokens b (match_of s f) (plain_stands place s rest f e g some is)
-    (ap (λ lexeme. piece_of lexeme f.amount (take f.len s)) is) lines (n ∙ ap (λ t. newlines (take f.len t)) e)
+    plain_turn source at line place tokens b (match_of s f) (stands v is tt) (ap (λ lexeme. piece_of lexeme f.amount (take f.len s)) is) lines
+    (n ∙ ap (λ t. newlines (take f.len t)) v.same)
 
 pub symbol_read : (source : List ℕ) (at line : ℕ) (place : Region) (front : List Token) (symbols : List Placed)
-    → Before source at line place (front ++ map (token_at source) symbols) → (rest : List ℕ) (f : code.Match) (next : symbol.Next) → rest ≡ drop at source
-    → match_of rest f ≡ found_at place rest → 0 < length (drop at source) → f.lexeme ≡ lexemes.Symbol next
+    → Before source at line place (front ++ map (token_at source) symbols) → (rest : List ℕ) (f : code.Match) (next : symbol.Next)
+    → Seen place (drop at source) rest f
+    → f.lexeme ≡ lexemes.Symbol next
     → (more : List Placed) → more ≡ symbols ++ record { next = next; line = line; start = at; stop = at + f.len; amount = f.amount } ∷ []
     → (behind : Region) → ((amount : ℕ) (text : List ℕ) → behind ≡ entered place line (Symbol (kind_of next amount text))) → Before source (at + f.len) line behind (front ++ map (token_at source) more)
-symbol_read source at line place front symbols b rest f next e g some is more pushed behind place_is =
+symbol_read source at line place front symbols b rest f next v is more pushed behind place_is =
     let s = drop at source in
     let text = take f.len s in
     let kind = kind_of next f.amount text in
     let tokens = front ++ map (token_at source) symbols in
-    let a = symbol_stands place s rest f next e g some is in
+    let a = stands v is tt in
     let piece : piece_of f.lexeme f.amount text ≡ Symbol kind = ap (λ lexeme. piece_of lexeme f.amount text) is in
     let silent : newlines text ≡ 0 = quiet place s (match_of s f) kind a piece in
     let same_line : line + newlines text ≡ line = omega (arith, silent) in

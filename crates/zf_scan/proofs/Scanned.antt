@@ -1,42 +1,22 @@
 -- What the loop of the scanner keeps, and what one turn does.
-use Rattle.zf_scan.proofs.Prelude.{◌++◌, ◌+◌, ◌-◌, ◌<◌, ◌∙◌, ◌∷◌, ◌≡◌, ◌≤◌, ◌⊎◌, [], ap, append_assoc, arith, Bool, drop, false, inl, inr, length, length-append, length-take-le, List, map, refl, subst, sym, take, take-append-drop, true, ℕ, append-nil, drop-drop, map-append, if◌then◌else◌, ◌==◌, codes, Before, Cuts, entered, IsRead, spot_line, newlines, past, Spot, Stands, start, tokens_from, tokens_of, token_at, kind_of, match_of, Match, found_at, Piece, Plain, Refused, Symbol, Region, Placed, Kind, Token}
-use Rattle.zf_scan.specs.declared.fault.TextFaultKind.TheVariants as faults
+use Rattle.zf_scan.proofs.Prelude.{◌++◌, ◌+◌, ◌-◌, ◌<◌, ◌∙◌, ◌∷◌, ◌≡◌, ◌≤◌, [], ap, append_assoc, arith, Bool, drop, false, inl, inr, length, length-append, length-take-le, List, map, refl, subst, sym, take, take-append-drop, true, ℕ, append-nil, drop-drop, map-append, if◌then◌else◌, ◌==◌, Before, Cuts, entered, IsRead, spot_line, newlines, past, Spot, Stands, start, tokens_from, tokens_of, token_at, kind_of, Match, found_at, Piece, Plain, Symbol, Region, Placed, Kind, Token}
 use Rattle.zf_scan.specs.declared.next.Next as symbol
-use Rattle.zf_scan.specs.declared.pieces.Match as code
 use Rattle.zf_scan.specs.declared.pieces.Region.TheVariants as places
 use Rattle.zf_scan.proofs.Longest as longest
-use Rattle.zf_scan.proofs.Longest.{spelled_some}
 use Rattle.zf_scan.proofs.Closing.{zed_next, schema_next}
 use Rattle.zf_scan.proofs.First.{outside_next}
 
--- the piece that was found stands there, or no piece does
-pub record StandsAt (place : Region) (s : List ℕ) (f : Match) : Type 0 where
-  pub some : 0 < f.len
-  pub within : f.len ≤ length s
-  pub stands : Stands place f.piece (take f.len s) (drop f.len s)
-
-abbrev pub NothingStands : Region → List ℕ → Type 0
-NothingStands place s = (piece : Piece) (p after : List ℕ) → s ≡ p ++ after → Stands place piece p after → ⊥
+abbrev pub StandsAt : Region → List ℕ → Match → Type 0
+StandsAt place s f = longest.At (Stands place) s f.piece f.len
 
 abbrev pub Next : Region → List ℕ → Match → Type 0
-Next place s f = StandsAt place s f ⊎ ((f.piece ≡ Refused faults.BadByte) × NothingStands place s)
-
-at_some : (z s : List ℕ) (f : Match) → longest.At (92 ∷ z) s f.piece f.len → 0 < f.len
-at_some z s f a = omega (arith, spelled_some z a.stands.kind f.piece (take f.len s) a.stands.spells, length-take-le f.len s a.within)
-
-from_zed : (line : ℕ) (s : List ℕ) (f : Match) → longest.Next (codes "\\end{zed}") s f → Next (places.Zed line) s f
-from_zed line s f (inl a) = inl (record { some = at_some (codes "end{zed}") s f a; within = a.within; stands = a.stands })
-from_zed line s f (inr n) = inr (n.0, λ piece p after e t. n.1 t.kind piece p after t.spells e)
-
-from_schema : (line : ℕ) (s : List ℕ) (f : Match) → longest.Next (codes "\\end{schema}") s f → Next (places.Schema line) s f
-from_schema line s f (inl a) = inl (record { some = at_some (codes "end{schema}") s f a; within = a.within; stands = a.stands })
-from_schema line s f (inr n) = inr (n.0, λ piece p after e t. n.1 t.kind piece p after t.spells e)
+Next place s f = longest.Next (Stands place) s f
 
 pub found_next : (place : Region) (s : List ℕ) → 0 < length s → Next place s (found_at place s)
 unfolding found_at
-found_next places.Outside s some = let a = outside_next s some in inl (record { some = a.some; within = a.within; stands = a.stands })
-found_next (places.Zed line) s some = from_zed line s _ (zed_next s some)
-found_next (places.Schema line) s some = from_schema line s _ (schema_next s some)
+found_next places.Outside s some = inl (outside_next s some)
+found_next (places.Zed line) s some = zed_next s some
+found_next (places.Schema line) s some = schema_next s some
 
 -- ---- the loop
 
@@ -84,9 +64,6 @@ turned source at line place tokens b f s r = record {
     after = drop f.len (drop at source)
 
 -- ---- what a turn has found
-
-pub seen_at : (place : Region) (s rest : List ℕ) (f : code.Match) → rest ≡ s → match_of rest f ≡ found_at place rest → 0 < length s → Next place s (match_of s f)
-seen_at place s rest f e g some = subst (λ f. Next place s f) (sym (subst (λ r. match_of r f ≡ found_at place r) e g)) (found_next place s some)
 
 pub goes : (place : Region) (s : List ℕ) (f : Match) → Next place s f → IsRead f.piece → StandsAt place s f
 goes place s f (inl a) r = a

@@ -1,5 +1,5 @@
 -- Texts: fronts, what stands after them, and branches.
-use Rattle.zf_scan.proofs.Prelude.{◌++◌, ◌∙◌, ◌∷◌, ◌≡◌, ◌≤◌, [], ap, arith, Bool, drop, false, length, length-append, List, refl, sym, take, true, ℕ, Decides-eqb, nat_tests, starts_is, bytes_decides, if◌then◌else◌, ◌==◌, bytes_eq, begins}
+use Rattle.zf_scan.proofs.Prelude.{◌++◌, ◌∙◌, ◌∷◌, ◌≡◌, ◌≤◌, [], ap, arith, Bool, drop, false, length, length-append, List, refl, sym, take, true, ℕ, Decides-eqb, nat_tests, starts_is, bytes_decides, if◌then◌else◌, ◌==◌, bytes_eq, begins, take-append_seam}
 
 -- what holds in both branches
 pub pick : {X : Type 0} (P : X → Type 0) (t : Bool) (x y : X) → (t ≡ true → P x) → (t ≡ false → P y) → P (if t then x else y)
@@ -22,16 +22,8 @@ fronts (c ∷ a) (d ∷ b) x y n e =
     let r = fronts a b x y (omega arith) tail in
     (ap (λ c. c ∷ a) head ∙ ap (λ a. d ∷ a) r.0, r.1)
 
-pub front_is : (a x : List ℕ) → take (length a) (a ++ x) ≡ a
-front_is [] x = refl
-front_is (c ∷ a) x = ap (λ a. c ∷ a) (front_is a x)
-
-pub back_is : (a x : List ℕ) → drop (length a) (a ++ x) ≡ x
-back_is [] x = refl
-back_is (c ∷ a) x = back_is a x
-
 pub taken : (s r rest : List ℕ) (n : ℕ) → s ≡ r ++ rest → length r ≡ n → take n s ≡ r
-taken s r rest n e f = ap (λ n. take n s) (sym f) ∙ ap (take (length r)) e ∙ front_is r rest
+taken s r rest n e f = ap (λ n. take n s) (sym f) ∙ ap (take (length r)) e ∙ take-append_seam r rest
 
 pub front_le : (s r rest : List ℕ) → s ≡ r ++ rest → length r ≤ length s
 front_le s r rest e = omega (arith, ap length e, length-append r rest)

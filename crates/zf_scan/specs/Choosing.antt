@@ -47,31 +47,19 @@ next_of k.Xi = next.Xi
 
 abbrev pub is_mark : Mark → Next → Bool
 is_mark mark.EndBox next.EndBox = true
-is_mark mark.EndBox _ = false
 is_mark mark.Separator (next.Separator Semicolon) = true
-is_mark mark.Separator _ = false
 is_mark mark.CloseRound next.CloseRound = true
-is_mark mark.CloseRound _ = false
 is_mark mark.OpenSquare next.OpenSquare = true
-is_mark mark.OpenSquare _ = false
 is_mark mark.CloseSquare next.CloseSquare = true
-is_mark mark.CloseSquare _ = false
 is_mark mark.CloseBrace next.CloseBrace = true
-is_mark mark.CloseBrace _ = false
 is_mark mark.CloseImage next.CloseImage = true
-is_mark mark.CloseImage _ = false
 is_mark mark.Comma next.Comma = true
-is_mark mark.Comma _ = false
 is_mark mark.Colon next.Colon = true
-is_mark mark.Colon _ = false
 is_mark mark.Bar next.Bar = true
-is_mark mark.Bar _ = false
 is_mark mark.At next.At = true
-is_mark mark.At _ = false
 is_mark mark.Where next.Where = true
-is_mark mark.Where _ = false
 is_mark mark.Cross next.Cross = true
-is_mark mark.Cross _ = false
+is_mark _ _ = false
 
 -- whether the symbol goes on with a list of names; the test is whether a name is due
 abbrev pub goes_on : Bool → Next → Bool

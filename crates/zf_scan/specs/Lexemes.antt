@@ -1,5 +1,7 @@
 -- What the scanner keeps of a piece, and the piece that it is kept of. Only clauses of what the parser calls rest on this file.
-use Rattle.std.specs.Prelude.{ℕ, List, take, drop, Option, Some, None}
+use denote.Bor.{Bor}
+use Rattle.std.specs.Prelude.{ℕ, List, [], ◌∷◌, ◌++◌, if◌then◌else◌, take, drop, Option, Some, None}
+use Rattle.std.specs.Str.{bytes_eq}
 use Rattle.zf_scan.specs.declared.next.Next.{Next}
 use Rattle.zf_scan.specs.declared.next.Next.TheVariants as next
 use Rattle.zf_scan.specs.declared.pieces.Match.{Match}
@@ -63,6 +65,11 @@ piece_of (lexeme.Refused kind) amount text = Refused kind
 abbrev pub seen : List ℕ → Option Lexeme → Option Piece
 seen text None = None
 seen text (Some lexeme) = Some (piece_of lexeme 0 text)
+
+-- the piece of the row whose text stands after the front that the rows are for
+abbrev pub listed_in : List ℕ → List ℕ → List (Bor (List ℕ) × Lexeme) → Option Piece
+listed_in front text [] = None
+listed_in front text (row ∷ rows) = if bytes_eq text row.0.now then Some (piece_of row.1 0 (front ++ text)) else listed_in front text rows
 
 -- what was found at the front of a text
 abbrev pub match_of : List ℕ → Match → steps.Match

@@ -16,8 +16,8 @@ pub use Rattle.zf_scan.specs.CutViews.{IsUncut, IsWantOfMemory}
 pub use Rattle.zf_scan.specs.CutLaws.{FaultsOnce, IsCutOnce, IsCutOrFaults, IsNotBoth}
 pub use Rattle.zf_scan.specs.Separators.{canonical, closes, is_separator, opens, reduced, reduced_after, separator, starts_closed, Symbol, symbol, symbol_of}
 unfoldable pub use Rattle.zf_scan.specs.Steps.{command_found, comment_found, found_at, inside_found, number_found, opening_found, other_opening_found, outside_found, schema_found, short_command, symbol_found, word_found}
-pub use Rattle.zf_scan.specs.Steps.{base_len, begins, command_len, Match, found, has_no_name, long_len, name_of, or_else, plain, run_len, step_len, strokes_len, symbol_len, tail_len, word_len}
-pub use Rattle.zf_scan.specs.Lexemes.{kind_of, opening_len, piece_of, seen, match_of}
+pub use Rattle.zf_scan.specs.Steps.{base_len, begins, command_len, Match, found, has_no_name, long_len, or_else, plain, run_len, step_len, strokes_len, symbol_len, tail_len, word_len}
+pub use Rattle.zf_scan.specs.Lexemes.{kind_of, listed_in, opening_len, piece_of, seen, match_of}
 pub use Rattle.zf_scan.specs.Placing.{between, kind_at, symbol_at, token_at, unplaced}
 pub use Rattle.zf_scan.specs.Laying.{amount, AreWithin, IsLaid, spelling}
 pub use Rattle.zf_scan.specs.Choosing.{ends_names, goes_on, is_mark, next_of}

@@ -4,7 +4,6 @@ use Rattle.std.specs.List.{starts_with}
 use Rattle.std.specs.Option.{is_some}
 use Rattle.zf_scan.specs.declared.fault.TextFaultKind.{TextFaultKind}
 use Rattle.zf_scan.specs.declared.fault.TextFaultKind.TheVariants as faults
-use Rattle.zf_scan.specs.declared.token.Kind.{Kind}
 use Rattle.zf_scan.specs.declared.token.Kind.TheVariants.{BeginZed, BeginSchema, EndBox, Name}
 use Rattle.zf_scan.specs.declared.pieces.Piece.{Piece}
 use Rattle.zf_scan.specs.declared.pieces.Piece.TheVariants.{Plain, Symbol, Refused}
@@ -78,17 +77,13 @@ strokes_len s = run_len Strokes (drop (base_len s) s)
 abbrev pub word_len : List ℕ → ℕ
 word_len s = base_len s + strokes_len s
 
-abbrev pub name_of : List ℕ → List ℕ → Kind
-name_of base strokes = Name base strokes
-
 unfoldable pub word_found : List ℕ → Match
-word_found s = or_else (look_up (take (word_len s) s) symbols) (word_len s) (found (Symbol (name_of (take (base_len s) s) (take (strokes_len s) (drop (base_len s) s)))) (word_len s))
-
-abbrev pub digits_len : List ℕ → ℕ
-digits_len s = run_len Digits s
+word_found s =
+    or_else (look_up (take (word_len s) s) symbols) (word_len s) (found (Symbol (Name (take (base_len s) s) (take (strokes_len s) (drop (base_len s) s))))
+    (word_len s))
 
 unfoldable pub number_found : List ℕ → Match
-number_found s = found (number_piece (take (digits_len s) s)) (digits_len s)
+number_found s = found (number_piece (take (run_len Digits s) s)) (run_len Digits s)
 
 abbrev pub symbol_len : List ℕ → ℕ
 symbol_len s = if begins s (codes "::=") then 3 else (if begins s (codes "==") then 2 else 1)

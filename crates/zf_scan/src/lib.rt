@@ -1,7 +1,6 @@
 //! From bytes to tokens: `symbols` and `scan` give the tokens that a source is cut into.
 #![tactic(auto)]
 
-mod commands;
 mod fault;
 mod inside;
 mod laid;

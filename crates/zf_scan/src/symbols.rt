@@ -1,141 +1,233 @@
-//! The pieces of one spelling, by their first byte.
+//! The pieces of one spelling: tables by their first byte, those of commands by the byte after the backslash.
 #![tactic(auto)]
 
-ghost use Rattle.std.specs.Prelude.{◌≡◌, ◌∷◌, if◌then◌else◌, Some, None};
-ghost use Rattle.std.specs.Str.{bytes_eq};
-ghost use Rattle.zf_scan.specs.{look_up, seen, symbols};
+ghost use Rattle.std.specs.Prelude.{◌≡◌, ◌∷◌, ◌++◌, [], List, ℕ};
+ghost use Rattle.zf_scan.specs.{listed_in, look_up, seen, symbols};
 
-use crate::commands as by_letter;
 use crate::fault::TextFaultKind;
 use crate::next::Next;
 use crate::pieces::{Lexeme, same};
 use crate::token::Separator;
-use zf_tree::{Constant, Infix, Prefix, Relation};
+use zf_tree::{Arrow, Connective, Constant, Infix, Prefix, Quantifier, Relation};
+
+/// What stands after the bytes that a table is for, and the piece that is spelled so.
+type Row = (&'static [u8], Lexeme);
+
+const NOT_IN_PROFILE: Lexeme = Lexeme::Refused(TextFaultKind::NotInProfile);
 
 /// The piece that a text spells, if it is of one spelling.
 pub fn fixed(text: &[u8]) -> Option<Lexeme>
     ensures { seen text.now result ≡ look_up text.now symbols }
 {
-    let [first, rest @ ..] = text else {
-        return None;
-    };
-    match *first {
-        b'\\' => command(rest),
-        b'\t' => only(rest, b"", Lexeme::Plain),
-        b'\n' => only(rest, b"", Lexeme::Plain),
-        b'\r' => only(rest, b"", Lexeme::Plain),
-        b' ' => only(rest, b"", Lexeme::Plain),
-        b'~' => only(rest, b"", Lexeme::Plain),
-        b';' => only(
-            rest,
-            b"",
-            Lexeme::Symbol(Next::Separator(Separator::Semicolon)),
-        ),
-        b'(' => only(rest, b"", Lexeme::Symbol(Next::OpenRound)),
-        b')' => only(rest, b"", Lexeme::Symbol(Next::CloseRound)),
-        b'[' => only(rest, b"", Lexeme::Symbol(Next::OpenSquare)),
-        b']' => only(rest, b"", Lexeme::Symbol(Next::CloseSquare)),
-        b',' => only(rest, b"", Lexeme::Symbol(Next::Comma)),
-        b':' => colons(rest),
-        b'|' => only(rest, b"", Lexeme::Symbol(Next::Bar)),
-        b'@' => only(rest, b"", Lexeme::Symbol(Next::At)),
-        b'=' => equals(rest),
-        b'<' => only(rest, b"", Lexeme::Symbol(Next::Relation(Relation::Less))),
-        b'>' => only(rest, b"", Lexeme::Symbol(Next::Relation(Relation::Greater))),
-        b'+' => only(rest, b"", Lexeme::Symbol(Next::Infix(Infix::Plus))),
-        b'-' => only(rest, b"", Lexeme::Symbol(Next::Infix(Infix::Minus))),
-        b'*' => only(rest, b"", Lexeme::Symbol(Next::Infix(Infix::Times))),
-        b't' => only(rest, b"rue", Lexeme::Symbol(Next::Constant(Constant::True))),
-        b'f' => only(
-            rest,
-            b"alse",
-            Lexeme::Symbol(Next::Constant(Constant::False)),
-        ),
-        b'{' => only(rest, b"", Lexeme::Refused(TextFaultKind::NotInProfile)),
-        b'}' => only(rest, b"", Lexeme::Refused(TextFaultKind::NotInProfile)),
-        _ => None,
+    match text {
+        [b'\\', second, rest @ ..] => lexeme_in(rest, commands(*second)),
+        [b'\\'] => None,
+        [first, rest @ ..] => lexeme_in(rest, signs(*first)),
+        [] => None,
     }
 }
 
-// The lexeme, where its text is this one.
-fn only(rest: &[u8], text: &[u8], lexeme: Lexeme) -> Option<Lexeme>
-    ensures { result ≡ (if bytes_eq rest.now text.now then Some lexeme else None) }
+fn lexeme_in(text: &[u8], rows: &[Row]) -> Option<Lexeme>
+    ensures { (front : List ℕ) → seen (front ++ text.now) result ≡ listed_in front text.now rows.now }
 {
-    if same(rest, text) { Some(lexeme) } else { None }
+    for row in rows {
+        if same(text, row.0) {
+            return Some(row.1);
+        }
+    }
+    None
 }
 
+// The spellings that begin with a byte, but for the commands.
 #[tactic(auto, unfolding(crate::specs::Pieces::symbols))]
-fn colons(rest: &[u8]) -> Option<Lexeme>
-    ensures { seen (58 ∷ rest.now) result ≡ look_up (58 ∷ rest.now) symbols }
+fn signs(first: u8) -> &'static [Row]
+    ensures { (text : List ℕ) → (first ≡ 92 → ⊥) → listed_in (first ∷ []) text result.now ≡ look_up (first ∷ text) symbols }
 {
-    if same(rest, b"") {
-        Some(Lexeme::Symbol(Next::Colon))
-    } else if same(rest, b":=") {
-        Some(Lexeme::Symbol(Next::FreeType))
-    } else {
-        None
+    match first {
+        b'\t' => &[(b"", Lexeme::Plain)],
+        b'\n' => &[(b"", Lexeme::Plain)],
+        b'\r' => &[(b"", Lexeme::Plain)],
+        b' ' => &[(b"", Lexeme::Plain)],
+        b'~' => &[(b"", Lexeme::Plain)],
+        b';' => &[(b"", Lexeme::Symbol(Next::Separator(Separator::Semicolon)))],
+        b'(' => &[(b"", Lexeme::Symbol(Next::OpenRound))],
+        b')' => &[(b"", Lexeme::Symbol(Next::CloseRound))],
+        b'[' => &[(b"", Lexeme::Symbol(Next::OpenSquare))],
+        b']' => &[(b"", Lexeme::Symbol(Next::CloseSquare))],
+        b',' => &[(b"", Lexeme::Symbol(Next::Comma))],
+        b'|' => &[(b"", Lexeme::Symbol(Next::Bar))],
+        b'@' => &[(b"", Lexeme::Symbol(Next::At))],
+        b'<' => &[(b"", Lexeme::Symbol(Next::Relation(Relation::Less)))],
+        b'>' => &[(b"", Lexeme::Symbol(Next::Relation(Relation::Greater)))],
+        b'+' => &[(b"", Lexeme::Symbol(Next::Infix(Infix::Plus)))],
+        b'-' => &[(b"", Lexeme::Symbol(Next::Infix(Infix::Minus)))],
+        b'*' => &[(b"", Lexeme::Symbol(Next::Infix(Infix::Times)))],
+        b't' => &[(b"rue", Lexeme::Symbol(Next::Constant(Constant::True)))],
+        b'f' => &[(b"alse", Lexeme::Symbol(Next::Constant(Constant::False)))],
+        b'{' => &[(b"", NOT_IN_PROFILE)],
+        b'}' => &[(b"", NOT_IN_PROFILE)],
+        b':' => &[
+            (b"", Lexeme::Symbol(Next::Colon)),
+            (b":=", Lexeme::Symbol(Next::FreeType)),
+        ],
+        b'=' => &[
+            (b"=", Lexeme::Symbol(Next::Abbreviates)),
+            (b"", Lexeme::Symbol(Next::Relation(Relation::Equal))),
+        ],
+        _ => &[],
     }
 }
 
+// The commands that go on with a byte after their backslash.
 #[tactic(auto, unfolding(crate::specs::Pieces::symbols))]
-fn equals(rest: &[u8]) -> Option<Lexeme>
-    ensures { seen (61 ∷ rest.now) result ≡ look_up (61 ∷ rest.now) symbols }
+fn commands(first: u8) -> &'static [Row]
+    ensures { (text : List ℕ) → listed_in (92 ∷ first ∷ []) text result.now ≡ look_up (92 ∷ first ∷ text) symbols }
 {
-    if same(rest, b"=") {
-        Some(Lexeme::Symbol(Next::Abbreviates))
-    } else if same(rest, b"") {
-        Some(Lexeme::Symbol(Next::Relation(Relation::Equal)))
-    } else {
-        None
-    }
-}
-
-// A command, by what stands after its backslash.
-fn command(text: &[u8]) -> Option<Lexeme>
-    ensures { seen (92 ∷ text.now) result ≡ look_up (92 ∷ text.now) symbols }
-{
-    let [first, rest @ ..] = text else {
-        return None;
-    };
-    match *first {
-        b',' => only(rest, b"", Lexeme::Plain),
-        b':' => only(rest, b"", Lexeme::Plain),
-        b';' => only(rest, b"", Lexeme::Plain),
-        b'!' => only(rest, b"", Lexeme::Plain),
-        b' ' => only(rest, b"", Lexeme::Plain),
-        b'\\' => only(
-            rest,
-            b"",
-            Lexeme::Symbol(Next::Separator(Separator::NewLine)),
-        ),
-        b'{' => only(rest, b"", Lexeme::Symbol(Next::OpenBrace)),
-        b'}' => only(rest, b"", Lexeme::Symbol(Next::CloseBrace)),
-        b'#' => only(rest, b"", Lexeme::Symbol(Next::Prefix(Prefix::Size))),
-        b'a' => by_letter::commands_in_a(rest),
-        b'b' => by_letter::commands_in_b(rest),
-        b'c' => by_letter::commands_in_c(rest),
-        b'd' => by_letter::commands_in_d(rest),
-        b'e' => by_letter::commands_in_e(rest),
-        b'f' => by_letter::commands_in_f(rest),
-        b'g' => by_letter::commands_in_g(rest),
-        b'h' => by_letter::commands_in_h(rest),
-        b'i' => by_letter::commands_in_i(rest),
-        b'l' => by_letter::commands_in_l(rest),
-        b'm' => by_letter::commands_in_m(rest),
-        b'n' => by_letter::commands_in_n(rest),
-        b'o' => by_letter::commands_in_o(rest),
-        b'p' => by_letter::commands_in_p(rest),
-        b'r' => by_letter::commands_in_r(rest),
-        b's' => by_letter::commands_in_s(rest),
-        b't' => by_letter::commands_in_t(rest),
-        b'u' => by_letter::commands_in_u(rest),
-        b'w' => by_letter::commands_in_w(rest),
-        b'D' => by_letter::commands_in_capital_d(rest),
-        b'E' => by_letter::commands_in_capital_e(rest),
-        b'I' => by_letter::commands_in_capital_i(rest),
-        b'L' => by_letter::commands_in_capital_l(rest),
-        b'T' => by_letter::commands_in_capital_t(rest),
-        b'X' => by_letter::commands_in_capital_x(rest),
-        _ => None,
+    match first {
+        b',' => &[(b"", Lexeme::Plain)],
+        b':' => &[(b"", Lexeme::Plain)],
+        b';' => &[(b"", Lexeme::Plain)],
+        b'!' => &[(b"", Lexeme::Plain)],
+        b' ' => &[(b"", Lexeme::Plain)],
+        b'\\' => &[(b"", Lexeme::Symbol(Next::Separator(Separator::NewLine)))],
+        b'{' => &[(b"", Lexeme::Symbol(Next::OpenBrace))],
+        b'}' => &[(b"", Lexeme::Symbol(Next::CloseBrace))],
+        b'#' => &[(b"", Lexeme::Symbol(Next::Prefix(Prefix::Size)))],
+        b'a' => &[(b"lso", Lexeme::Symbol(Next::Separator(Separator::Also)))],
+        b'b' => &[
+            (b"egin", Lexeme::Refused(TextFaultKind::UnclosedBox)),
+            (b"ag", NOT_IN_PROFILE),
+            (b"igcup", NOT_IN_PROFILE),
+            (b"igcap", NOT_IN_PROFILE),
+            (b"ij", NOT_IN_PROFILE),
+        ],
+        b'c' => &[
+            (b"up", Lexeme::Symbol(Next::Infix(Infix::Union))),
+            (b"ap", Lexeme::Symbol(Next::Infix(Infix::Intersection))),
+            (b"omp", Lexeme::Symbol(Next::Infix(Infix::Composition))),
+            (b"ross", Lexeme::Symbol(Next::Cross)),
+        ],
+        b'd' => &[
+            (b"efs", Lexeme::Symbol(Next::Defines)),
+            (b"iv", Lexeme::Symbol(Next::Infix(Infix::Div))),
+            (
+                b"res",
+                Lexeme::Symbol(Next::Infix(Infix::DomainRestriction)),
+            ),
+            (b"om", Lexeme::Symbol(Next::Prefix(Prefix::Domain))),
+        ],
+        b'e' => &[
+            (b"mptyset", Lexeme::Symbol(Next::EmptySet)),
+            (
+                b"xists",
+                Lexeme::Symbol(Next::Quantifier(Quantifier::Exists)),
+            ),
+            (
+                b"xists_1",
+                Lexeme::Symbol(Next::Quantifier(Quantifier::ExistsOne)),
+            ),
+            (b"nd", Lexeme::Refused(TextFaultKind::UnclosedBox)),
+        ],
+        b'f' => &[
+            (b"un", Lexeme::Symbol(Next::Arrow(Arrow::TotalFunction))),
+            (b"inset", Lexeme::Symbol(Next::Prefix(Prefix::Finset))),
+            (
+                b"orall",
+                Lexeme::Symbol(Next::Quantifier(Quantifier::ForAll)),
+            ),
+            (b"fun", NOT_IN_PROFILE),
+            (b"inset_1", NOT_IN_PROFILE),
+        ],
+        b'g' => &[(b"eq", Lexeme::Symbol(Next::Relation(Relation::AtLeast)))],
+        b'h' => &[(b"ide", NOT_IN_PROFILE)],
+        b'i' => &[
+            (b"nj", Lexeme::Symbol(Next::Arrow(Arrow::TotalInjection))),
+            (b"nv", Lexeme::Symbol(Next::Inverse)),
+            (b"n", Lexeme::Symbol(Next::Relation(Relation::Member))),
+            (
+                b"mplies",
+                Lexeme::Symbol(Next::Connective(Connective::Implies)),
+            ),
+            (b"ff", Lexeme::Symbol(Next::Connective(Connective::Iff))),
+            (b"d", NOT_IN_PROFILE),
+        ],
+        b'l' => &[
+            (b"img", Lexeme::Symbol(Next::OpenImage)),
+            (b"eq", Lexeme::Symbol(Next::Relation(Relation::AtMost))),
+            (b"not", Lexeme::Symbol(Next::Not)),
+            (b"and", Lexeme::Symbol(Next::Connective(Connective::And))),
+            (b"or", Lexeme::Symbol(Next::Connective(Connective::Or))),
+            (b"ambda", NOT_IN_PROFILE),
+            (b"data", NOT_IN_PROFILE),
+        ],
+        b'm' => &[
+            (b"apsto", Lexeme::Symbol(Next::Infix(Infix::Maplet))),
+            (b"od", Lexeme::Symbol(Next::Infix(Infix::Mod))),
+            (b"u", NOT_IN_PROFILE),
+        ],
+        b'n' => &[
+            (
+                b"dres",
+                Lexeme::Symbol(Next::Infix(Infix::DomainSubtraction)),
+            ),
+            (
+                b"rres",
+                Lexeme::Symbol(Next::Infix(Infix::RangeSubtraction)),
+            ),
+            (b"um", Lexeme::Symbol(Next::Constant(Constant::Integers))),
+            (b"at", Lexeme::Symbol(Next::Constant(Constant::Naturals))),
+            (b"at_1", Lexeme::Symbol(Next::Constant(Constant::Positives))),
+            (b"eq", Lexeme::Symbol(Next::Relation(Relation::NotEqual))),
+            (b"otin", Lexeme::Symbol(Next::Relation(Relation::NotMember))),
+        ],
+        b'o' => &[(b"plus", Lexeme::Symbol(Next::Infix(Infix::Overriding)))],
+        b'p' => &[
+            (b"fun", Lexeme::Symbol(Next::Arrow(Arrow::PartialFunction))),
+            (b"inj", Lexeme::Symbol(Next::Arrow(Arrow::PartialInjection))),
+            (b"ower", Lexeme::Symbol(Next::Prefix(Prefix::Power))),
+            (b"ower_1", NOT_IN_PROFILE),
+            (b"roject", NOT_IN_PROFILE),
+            (b"re", NOT_IN_PROFILE),
+            (b"ipe", NOT_IN_PROFILE),
+        ],
+        b'r' => &[
+            (b"img", Lexeme::Symbol(Next::CloseImage)),
+            (b"res", Lexeme::Symbol(Next::Infix(Infix::RangeRestriction))),
+            (b"el", Lexeme::Symbol(Next::Arrow(Arrow::Relation))),
+            (b"an", Lexeme::Symbol(Next::Prefix(Prefix::Range))),
+            (b"data", NOT_IN_PROFILE),
+        ],
+        b's' => &[
+            (b"etminus", Lexeme::Symbol(Next::Infix(Infix::Difference))),
+            (b"ubseteq", Lexeme::Symbol(Next::Relation(Relation::Subset))),
+            (
+                b"ubset",
+                Lexeme::Symbol(Next::Relation(Relation::ProperSubset)),
+            ),
+            (b"eq", NOT_IN_PROFILE),
+            (b"urj", NOT_IN_PROFILE),
+            (b"emi", NOT_IN_PROFILE),
+        ],
+        b't' => &[
+            (b"1", Lexeme::Plain),
+            (b"2", Lexeme::Plain),
+            (b"3", Lexeme::Plain),
+            (b"4", Lexeme::Plain),
+            (b"5", Lexeme::Plain),
+            (b"6", Lexeme::Plain),
+            (b"7", Lexeme::Plain),
+            (b"8", Lexeme::Plain),
+            (b"9", Lexeme::Plain),
+            (b"heta", NOT_IN_PROFILE),
+        ],
+        b'u' => &[(b"pto", Lexeme::Symbol(Next::Infix(Infix::UpTo)))],
+        b'w' => &[(b"here", Lexeme::Symbol(Next::Where))],
+        b'D' => &[(b"elta", Lexeme::Symbol(Next::Delta))],
+        b'E' => &[(b"LSE", NOT_IN_PROFILE)],
+        b'I' => &[(b"F", NOT_IN_PROFILE)],
+        b'L' => &[(b"ET", NOT_IN_PROFILE)],
+        b'T' => &[(b"HEN", NOT_IN_PROFILE)],
+        b'X' => &[(b"i", Lexeme::Symbol(Next::Xi))],
+        _ => &[],
     }
 }

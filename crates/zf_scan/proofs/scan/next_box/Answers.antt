@@ -1,8 +1,8 @@
-use Rattle.zf_scan.proofs.Prelude.{◌++◌, ◌+◌, ◌<◌, ◌∙◌, ◌∷◌, ◌≡◌, [], ap, arith, drop, inr, length, length-drop, length-take-le, map, refl, subst, sym, take, true, map-append, begins_box, IsBox, newlines, between, token_at, kind_of, piece_of, match_of, Refused, Symbol, Placed}
+use Rattle.zf_scan.proofs.Prelude.{◌++◌, ◌+◌, ◌<◌, ◌∙◌, ◌≡◌, ap, arith, drop, inr, length, length-drop, length-take-le, map, refl, subst, sym, take, IsBox, newlines, between, token_at, kind_of, piece_of, match_of, Refused, Placed}
 use Rattle.zf_scan.specs.declared.pieces.Region.TheVariants as places
-use Rattle.zf_scan.proofs.BoxParts.{IsPart, begins_there, begins_same, grown, closed, ended_outside}
-use Rattle.zf_scan.proofs.Scanned.{StandsAt, seen_at, line_le, moved}
-use Rattle.zf_scan.proofs.ScanTurns.{plain_stands, symbol_stands, blank_read, plain_read, symbol_read}
+use Rattle.zf_scan.proofs.BoxParts.{IsPart, grown, closed, ended_outside}
+use Rattle.zf_scan.proofs.Scanned.{StandsAt, line_le, moved}
+use Rattle.zf_scan.proofs.ScanTurns.{Seen, one_more, opens, seen_next, seen_there, stands, blank_read, plain_read, symbol_read}
 use Rattle.zf_scan.proofs.Laws.{stuck, refused, ended}
 use Rattle.zf_scan.proofs.scan.next_box.Goals as goal
 use Rattle.zf_scan.proofs.scan.next_box.Goals.{In-Plain, Then-ends_box, Joined-lexeme, in-Plain, in-Symbol+in_ok-push-in-Symbol+else-ends_box}
@@ -24,8 +24,7 @@ loop-start-preserved-then-is_blank c =
     }
 
 stands_plain : (c : In-Plain) → StandsAt c.loop-start.place (drop c.loop-start.start c.args.source.now) (match_of (drop c.loop-start.start c.args.source.now) c.piece_at-lexeme.result)
-stands_plain c = plain_stands c.loop-start.place (drop c.loop-start.start c.args.source.now) c.after-rest.result.now c.piece_at-lexeme.result
-    c.after-rest.ensures c.piece_at-lexeme.ensures (omega (arith, length-drop c.loop-start.start c.args.source.now, c.loop-start-test.true)) c.in-Plain.is
+stands_plain c = stands (seen_there c.loop-start.start c.args.source.now c.after-rest.ensures c.piece_at-lexeme.ensures c.loop-start-test.true) c.in-Plain.is tt
 
 pub front-requires : goal.front-requires
 front-requires c = omega (arith, (stands_plain c).within, ap length c.after-rest.ensures)
@@ -46,58 +45,37 @@ overflow_add-line-in-Plain c =
 
 pub overflow_add-start-in-Symbol : goal.overflow_add-start-in-Symbol
 overflow_add-start-in-Symbol c =
-    let s = drop c.loop-start.start c.args.source.now in
-    let a = symbol_stands c.loop-start.place s c.after-rest.result.now c.piece_at-lexeme.result c.in-Symbol.next c.after-rest.ensures c.piece_at-lexeme.ensures
-    (omega (arith, length-drop c.loop-start.start c.args.source.now, c.loop-start-test.true)) c.in-Symbol.is in
+    let a = stands (seen_there c.loop-start.start c.args.source.now c.after-rest.ensures c.piece_at-lexeme.ensures c.loop-start-test.true) c.in-Symbol.is tt in
     omega (arith, a.within, length-drop c.loop-start.start c.args.source.now, c.loop-start.invariant.short)
 
-stands_symbol : (c : Then-ends_box) → StandsAt c.loop-start.place (drop c.loop-start.start c.args.source.now) (match_of (drop c.loop-start.start c.args.source.now) c.piece_at-lexeme.result)
-stands_symbol c =
-    symbol_stands c.loop-start.place (drop c.loop-start.start c.args.source.now) c.after-rest.result.now c.piece_at-lexeme.result c.in-Symbol.next
-    c.after-rest.ensures c.piece_at-lexeme.ensures (omega (arith, length-drop c.loop-start.start c.args.source.now, c.loop-start-test.true)) c.in-Symbol.is
+seen_symbol : (c : Then-ends_box) → Seen c.loop-start.place (drop c.loop-start.start c.args.source.now) c.after-rest.result.now c.piece_at-lexeme.result
+seen_symbol c = seen_there c.loop-start.start c.args.source.now c.after-rest.ensures c.piece_at-lexeme.ensures c.loop-start-test.true
 
--- a symbol outside of a box begins one
-opens : (c : Then-ends_box) → (p : Placed) → p.next ≡ c.in-Symbol.next → c.loop-start.place ≡ places.Outside → begins_box (token_at c.args.source.now p).kind ≡ true
-opens c p same out =
-    let s = drop c.loop-start.start c.args.source.now in
-    let f = c.piece_at-lexeme.result in
-    let piece : piece_of f.lexeme f.amount (take f.len s) ≡ Symbol (kind_of c.in-Symbol.next f.amount (take f.len s)) = ap (λ lexeme. piece_of lexeme f.amount (take f.len s)) c.in-Symbol.is in
-    let text = between p.start p.stop c.args.source.now in
-    ap (λ next. begins_box (kind_of next p.amount text)) same
-    ∙ begins_same c.in-Symbol.next p.amount f.amount text (take f.len s)
-    ∙ begins_there c.loop-start.place s (match_of s f) _ (stands_symbol c) piece out
+stands_symbol : (c : Then-ends_box) → StandsAt c.loop-start.place (drop c.loop-start.start c.args.source.now)
+    (match_of (drop c.loop-start.start c.args.source.now) c.piece_at-lexeme.result)
+stands_symbol c = stands (seen_symbol c) c.in-Symbol.is tt
 
 pub overflow_add-border : goal.overflow_add-border
 overflow_add-border c = omega (arith, (stands_symbol c).within, length-drop c.loop-start.start c.args.source.now, c.loop-start.invariant.short)
 
 pub returns-then-ends_box-clause-cut : goal.returns-then-ends_box-clause-cut
-returns-then-ends_box-clause-cut c = λ tokens up.
-    let source = c.args.source.now in
-    let some : 0 < length (drop c.loop-start.start source) = omega (arith, length-drop c.loop-start.start source, c.loop-start-test.true) in
-    record {
-      before = symbol_read _ _ _ _ tokens c.loop-start.symbols.items (c.loop-start.invariant.before tokens up) c.after-rest.result.now c.piece_at-lexeme.result
-          c.in-Symbol.next c.after-rest.ensures c.piece_at-lexeme.ensures some c.in-Symbol.is c.push.new.self.items c.in_ok-push-in-Symbol.ensures.items
-          places.Outside
-          (λ amount text. ended_outside c.loop-start.place c.loop-start.line (kind_of c.in-Symbol.next amount text) (sym (c.ends_box.ensures amount text) ∙ c.if-ends_box.true));
-      short = c.loop-start.invariant.short;
-      within = omega (arith, (stands_symbol c).within, length-drop c.loop-start.start source);
-    }
+returns-then-ends_box-clause-cut c = λ tokens up. record {
+  before = symbol_read _ _ _ _ tokens c.loop-start.symbols.items (c.loop-start.invariant.before tokens up) c.after-rest.result.now c.piece_at-lexeme.result
+      c.in-Symbol.next (seen_symbol c) c.in-Symbol.is c.push.new.self.items c.in_ok-push-in-Symbol.ensures.items places.Outside
+      (λ amount text. ended_outside c.loop-start.place c.loop-start.line (kind_of c.in-Symbol.next amount text)
+      (sym (c.ends_box.ensures amount text) ∙ c.if-ends_box.true));
+  short = c.loop-start.invariant.short;
+  within = omega (arith, (stands_symbol c).within, length-drop c.loop-start.start c.args.source.now);
+}
 
 pub returns-then-ends_box-clause-one : goal.returns-then-ends_box-clause-one
 returns-then-ends_box-clause-one c =
     let source = c.args.source.now in
-    let p : Placed = record {
-      next = c.in-Symbol.next;
-      line = c.loop-start.line;
-      start = c.loop-start.start;
-      stop = c.loop-start.start +
-          c.piece_at-lexeme.result.len;
-      amount = c.piece_at-lexeme.result.amount;
-    } in
-    let pushed : map (token_at source) c.push.new.self.items ≡ map (token_at source) c.loop-start.symbols.items
-    ++ token_at source p ∷ [] = ap (map (token_at source)) c.in_ok-push-in-Symbol.ensures.items
-    ∙ map-append (token_at source) c.loop-start.symbols.items (p ∷ []) in
-    inr (subst IsBox (sym pushed) (closed c.loop-start.place (map (token_at source) c.loop-start.symbols.items) (token_at source p) (opens c p refl)
+    let at = c.loop-start.start in
+    let f = c.piece_at-lexeme.result in
+    let p : Placed = record { next = c.in-Symbol.next; line = c.loop-start.line; start = at; stop = at + f.len; amount = f.amount } in
+    inr (subst IsBox (sym (one_more source c.loop-start.symbols.items p c.push.new.self.items c.in_ok-push-in-Symbol.ensures.items))
+    (closed c.loop-start.place (map (token_at source) c.loop-start.symbols.items) (token_at source p) (opens (seen_symbol c) c.in-Symbol.is source p refl)
     (sym (c.ends_box.ensures _ _) ∙ c.if-ends_box.true) c.loop-start.invariant.part))
 
 pub returns-then-ends_box-clause-further : goal.returns-then-ends_box-clause-further
@@ -108,44 +86,42 @@ returns-in-Refused-clause-fault c =
     let s = drop c.loop-start.start c.args.source.now in
     let f = c.piece_at-lexeme.result in
     let some : 0 < length s = omega (arith, length-drop c.loop-start.start c.args.source.now) in
-    let n = seen_at c.loop-start.place s c.after-rest.result.now f c.after-rest.ensures c.piece_at-lexeme.ensures some in
+    let n = seen_next (record { same = c.after-rest.ensures; found = c.piece_at-lexeme.ensures; some = some }) in
     let is : piece_of f.lexeme f.amount (take f.len s) ≡ Refused c.in-Refused.kind = ap (λ lexeme. piece_of lexeme f.amount (take f.len s)) c.in-Refused.is in
     inr (stuck _ _ _ _ _ (c.loop-start.invariant.before c.requires.0 c.requires.1) c.loop-start.invariant.short c.fault_at.result c.in-Refused.kind
     c.fault_at.ensures.kind c.fault_at.ensures.line (refused c.loop-start.place _ (match_of s f) n c.in-Refused.kind is some))
 
-stands : (c : Joined-lexeme) → StandsAt c.loop-start.place (drop c.loop-start.start c.args.source.now) (match_of (drop c.loop-start.start c.args.source.now) c.piece_at-lexeme.result)
-stands c =
-    let s = drop c.loop-start.start c.args.source.now in
-    let some : 0 < length s = omega (arith, length-drop c.loop-start.start c.args.source.now, c.loop-start-test.true) in
-    elim c.match-lexeme.branch [
-      | in-Plain w ↦ plain_stands c.loop-start.place s c.after-rest.result.now c.piece_at-lexeme.result c.after-rest.ensures c.piece_at-lexeme.ensures some w.in-Plain.is
-      | in-Symbol+in_ok-push-in-Symbol+else-ends_box w ↦ symbol_stands c.loop-start.place s c.after-rest.result.now c.piece_at-lexeme.result w.in-Symbol.next
-          c.after-rest.ensures c.piece_at-lexeme.ensures some w.in-Symbol.is
-    ]
+seen_piece : (c : Joined-lexeme) → Seen c.loop-start.place (drop c.loop-start.start c.args.source.now) c.after-rest.result.now c.piece_at-lexeme.result
+seen_piece c = seen_there c.loop-start.start c.args.source.now c.after-rest.ensures c.piece_at-lexeme.ensures c.loop-start-test.true
+
+stands_piece : (c : Joined-lexeme) → StandsAt c.loop-start.place (drop c.loop-start.start c.args.source.now)
+    (match_of (drop c.loop-start.start c.args.source.now) c.piece_at-lexeme.result)
+stands_piece c = elim c.match-lexeme.branch [
+  | in-Plain w ↦ stands (seen_piece c) w.in-Plain.is tt
+  | in-Symbol+in_ok-push-in-Symbol+else-ends_box w ↦ stands (seen_piece c) w.in-Symbol.is tt
+]
 
 pub overflow_add-start-in-loop-start : goal.overflow_add-start-in-loop-start
-overflow_add-start-in-loop-start c = omega (arith, (stands c).within, length-drop c.loop-start.start c.args.source.now, c.loop-start.invariant.short)
+overflow_add-start-in-loop-start c = omega (arith, (stands_piece c).within, length-drop c.loop-start.start c.args.source.now, c.loop-start.invariant.short)
 
 pub loop-start-smaller : goal.loop-start-smaller
-loop-start-smaller c = let a = stands c in omega (arith, a.some, a.within, length-drop c.loop-start.start c.args.source.now)
+loop-start-smaller c = let a = stands_piece c in omega (arith, a.some, a.within, length-drop c.loop-start.start c.args.source.now)
 
 pub loop-start-preserved : goal.loop-start-preserved
 loop-start-preserved c =
     let source = c.args.source.now in
     let at = c.loop-start.start in
-    let s = drop at source in
     let f = c.piece_at-lexeme.result in
     let rest = c.after-rest.result.now in
-    let some : 0 < length s = omega (arith, length-drop at source, c.loop-start-test.true) in
     record {
       before = λ tokens up. elim c.match-lexeme.branch [
         | in-Plain w ↦
-            moved _ _ _ _ _ (plain_read _ _ _ _ _ (c.loop-start.invariant.before tokens up) rest f c.after-rest.ensures c.piece_at-lexeme.ensures some
-            w.in-Plain.is w.newlines-line.result (w.newlines-line.ensures.value ∙ ap newlines w.front.ensures)) _ _ _
+            moved _ _ _ _ _ (plain_read _ _ _ _ _ (c.loop-start.invariant.before tokens up) rest f (seen_piece c) w.in-Plain.is
+            w.newlines-line.result (w.newlines-line.ensures.value ∙ ap newlines w.front.ensures)) _ _ _
             (sym w.line-is) (sym w.place-is) (ap (λ v. tokens ++ map (token_at source) v.items) (sym w.symbols-is))
         | in-Symbol+in_ok-push-in-Symbol+else-ends_box w ↦
             moved _ _ _ _ _ (symbol_read _ _ _ _ tokens c.loop-start.symbols.items
-            (c.loop-start.invariant.before tokens up) rest f w.in-Symbol.next c.after-rest.ensures c.piece_at-lexeme.ensures some w.in-Symbol.is
+            (c.loop-start.invariant.before tokens up) rest f w.in-Symbol.next (seen_piece c) w.in-Symbol.is
             c.match-lexeme.symbols.items (ap (λ v. v.items) w.symbols-is ∙ w.in_ok-push-in-Symbol.ensures.items) w.behind-place.result
             w.behind-place.ensures) _ _ _
             (sym w.line-is) (sym w.place-is) refl
@@ -155,18 +131,15 @@ loop-start-preserved c =
             (subst (λ v. IsPart c.loop-start.place (map (token_at source) v.items)) (sym w.symbols-is) c.loop-start.invariant.part)
         | in-Symbol+in_ok-push-in-Symbol+else-ends_box w ↦
             let p : Placed = record { next = w.in-Symbol.next; line = c.loop-start.line; start = at; stop = at + f.len; amount = f.amount } in
-            let pushed : map (token_at source) c.match-lexeme.symbols.items ≡ map (token_at source) c.loop-start.symbols.items ++ token_at source p ∷ [] =
-            ap (λ v. map (token_at source) v.items) w.symbols-is ∙ ap (map (token_at source)) w.in_ok-push-in-Symbol.ensures.items ∙ map-append (token_at source) c.loop-start.symbols.items (p ∷ []) in
-            let a = symbol_stands c.loop-start.place s rest f w.in-Symbol.next c.after-rest.ensures c.piece_at-lexeme.ensures some w.in-Symbol.is in
-            let piece : piece_of f.lexeme f.amount (take f.len s) ≡ Symbol (kind_of w.in-Symbol.next f.amount (take f.len s)) = ap (λ lexeme. piece_of lexeme f.amount (take f.len s)) w.in-Symbol.is in
-            let opening : c.loop-start.place ≡ places.Outside → begins_box (token_at source p).kind ≡ true =
-            λ out. begins_same w.in-Symbol.next f.amount f.amount (between at (at + f.len) source) (take f.len s) ∙ begins_there c.loop-start.place s (match_of s f) _ a piece out in
-            grown c.loop-start.place c.loop-start.line (map (token_at source) c.loop-start.symbols.items) (token_at source p) opening
+            grown c.loop-start.place c.loop-start.line (map (token_at source) c.loop-start.symbols.items) (token_at source p)
+            (opens (seen_piece c) w.in-Symbol.is source p refl)
             (sym (w.ends_box.ensures f.amount (between at (at + f.len) source)) ∙ w.if-ends_box.false) c.loop-start.invariant.part
-            c.match-lexeme.place (map (token_at source) c.match-lexeme.symbols.items) (w.place-is ∙ w.behind-place.ensures f.amount (between at (at + f.len) source)) pushed
+            c.match-lexeme.place (map (token_at source) c.match-lexeme.symbols.items)
+            (w.place-is ∙ w.behind-place.ensures f.amount (between at (at + f.len) source))
+            (one_more source c.loop-start.symbols.items p c.match-lexeme.symbols.items (ap (λ v. v.items) w.symbols-is ∙ w.in_ok-push-in-Symbol.ensures.items))
       ];
       short = c.loop-start.invariant.short;
-      within = omega (arith, (stands c).within, length-drop at source);
+      within = omega (arith, (stands_piece c).within, length-drop at source);
       further = omega (arith, c.loop-start.invariant.further);
     }
 
