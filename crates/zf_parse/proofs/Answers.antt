@@ -1,8 +1,8 @@
 -- What an outcome of the rules says of the trees that read the tokens.
 use Rattle.zf_parse.proofs.Prelude.{◌∙◌, ◌≡◌, ◌≤◌, [], ap, arith, Err, inl, inr, List, map, max, Ok, refl, sym, ℕ, ◌⊎◌, box_of, BoxTree, ZBox, IsCutInto, IsWantOfMemory, reduced, Symbol, TextFaultKind, Token, read_all, height_limit, highest, ReadsLow, RefusesTokens, RefusesSource, Reads, Fails, Refused, TooDeep}
 use Rattle.zf_scan.specs.declared.fault.TextFaultKind.TheVariants as fault
-use Rattle.zf_parse.proofs.BoxesRead.{AreRead, all_sound, all_answers}
-use Rattle.zf_parse.proofs.TermSteps.{ok_pair}
+use Rattle.zf_grammar.proofs.BoxesRead.{AreRead, all_sound, all_answers}
+use Rattle.zf_grammar.proofs.TermSteps.{ok_pair}
 
 pub parsed : (bs : List ZBox) (tokens : List Token) (us : List Symbol) → read_all height_limit (reduced tokens) ≡ Ok (bs, us) → ReadsLow (map box_of bs) tokens
 parsed bs tokens us e =

@@ -2,8 +2,8 @@
 use Rattle.zf_parse.proofs.Prelude.{◌++◌, ◌∙◌, ◌∷◌, ◌≡◌, ◌≤◌, [], ap, arith, false, length, List, refl, subst, sym, true, ℕ, append_cancel_right, if◌then◌else◌, BoxTree, DeclTree, include, ParagraphTree, schema_reference, schema_box, SchemaTree, Tree, vars, zed, And, Or, Name, RefMark, Delta, Plain, Xi, ends_box, separator, Symbol, symbol, Kind, IsOn, Next, PartedBy, Spells, SpellsBox, SpellsDecl, SpellsMarked, SpellsName, SpellsParagraph, SpellsPredicates, SpellsSchema}
 use Rattle.zf_scan.specs.declared.token.Kind.TheVariants as k
 use Rattle.zf_tree.specs.Trees as shape
-use Rattle.zf_parse.proofs.SchemaExps.{schema_shorter}
-use Rattle.zf_parse.proofs.TermsApart.{behind, Spelling, Own, starts_own, next_own, nothing_own, as_own, two, then_own, three, four, parted_own, name_own, names_own, term_own}
+use Rattle.zf_grammar.proofs.SchemaExps.{schema_shorter}
+use Rattle.zf_grammar.proofs.TermsApart.{behind, Spelling, Own, starts_own, next_own, nothing_own, as_own, two, then_own, three, four, parted_own, name_own, names_own, term_own}
 
 -- ---- declarations, schema expressions and paragraphs
 

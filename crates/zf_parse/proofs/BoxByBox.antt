@@ -8,9 +8,9 @@ use Rattle.zf_scan.proofs.Laws.{cut_whole}
 use Rattle.zf_scan.proofs.Texts.{eq_is}
 use Rattle.zf_parse.proofs.Answers.{refuses_source}
 use Rattle.zf_parse.proofs.Apart.{EndsOnce, box_before, box_apart}
-use Rattle.zf_parse.proofs.BoxItems.{most_append}
-use Rattle.zf_parse.proofs.BoxesRead.{BoxIsRead, box_sound, box_answers, at_end, all_of}
-use Rattle.zf_parse.proofs.TermSteps.{ok_pair, bind_ok, if_ok}
+use Rattle.zf_grammar.proofs.BoxItems.{most_append}
+use Rattle.zf_grammar.proofs.BoxesRead.{BoxIsRead, box_sound, box_answers, at_end, all_of}
+use Rattle.zf_grammar.proofs.TermSteps.{ok_pair, bind_ok, if_ok}
 
 -- ---- one box
 

@@ -1,5 +1,5 @@
 -- Reading a source box by box. No public clause rests on this file.
-use Rattle.std.specs.Prelude.{◌≡◌, ℕ, ◌≤◌, List, [], ◌∷◌, ◌++◌, Result, Ok, Err, map}
+use Rattle.std.specs.Prelude.{◌≡◌, ℕ, ◌≤◌, List, [], ◌++◌, Result, Ok, Err, map}
 use Rattle.std.specs.List.{AllByRecursion}
 use Rattle.zf_scan.specs.declared.fault.TextFaultKind.{TextFaultKind}
 use Rattle.zf_scan.specs.declared.fault.TextFaultKind.TheVariants.{Unexpected, NotInProfile, TooDeep, OutOfMemory}
@@ -8,9 +8,9 @@ use Rattle.zf_scan.specs.declared.token.Token.{Token}
 use Rattle.zf_scan.specs.{IsCutUpTo, reduced, Symbol}
 use Rattle.zf_tree.specs.declared.tree.ZBox.{ZBox}
 use Rattle.zf_parse.specs.declared.unread.Unread.{Unread}
-use Rattle.zf_parse.specs.Height.{box_height, highest, height_limit}
-use Rattle.zf_parse.specs.Levels.{BoxIsLevelled}
-use Rattle.zf_parse.specs.Spelling.{SpellsBox, SpellsBoxes}
+use Rattle.zf_grammar.specs.{box_height, highest, height_limit}
+use Rattle.zf_levels.specs.{BoxIsLevelled}
+use Rattle.zf_grammar.specs.{SpellsBox, SpellsBoxes, SpellsUpTo}
 use Rattle.zf_tree.specs.{box_of, BoxTree}
 
 -- ---- one box
@@ -33,11 +33,6 @@ ReadsOneBox (Ok b) ts = ReadsBox (box_of b) ts
 ReadsOneBox (Err unread) ts = RefusesBox unread.fault.kind unread.fault.line ts
 
 -- ---- the boxes so far
-
--- boxes one after another, up to some symbols
-abbrev pub SpellsUpTo : List BoxTree → List Symbol → List Symbol → Type 0
-SpellsUpTo [] ts us = ts ≡ us
-SpellsUpTo (b ∷ bs) ts us = (a : List Symbol) × SpellsBox b ts a × SpellsUpTo bs a us
 
 -- of the boxes that spell some symbols and then these, those that spell these
 pub record Later (all : List BoxTree) (us : List Symbol) : Type 0 where

@@ -5,7 +5,7 @@ use Rattle.zf_scan.specs.declared.fault.TextFaultKind.{TextFaultKind}
 use Rattle.zf_scan.specs.declared.fault.TextFaultKind.TheVariants.{Unexpected, NotInProfile, TooDeep, OutOfMemory}
 use Rattle.zf_scan.specs.declared.token.Token.{Token}
 use Rattle.zf_scan.specs.{HasFault, IsCutInto}
-use Rattle.zf_parse.specs.Height.{highest, height_limit}
+use Rattle.zf_grammar.specs.{highest, height_limit}
 use Rattle.zf_parse.specs.Reads.{Reads}
 use Rattle.zf_tree.specs.{BoxTree}
 

@@ -2,9 +2,9 @@
 use Rattle.std.specs.Prelude.{List}
 use Rattle.std.specs.List.{AllByRecursion}
 use Rattle.zf_scan.specs.declared.token.Token.{Token}
-use Rattle.zf_parse.specs.Levels.{BoxIsLevelled}
+use Rattle.zf_levels.specs.{BoxIsLevelled}
 use Rattle.zf_scan.specs.{reduced}
-use Rattle.zf_parse.specs.Spelling.{SpellsBoxes}
+use Rattle.zf_grammar.specs.{SpellsBoxes}
 use Rattle.zf_tree.specs.{BoxTree}
 
 pub record Reads (boxes : List BoxTree) (tokens : List Token) : Type 0 where

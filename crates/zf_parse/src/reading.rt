@@ -7,14 +7,14 @@ ghost use Rattle.zf_tree.specs.{BoxTree};
 ghost use Rattle.zf_scan.specs.declared.placed.Placed.{Placed};
 ghost use Rattle.zf_scan.specs.declared.token.Token.{Token};
 
-use crate::boxes::{all, only};
 use crate::brackets::unclosed;
-use crate::cursor::Cursor;
 use crate::unread::{About, Unread};
 use bumpalo::Bump;
 use bumpalo::collections::into_bump_slice;
 use std::alloc::Global;
 use zf_data::Items;
+use zf_grammar::Cursor;
+use zf_grammar::boxes::{all, only};
 use zf_scan::scan::{cut_rest, next_box};
 use zf_scan::{
     Border, Laid, Placed, TextFault, TextFaultKind, Token, lay_out, refused_at, refused_place,

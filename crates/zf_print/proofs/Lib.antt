@@ -5,15 +5,3 @@ pub mod Spelled
 pub mod OneFront
 pub mod OneRow
 pub mod Printing
-pub mod Reading
-pub mod Numbers
-pub mod Ascending
-pub mod SoFar
-pub mod SpelledTypes
-pub mod WordsAt
-pub mod Misfits
-pub mod ValuesAt
-pub mod Onward
-pub mod HeldSoFar
-pub mod OneHeld
-pub mod Chosen

@@ -1,8 +1,11 @@
 -- A text begins with the text of one value of a type alone.
-use Rattle.zf_print.proofs.Prelude.{◌++◌, ◌<◌, ◌^◌, ◌∙◌, ◌∷◌, ◌≡◌, [], ap, arith, codes, false, List, map, negsuc, None, Option, pos, refl, Some, subst, sym, true, ℕ, ℤ, decimal_nonempty, signed_decimal_injective, append_assoc, signed_decimal, w64, FitsSigned, slice_get, Elem, Int, SetOf, Tuple, Value, basic, int, no_types, power, product, Ty, type, Tys, Environment, type_number, AreOfTypes, IsExistingElement, IsOfType, AreClear, Ends, is_in_word, spelled, spelled_if, Closes, EndsAs, is_opening, later_parts, parted, value_in, element_in, set_in, tuple_in, string_text, Format, Lines, Objects, Spelling, AllByRecursion}
+use Rattle.zf_print.proofs.Prelude.{◌++◌, ◌<◌, ◌^◌, ◌∙◌, ◌∷◌, ◌≡◌, [], ap, arith, codes, false, List, map, negsuc, None, Option, pos, refl, Some, subst, suc, sym, true, zero, ℕ, ℤ, decimal_nonempty, signed_decimal_injective, append_assoc, signed_decimal, w64, FitsSigned, slice_get, Elem, Int, SetOf, Tuple, Value, basic, int, no_types, power, product, Ty, type, Tys, Environment, type_number, AreOfTypes, IsExistingElement, IsOfType, AreClear, Ends, is_in_word, spelled, Closes, comma_before, EndsAs, goes_on, is_opening, later_parts, parted, value_in, element_in, set_in, tuple_in, string_text, Format, Lines, Objects, Spelling, AllByRecursion}
+use Rattle.zf_print.proofs.Printing.{front}
 use Rattle.zf_print.proofs.TextsSeen.{of-Int, of-Elem, of-Tuple, of-SetOf}
 use Rattle.zf_print.proofs.WordRuns.{one_run, never, signed_in_word}
 use Rattle.std.specs.Int.Signed.{mag}
+use Rattle.std.specs.Option.{option_map_or}
+use Rattle.std.proofs.lemmas.Option.{same_Some}
 use Rattle.zf_format.proofs.OneString.{one_string}
 use Rattle.zf_print.proofs.Spelled.{cancel, IsWord, spelled_word, spelled_one}
 
@@ -43,11 +46,8 @@ number_told f ss e v w (m, is, fits) (n, are, fit) h =
 
 -- ---- elements
 
-element_spelled : (f : Format) (ss : List Spelling) (n i : ℕ) (v : Value) (s : Spelling) → v ≡ Elem n i → slice_get ss n ≡ Some s → value_in f ss v ≡ element_in f (spelled s i)
-element_spelled f ss n i v s is found = ap (value_in f ss) is ∙ of-Elem f ss n i ∙ ap (λ o. element_in f (spelled_if o i)) found
-
-same_some : {A : Type 0} (x y : A) → Some x ≡ Some y → x ≡ y
-same_some x y e = (cc)
+pub element_spelled : (f : Format) (ss : List Spelling) (n i : ℕ) (v : Value) (s : Spelling) → v ≡ Elem n i → slice_get ss n ≡ Some s → value_in f ss v ≡ element_in f (spelled s i)
+element_spelled f ss n i v s is found = ap (value_in f ss) is ∙ of-Elem f ss n i ∙ ap (λ o. element_in f (option_map_or (λ x. spelled x i) o [])) found
 
 one_word : (f : Format) (a b r s : List ℕ) → IsWord a → IsWord b → Ends r → Ends s → element_in f a ++ r ≡ element_in f b ++ s → (a ≡ b) × (r ≡ s)
 one_word Lines a b r s x y g h q = one_run a b r s x.0 y.0 g h q
@@ -58,7 +58,7 @@ one_element : (f : Format) (ss : List Spelling) (e : Environment) (o : Option �
 one_element f ss e None v w r t c g h a b q = absurd g
 one_element f ss e (Some n) v w r t c (k, i, at, l, is) (m, j, there, less, are) a b q =
     let (s, found, clear) = c.spelled n k at in
-    let sizes : k ≡ m = same_some k m (sym at ∙ there) in
+    let sizes : k ≡ m = same_Some k m (sym at ∙ there) in
     let texts : element_in f (spelled s i) ++ r ≡ element_in f (spelled s j) ++ t = sym (ap (λ l. l ++ r) (element_spelled f ss n i v s is found)) ∙ q
     ∙ ap (λ l. l ++ t) (element_spelled f ss n j w s are found) in
     let words = one_word f (spelled s i) (spelled s j) r t (spelled_word s k i clear l) (spelled_word s k j clear (omega arith)) a b texts in
@@ -154,29 +154,28 @@ inside_tuple Objects ts us r s q = inside 91 (parted ts) (codes "]") (parted us)
 abbrev pub OneAt : Format → List Spelling → Environment → Ty → Type 0
 OneAt f ss e t = (v w : Value) (r s : List ℕ) → IsOfType e t v → IsOfType e t w → EndsAs t r → EndsAs t s → value_in f ss v ++ r ≡ value_in f ss w ++ s → (v ≡ w) × (r ≡ s)
 
-pub one_later : (f : Format) (ss : List Spelling) (e : Environment) (t : Ty) (one : OneAt f ss e t) (c : AreClear ss e.sizes) (xs ys : List Value)
-    (r s : List ℕ) → AllByRecursion (λ z. IsOfType e t z) xs → AllByRecursion (λ z. IsOfType e t z) ys → Closes r → Closes s
-    → later_parts (map (value_in f ss) xs) ++ r ≡ later_parts (map (value_in f ss) ys) ++ s → (xs ≡ ys) × (r ≡ s)
-one_later f ss e t one c [] [] r s h g a b q = (refl, q)
-one_later f ss e t one c [] (y ∷ ys) r s h g a b q = absurd (later_no_closing (value_in f ss y) (map (value_in f ss) ys) r s a (sym q))
-one_later f ss e t one c (x ∷ xs) [] r s h g a b q = absurd (later_no_closing (value_in f ss x) (map (value_in f ss) xs) s r b q)
-one_later f ss e t one c (x ∷ xs) (y ∷ ys) r s h g a b q =
-    let after : value_in f ss x ++ later_parts (map (value_in f ss) xs) ++ r ≡ value_in f ss y ++ later_parts (map (value_in f ss) ys) ++ s = (cc) in
-    let first = one x y _ _ h.0 g.0 (ends_as t _ (ends_later (map (value_in f ss) xs) r a)) (ends_as t _ (ends_later (map (value_in f ss) ys) s b))
-    (sym (append_assoc (value_in f ss x) _ r) ∙ after ∙ append_assoc (value_in f ss y) _ s) in
-    let others = one_later f ss e t one c xs ys r s h.1 g.1 a b first.1 in
-    ((cc), others.1)
+-- the first of several values, and what follows it
+one_step : (f : Format) (ss : List Spelling) (e : Environment) (t : Ty) (one : OneAt f ss e t) (n : ℕ) (x y : Value) (xs ys : List Value) (r s : List ℕ)
+    → IsOfType e t x → IsOfType e t y → Closes r → Closes s → goes_on n (map (value_in f ss) (x ∷ xs)) ++ r ≡ goes_on n (map (value_in f ss) (y ∷ ys)) ++ s
+    → (x ≡ y) × (later_parts (map (value_in f ss) xs) ++ r ≡ later_parts (map (value_in f ss) ys) ++ s)
+one_step f ss e t one n x y xs ys r s h g a b q =
+    one x y _ _ h g (ends_as t _ (ends_later (map (value_in f ss) xs) r a)) (ends_as t _ (ends_later (map (value_in f ss) ys) s b))
+    (cancel (comma_before n) _ _ (sym (front n (value_in f ss x) (map (value_in f ss) xs) r) ∙ q ∙ front n (value_in f ss y) (map (value_in f ss) ys) s))
 
-pub one_members : (f : Format) (ss : List Spelling) (e : Environment) (t : Ty) (one : OneAt f ss e t) (c : AreClear ss e.sizes) (xs ys : List Value)
+some_no_closing : (f : Format) (ss : List Spelling) (e : Environment) (t : Ty) (n : ℕ) (x : Value) (xs : List Value) (r s : List ℕ) → AreClear ss e.sizes
+    → IsOfType e t x → Closes r → goes_on n (map (value_in f ss) (x ∷ xs)) ++ s ≡ goes_on n [] ++ r → ⊥
+some_no_closing f ss e t zero x xs r s c h k q = begins_no_closing f ss e t x r _ c h k (sym (append_assoc (value_in f ss x) _ s) ∙ q)
+some_no_closing f ss e t (suc n) x xs r s c h k q = later_no_closing (value_in f ss x) (map (value_in f ss) xs) r s k q
+
+one_members : (f : Format) (ss : List Spelling) (e : Environment) (t : Ty) (one : OneAt f ss e t) (c : AreClear ss e.sizes) (n : ℕ) (xs ys : List Value)
     (r s : List ℕ) → AllByRecursion (λ z. IsOfType e t z) xs → AllByRecursion (λ z. IsOfType e t z) ys → Closes r → Closes s
-    → parted (map (value_in f ss) xs) ++ r ≡ parted (map (value_in f ss) ys) ++ s → (xs ≡ ys) × (r ≡ s)
-one_members f ss e t one c [] [] r s h g a b q = (refl, q)
-one_members f ss e t one c [] (y ∷ ys) r s h g a b q = absurd (begins_no_closing f ss e t y r _ c g.0 a (sym (append_assoc (value_in f ss y) _ s) ∙ sym q))
-one_members f ss e t one c (x ∷ xs) [] r s h g a b q = absurd (begins_no_closing f ss e t x s _ c h.0 b (sym (append_assoc (value_in f ss x) _ r) ∙ q))
-one_members f ss e t one c (x ∷ xs) (y ∷ ys) r s h g a b q =
-    let first = one x y _ _ h.0 g.0 (ends_as t _ (ends_later (map (value_in f ss) xs) r a)) (ends_as t _ (ends_later (map (value_in f ss) ys) s b))
-    (sym (append_assoc (value_in f ss x) _ r) ∙ q ∙ append_assoc (value_in f ss y) _ s) in
-    let others = one_later f ss e t one c xs ys r s h.1 g.1 a b first.1 in
+    → goes_on n (map (value_in f ss) xs) ++ r ≡ goes_on n (map (value_in f ss) ys) ++ s → (xs ≡ ys) × (r ≡ s)
+one_members f ss e t one c n [] [] r s h g a b q = (refl, cancel (goes_on n []) r s q)
+one_members f ss e t one c n [] (y ∷ ys) r s h g a b q = absurd (some_no_closing f ss e t n y ys r s c g.0 a (sym q))
+one_members f ss e t one c n (x ∷ xs) [] r s h g a b q = absurd (some_no_closing f ss e t n x xs s r c h.0 b q)
+one_members f ss e t one c n (x ∷ xs) (y ∷ ys) r s h g a b q =
+    let first = one_step f ss e t one n x y xs ys r s h.0 g.0 a b q in
+    let others = one_members f ss e t one c 1 xs ys r s h.1 g.1 a b first.1 in
     ((cc), others.1)
 
 mutual
@@ -189,34 +188,21 @@ mutual
   one_front f ss e c (power t) v w r s (xs, is, up, few, h) (ys, are, go, all, g) a b q =
       let texts = sym (ap (λ b. b ++ r) (ap (value_in f ss) is ∙ of-SetOf f ss xs)) ∙ q ∙ ap (λ b. b ++ s) (ap (value_in f ss) are ∙ of-SetOf f ss ys) in
       let shorn = inside_set f (map (value_in f ss) xs) (map (value_in f ss) ys) r s texts in
-      let lists = one_members f ss e t (one_front f ss e c t) c xs ys (set_end f ++ r) (set_end f ++ s) h g (set_closes f r) (set_closes f s) shorn in
+      let lists = one_members f ss e t (one_front f ss e c t) c zero xs ys (set_end f ++ r) (set_end f ++ s) h g (set_closes f r) (set_closes f s) shorn in
       (is ∙ ap SetOf lists.0 ∙ sym are, cancel (set_end f) r s lists.1)
   one_front f ss e c (product ts) v w r s (vs, is, h) (ws, are, g) a b q =
       let texts = sym (ap (λ b. b ++ r) (ap (value_in f ss) is ∙ of-Tuple f ss vs)) ∙ q ∙ ap (λ b. b ++ s) (ap (value_in f ss) are ∙ of-Tuple f ss ws) in
       let shorn = inside_tuple f (map (value_in f ss) vs) (map (value_in f ss) ws) r s texts in
-      let lists = one_tuple f ss e c ts vs ws (tuple_end f ++ r) (tuple_end f ++ s) h g (tuple_closes f r) (tuple_closes f s) shorn in
+      let lists = one_tuple f ss e c ts zero vs ws (tuple_end f ++ r) (tuple_end f ++ s) h g (tuple_closes f r) (tuple_closes f s) shorn in
       (is ∙ ap Tuple lists.0 ∙ sym are, cancel (tuple_end f) r s lists.1)
 
-  one_tuple : (f : Format) (ss : List Spelling) (e : Environment) (c : AreClear ss e.sizes) (ts : Tys) (vs ws : List Value) (r s : List ℕ) → AreOfTypes e ts vs
-      → AreOfTypes e ts ws → Closes r → Closes s → parted (map (value_in f ss) vs) ++ r ≡ parted (map (value_in f ss) ws) ++ s → (vs ≡ ws) × (r ≡ s)
-  one_tuple f ss e c no_types vs ws r s h g a b q = (h ∙ sym g, sym (ap (λ l. parted (map (value_in f ss) l) ++ r) h) ∙ q ∙ ap (λ l. parted (map (value_in f ss) l) ++ s) g)
-  one_tuple f ss e c (type t ts) vs ws r s (x, xs, is, h, hs) (y, ys, are, g, gs) a b q =
-      let texts : parted (map (value_in f ss) (x ∷ xs)) ++ r ≡ parted (map (value_in f ss) (y ∷ ys))
-      ++ s = sym (ap (λ l. parted (map (value_in f ss) l) ++ r) is) ∙ q ∙ ap (λ l. parted (map (value_in f ss) l) ++ s) are in
-      let first = one_front f ss e c t x y _ _ h g (ends_as t _ (ends_later (map (value_in f ss) xs) r a))
-      (ends_as t _ (ends_later (map (value_in f ss) ys) s b)) (sym (append_assoc (value_in f ss x) _ r) ∙ texts ∙ append_assoc (value_in f ss y) _ s) in
-      let others = one_further f ss e c ts xs ys r s hs gs a b first.1 in
-      ((cc), others.1)
-
-  pub one_further : (f : Format) (ss : List Spelling) (e : Environment) (c : AreClear ss e.sizes) (ts : Tys) (vs ws : List Value) (r s : List ℕ)
-      → AreOfTypes e ts vs → AreOfTypes e ts ws → Closes r → Closes s → later_parts (map (value_in f ss) vs) ++ r ≡ later_parts (map (value_in f ss) ws) ++ s
+  one_tuple : (f : Format) (ss : List Spelling) (e : Environment) (c : AreClear ss e.sizes) (ts : Tys) (n : ℕ) (vs ws : List Value) (r s : List ℕ)
+      → AreOfTypes e ts vs → AreOfTypes e ts ws → Closes r → Closes s → goes_on n (map (value_in f ss) vs) ++ r ≡ goes_on n (map (value_in f ss) ws) ++ s
       → (vs ≡ ws) × (r ≡ s)
-  one_further f ss e c no_types vs ws r s h g a b q = (h ∙ sym g, sym (ap (λ l. later_parts (map (value_in f ss) l) ++ r) h) ∙ q ∙ ap (λ l. later_parts (map (value_in f ss) l) ++ s) g)
-  one_further f ss e c (type t ts) vs ws r s (x, xs, is, h, hs) (y, ys, are, g, gs) a b q =
-      let texts : later_parts (map (value_in f ss) (x ∷ xs)) ++ r ≡ later_parts (map (value_in f ss) (y ∷ ys))
-      ++ s = sym (ap (λ l. later_parts (map (value_in f ss) l) ++ r) is) ∙ q ∙ ap (λ l. later_parts (map (value_in f ss) l) ++ s) are in
-      let after : value_in f ss x ++ later_parts (map (value_in f ss) xs) ++ r ≡ value_in f ss y ++ later_parts (map (value_in f ss) ys) ++ s = (cc) in
-      let first = one_front f ss e c t x y _ _ h g (ends_as t _ (ends_later (map (value_in f ss) xs) r a))
-      (ends_as t _ (ends_later (map (value_in f ss) ys) s b)) (sym (append_assoc (value_in f ss x) _ r) ∙ after ∙ append_assoc (value_in f ss y) _ s) in
-      let others = one_further f ss e c ts xs ys r s hs gs a b first.1 in
+  one_tuple f ss e c no_types n vs ws r s h g a b q =
+      (h ∙ sym g, cancel (goes_on n []) r s (sym (ap (λ l. goes_on n (map (value_in f ss) l) ++ r) h) ∙ q ∙ ap (λ l. goes_on n (map (value_in f ss) l) ++ s) g))
+  one_tuple f ss e c (type t ts) n vs ws r s (x, xs, is, h, hs) (y, ys, are, g, gs) a b q =
+      let texts = sym (ap (λ l. goes_on n (map (value_in f ss) l) ++ r) is) ∙ q ∙ ap (λ l. goes_on n (map (value_in f ss) l) ++ s) are in
+      let first = one_step f ss e t (one_front f ss e c t) n x y xs ys r s h g a b texts in
+      let others = one_tuple f ss e c ts 1 xs ys r s hs gs a b first.1 in
       ((cc), others.1)

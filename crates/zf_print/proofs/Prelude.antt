@@ -1,25 +1,21 @@
 -- What the proofs of this crate take from elsewhere, passed on from one place.
-pub use Rattle.std.proofs.Common.{◌&&◌, ◌++◌, ◌+◌, ◌-◌, ◌<◌, ◌^◌, ◌||◌, ◌↔◌, ◌∙◌, ◌∷◌, ◌≡◌, ◌≤◌, ◌⊎◌, [], add-one, ap, ap₂, arith, Bool, codes, drop, Equal, Err, false, get_or, Global, Greater, IfErr, inl, inr, is_lt, IsTrue, length, Less, List, map, negsuc, None, of_z, Ok, Option, Ordering, pos, refl, Result, rules, Some, subst, suc, sym, take, to_z, true, Vec, zero, ℕ, ℤ, ⊎_elim}
-pub use Rattle.std.proofs.lemmas.Bool.Decides.{Decides-eqb}
-pub use Rattle.std.proofs.lemmas.Fmt.{decimal_injective, decimal_is_IsNumeral, decimal_nonempty, IsAscii-decimal, IsAscii-signed, parse-decimal, parse-signed_decimal, signed_decimal_injective}
-pub use Rattle.std.proofs.lemmas.List.{append-nil, append_assoc, drop_more, length-append, length-drop, take-append-drop, take_all}
-pub use Rattle.std.proofs.lemmas.Slice.Eq.{slice_eq-Decides, strip_prefix_is}
+pub use Rattle.std.proofs.Common.{◌&&◌, ◌++◌, ◌+◌, ◌<◌, ◌^◌, ◌||◌, ◌∙◌, ◌∷◌, ◌≡◌, ◌≤◌, [], add-one, ap, arith, Bool, codes, drop, false, length, List, map, negsuc, None, Option, pos, refl, Some, subst, suc, sym, true, zero, ℕ, ℤ}
+pub use Rattle.std.proofs.lemmas.Fmt.{decimal_injective, decimal_is_IsNumeral, decimal_nonempty, signed_decimal_injective}
+pub use Rattle.std.proofs.lemmas.List.{append_assoc, drop_more, length-append}
 pub use Rattle.std.specs.Fmt.{signed_decimal}
 pub use Rattle.std.specs.Int.{IsInRange, w64}
 pub use Rattle.std.specs.List.{list_all, AllByRecursion}
-pub use Rattle.std.specs.Prelude.{decimal, FitsSigned, IsErrAnd, IsUtf8, MatchBool, MatchOption, slice_get}
-pub use Rattle.std.specs.Str.Parse.{AllDigits, ParsesSigned, ParsesUnsigned}
+pub use Rattle.std.specs.Prelude.{decimal, FitsSigned, slice_get}
+pub use Rattle.std.specs.Str.Parse.{AllDigits}
 pub use Rattle.zf_format.specs.declared.format.Format.{Format}
 pub use Rattle.zf_format.specs.declared.format.Format.TheVariants.{Lines, Objects}
 unfoldable pub use Rattle.zf_format.specs.{string_text}
 pub use Rattle.zf_value.proofs.Exactly.{same}
-pub use Rattle.zf_value.specs.{IsAscending, value_order}
-pub use Rattle.zf_value.specs.declared.TheConstants.{SET_MAX}
 pub use Rattle.zf_value.specs.declared.plain.Value.{Elem, fold-roll-Value, Int, map-Value, roll-Value, SetOf, Tuple, Value}
-pub use Rattle.zf_term.specs.{basic, Comp, comp_of, Defined, first_named, globals_of, int, no_types, power, product, Ty, type, type_of, types, Tys}
+pub use Rattle.zf_term.specs.{basic, Comp, comp_of, Defined, globals_of, int, no_types, power, product, Ty, type, Tys}
 pub use Rattle.zf_term.specs.declared.schema.Component.{Component}
-pub use Rattle.zf_meaning.specs.{AreOfTypes, Environment, environment_of, found_number, IsExistingElement, IsOfType, IsRow, type_number}
-pub use Rattle.zf_print.specs.{AreApart, AreClear, AreMembers, AreMembersAt, AreNames, ArePartsAt, BeginsWithName, binding_text, Closes, comma_before, component_in, component_text, component_texts, components_in, element_in, element_text, Ends, EndsAs, goes_on, held_comps, held_values, HoldNext, HoldsIfNamed, IfMisfit, is_in_name, is_in_word, is_opening, IsClear, IsComponentAt, IsHeldAt, IsHeldLine, IsItem, IsLineOf, IsName, IsNamedAt, IsNamedNext, IsNext, IsNoneOf, IsSpelledType, IsValueAt, IsWordAt, later_parts, name_in, or_empty, parted, row_text, set_in, spelled, spelled_if, spellings, tuple_in, value_step, value_text, with_spelling}
-unfoldable pub use Rattle.zf_print.specs.{AreNoMembers, AreNoParts, BeginsWithoutName, GoesOn, HasNoElements, HoldsNothing, IsNoComponent, IsNoHeldLine, IsNoItem, IsNoLine, IsNoNext, IsNoRest, IsNoSpelledType, IsNotNamed, IsNoValue, SpellsNone, value_in}
+pub use Rattle.zf_meaning.specs.{AreOfTypes, Environment, IsExistingElement, IsOfType, IsRow, type_number}
+pub use Rattle.zf_print.specs.{AreApart, AreClear, AreNames, Closes, comma_before, component_in, components_in, element_in, element_text, Ends, EndsAs, goes_on, is_in_name, is_in_word, is_opening, IsClear, IsName, IsNoneOf, later_parts, name_in, parted, row_text, set_in, spelled, spellings, tuple_in, value_step, with_spelling}
+unfoldable pub use Rattle.zf_print.specs.{value_in}
 pub use Rattle.zf_print.specs.declared.spelling.Spelling.{Spelling}
 pub use Rattle.zf_print.specs.declared.spelling.Spelling.TheVariants.{Named, Numbered}

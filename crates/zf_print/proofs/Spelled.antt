@@ -1,11 +1,11 @@
 -- Spellings that are clear: words, and each of one element.
-use Rattle.zf_print.proofs.Prelude.{◌++◌, ◌+◌, ◌<◌, ◌∷◌, ◌≡◌, [], ap, arith, codes, length, List, refl, suc, sym, zero, ℕ, decimal_injective, length-append, decimal, slice_get, AreApart, AreNames, IsClear, IsName, IsNoneOf, or_empty, spelled, Spelling, Named, Numbered}
+use Rattle.zf_print.proofs.Prelude.{◌++◌, ◌+◌, ◌<◌, ◌∷◌, ◌≡◌, [], ap, arith, codes, length, List, refl, suc, sym, zero, ℕ, decimal_injective, length-append, decimal, slice_get, AreApart, AreNames, IsClear, IsName, IsNoneOf, spelled, Spelling, Named, Numbered}
 use Rattle.zf_print.proofs.WordRuns.{AreInWord, name_in_word, decimal_in_word, append_in_word}
 
 abbrev pub IsWord : List ℕ → Type 0
 IsWord w = AreInWord w × (0 < length w)
 
-name_at : (names : List (List ℕ)) (i : ℕ) → AreNames names → i < length names → IsName (or_empty (slice_get names i))
+name_at : (names : List (List ℕ)) (i : ℕ) → AreNames names → i < length names → IsName (spelled (Named names) i)
 name_at [] i h l = absurd (omega arith)
 name_at (n ∷ names) zero h l = h.0
 name_at (n ∷ names) (suc i) h l = name_at names i h.1 (omega arith)
@@ -20,14 +20,14 @@ spelled_word (Numbered name) k i c l = (
 )
 spelled_word (Named names) k i c l =
     let n = name_at names i c.0 (omega arith) in
-    (name_in_word (or_empty (slice_get names i)) n.1, n.0)
+    (name_in_word (spelled (Named names) i) n.1, n.0)
 
-none_at : (names : List (List ℕ)) (name : List ℕ) (i : ℕ) → IsNoneOf names name → i < length names → or_empty (slice_get names i) ≡ name → ⊥
+none_at : (names : List (List ℕ)) (name : List ℕ) (i : ℕ) → IsNoneOf names name → i < length names → spelled (Named names) i ≡ name → ⊥
 none_at [] name i h l e = absurd (omega arith)
 none_at (n ∷ names) name zero h l e = h.0 e
 none_at (n ∷ names) name (suc i) h l e = none_at names name i h.1 (omega arith) e
 
-pub one_place : (names : List (List ℕ)) (i j : ℕ) → AreApart names → i < length names → j < length names → or_empty (slice_get names i) ≡ or_empty (slice_get names j) → i ≡ j
+pub one_place : (names : List (List ℕ)) (i j : ℕ) → AreApart names → i < length names → j < length names → spelled (Named names) i ≡ spelled (Named names) j → i ≡ j
 one_place [] i j a l m e = absurd (omega arith)
 one_place (n ∷ names) zero zero a l m e = refl
 one_place (n ∷ names) zero (suc j) a l m e = absurd (none_at names n j a.0 (omega arith) (sym e))

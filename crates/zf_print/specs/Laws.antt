@@ -1,5 +1,5 @@
 -- What is claimed of the texts alone.
-use Rattle.std.specs.Prelude.{◌≡◌, ℕ, List, ◌++◌, Option}
+use Rattle.std.specs.Prelude.{◌≡◌, ℕ, List, ◌++◌}
 use Rattle.zf_term.specs.{Comp, Ty}
 use Rattle.zf_value.specs.declared.plain.Value.{Value}
 use Rattle.zf_meaning.specs.{Environment, IsOfType, IsRow}
@@ -8,9 +8,6 @@ use Rattle.zf_print.specs.ValueTexts.{value_text}
 use Rattle.zf_print.specs.BindingTexts.{binding_object, binding_text}
 use Rattle.zf_print.specs.Words.{Ends}
 use Rattle.zf_print.specs.Clear.{AreClear}
-use Rattle.zf_print.specs.HeldLaws.{HaveClearNames}
-use Rattle.zf_print.specs.Held.{IsHeldLine}
-use Rattle.zf_print.specs.HeldLines.{IsLineOfSome}
 
 -- values of one type with one text are one
 abbrev pub OneValue : Type 0
@@ -27,15 +24,3 @@ OneRow = (ss : List Spelling) (e : Environment) (cs : List Comp) (vs ws : List V
 -- rows of one schema with one object are one
 abbrev pub OneObject : Type 0
 OneObject = (ss : List Spelling) (e : Environment) (cs : List Comp) (vs ws : List Value) → AreClear ss e.sizes → IsRow e cs vs → IsRow e cs ws → binding_object ss cs vs ≡ binding_object ss cs ws → vs ≡ ws
-
--- a line of some components holds one list of values
-abbrev pub OneHeldLine : Type 0
-OneHeldLine = (ss : List Spelling) (e : Environment) (cs : List Comp) (text : List ℕ) (held other : List (Option Value)) → AreClear ss e.sizes → IsHeldLine ss e cs text held → IsHeldLine ss e cs text other → held ≡ other
-
--- it is the line of the row of these values, of the components of which they are held
-abbrev pub HeldIsLine : Type 0
-HeldIsLine = (ss : List Spelling) (e : Environment) (cs : List Comp) (text : List ℕ) (held : List (Option Value)) → IsHeldLine ss e cs text held → IsLineOfSome ss e cs text held
-
--- and where names are clear each such line is one
-abbrev pub LineIsHeld : Type 0
-LineIsHeld = (ss : List Spelling) (e : Environment) (cs : List Comp) (text : List ℕ) (held : List (Option Value)) → HaveClearNames cs → IsLineOfSome ss e cs text held → IsHeldLine ss e cs text held

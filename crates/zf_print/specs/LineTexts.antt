@@ -4,6 +4,7 @@ use Rattle.zf_term.specs.{Comp}
 use Rattle.zf_value.specs.declared.plain.Value.{Value}
 use Rattle.zf_format.specs.declared.format.Format.TheVariants.{Lines}
 use Rattle.zf_print.specs.declared.spelling.Spelling.{Spelling}
+use Rattle.zf_print.specs.ValueTexts.{later_parts, parted}
 use Rattle.zf_print.specs.BindingTexts.{component_in, components_in}
 
 -- what stands before a part after n others
@@ -16,3 +17,8 @@ component_text = component_in Lines
 
 abbrev pub component_texts : List Spelling → List Comp → List Value → List (List ℕ)
 component_texts = components_in Lines
+
+-- after n others
+abbrev pub goes_on : ℕ → List (List ℕ) → List ℕ
+goes_on zero ts = parted ts
+goes_on (suc n) ts = later_parts ts

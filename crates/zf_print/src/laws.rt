@@ -1,5 +1,5 @@
 //! Laws of the texts.
-ghost use Rattle.zf_print.specs.{HeldIsLine, LineIsHeld, OneEnd, OneHeldLine, OneObject, OneRow, OneValue};
+ghost use Rattle.zf_print.specs.{OneEnd, OneObject, OneRow, OneValue};
 
 /// Values of one type with one text are one.
 pub fn one_value()
@@ -19,11 +19,4 @@ pub fn one_row()
 /// Rows of one schema with one object are one.
 pub fn one_object()
     ensures { OneObject }
-{}
-
-/// A line of some components holds one list of values, and is the line of these components with them.
-pub fn held_lines()
-    ensures one { OneHeldLine }
-    ensures line { HeldIsLine }
-    ensures held { LineIsHeld }
 {}

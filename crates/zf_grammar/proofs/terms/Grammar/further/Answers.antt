@@ -1,0 +1,31 @@
+use Rattle.zf_grammar.proofs.Prelude.{arith, rules, common_steps, tall, further_from, read_term}
+use Rattle.zf_grammar.proofs.Turns.{one_more, no_more}
+use Rattle.zf_grammar.proofs.terms.Grammar.further.Goals as goal
+
+pub returns-then-not-is_at-clause-value : goal.returns-then-not-is_at-clause-value
+unfolding further_from
+returns-then-not-is_at-clause-value g c =
+    let e = one_more (λ n. further_from (read_term c.args.self.now.below) c.args.mark c.args.place n
+    (tall c.loop-turn.terms c.loop-turn.height) c.loop-turn.tokens) _ c.loop-turn._turn c.loop-turn-test.true c.loop-turn.invariant.same in
+    first_of (search rules, grind (arith, common_steps))
+
+pub returns-in_err-next-clause-value : goal.returns-in_err-next-clause-value
+unfolding further_from
+returns-in_err-next-clause-value g c =
+    let e = one_more (λ n. further_from (read_term c.args.self.now.below) c.args.mark c.args.place n
+    (tall c.loop-turn.terms c.loop-turn.height) c.loop-turn.tokens) _ c.loop-turn._turn c.loop-turn-test.true c.loop-turn.invariant.same in
+    first_of (search rules, grind (arith, common_steps))
+
+pub loop-turn-preserved : goal.loop-turn-preserved
+unfolding further_from
+loop-turn-preserved g c =
+    let e = one_more (λ n. further_from (read_term c.args.self.now.below) c.args.mark c.args.place n
+    (tall c.loop-turn.terms c.loop-turn.height) c.loop-turn.tokens) _ c.loop-turn._turn c.loop-turn-test.true c.loop-turn.invariant.same in
+    first_of (search rules, grind (arith, common_steps))
+
+pub returns-clause-value : goal.returns-clause-value
+unfolding further_from
+returns-clause-value g c =
+    let e = no_more (λ n. further_from (read_term c.args.self.now.below) c.args.mark c.args.place n
+    (tall c.loop-turn.terms c.loop-turn.height) c.loop-turn.tokens) _ c.loop-turn._turn c.loop-turn-test.false c.loop-turn.invariant.same in
+    first_of (search rules, grind (arith, common_steps))

@@ -1,0 +1,215 @@
+-- Reading what holds terms, from left to right, as the parser does. No public clause of `zf_parse` rests on this file.
+use Rattle.std.specs.Prelude.{◌≡◌, ℕ, zero, suc, ◌+◌, max, nat_le, Bool, true, false, ◌||◌, if◌then◌else◌, List, [], ◌∷◌, ◌++◌, length, Ok, Err}
+use Rattle.zf_scan.specs.declared.next.Mark.{Mark}
+use Rattle.zf_scan.specs.declared.next.Mark.TheVariants as mark
+use Rattle.zf_scan.specs.declared.next.Next.{Next}
+use Rattle.zf_scan.specs.declared.next.Next.TheVariants as next
+use Rattle.zf_grammar.specs.declared.tall.Tall.{Tall}
+use Rattle.zf_tree.specs.declared.symbol.Connective.TheVariants.{And, Or}
+use Rattle.zf_tree.specs.declared.tree.Name.{Name}
+use Rattle.zf_tree.specs.declared.tree.Term.{Term}
+use Rattle.zf_tree.specs.declared.tree.RefMark.TheVariants.{Plain, Delta, Xi}
+use Rattle.zf_tree.specs.declared.tree.RefMark.{RefMark}
+use Rattle.zf_tree.specs.declared.tree.SchemaRef.{SchemaRef}
+use Rattle.zf_tree.specs.declared.tree.Decl.{Decl}
+use Rattle.zf_tree.specs.declared.tree.Decl.TheVariants as decl
+use Rattle.zf_tree.specs.declared.tree.SchemaExp.{SchemaExp}
+use Rattle.zf_tree.specs.declared.tree.SchemaExp.TheVariants as schema
+use Rattle.zf_tree.specs.declared.tree.Paragraph.{Paragraph}
+use Rattle.zf_tree.specs.declared.tree.Paragraph.TheVariants as paragraph
+use Rattle.zf_tree.specs.declared.tree.ZBox.{ZBox}
+use Rattle.zf_tree.specs.declared.tree.ZBox.TheVariants as zbox
+use Rattle.zf_levels.specs.{quantifier_level, expression_level}
+use Rattle.zf_tree.specs.{BoxTree, is_bare}
+use Rattle.zf_grammar.specs.Reading as basic
+use Rattle.zf_grammar.specs.Spelling.{SpellsBox}
+use Rattle.zf_scan.specs.{is_mark, Symbol}
+use Rattle.zf_grammar.specs.Reading.{first, rest, is_end, read_name, read_opening}
+use Rattle.zf_grammar.specs.TermReading.{Parser, Refused, TooDeep, and_then, ◌>>=◌, ◌>>◌, past, pure, refuse, too_deep, lift, expect, read_names, here, tall, read_term}
+
+-- ---- what is spelled so far
+
+-- boxes one after another, up to some symbols
+abbrev pub SpellsUpTo : List BoxTree → List Symbol → List Symbol → Type 0
+SpellsUpTo [] ts us = ts ≡ us
+SpellsUpTo (b ∷ bs) ts us = (a : List Symbol) × SpellsBox b ts a × SpellsUpTo bs a us
+
+-- ---- one or more items with their heights, parted by a symbol; the number bounds the turns
+
+-- one more at the end
+abbrev pub with_item : {A : Type 0} → Tall (List A) → Tall A → Tall (List A)
+with_item xs x = tall (xs.part ++ x.part ∷ []) (max xs.height x.height)
+
+module _ {A : Type 0} (part : Mark) (item : Parser (Tall A)) where
+  unfoldable pub items_from : ℕ → Tall (List A) → Parser (Tall (List A))
+  items_from zero xs = pure xs
+  items_from (suc n) xs = λ ts. if is_mark part (first ts) then and_then (item (rest ts)) (λ x us. items_from n (with_item xs x) us) else Ok (xs, ts)
+
+  unfoldable pub items : Parser (Tall (List A))
+  items = λ ts. and_then (item ts) (λ x us. items_from (length us) (tall (x.part ∷ []) x.height) us)
+
+-- ---- schema references and declarations
+
+abbrev pub new_ref : RefMark → Name → SchemaRef
+new_ref m n = record { mark = m; name = n }
+
+unfoldable pub marked : RefMark → Parser SchemaRef
+marked m = λ ts. and_then (lift (read_name ts)) (λ n us. Ok (new_ref m n, us))
+
+abbrev pub ref_by : Next → Parser SchemaRef
+ref_by next.Delta = past (marked Delta)
+ref_by next.Xi = past (marked Xi)
+ref_by _ = marked Plain
+
+unfoldable pub read_ref : Parser SchemaRef
+read_ref = λ ts. ref_by (first ts) ts
+
+unfoldable pub variables : ℕ → Parser (Tall Decl)
+variables n = do
+  ns ← read_names
+  expect mark.Colon
+  x ← read_term n expression_level
+  pure (tall (decl.Vars ns x.part) x.height)
+
+-- an included schema has height 1
+unfoldable pub inclusion : ℕ → Parser (Tall Decl)
+inclusion n = λ ts. and_then (read_ref ts) (λ r us. if nat_le 1 n then Ok (tall (decl.Include r) 1, us) else Err TooDeep)
+
+-- whether the first symbol is the first of some declared names, by the symbol after it
+abbrev pub is_declared : List Symbol → Bool
+is_declared ts = is_mark mark.Comma (first (rest ts)) || is_mark mark.Colon (first (rest ts))
+
+unfoldable pub read_decl : ℕ → Parser (Tall Decl)
+read_decl n = λ ts. if is_declared ts then variables n ts else inclusion n ts
+
+abbrev pub read_decls : ℕ → Parser (Tall (List Decl))
+read_decls n = items mark.Separator (read_decl n)
+
+-- ---- predicates after a symbol, if it is there
+
+unfoldable pub predicates : ℕ → Mark → Parser (Tall (List Term))
+predicates n m = λ ts. if is_mark m (first ts) then items mark.Separator (read_term n quantifier_level) (rest ts) else Ok (tall [] 0, ts)
+
+-- ---- schema expressions, of which `below` reads those one level deeper, up to this height
+
+abbrev pub is_and : Next → Bool
+is_and (next.Connective And) = true
+is_and _ = false
+
+abbrev pub is_or : Next → Bool
+is_or (next.Connective Or) = true
+is_or _ = false
+
+-- operands of an operator to the left, up to a height; the last number bounds the turns
+module _ (joins : Next → Bool) (operand : Parser (Tall SchemaExp)) (make : SchemaExp → SchemaExp → SchemaExp) (highest : ℕ) where
+  unfoldable pub joined : ℕ → Tall SchemaExp → Parser (Tall SchemaExp)
+  joined zero x = pure x
+  joined (suc j) x = λ ts.
+      if joins (first ts)
+      then and_then (operand (rest ts)) (λ y us.
+      if nat_le (max x.height y.height + 1) highest then joined j (tall (make x.part y.part) (max x.height y.height + 1)) us else Err TooDeep)
+      else Ok (x, ts)
+
+-- after an opening square bracket
+unfoldable pub schema_text : ℕ → Parser (Tall SchemaExp)
+schema_text n = do
+  ds ← read_decls n
+  ps ← predicates n mark.Bar
+  expect mark.CloseSquare
+  pure (tall (schema.Text ds.part ps.part) (max ds.height ps.height + 1))
+
+module _ (n : ℕ) (below : Parser (Tall SchemaExp)) where
+  -- after an opening round bracket
+  unfoldable pub schema_bracket : Parser (Tall SchemaExp)
+  schema_bracket = do
+    x ← below
+    expect mark.CloseRound
+    pure (tall (schema.Bracket x.part) (x.height + 1))
+
+  abbrev pub schema_part_by : Next → Parser (Tall SchemaExp)
+  schema_part_by next.OpenSquare = past (schema_text n)
+  schema_part_by next.OpenRound = past schema_bracket
+  schema_part_by _ = read_ref >>= (λ r. pure (tall (schema.Ref r) 1))
+
+  unfoldable pub schema_part : Parser (Tall SchemaExp)
+  schema_part = λ ts. schema_part_by (first ts) ts
+
+  unfoldable pub conjunction : Parser (Tall SchemaExp)
+  conjunction = λ ts. and_then (schema_part ts) (λ x us. joined is_and schema_part schema.Both (n + 1) (length us) x us)
+
+  unfoldable pub disjunction : Parser (Tall SchemaExp)
+  disjunction = λ ts. and_then (conjunction ts) (λ x us. joined is_or conjunction (schema.Or (here ts)) (n + 1) (length us) x us)
+
+-- a schema expression of at most this height
+unfoldable pub read_schema : ℕ → Parser (Tall SchemaExp)
+read_schema zero = too_deep
+read_schema (suc n) = disjunction n (read_schema n)
+
+-- ---- paragraphs
+
+unfoldable pub given : Parser (Tall Paragraph)
+given = do
+  ns ← read_names
+  expect mark.CloseSquare
+  pure (tall (paragraph.Given ns) 0)
+
+unfoldable pub free_type : Name → Parser (Tall Paragraph)
+free_type n = λ ts. and_then (lift (basic.parted mark.Bar read_name ts)) (λ ns us. Ok (tall (paragraph.Free n ns) 0, us))
+
+unfoldable pub abbreviation : ℕ → Name → Parser (Tall Paragraph)
+abbreviation height n = do
+  x ← read_term height expression_level
+  pure (tall (paragraph.Abbrev n x.part) x.height)
+
+unfoldable pub definition : ℕ → Name → Parser (Tall Paragraph)
+definition height n = λ ts. if is_bare n.strokes then and_then (read_schema height ts) (λ x us. Ok (tall (paragraph.Defs n x.part) x.height, us)) else Err Refused
+
+abbrev pub named_by : ℕ → Name → Next → Parser (Tall Paragraph)
+named_by height n next.FreeType = past (free_type n)
+named_by height n next.Abbreviates = past (abbreviation height n)
+named_by height n next.Defines = past (definition height n)
+named_by height n _ = refuse
+
+unfoldable pub named : ℕ → Parser (Tall Paragraph)
+named height = λ ts. and_then (lift (read_name ts)) (λ n us. named_by height n (first us) us)
+
+unfoldable pub read_paragraph : ℕ → Parser (Tall Paragraph)
+read_paragraph height = λ ts. if is_mark mark.OpenSquare (first ts) then given (rest ts) else named height ts
+
+-- ---- boxes
+
+unfoldable pub read_zed : ℕ → Parser ZBox
+read_zed height = do
+  ps ← items mark.Separator (read_paragraph height)
+  expect mark.EndBox
+  pure (zbox.Zed ps.part)
+
+unfoldable pub read_schema_box : ℕ → Parser ZBox
+read_schema_box height = do
+  n ← (λ ts. lift (read_opening ts))
+  ds ← read_decls height
+  ps ← predicates height mark.Where
+  expect mark.EndBox
+  pure (zbox.SchemaBox n ds.part ps.part)
+
+abbrev pub box_by : ℕ → Next → Parser ZBox
+box_by height next.BeginZed = past (read_zed height)
+box_by height _ = read_schema_box height
+
+unfoldable pub read_box : ℕ → Parser ZBox
+read_box height = λ ts. box_by height (first ts) ts
+
+unfoldable pub boxes_from : ℕ → ℕ → List ZBox → Parser (List ZBox)
+boxes_from height zero bs = pure bs
+boxes_from height (suc n) bs = λ ts. if is_end (first ts) then Ok (bs, ts) else and_then (read_box height ts) (λ b us. boxes_from height n (bs ++ b ∷ []) us)
+
+unfoldable pub read_boxes : ℕ → Parser (List ZBox)
+read_boxes height = λ ts. boxes_from height (length ts) [] ts
+
+-- all boxes, and nothing after them
+unfoldable pub read_all : ℕ → Parser (List ZBox)
+read_all height = λ ts. and_then (read_boxes height ts) (λ bs us. if is_end (first us) then Ok (bs, us) else Err Refused)
+
+-- one box, and nothing after it
+unfoldable pub read_only : ℕ → Parser ZBox
+read_only height = λ ts. and_then (read_box height ts) (λ b us. if is_end (first us) then Ok (b, us) else Err Refused)

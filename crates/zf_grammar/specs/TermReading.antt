@@ -1,0 +1,356 @@
+-- Reading a term from left to right, as the parser does. No public clause of `zf_parse` rests on this file.
+use Rattle.std.specs.Prelude.{◌≡◌, ℕ, zero, suc, ◌+◌, max, nat_le, Bool, true, false, not, if◌then◌else◌, List, [], ◌∷◌, ◌++◌, length, Option, Some, None, Result, Ok, Err}
+use Rattle.zf_scan.specs.declared.fault.TextFault.{TextFault}
+use Rattle.zf_scan.specs.declared.fault.TextFaultKind.{TextFaultKind}
+use Rattle.zf_scan.specs.declared.fault.TextFaultKind.TheVariants as fault
+use Rattle.zf_scan.specs.declared.next.Mark.{Mark}
+use Rattle.zf_scan.specs.declared.next.Mark.TheVariants as mark
+use Rattle.zf_scan.specs.declared.next.Next.{Next}
+use Rattle.zf_scan.specs.declared.next.Next.TheVariants as next
+use Rattle.zf_grammar.specs.declared.tall.Tall.{Tall}
+use Rattle.zf_tree.specs.declared.symbol.Infix.TheVariants.{Minus}
+use Rattle.zf_tree.specs.declared.symbol.Quantifier.{Quantifier}
+use Rattle.zf_tree.specs.declared.symbol.Relation.{Relation}
+use Rattle.zf_tree.specs.declared.tree.Link.{Link}
+use Rattle.zf_tree.specs.{ident_of, line_of, new_decl, new_link, tree_of}
+use Rattle.zf_tree.specs.declared.tree.Name.{Name}
+use Rattle.zf_grammar.specs.declared.role.Role.{Role}
+use Rattle.zf_grammar.specs.declared.role.Role.TheVariants as role
+use Rattle.zf_tree.specs.declared.operator.Listed.{Listed}
+use Rattle.zf_tree.specs.declared.operator.Listed.TheVariants as list
+use Rattle.zf_tree.specs.declared.operator.Operator.{Operator}
+use Rattle.zf_tree.specs.declared.operator.Operator.TheVariants as operator
+use Rattle.zf_tree.specs.declared.operator.Sign.TheVariants as sign
+use Rattle.zf_tree.specs.declared.operator.Unary.{Unary}
+use Rattle.zf_tree.specs.declared.operator.Unary.TheVariants as one
+use Rattle.zf_tree.specs.declared.tree.Term.{Term}
+use Rattle.zf_tree.specs.declared.tree.Term.TheVariants as term
+use Rattle.zf_tree.specs.declared.tree.VarDecl.{VarDecl}
+use Rattle.zf_levels.specs.{quantifier_level, chain_level, expression_level, product_level, postfix_level, unary_level, operator_level, left_place, right_place, member_place, level}
+use Rattle.zf_scan.specs.{ends_names, goes_on, is_mark, next_of, Symbol}
+use Rattle.zf_grammar.specs.Reading as basic
+use Rattle.zf_grammar.specs.Reading.{first, rest, read_name, read_number}
+
+-- ---- a value and the symbols after it, or why there is none
+
+pub data Fault : Type 0 where
+  -- no term is spelled here, of any height
+  Refused : Fault
+  -- none of the height that is allowed
+  TooDeep : Fault
+
+abbrev pub Outcome : Type 0 → Type 0
+Outcome A = Result (A × List Symbol) Fault
+
+abbrev pub Parser : Type 0 → Type 0
+Parser A = List Symbol → Outcome A
+
+abbrev pub and_then : {A B : Type 0} → Outcome A → (A → Parser B) → Outcome B
+and_then (Ok p) f = f p.0 p.1
+and_then (Err e) f = Err e
+
+infixl 10 ◌>>=◌
+abbrev pub ◌>>=◌ : {A B : Type 0} → Parser A → (A → Parser B) → Parser B
+p >>= f = λ ts. and_then (p ts) f
+
+infixl 10 ◌>>◌
+abbrev pub ◌>>◌ : {A B : Type 0} → Parser A → Parser B → Parser B
+p >> f = p >>= (λ _. f)
+
+abbrev pub pure : {A : Type 0} → A → Parser A
+pure a = λ ts. Ok (a, ts)
+
+abbrev pub refuse : {A : Type 0} → Parser A
+refuse = λ ts. Err Refused
+
+abbrev pub too_deep : {A : Type 0} → Parser A
+too_deep = λ ts. Err TooDeep
+
+-- goes past the next symbol
+abbrev pub past : {A : Type 0} → Parser A → Parser A
+past p = λ ts. p (rest ts)
+
+-- what a rule without terms answers
+abbrev pub lift : {A : Type 0} → basic.Outcome A → Outcome A
+lift None = Err Refused
+lift (Some p) = Ok p
+
+abbrev pub expect : Mark → Parser (Unit {0})
+expect m = λ ts. lift (basic.expect m ts)
+
+abbrev pub read_names : Parser (List Name)
+read_names = λ ts. lift (basic.parted mark.Comma read_name ts)
+
+-- the line of the next symbol
+abbrev pub here : List Symbol → ℕ
+here [] = 0
+here (t ∷ ts) = t.line
+
+-- ---- what a function that reads ensures: the outcome, unless memory ran out
+
+abbrev pub Fails : {A : Type 0} → Outcome A → TextFaultKind → (line : ℕ) → Type 0
+Fails outcome fault.OutOfMemory line = line ≡ 0
+Fails outcome fault.Unexpected line = outcome ≡ Err Refused
+Fails outcome fault.NotInProfile line = outcome ≡ Err Refused
+Fails outcome fault.TooDeep line = outcome ≡ Err TooDeep
+Fails outcome _ line = ⊥
+
+abbrev pub Gives : {A : Type 0} → Outcome A → Result A TextFault → List Symbol → Type 0
+Gives outcome (Ok a) after = outcome ≡ Ok (a, after)
+Gives outcome (Err e) after = Fails outcome e.kind e.line
+
+-- ---- what a symbol is after a term
+
+abbrev pub role_of : Next → Role
+role_of (next.Infix op) = role.Operator (operator.Function op)
+role_of (next.Arrow a) = role.Operator (operator.Generic a)
+role_of (next.Connective c) = role.Operator (operator.Connective c)
+role_of next.OpenImage = role.Operator operator.Image
+role_of next.Name = role.Operator operator.Application
+role_of next.Number = role.Operator operator.Application
+role_of (next.Constant c) = role.Operator operator.Application
+role_of next.EmptySet = role.Operator operator.Application
+role_of next.OpenRound = role.Operator operator.Application
+role_of next.OpenBrace = role.Operator operator.Application
+role_of (next.Relation r) = role.Relation
+role_of next.Cross = role.Cross
+role_of next.Inverse = role.Inverse
+role_of _ = role.Ends
+
+-- one more than the level at which such a symbol goes on with the term before it; 0 where it does not
+abbrev pub bound_by : Role → ℕ
+bound_by role.Ends = 0
+bound_by (role.Operator op) = operator_level op + 1
+bound_by role.Relation = chain_level + 1
+bound_by role.Cross = product_level + 1
+bound_by role.Inverse = postfix_level + 1
+
+abbrev pub binds : Next → ℕ
+binds x = bound_by (role_of x)
+
+-- the level that the term before such a symbol has at least
+abbrev pub place_before : Role → ℕ
+place_before role.Ends = quantifier_level
+place_before (role.Operator op) = left_place op
+place_before role.Relation = expression_level
+place_before role.Cross = product_level + 1
+place_before role.Inverse = postfix_level
+
+-- whether names parted by commas and a colon come next, the first of them a name that is due or what follows a name
+abbrev pub begins_decl : Bool → List Symbol → Bool
+begins_decl due [] = false
+begins_decl due (t ∷ ts) = if goes_on due (next_of t.kind) then begins_decl (not due) ts else ends_names due (next_of t.kind)
+
+-- ---- parts with their heights
+
+abbrev pub tall : {A : Type 0} → A → ℕ → Tall A
+tall part height = record { part = part; height = height }
+
+-- one more at the end
+abbrev pub with_term : Tall (List Term) → Tall Term → Tall (List Term)
+with_term xs x = tall (xs.part ++ x.part ∷ []) (max xs.height x.height)
+
+abbrev pub with_link : Tall (List Link) → Relation → Tall Term → Tall (List Link)
+with_link xs r x = tall (xs.part ++ new_link r x.part ∷ []) (max xs.height x.height)
+
+abbrev pub with_decl : Tall (List VarDecl) → Tall VarDecl → Tall (List VarDecl)
+with_decl xs x = tall (xs.part ++ x.part ∷ []) (max xs.height x.height)
+
+-- a term over its only part
+abbrev pub over : (Term → Term) → Tall Term → Tall Term
+over make x = tall (make x.part) (x.height + 1)
+
+-- a term over two parts
+abbrev pub over_both : (Term → Term → Term) → Tall Term → Tall Term → Tall Term
+over_both make x y = tall (make x.part y.part) (max x.height y.height + 1)
+
+-- a rule that stands at its level or a looser place
+abbrev pub if_at : ℕ → ℕ → Parser (Tall Term) → Parser (Tall Term)
+if_at least place p = λ ts. if nat_le least place then p ts else Err Refused
+
+-- ---- symbols between operands and terms, and after them
+
+-- after the symbol between two operands
+abbrev pub beyond : Operator → List Symbol → List Symbol
+beyond operator.Application ts = ts
+beyond _ ts = rest ts
+
+abbrev pub ended_by : Operator → Parser (Unit {0})
+ended_by operator.Image = expect mark.CloseImage
+ended_by _ = pure tt
+
+abbrev pub parted_by : Listed → Mark
+parted_by list.Product = mark.Cross
+parted_by _ = mark.Comma
+
+abbrev pub closed_by : Listed → Parser (Unit {0})
+closed_by list.Tuple = expect mark.CloseRound
+closed_by list.Display = expect mark.CloseBrace
+closed_by list.Product = pure tt
+
+-- ---- the rules, of which `below` reads a term at a place, one level deeper
+
+module _ (below : ℕ → Parser (Tall Term)) where
+  -- further terms at this place, each after the symbol; the number bounds the turns
+  unfoldable pub further_from : Mark → ℕ → ℕ → Tall (List Term) → Parser (Tall (List Term))
+  further_from m place zero xs = pure xs
+  further_from m place (suc n) xs = λ ts.
+      if is_mark m (first ts)
+      then and_then (below place (rest ts)) (λ x us. further_from m place n (with_term xs x) us)
+      else Ok (xs, ts)
+
+  unfoldable pub further : Mark → ℕ → Tall Term → Parser (Tall (List Term))
+  further m place x = λ ts. further_from m place (length ts) (tall (x.part ∷ []) x.height) ts
+
+  -- the links of a chain
+  abbrev pub links_by : (Tall (List Link) → Parser (Tall (List Link))) → Tall (List Link) → Next → Parser (Tall (List Link))
+  links_by more xs (next.Relation r) = past (do
+    x ← below expression_level
+    more (with_link xs r x))
+  links_by more xs _ = pure xs
+
+  unfoldable pub links_from : ℕ → Tall (List Link) → Parser (Tall (List Link))
+  links_from zero xs = pure xs
+  links_from (suc n) xs = λ ts. links_by (links_from n) xs (first ts) ts
+
+  unfoldable pub chain_links : Parser (Tall (List Link))
+  chain_links = λ ts. links_from (length ts) (tall [] 0) ts
+
+  -- declarations of bound variables
+  unfoldable pub read_decl : Parser (Tall VarDecl)
+  read_decl = do
+    ns ← read_names
+    expect mark.Colon
+    x ← below expression_level
+    pure (tall (new_decl ns x.part) x.height)
+
+  unfoldable pub decls_from : ℕ → Tall (List VarDecl) → Parser (Tall (List VarDecl))
+  decls_from zero xs = pure xs
+  decls_from (suc n) xs = λ ts.
+      if is_mark mark.Separator (first ts)
+      then and_then (read_decl (rest ts)) (λ x us. decls_from n (with_decl xs x) us)
+      else Ok (xs, ts)
+
+  unfoldable pub decls : Parser (Tall (List VarDecl))
+  decls = λ ts. and_then (read_decl ts) (λ x us. decls_from (length us) (tall (x.part ∷ []) x.height) us)
+
+  -- a part that may be left out, after its symbol
+  unfoldable pub part : Mark → ℕ → Parser (Tall (Option Term))
+  part m place = λ ts.
+      if is_mark m (first ts)
+      then and_then (below place (rest ts)) (λ x us. Ok (tall (Some x.part) x.height, us))
+      else Ok (tall None 0, ts)
+
+  -- the terms of a list, of which the first is read, and what stands after them
+  unfoldable pub listed : ℕ → Listed → Tall Term → Parser (Tall Term)
+  listed line form x = do
+    all ← further (parted_by form) (member_place form) x
+    closed_by form
+    pure (tall (term.Listed line form all.part) (all.height + 1))
+
+  -- ---- what begins a term
+
+  unfoldable pub empty_set : ℕ → Parser (Tall Term)
+  empty_set line = do
+    expect mark.OpenSquare
+    x ← below expression_level
+    expect mark.CloseSquare
+    pure (over (term.EmptySet line) x)
+
+  abbrev pub round_by : ℕ → Tall Term → Next → Parser (Tall Term)
+  round_by line x next.CloseRound = past (pure (over (term.Bracket line) x))
+  round_by line x next.Comma = if_at expression_level (level (tree_of x.part)) (listed line list.Tuple x)
+  round_by line x _ = refuse
+
+  -- after an opening bracket
+  unfoldable pub round : ℕ → Parser (Tall Term)
+  round line = do
+    x ← below quantifier_level
+    λ ts. round_by line x (first ts) ts
+
+  unfoldable pub display : ℕ → Parser (Tall Term)
+  display line = λ ts.
+      if is_mark mark.CloseBrace (first ts)
+      then Err Refused
+      else and_then (below expression_level ts) (listed line list.Display)
+
+  unfoldable pub comprehension : ℕ → Parser (Tall Term)
+  comprehension line = do
+    ds ← decls
+    p ← part mark.Bar quantifier_level
+    t ← part mark.At expression_level
+    expect mark.CloseBrace
+    pure (tall (term.Comprehension line ds.part p.part t.part) (max (max ds.height p.height) t.height + 1))
+
+  unfoldable pub braced : ℕ → Parser (Tall Term)
+  braced line = λ ts. if begins_decl true ts then comprehension line ts else display line ts
+
+  -- a term over the operand after the next symbol
+  unfoldable pub prefixed : ℕ → ℕ → Unary → Parser (Tall Term)
+  prefixed least line op = if_at least (unary_level op) (past (do
+    x ← below (unary_level op)
+    pure (over (term.Unary line op) x)))
+
+  unfoldable pub quantified : ℕ → Quantifier → Parser (Tall Term)
+  quantified line q = do
+    ds ← decls
+    p ← part mark.Bar quantifier_level
+    expect mark.At
+    x ← below quantifier_level
+    pure (tall (term.Quantified q line ds.part p.part x.part) (max (max ds.height p.height) x.height + 1))
+
+  abbrev pub beginning_by : ℕ → ℕ → Next → Parser (Tall Term)
+  beginning_by least line next.Name = λ ts. and_then (lift (read_name ts)) (λ n us. Ok (tall (term.Name n.line (ident_of n)) 1, us))
+  beginning_by least line next.Number = λ ts. and_then (lift (read_number ts)) (λ v us. Ok (tall (term.Number line v) 1, us))
+  beginning_by least line (next.Constant c) = past (pure (tall (term.Constant line c) 1))
+  beginning_by least line next.EmptySet = past (empty_set line)
+  beginning_by least line next.OpenRound = past (round line)
+  beginning_by least line next.OpenBrace = past (braced line)
+  beginning_by least line (next.Prefix s) = prefixed least line (one.Sign (sign.Symbol s))
+  beginning_by least line (next.Infix Minus) = prefixed least line (one.Sign sign.Minus)
+  beginning_by least line next.Not = prefixed least line one.Not
+  beginning_by least line (next.Quantifier q) = if_at least quantifier_level (past (quantified line q))
+  beginning_by least line _ = refuse
+
+  unfoldable pub beginning : ℕ → Parser (Tall Term)
+  beginning least = λ ts. beginning_by least (here ts) (first ts) ts
+
+  -- ---- what goes on with a term
+
+  -- a term over two operands, of which the first is read
+  unfoldable pub binary : Operator → Tall Term → Parser (Tall Term)
+  binary op x = λ ts. (do
+    y ← below (right_place op)
+    ended_by op
+    pure (over_both (term.Binary (line_of (tree_of x.part)) op) x y)) (beyond op ts)
+
+  unfoldable pub chained : Tall Term → Parser (Tall Term)
+  chained x = do
+    ks ← chain_links
+    pure (tall (term.Chain (line_of (tree_of x.part)) x.part ks.part) (max x.height ks.height + 1))
+
+  abbrev pub longer_by : Tall Term → Role → Parser (Tall Term)
+  longer_by x role.Ends = pure x
+  longer_by x (role.Operator op) = binary op x
+  longer_by x role.Relation = chained x
+  longer_by x role.Cross = listed (line_of (tree_of x.part)) list.Product x
+  longer_by x role.Inverse = past (pure (over (term.Unary (line_of (tree_of x.part)) one.Inverse) x))
+
+  -- goes on while the symbols bind more tightly than this place, up to this height; the second number bounds the turns
+  unfoldable pub climb : ℕ → ℕ → ℕ → Tall Term → Parser (Tall Term)
+  climb highest least zero x = too_deep
+  climb highest least (suc n) x = λ ts.
+      if nat_le (binds (first ts)) least then Ok (x, ts)
+      else if nat_le (place_before (role_of (first ts))) (level (tree_of x.part))
+      then and_then (longer_by x (role_of (first ts)) ts) (λ y us. if nat_le y.height highest then climb highest least n y us else Err TooDeep)
+      else Err Refused
+
+  unfoldable pub whole : ℕ → ℕ → Parser (Tall Term)
+  whole highest least = do
+    x ← beginning least
+    climb highest least highest x
+
+-- a term at this place, of at most this height
+unfoldable pub read_term : ℕ → ℕ → Parser (Tall Term)
+read_term zero least = too_deep
+read_term (suc n) least = whole (read_term n) (n + 1) least

@@ -1,4 +1,0 @@
-use Rattle.zf_parse.proofs.schemas.+schema.Given as goal
-
-abbrev pub decreases-schema : goal.decreases-schema
-decreases-schema l = l.highest

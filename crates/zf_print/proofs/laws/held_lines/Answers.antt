@@ -1,5 +1,0 @@
-use Rattle.zf_print.proofs.Chosen.{held_is_line, line_is_held, one_held_line}
-use Rattle.zf_print.proofs.laws.held_lines.Goals as goal
-
-pub returns : goal.returns
-returns c = record { one = one_held_line; line = held_is_line; held = line_is_held }

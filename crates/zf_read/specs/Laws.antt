@@ -1,0 +1,22 @@
+-- What is claimed of lines of some components.
+use Rattle.std.specs.Prelude.{◌≡◌, ℕ, List, Option}
+use Rattle.zf_term.specs.{Comp}
+use Rattle.zf_value.specs.declared.plain.Value.{Value}
+use Rattle.zf_meaning.specs.{Environment}
+use Rattle.zf_print.specs.declared.spelling.Spelling.{Spelling}
+use Rattle.zf_print.specs.{AreClear}
+use Rattle.zf_read.specs.HeldLaws.{HaveClearNames}
+use Rattle.zf_read.specs.Held.{IsHeldLine}
+use Rattle.zf_read.specs.HeldLines.{IsLineOfSome}
+
+-- a line of some components holds one list of values
+abbrev pub OneHeldLine : Type 0
+OneHeldLine = (ss : List Spelling) (e : Environment) (cs : List Comp) (text : List ℕ) (held other : List (Option Value)) → AreClear ss e.sizes → IsHeldLine ss e cs text held → IsHeldLine ss e cs text other → held ≡ other
+
+-- it is the line of the row of these values, of the components of which they are held
+abbrev pub HeldIsLine : Type 0
+HeldIsLine = (ss : List Spelling) (e : Environment) (cs : List Comp) (text : List ℕ) (held : List (Option Value)) → IsHeldLine ss e cs text held → IsLineOfSome ss e cs text held
+
+-- and where names are clear each such line is one
+abbrev pub LineIsHeld : Type 0
+LineIsHeld = (ss : List Spelling) (e : Environment) (cs : List Comp) (text : List ℕ) (held : List (Option Value)) → HaveClearNames cs → IsLineOfSome ss e cs text held → IsHeldLine ss e cs text held

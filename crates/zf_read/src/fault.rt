@@ -1,0 +1,35 @@
+//! Why a line is not read.
+ghost use Rattle.std.specs.Prelude.{◌≡◌};
+
+use std::alloc::{AllocError, AllocFailed};
+use thiserror::Error;
+
+/// Why a line is not read.
+#[derive(Debug, Drop, Error)]
+pub enum AfterFault {
+    /// The first item that does not fit, by the place of its first byte; the text's length where it ends too early.
+    #[error("not a binding")]
+    NotABinding(usize),
+    #[error("out of memory")]
+    OutOfMemory,
+}
+
+impl From<AllocError> for AfterFault {
+    ghost use Rattle.zf_read.specs.declared.fault.AfterFault.TheVariants.{OutOfMemory};
+
+    ghost from_gives = { λ _ fault. fault ≡ OutOfMemory };
+
+    fn from(_error: AllocError) -> AfterFault {
+        AfterFault::OutOfMemory
+    }
+}
+
+impl<T: Drop> From<AllocFailed<T>> for AfterFault {
+    ghost use Rattle.zf_read.specs.declared.fault.AfterFault.TheVariants.{OutOfMemory};
+
+    ghost from_gives = { λ _ fault. fault ≡ OutOfMemory };
+
+    fn from(_error: AllocFailed<T>) -> AfterFault {
+        AfterFault::OutOfMemory
+    }
+}
