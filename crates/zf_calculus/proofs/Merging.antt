@@ -1,16 +1,13 @@
 -- One more component: which one changes, and what it adds to what is counted.
-use Rattle.zf_calculus.proofs.Prelude.{if◌then◌else◌, ◌++◌, ◌+◌, ◌<◌, ◌∙◌, ◌∷◌, ◌≡◌, ◌≤◌, ◌⊎◌, [], add-one, ap, arith, Bool, false, get_or, inl, inr, length, length-append, List, map, None, Option, refl, Some, subst, suc, sym, true, ℕ, length-set, set, get_or-map, get_or_default, length-map, map-append, map-set, sum_by-append, sum_by-cons, sum_by, bytes_eq, Comp, comp_of, DeclaredSet, set_of, later, type_of, Component, comp, comp_named, with_comp, with_comps, counted, enriched}
-
-some_alike : {A : Type 0} {x y : A} → Some x ≡ Some y → x ≡ y
-some_alike h = (cc)
+use Rattle.zf_calculus.proofs.Prelude.{if◌then◌else◌, ◌++◌, ◌+◌, ◌<◌, ◌∙◌, ◌∷◌, ◌≡◌, ◌≤◌, ◌⊎◌, [], add-one, ap, arith, Bool, false, get_or, inl, inr, length, length-append, List, map, None, Option, refl, same_Some, Some, subst, suc, sym, true, ℕ, length-set, set, get_or-map, get_or_default, length-map, map-append, map-set, sum_by-append, sum_by-cons, sum_by, bytes_eq, Comp, comp_of, DeclaredSet, set_of, later, type_of, Component, comp, comp_named, with_comp, with_comps, counted, enriched}
 
 -- what is found is the first, or it is found after it
 front : {A : Type 0} (b : Bool) (a d : A) (i : ℕ) (o : Option (ℕ × A)) → (if b then Some (0, a) else later o) ≡ Some (i, d)
     → ((b ≡ true) × (i ≡ 0) × (a ≡ d)) ⊎ ((b ≡ false) × ((j : ℕ) × (o ≡ Some (j, d)) × (i ≡ suc j)))
-front true a d i o h = let e = some_alike h in inl (refl, sym (ap (λ q. q.0) e), ap (λ q. q.1) e)
+front true a d i o h = let e = same_Some _ _ h in inl (refl, sym (ap (λ q. q.0) e), ap (λ q. q.1) e)
 front false a d i None h = absurd (cc)
 front false a d i (Some r) h =
-    let e = some_alike h in
+    let e = same_Some _ _ h in
     inr (refl, (r.0, ap (λ x. Some (r.0, x)) (ap (λ q. q.1) e), sym (ap (λ q. q.0) e) ∙ add-one r.0))
 
 pub nothing_before : {A : Type 0} (b : Bool) (p : ℕ × A) (o : Option (ℕ × A)) → (if b then Some p else later o) ≡ None → (b ≡ false) × (o ≡ None)

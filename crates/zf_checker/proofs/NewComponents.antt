@@ -1,5 +1,6 @@
 -- A conjunction has the components of the first schema, then those of the second that are new.
 use Rattle.zf_checker.proofs.Prelude.{if◌then◌else◌, ◌++◌, ◌+◌, ◌∙◌, ◌∷◌, ◌≡◌, [], ap, Bool, false, List, None, Option, refl, Some, sym, true, ℕ, append-nil, append_assoc, none-some, bytes_eq, or_none, swapped, Comp, later, AreOnce, comp, comp_named, with_comp, with_comps, CompsJoined, new_comps, signature, type_found, type_named, unless_found, option_or}
+use Rattle.zf_calculus.proofs.Merging.{nothing_before}
 use Rattle.zf_schema.proofs.Named.{type_one_more}
 
 -- ---- whether one is found
@@ -15,19 +16,13 @@ found_later : (o : Option (ℕ × Comp)) (d : Comp) (rest : List Comp) → unles
 found_later None d rest = refl
 found_later (Some o) d rest = refl
 
--- a name that is not found is neither that of the first nor found in the rest
-apart : (t : Bool) (p : ℕ × Comp) (o : Option (ℕ × Comp)) → (if t then Some p else later o) ≡ None → (t ≡ false) × (o ≡ None)
-apart true p o e = absurd (none-some p (sym e))
-apart false p None e = (refl, refl)
-apart false p (Some q) e = absurd (none-some (q.0 + 1, q.1) (sym e))
-
 -- ---- one more component
 
 -- it makes no component known that has another name
 still_new : (cs ds : List Comp) (c : Comp) → comp_named c.name ds ≡ None → new_comps (with_comp cs c) ds ≡ new_comps cs ds
 still_new cs [] c none = refl
 still_new cs (d ∷ ds) c none =
-    let others = apart (bytes_eq d.name c.name) (0, d) (comp_named c.name ds) none in
+    let others = nothing_before (bytes_eq d.name c.name) (0, d) (comp_named c.name ds) none in
     let other = swapped c.name d.name ∙ others.0 in
     let known = type_one_more d.name cs c ∙ ap (λ t. option_or (type_named d.name cs) (if t then Some c.type else None)) other ∙ or_none (type_named d.name cs) in
     found_alike (comp_named d.name (with_comp cs c)) (comp_named d.name cs) d (new_comps (with_comp cs c) ds) known

@@ -15,12 +15,9 @@ not_different : (o : Option (ℕ × Comp)) (c : Comp) (k : Offence) → HasTypeO
 not_different None c k agreed d = d
 not_different (Some p) c k agreed d = d.0 agreed
 
-no_clash : (cs : List Comp) (c : Comp) (k : Offence) → Agrees cs c → Clashes cs c k → ⊥
-no_clash cs c k agreed d = not_different (comp_named c.name cs) c k agreed d
-
 none_clashes : (cs ds : List Comp) (k : Offence) → Agree cs ds → OneClashes cs ds k → ⊥
 none_clashes cs [] k agreed d = d
-none_clashes cs (c ∷ ds) k agreed (inl d) = no_clash cs c k agreed.0 d
+none_clashes cs (c ∷ ds) k agreed (inl d) = not_different (comp_named c.name cs) c k agreed.0 d
 none_clashes cs (c ∷ ds) k agreed (inr d) = none_clashes cs ds k agreed.1 d
 
 mark_agrees : (mark : RefMark) (a : Schema) (k : Offence) → MarkAgrees mark a → MarkClashes mark a k → ⊥
@@ -71,7 +68,7 @@ pub no_name_offends : (a : Schema) (ns : List Name) (t : Ty) (s : DeclaredSet) (
 no_name_offends a [] t s b k m p o = o
 no_name_offends a (n ∷ ns) t s b k m p (inl o) =
     let c = comp (spelling n) t (s ∷ []) in
-    not_stopped (Clashes a.comps c) (Agrees a.comps c) (schema_with (with_comp a.comps c) a.conjuncts) p.0 k (no_clash a.comps c k p.1.0) p.1.1 o.1
+    not_stopped (Clashes a.comps c) (Agrees a.comps c) (schema_with (with_comp a.comps c) a.conjuncts) p.0 k (not_different (comp_named c.name a.comps) c k p.1.0) p.1.1 o.1
 no_name_offends a (n ∷ ns) t s b k m p (inr o) =
     let mid = one_added a (comp (spelling n) t (s ∷ [])) p.0 o.0 p.1 o.1 in
     no_name_offends o.0 ns t s b k m (subst (λ v. AddsAll v ns t s b) mid p.2) o.2

@@ -29,20 +29,15 @@ all_added a (n ∷ ns) t s b c p q =
     let mid = one_added a (comp (spelling n) t (s ∷ [])) p.0 q.0 p.1 q.1 in
     all_added q.0 ns t s b c (subst (λ m. AddsAll m ns t s b) mid p.2) q.2
 
--- from equal types
-all_added_of : (a : Schema) (ns : List Name) (t u : Ty) (s : DeclaredSet) (b c : Schema) → t ≡ u → AddsAll a ns t s b → AddsAll a ns u s c → b ≡ c
-all_added_of a ns t u s b c type p q = all_added a ns u s b c (subst (λ v. AddsAll a ns v s b) type p) q
-
-pub one_inclusion : (a c : Schema) (b d : Schema) → Includes a c b → Includes a c d → b ≡ d
-one_inclusion a c b d p q = p.1.0 ∙ sym q.1.0
-
 pub one_declaration : (g : List Defined) (a : Schema) (d : DeclTree) (b c : Schema) → DeclaresOne g a d b → DeclaresOne g a d c → b ≡ c
 one_declaration g a (vars ns e) b c p q =
     let type = same_set p.0 q.0 (one_sort (outside g) e (set_sort p.0) (set_sort q.0) p.1 q.1) in
-    all_added_of a ns p.0 q.0 (plain (resolved (outside g) e)) b c type p.2 q.2
+    let set = plain (resolved (outside g) e) in
+    all_added a ns q.0 set b c (subst (λ t. AddsAll a ns t set b) type p.2) q.2
 one_declaration g a (include r) b c p q =
     let included = one_reference g r p.0 q.0 p.1 q.1 in
-    one_inclusion a q.0 b c (subst (λ s. Includes a s b) included p.2) q.2
+    let taken = subst (λ s. Includes a s b) included p.2 in
+    taken.1.0 ∙ sym q.2.1.0
 
 pub all_declared : (g : List Defined) (a : Schema) (ds : List DeclTree) (b c : Schema) → Declares g a ds b → Declares g a ds c → b ≡ c
 all_declared g a [] b c p q = p ∙ sym q

@@ -8,12 +8,12 @@ pub use Rattle.zf_tree.specs.declared.tree.Name.{Name}
 pub use Rattle.zf_tree.specs.declared.tree.SchemaRef.{SchemaRef}
 pub use Rattle.zf_term.proofs.Choices.{or_else_assoc, or_none}
 pub use Rattle.zf_term.proofs.SameNames.{is_itself, is_same, swapped, tests_alike}
-pub use Rattle.zf_term.proofs.Walk.{dropped}
+pub use Rattle.zf_term.proofs.Walk.{at_end, at_step}
 pub use Rattle.zf_term.specs.{abbreviation, Comp, comp_of, conjuncts, constructor, DeclaredSet, Defined, Definition, first_named, free_type, given_set, globals_of, has_elements, IsTooLarge, IsWithin, KeepsTo, later, next_number, Offence, plain, resolved_of, ResolvedTree, Schema, schema, schema_of, Ty, type_of}
 pub use Rattle.std.specs.Option.{option_or}
 pub use Rattle.zf_term.specs.declared.fault.Limit.{Limit}
 pub use Rattle.zf_typing.proofs.NoOffence.{no_offence}
-pub use Rattle.zf_typing.proofs.Judging.{told}
+pub use Rattle.zf_typing.proofs.Judging.{if_fault, told}
 pub use Rattle.zf_typing.proofs.OneSort.{one_sort, same_set}
 pub use Rattle.zf_typing.specs.{Offends, resolved}
 pub use Rattle.zf_sorts.specs.{IfFault, offence_of, predicate, set_sort}

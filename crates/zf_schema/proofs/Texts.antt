@@ -1,21 +1,7 @@
--- The steps of a text: a walk over its parts, and what stops one.
-use Rattle.zf_schema.proofs.Prelude.{◌+◌, ◌<◌, ◌∷◌, ◌≡◌, ◌≤◌, [], drop, get_or, inl, inr, length, List, refl, subst, sym, ℕ, drop_all, DeclTree, include, Tree, SchemaRef, dropped, Comp, Defined, Schema, conjuncts, Offence, Offends, IfFault, resolved, Refusal, offence_of, Agree, conjoined, OneClashes, Stops, ConstrainsOne, DeclaresOne, inside, Refers, CantConstrain, CantDeclare, over, AnyByRecursion, OffendsDecls, OffendsPredicates}
+-- The steps of a text, and what stops one.
+use Rattle.zf_schema.proofs.Prelude.{◌∷◌, ◌≡◌, inl, inr, List, refl, subst, ℕ, DeclTree, include, Tree, SchemaRef, Comp, Defined, Schema, conjuncts, Offence, Offends, resolved, Agree, conjoined, OneClashes, Stops, ConstrainsOne, DeclaresOne, inside, Refers, CantConstrain, CantDeclare, over, AnyByRecursion, OffendsDecls, OffendsPredicates}
 use Rattle.zf_tree.specs.declared.operator.Need.TheVariants as need
-use Rattle.zf_sorts.specs.declared.fault.Refusal.TheVariants as refusal
 use Rattle.zf_schema.proofs.Once.{taken_comps}
-
--- what follows of each kind and line follows of the fault
-pub if_fault : (e : Refusal) (P Q : Offence → ℕ → Type 0) → ((k : Offence) (m : ℕ) → P k m → Q k m) → IfFault e P → IfFault e Q
-if_fault (refusal.Fault f) P Q step h = step (offence_of f.offence) f.line h
-if_fault refusal.OutOfMemory P Q step h = tt
-
--- an item is ahead
-pub at_step : {X : Type 0} (P : List X → Type 0) (xs : List X) (i : ℕ) (x : X) → x ≡ get_or xs i x → i < length xs → P (x ∷ drop (i + 1) xs) → P (drop i xs)
-at_step P xs i x e l h = subst P (sym (dropped xs i x l e)) h
-
--- no item is ahead
-pub at_end : {X : Type 0} (P : List X → Type 0) (xs : List X) (i : ℕ) → length xs ≤ i → P [] → P (drop i xs)
-at_end P xs i h p = subst P (sym (drop_all i xs h)) p
 
 -- the schema of a reference can't be taken in
 pub cant_include : (g : List Defined) (a : Schema) (r : SchemaRef) (c : Schema) → Refers g r c → (k : Offence)

@@ -1,6 +1,7 @@
 -- The height of terms, and of each of several.
-use Rattle.zf_shape.proofs.Prelude.{◌+◌, ◌-◌, ◌<◌, ◌∙◌, ◌∷◌, ◌≡◌, ◌≤◌, [], add-one, ap, arith, Bool, false, get_or, IsTrue, length, List, map, max, Option, suc, sym, take, true, true≢false, zero, ℕ, Quantifier, link-seen, of-Comprehension, of-Quantified, range-seen, absent, binary, bracket, comprehension, chain, constant, empty_set, link, links, listed, no_links, no_ranges, no_terms, number, part_of, present, quantified, range, range_of, Ranges, ranges, reference, resolved_link_of, resolved_of, ResolvedLinks, ResolvedPart, ResolvedTree, ResolvedTrees, term, terms, unary, all_nodes, height, link_nodes, nodes, part_height, part_nodes, range_nodes, tallest, tallest_link, tallest_range, Range, Resolved, ResolvedLink}
+use Rattle.zf_shape.proofs.Prelude.{◌+◌, ◌-◌, ◌∙◌, ◌≡◌, ◌≤◌, ap, arith, Bool, false, IsTrue, List, map, max, Option, sym, true, true≢false, ℕ, Quantifier, link-seen, of-Comprehension, of-Quantified, range-seen, absent, binary, bracket, comprehension, chain, constant, empty_set, link, links, listed, no_links, no_ranges, no_terms, number, part_of, present, quantified, range, range_of, Ranges, ranges, reference, resolved_link_of, resolved_of, ResolvedLinks, ResolvedPart, ResolvedTree, ResolvedTrees, term, terms, unary, all_nodes, height, link_nodes, nodes, part_height, part_nodes, range_nodes, tallest, tallest_link, tallest_range, Range, Resolved, ResolvedLink}
 use Rattle.zf_term.specs.declared.resolved.Resolved.TheVariants as v
+use Rattle.zf_shape.proofs.FirstOf.{IsHighest, IsWithin, stay, StayWithin, within}
 
 -- none is without height
 pub some_height : (t : ResolvedTree) → 1 ≤ height t
@@ -58,68 +59,32 @@ of_quantified l q rs p t = ap height (of-Quantified l q rs p t)
 
 pub ruleset heights = (some_height, of_comprehension, of_quantified)
 
-term_at : (xs : List Resolved) (i : ℕ) (x : Resolved) (h : ℕ) → x ≡ get_or xs i x → i < length xs → tallest (terms (map resolved_of xs)) ≤ h → height (resolved_of x) ≤ h
-term_at [] i x h at l e = absurd (omega arith)
-term_at (y ∷ xs) zero x h at l e = omega (arith, ap (λ z. height (resolved_of z)) at, e)
-term_at (y ∷ xs) (suc i) x h at l e = term_at xs i x h at (omega arith) (omega (arith, e))
+terms_highest : IsHighest (λ (x : Resolved). height (resolved_of x)) (λ xs. tallest (terms (map resolved_of xs)))
+terms_highest = (omega arith, λ x xs. omega arith)
 
-pub term_within : (xs ys : List Resolved) (i : ℕ) (x : Resolved) (h : ℕ) → xs ≡ ys → x ≡ get_or xs i x → i < length xs → tallest (terms (map resolved_of ys)) ≤ h → height (resolved_of x) ≤ h
-term_within xs ys i x h same at l e = term_at xs i x h at l (omega (arith, ap (λ zs. tallest (terms (map resolved_of zs))) same, e))
+pub term_within : IsWithin (λ (x : Resolved). height (resolved_of x)) (λ xs. tallest (terms (map resolved_of xs)))
+term_within = within _ _ terms_highest
 
-link_at : (xs : List ResolvedLink) (i : ℕ) (x : ResolvedLink) (h : ℕ) → x ≡ get_or xs i x → i < length xs → tallest_link (links (map resolved_link_of xs)) ≤ h → height (resolved_of x.right) ≤ h
-link_at [] i x h at l e = absurd (omega arith)
-link_at (y ∷ xs) zero x h at l e = omega (arith, ap (λ z. height (resolved_of z.right)) at, ap (λ z. height z.1) (link-seen y), e)
-link_at (y ∷ xs) (suc i) x h at l e = link_at xs i x h at (omega arith) (omega (arith, e))
+pub terms_more : StayWithin (λ (x : Resolved). height (resolved_of x)) (λ xs. tallest (terms (map resolved_of xs)))
+terms_more = stay _ _ terms_highest
 
-pub link_within : (xs ys : List ResolvedLink) (i : ℕ) (x : ResolvedLink) (h : ℕ) → xs ≡ ys → x ≡ get_or xs i x → i < length xs
-    → tallest_link (links (map resolved_link_of ys)) ≤ h → height (resolved_of x.right) ≤ h
-link_within xs ys i x h same at l e = link_at xs i x h at l (omega (arith, ap (λ zs. tallest_link (links (map resolved_link_of zs))) same, e))
+links_highest : IsHighest (λ (x : ResolvedLink). height (resolved_of x.right)) (λ xs. tallest_link (links (map resolved_link_of xs)))
+links_highest = (omega arith, λ x xs. omega (arith, ap (λ z. height z.1) (link-seen x)))
 
-range_at : (xs : List Range) (i : ℕ) (x : Range) (h : ℕ) → x ≡ get_or xs i x → i < length xs → tallest_range (ranges (map range_of xs)) ≤ h → height (resolved_of x.set) ≤ h
-range_at [] i x h at l e = absurd (omega arith)
-range_at (y ∷ xs) zero x h at l e = omega (arith, ap (λ z. height (resolved_of z.set)) at, ap (λ z. height z.1) (range-seen y), e)
-range_at (y ∷ xs) (suc i) x h at l e = range_at xs i x h at (omega arith) (omega (arith, e))
+pub link_within : IsWithin (λ (x : ResolvedLink). height (resolved_of x.right)) (λ xs. tallest_link (links (map resolved_link_of xs)))
+link_within = within _ _ links_highest
 
-pub range_within : (xs ys : List Range) (i : ℕ) (x : Range) (h : ℕ) → xs ≡ ys → x ≡ get_or xs i x → i < length xs → tallest_range (ranges (map range_of ys)) ≤ h → height (resolved_of x.set) ≤ h
-range_within xs ys i x h same at l e = range_at xs i x h at l (omega (arith, ap (λ zs. tallest_range (ranges (map range_of zs))) same, e))
+pub links_more : StayWithin (λ (x : ResolvedLink). height (resolved_of x.right)) (λ xs. tallest_link (links (map resolved_link_of xs)))
+links_more = stay _ _ links_highest
 
-terms_next : (xs : List Resolved) (i : ℕ) (x : Resolved) (h : ℕ) → x ≡ get_or xs i x → i < length xs → tallest (terms (map resolved_of (take i xs))) ≤ h
-    → height (resolved_of x) ≤ h → tallest (terms (map resolved_of (take (suc i) xs))) ≤ h
-terms_next [] i x h at l e f = absurd (omega arith)
-terms_next (y ∷ xs) zero x h at l e f = omega (arith, ap (λ z. height (resolved_of z)) at, f)
-terms_next (y ∷ xs) (suc i) x h at l e f =
-    let rest = terms_next xs i x h at (omega arith) (omega (arith, e)) f in
-    omega (arith, e, rest)
+ranges_highest : IsHighest (λ (x : Range). height (resolved_of x.set)) (λ xs. tallest_range (ranges (map range_of xs)))
+ranges_highest = (omega arith, λ x xs. omega (arith, ap (λ z. height z.1) (range-seen x)))
 
-pub terms_more : (xs : List Resolved) (i : ℕ) (x : Resolved) (h : ℕ) → x ≡ get_or xs i x → i < length xs → tallest (terms (map resolved_of (take i xs))) ≤ h
-    → height (resolved_of x) ≤ h → tallest (terms (map resolved_of (take (i + 1) xs))) ≤ h
-terms_more xs i x h at l e f = rw add-one (terms_next xs i x h at l e f)
+pub range_within : IsWithin (λ (x : Range). height (resolved_of x.set)) (λ xs. tallest_range (ranges (map range_of xs)))
+range_within = within _ _ ranges_highest
 
-links_next : (xs : List ResolvedLink) (i : ℕ) (x : ResolvedLink) (h : ℕ) → x ≡ get_or xs i x → i < length xs
-    → tallest_link (links (map resolved_link_of (take i xs))) ≤ h → height (resolved_of x.right) ≤ h
-    → tallest_link (links (map resolved_link_of (take (suc i) xs))) ≤ h
-links_next [] i x h at l e f = absurd (omega arith)
-links_next (y ∷ xs) zero x h at l e f = omega (arith, ap (λ z. height (resolved_of z.right)) at, ap (λ z. height z.1) (link-seen y), f)
-links_next (y ∷ xs) (suc i) x h at l e f =
-    let rest = links_next xs i x h at (omega arith) (omega (arith, e)) f in
-    omega (arith, e, rest)
-
-pub links_more : (xs : List ResolvedLink) (i : ℕ) (x : ResolvedLink) (h : ℕ) → x ≡ get_or xs i x → i < length xs
-    → tallest_link (links (map resolved_link_of (take i xs))) ≤ h → height (resolved_of x.right) ≤ h
-    → tallest_link (links (map resolved_link_of (take (i + 1) xs))) ≤ h
-links_more xs i x h at l e f = rw add-one (links_next xs i x h at l e f)
-
-ranges_next : (xs : List Range) (i : ℕ) (x : Range) (h : ℕ) → x ≡ get_or xs i x → i < length xs → tallest_range (ranges (map range_of (take i xs))) ≤ h
-    → height (resolved_of x.set) ≤ h → tallest_range (ranges (map range_of (take (suc i) xs))) ≤ h
-ranges_next [] i x h at l e f = absurd (omega arith)
-ranges_next (y ∷ xs) zero x h at l e f = omega (arith, ap (λ z. height (resolved_of z.set)) at, ap (λ z. height z.1) (range-seen y), f)
-ranges_next (y ∷ xs) (suc i) x h at l e f =
-    let rest = ranges_next xs i x h at (omega arith) (omega (arith, e)) f in
-    omega (arith, e, rest)
-
-pub ranges_more : (xs : List Range) (i : ℕ) (x : Range) (h : ℕ) → x ≡ get_or xs i x → i < length xs → tallest_range (ranges (map range_of (take i xs))) ≤ h
-    → height (resolved_of x.set) ≤ h → tallest_range (ranges (map range_of (take (i + 1) xs))) ≤ h
-ranges_more xs i x h at l e f = rw add-one (ranges_next xs i x h at l e f)
+pub ranges_more : StayWithin (λ (x : Range). height (resolved_of x.set)) (λ xs. tallest_range (ranges (map range_of xs)))
+ranges_more = stay _ _ ranges_highest
 
 -- the first of three parts is too high
 pub first_too_high : (x y z whole lower highest : ℕ) (r : Bool) → whole ≡ max (max x y) z + 1 → (1 ≤ highest) × (lower ≡ highest - 1) → (IsTrue r → x ≤ lower)

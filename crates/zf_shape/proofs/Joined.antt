@@ -1,6 +1,7 @@
 -- The nodes and the height of terms that are joined to the left.
 use Rattle.zf_shape.proofs.Prelude.{◌++◌, ◌+◌, ◌-◌, ◌<◌, ◌↔◌, ◌∙◌, ◌∷◌, ◌≡◌, ◌≤◌, [], ap, arith, length, length-append, List, map, min, refl, suc, sym, zero, ℕ, all_joined, all_of, batch_of, Batch, both_hold, conjunct_of, Conjunct, height, joined, moved, nodes, numbering, ResolvedTree, terms, all_nodes, take, get_or, add-one, append-nil, append_assoc, batch-seen, length-map, subst}
 use Rattle.zf_term.proofs.Renumbered.{same_height, same_nodes}
+use Rattle.zf_shape.proofs.FirstOf.{before, IsCounted, IsMore, more}
 use Rattle.zf_shape.proofs.Heights.{some_height}
 use Rattle.zf_shape.specs.{AreLow}
 
@@ -14,10 +15,6 @@ nodes_behind t (u ∷ us) = omega (arith, nodes_behind (both_hold t u) us)
 pub joined_nodes : (l : ℕ) (ts : List ResolvedTree) → 0 < length ts → nodes (joined l ts) + 1 ≡ all_nodes (terms ts) + length ts
 joined_nodes l [] some = absurd (omega (arith, some))
 joined_nodes l (t ∷ ts) some = omega (arith, nodes_behind t ts)
-
-pub none_joined : (l : ℕ) (ts : List ResolvedTree) → length ts ≡ 0 → nodes (joined l ts) ≡ 1
-none_joined l [] none = refl
-none_joined l (t ∷ ts) none = absurd (omega (arith, none))
 
 -- ---- heights
 
@@ -37,10 +34,6 @@ low_joined l n m (t ∷ ts) e some =
       λ h. let both = rest.0 h in (omega (arith, both.0), both.1),
       λ h. rest.1 (omega (arith, h.0, some), h.1),
     )
-
-pub none_low : (l : ℕ) (ts : List ResolvedTree) → length ts ≡ 0 → height (joined l ts) ≡ 1
-none_low l [] none = refl
-none_low l (t ∷ ts) none = absurd (omega (arith, none))
 
 -- no term is less high than there are terms
 below_joined : (t : ResolvedTree) (ts : List ResolvedTree) → height t + length ts ≤ height (all_joined t ts)
@@ -79,21 +72,15 @@ nodes_append (t ∷ ts) us = omega (arith, nodes_append ts us)
 
 -- ---- the first of several conjuncts
 
+conjuncts_counted : IsCounted (λ (x : Conjunct). nodes (conjunct_of x)) (λ xs. all_nodes (terms (map conjunct_of xs)))
+conjuncts_counted = (omega arith, λ x xs. omega arith)
+
 pub conjuncts_before : (xs : List Conjunct) (i : ℕ) (x : Conjunct) → x ≡ get_or xs i x → i < length xs
     → all_nodes (terms (map conjunct_of (take i xs))) + nodes (conjunct_of x) ≤ all_nodes (terms (map conjunct_of xs))
-conjuncts_before [] i x at l = absurd (omega arith)
-conjuncts_before (y ∷ xs) zero x at l = omega (arith, ap (λ z. nodes (conjunct_of z)) at)
-conjuncts_before (y ∷ xs) (suc i) x at l = omega (arith, conjuncts_before xs i x at (omega arith))
+conjuncts_before = before _ _ conjuncts_counted
 
-conjuncts_next : (xs : List Conjunct) (i : ℕ) (x : Conjunct) → x ≡ get_or xs i x → i < length xs
-    → all_nodes (terms (map conjunct_of (take (suc i) xs))) ≡ all_nodes (terms (map conjunct_of (take i xs))) + nodes (conjunct_of x)
-conjuncts_next [] i x at l = absurd (omega arith)
-conjuncts_next (y ∷ xs) zero x at l = omega (arith, ap (λ z. nodes (conjunct_of z)) at)
-conjuncts_next (y ∷ xs) (suc i) x at l = omega (arith, conjuncts_next xs i x at (omega arith))
-
-pub conjuncts_more : (xs : List Conjunct) (i : ℕ) (x : Conjunct) → x ≡ get_or xs i x → i < length xs
-    → all_nodes (terms (map conjunct_of (take (i + 1) xs))) ≡ all_nodes (terms (map conjunct_of (take i xs))) + nodes (conjunct_of x)
-conjuncts_more xs i x at l = rw add-one (conjuncts_next xs i x at l)
+pub conjuncts_more : IsMore (λ (x : Conjunct). nodes (conjunct_of x)) (λ xs. all_nodes (terms (map conjunct_of xs)))
+conjuncts_more = more _ _ conjuncts_counted
 
 pub low_at : (n d a : ℕ) (xs : List Conjunct) (i : ℕ) (x : Conjunct) → x ≡ get_or xs i x → i < length xs → AreLow n d a (map conjunct_of xs) → height (conjunct_of x) + min (a - i) d ≤ n
 low_at n d a [] i x at l h = absurd (omega arith)

@@ -1,4 +1,5 @@
 mod Prelude
+mod FirstOf
 pub mod Nodes
 pub mod Heights
 pub mod SetsCounted

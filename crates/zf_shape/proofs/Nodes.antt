@@ -1,68 +1,42 @@
 -- The nodes of terms, and of the first of several.
-use Rattle.zf_shape.proofs.Prelude.{◌+◌, ◌<◌, ◌∙◌, ◌∷◌, ◌≡◌, ◌≤◌, [], add-one, ap, arith, get_or, length, List, map, None, Option, Some, suc, sym, take, zero, ℕ, Quantifier, link-seen, of-Comprehension, of-Quantified, range-seen, binary, bracket, comprehension, chain, constant, empty_set, links, listed, number, part_of, quantified, range_of, ranges, reference, resolved_link_of, resolved_of, ResolvedTree, terms, unary, all_nodes, link_nodes, nodes, part_nodes, range_nodes, Range, Resolved, ResolvedLink}
+use Rattle.zf_shape.proofs.Prelude.{◌+◌, ◌<◌, ◌∙◌, ◌≡◌, ◌≤◌, ap, arith, get_or, length, List, map, None, Option, Some, sym, take, ℕ, Quantifier, link-seen, of-Comprehension, of-Quantified, range-seen, links, part_of, range_of, ranges, resolved_link_of, resolved_of, ResolvedTree, terms, all_nodes, link_nodes, nodes, part_nodes, range_nodes, Range, Resolved, ResolvedLink}
 use Rattle.std.specs.Prelude.{MatchOption}
+use Rattle.zf_shape.proofs.FirstOf.{before, IsCounted, IsMore, more}
+use Rattle.zf_shape.proofs.Heights.{below_nodes, some_height}
 use Rattle.zf_term.specs.declared.resolved.Resolved.TheVariants as v
 
 pub some_node : (t : ResolvedTree) → 1 ≤ nodes t
-some_node (reference l r) = omega arith
-some_node (number l v) = omega arith
-some_node (constant l c) = omega arith
-some_node (empty_set l t) = omega arith
-some_node (bracket l t) = some_node t
-some_node (listed l form ts) = omega arith
-some_node (comprehension l rs p t) = omega arith
-some_node (unary l op t) = omega arith
-some_node (binary l op a b) = omega arith
-some_node (chain l t ks) = omega arith
-some_node (quantified l q rs p t) = omega arith
+some_node t = omega (arith, some_height t, below_nodes t)
+
+terms_counted : IsCounted (λ (x : Resolved). nodes (resolved_of x)) (λ xs. all_nodes (terms (map resolved_of xs)))
+terms_counted = (omega arith, λ x xs. omega arith)
+
+links_counted : IsCounted (λ (x : ResolvedLink). nodes (resolved_of x.right)) (λ xs. link_nodes (links (map resolved_link_of xs)))
+links_counted = (omega arith, λ x xs. omega (arith, ap (λ z. nodes z.1) (link-seen x)))
+
+ranges_counted : IsCounted (λ (x : Range). nodes (resolved_of x.set)) (λ xs. range_nodes (ranges (map range_of xs)))
+ranges_counted = (omega arith, λ x xs. omega (arith, ap (λ z. nodes z.1) (range-seen x)))
 
 pub terms_before : (xs : List Resolved) (i : ℕ) (x : Resolved) → x ≡ get_or xs i x → i < length xs
     → all_nodes (terms (map resolved_of (take i xs))) + nodes (resolved_of x) ≤ all_nodes (terms (map resolved_of xs))
-terms_before [] i x at l = absurd (omega arith)
-terms_before (y ∷ xs) zero x at l = omega (arith, ap (λ z. nodes (resolved_of z)) at)
-terms_before (y ∷ xs) (suc i) x at l = omega (arith, terms_before xs i x at (omega arith))
+terms_before = before _ _ terms_counted
 
 pub links_before : (xs : List ResolvedLink) (i : ℕ) (x : ResolvedLink) → x ≡ get_or xs i x → i < length xs
     → link_nodes (links (map resolved_link_of (take i xs))) + nodes (resolved_of x.right) ≤ link_nodes (links (map resolved_link_of xs))
-links_before [] i x at l = absurd (omega arith)
-links_before (y ∷ xs) zero x at l = omega (arith, ap (λ z. nodes (resolved_of z.right)) at, ap (λ z. nodes z.1) (link-seen y))
-links_before (y ∷ xs) (suc i) x at l = omega (arith, links_before xs i x at (omega arith))
+links_before = before _ _ links_counted
 
 pub ranges_before : (xs : List Range) (i : ℕ) (x : Range) → x ≡ get_or xs i x → i < length xs
     → range_nodes (ranges (map range_of (take i xs))) + nodes (resolved_of x.set) ≤ range_nodes (ranges (map range_of xs))
-ranges_before [] i x at l = absurd (omega arith)
-ranges_before (y ∷ xs) zero x at l = omega (arith, ap (λ z. nodes (resolved_of z.set)) at, ap (λ z. nodes z.1) (range-seen y))
-ranges_before (y ∷ xs) (suc i) x at l = omega (arith, ranges_before xs i x at (omega arith))
+ranges_before = before _ _ ranges_counted
 
-terms_next : (xs : List Resolved) (i : ℕ) (x : Resolved) → x ≡ get_or xs i x → i < length xs
-    → all_nodes (terms (map resolved_of (take (suc i) xs))) ≡ all_nodes (terms (map resolved_of (take i xs))) + nodes (resolved_of x)
-terms_next [] i x at l = absurd (omega arith)
-terms_next (y ∷ xs) zero x at l = omega (arith, ap (λ z. nodes (resolved_of z)) at)
-terms_next (y ∷ xs) (suc i) x at l = omega (arith, terms_next xs i x at (omega arith))
+pub terms_more : IsMore (λ (x : Resolved). nodes (resolved_of x)) (λ xs. all_nodes (terms (map resolved_of xs)))
+terms_more = more _ _ terms_counted
 
-pub terms_more : (xs : List Resolved) (i : ℕ) (x : Resolved) → x ≡ get_or xs i x → i < length xs
-    → all_nodes (terms (map resolved_of (take (i + 1) xs))) ≡ all_nodes (terms (map resolved_of (take i xs))) + nodes (resolved_of x)
-terms_more xs i x at l = rw add-one (terms_next xs i x at l)
+pub links_more : IsMore (λ (x : ResolvedLink). nodes (resolved_of x.right)) (λ xs. link_nodes (links (map resolved_link_of xs)))
+links_more = more _ _ links_counted
 
-links_next : (xs : List ResolvedLink) (i : ℕ) (x : ResolvedLink) → x ≡ get_or xs i x → i < length xs
-    → link_nodes (links (map resolved_link_of (take (suc i) xs))) ≡ link_nodes (links (map resolved_link_of (take i xs))) + nodes (resolved_of x.right)
-links_next [] i x at l = absurd (omega arith)
-links_next (y ∷ xs) zero x at l = omega (arith, ap (λ z. nodes (resolved_of z.right)) at, ap (λ z. nodes z.1) (link-seen y))
-links_next (y ∷ xs) (suc i) x at l = omega (arith, links_next xs i x at (omega arith))
-
-pub links_more : (xs : List ResolvedLink) (i : ℕ) (x : ResolvedLink) → x ≡ get_or xs i x → i < length xs
-    → link_nodes (links (map resolved_link_of (take (i + 1) xs))) ≡ link_nodes (links (map resolved_link_of (take i xs))) + nodes (resolved_of x.right)
-links_more xs i x at l = rw add-one (links_next xs i x at l)
-
-ranges_next : (xs : List Range) (i : ℕ) (x : Range) → x ≡ get_or xs i x → i < length xs
-    → range_nodes (ranges (map range_of (take (suc i) xs))) ≡ range_nodes (ranges (map range_of (take i xs))) + nodes (resolved_of x.set)
-ranges_next [] i x at l = absurd (omega arith)
-ranges_next (y ∷ xs) zero x at l = omega (arith, ap (λ z. nodes (resolved_of z.set)) at, ap (λ z. nodes z.1) (range-seen y))
-ranges_next (y ∷ xs) (suc i) x at l = omega (arith, ranges_next xs i x at (omega arith))
-
-pub ranges_more : (xs : List Range) (i : ℕ) (x : Range) → x ≡ get_or xs i x → i < length xs
-    → range_nodes (ranges (map range_of (take (i + 1) xs))) ≡ range_nodes (ranges (map range_of (take i xs))) + nodes (resolved_of x.set)
-ranges_more xs i x at l = rw add-one (ranges_next xs i x at l)
+pub ranges_more : IsMore (λ (x : Range). nodes (resolved_of x.set)) (λ xs. range_nodes (ranges (map range_of xs)))
+ranges_more = more _ _ ranges_counted
 
 pub of_comprehension : (l : ℕ) (rs : List Range) (p t : Option Resolved) (whole : Resolved) → whole ≡ v.Comprehension l rs p t
     → nodes (resolved_of whole) ≡ range_nodes (ranges (map range_of rs)) + part_nodes (part_of p) + part_nodes (part_of t) + 1

@@ -1,10 +1,8 @@
 //! What is wrong with two operands that a rule doesn't take together.
-ghost use Rattle.std.specs.Prelude.{◌≡◌, IfOk};
-ghost use Rattle.zf_term.specs.Faults as faults;
-ghost use Rattle.zf_term.specs.{power, type_of};
+ghost use Rattle.std.specs.Prelude.{◌≡◌, IfOk, MatchOption};
+ghost use Rattle.zf_term.specs.{mismatch, type_of};
 ghost use Rattle.zf_tree.specs.{left_need, right_need};
-ghost use Rattle.zf_tree.specs.declared.operator.Rule.TheVariants as rule;
-ghost use Rattle.zf_sorts.specs.{Disagreement, IfFault, Meets, offence_of, sort_of};
+ghost use Rattle.zf_sorts.specs.{Disagreement, IfFault, Meets, offence_of, sort_of, unfitting};
 
 use crate::fault::{Offence, Refusal, refused};
 use crate::sort::Sort;
@@ -42,13 +40,30 @@ fn disagreement<'a>(
     requires right { Meets (right_need rule) (sort_of right.now) }
     ensures { IfOk result (λ o. Disagreement rule (sort_of left.now) (sort_of right.now) (offence_of o)) }
 {
+    match fitted(rule, left, right) {
+        Some((sets, needed, found)) => unfitting(arena, sets, needed, found),
+        None => Ok(Offence::Mismatch(left.share()?, right.share()?)),
+    }
+}
+
+/// Where one operand has to fit the other: the type that is needed, and the one that is found. For sets, which the first says,
+/// these are the types of their members.
+fn fitted<'s, 'a>(
+    rule: Rule,
+    left: &'s Sort<'a>,
+    right: &'s Sort<'a>,
+) -> Option<(bool, &'s ZType<'a>, &'s ZType<'a>)>
+    requires left { Meets (left_need rule) (sort_of left.now) }
+    requires right { Meets (right_need rule) (sort_of right.now) }
+    ensures { MatchOption result (Disagreement rule (sort_of left.now) (sort_of right.now) (mismatch (sort_of left.now) (sort_of right.now))) (λ p. Disagreement rule (sort_of left.now) (sort_of right.now) (unfitting p.0 (type_of p.1.now) (type_of p.2.now))) }
+{
     match rule {
-        Rule::Belonging => belonging(left, right),
-        Rule::Applying => applying(left, right),
-        Rule::Imaging => imaging(arena, left, right),
-        Rule::DomainRestricting => domain_restricting(arena, left, right),
-        Rule::RangeRestricting => range_restricting(arena, left, right),
-        Rule::Composing => composing(left, right),
+        Rule::Belonging => Some((false, right.member()?, left.ztype()?)),
+        Rule::Applying => Some((false, left.sides()?.0, right.ztype()?)),
+        Rule::Imaging => Some((true, left.sides()?.0, right.member()?)),
+        Rule::DomainRestricting => Some((true, right.sides()?.0, left.member()?)),
+        Rule::RangeRestricting => Some((true, left.sides()?.1, right.member()?)),
+        Rule::Composing => Some((false, left.sides()?.1, right.sides()?.0)),
         Rule::Arithmetic
         | Rule::Interval
         | Rule::Pairing
@@ -58,122 +73,24 @@ fn disagreement<'a>(
         | Rule::Equating
         | Rule::Including
         | Rule::Comparing
-        | Rule::Connecting => Ok(Offence::Mismatch(left.share()?, right.share()?)),
+        | Rule::Connecting => None,
     }
 }
 
-fn belonging<'a>(left: &Sort<'a>, right: &Sort<'a>) -> Result<Offence<'a>, AllocError>
-    requires left { Meets (left_need rule.Belonging) (sort_of left.now) }
-    requires right { Meets (right_need rule.Belonging) (sort_of right.now) }
-    ensures { IfOk result (λ o. Disagreement rule.Belonging (sort_of left.now) (sort_of right.now) (offence_of o)) }
-{
-    let Some(found) = left.ztype() else {
-        unreachable!();
-    };
-    let Some(needed) = right.member() else {
-        unreachable!();
-    };
-    unfit(needed, found)
-}
-
-fn applying<'a>(left: &Sort<'a>, right: &Sort<'a>) -> Result<Offence<'a>, AllocError>
-    requires left { Meets (left_need rule.Applying) (sort_of left.now) }
-    requires right { Meets (right_need rule.Applying) (sort_of right.now) }
-    ensures { IfOk result (λ o. Disagreement rule.Applying (sort_of left.now) (sort_of right.now) (offence_of o)) }
-{
-    let Some((needed, _)) = left.sides() else {
-        unreachable!();
-    };
-    let Some(found) = right.ztype() else {
-        unreachable!();
-    };
-    unfit(needed, found)
-}
-
-fn imaging<'a>(
+/// A type is needed, and another one found; or sets of such members.
+fn unfitting<'a>(
     arena: &'a Bump,
-    left: &Sort<'a>,
-    right: &Sort<'a>,
-) -> Result<Offence<'a>, AllocError>
-    requires left { Meets (left_need rule.Imaging) (sort_of left.now) }
-    requires right { Meets (right_need rule.Imaging) (sort_of right.now) }
-    ensures { IfOk result (λ o. Disagreement rule.Imaging (sort_of left.now) (sort_of right.now) (offence_of o)) }
-{
-    let Some((from, _)) = left.sides() else {
-        unreachable!();
-    };
-    let Some(members) = right.member() else {
-        unreachable!();
-    };
-    unfit_set(arena, from, members)
-}
-
-fn domain_restricting<'a>(
-    arena: &'a Bump,
-    left: &Sort<'a>,
-    right: &Sort<'a>,
-) -> Result<Offence<'a>, AllocError>
-    requires left { Meets (left_need rule.DomainRestricting) (sort_of left.now) }
-    requires right { Meets (right_need rule.DomainRestricting) (sort_of right.now) }
-    ensures { IfOk result (λ o. Disagreement rule.DomainRestricting (sort_of left.now) (sort_of right.now) (offence_of o)) }
-{
-    let Some(members) = left.member() else {
-        unreachable!();
-    };
-    let Some((from, _)) = right.sides() else {
-        unreachable!();
-    };
-    unfit_set(arena, from, members)
-}
-
-fn range_restricting<'a>(
-    arena: &'a Bump,
-    left: &Sort<'a>,
-    right: &Sort<'a>,
-) -> Result<Offence<'a>, AllocError>
-    requires left { Meets (left_need rule.RangeRestricting) (sort_of left.now) }
-    requires right { Meets (right_need rule.RangeRestricting) (sort_of right.now) }
-    ensures { IfOk result (λ o. Disagreement rule.RangeRestricting (sort_of left.now) (sort_of right.now) (offence_of o)) }
-{
-    let Some((_, into)) = left.sides() else {
-        unreachable!();
-    };
-    let Some(members) = right.member() else {
-        unreachable!();
-    };
-    unfit_set(arena, into, members)
-}
-
-fn composing<'a>(left: &Sort<'a>, right: &Sort<'a>) -> Result<Offence<'a>, AllocError>
-    requires left { Meets (left_need rule.Composing) (sort_of left.now) }
-    requires right { Meets (right_need rule.Composing) (sort_of right.now) }
-    ensures { IfOk result (λ o. Disagreement rule.Composing (sort_of left.now) (sort_of right.now) (offence_of o)) }
-{
-    let Some((_, needed)) = left.sides() else {
-        unreachable!();
-    };
-    let Some((found, _)) = right.sides() else {
-        unreachable!();
-    };
-    unfit(needed, found)
-}
-
-/// A type is needed, and another one found.
-fn unfit<'a>(needed: &ZType<'a>, found: &ZType<'a>) -> Result<Offence<'a>, AllocError>
-    ensures { IfOk result (λ o. offence_of o ≡ faults.unfit (type_of needed.now) (type_of found.now)) }
-{
-    Ok(Offence::Unfit(needed.share()?, found.share()?))
-}
-
-/// Sets of one type are needed, and a set of another type found.
-fn unfit_set<'a>(
-    arena: &'a Bump,
+    sets: bool,
     needed: &ZType<'a>,
     found: &ZType<'a>,
 ) -> Result<Offence<'a>, AllocError>
-    ensures { IfOk result (λ o. offence_of o ≡ faults.unfit (power (type_of needed.now)) (power (type_of found.now))) }
+    ensures { IfOk result (λ o. offence_of o ≡ unfitting sets (type_of needed.now) (type_of found.now)) }
 {
-    let needed = set_type(arena, needed.share()?)?;
-    let found = set_type(arena, found.share()?)?;
-    Ok(Offence::Unfit(needed, found))
+    let needed = needed.share()?;
+    let found = found.share()?;
+    if !sets {
+        return Ok(Offence::Unfit(needed, found));
+    }
+    let needed = set_type(arena, needed)?;
+    Ok(Offence::Unfit(needed, set_type(arena, found)?))
 }

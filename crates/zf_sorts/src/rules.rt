@@ -78,10 +78,7 @@ fn interval<'a>(
 ) -> Result<Option<Sort<'a>>, AllocError>
     ensures { IfOk result (IsMade rule.Interval (sort_of left.now) (sort_of right.now)) }
 {
-    if !left.meets(Need::Number) {
-        return Ok(None);
-    }
-    if !right.meets(Need::Number) {
+    if !are_alike(Rule::Interval, left, right) {
         return Ok(None);
     }
     Ok(Some(set_of_numbers(arena)?))
@@ -224,6 +221,7 @@ fn belonging<'a>(left: &Sort<'a>, right: &Sort<'a>) -> Option<Sort<'a>>
 }
 
 /// What one operand makes, where the symbol takes it.
+#[tactic(auto, unfolding(crate::specs::RuleViews::IsMadeOfOne))]
 pub fn apply<'a>(
     arena: &'a Bump,
     op: Unary,
@@ -232,30 +230,19 @@ pub fn apply<'a>(
     ensures { IfOk result (IsMadeOfOne op (sort_of operand.now)) }
 {
     match op {
-        Unary::Sign(Sign::Minus) => Ok(negative(operand)),
+        Unary::Sign(Sign::Minus) => Ok(given(operand, Need::Number, Sort::Typed(int_type()))),
         Unary::Sign(Sign::Symbol(prefix)) => prefixed(arena, prefix, operand),
         Unary::Inverse => inverted(arena, operand),
-        Unary::Not => Ok(negated(operand)),
+        Unary::Not => Ok(given(operand, Need::Predicate, Sort::Predicate)),
     }
 }
 
-#[tactic(auto, unfolding(crate::specs::RuleViews::IsMadeOfOne))]
-fn negative<'a>(operand: &Sort<'a>) -> Option<Sort<'a>>
-    ensures { IsMadeOfOne (unary.Sign sign.Minus) (sort_of operand.now) result }
+/// This sort, where the operand is what is needed.
+fn given<'a>(operand: &Sort<'a>, need: Need, sort: Sort<'a>) -> Option<Sort<'a>>
+    ensures { MatchOption result (Meets need (sort_of operand.now) → ⊥) (λ z. Meets need (sort_of operand.now) × (sort_of z ≡ sort_of sort.entry)) }
 {
-    if operand.meets(Need::Number) {
-        Some(Sort::Typed(int_type()))
-    } else {
-        None
-    }
-}
-
-#[tactic(auto, unfolding(crate::specs::RuleViews::IsMadeOfOne))]
-fn negated<'a>(operand: &Sort<'a>) -> Option<Sort<'a>>
-    ensures { IsMadeOfOne unary.Not (sort_of operand.now) result }
-{
-    if operand.meets(Need::Predicate) {
-        Some(Sort::Predicate)
+    if operand.meets(need) {
+        Some(sort)
     } else {
         None
     }
@@ -271,6 +258,7 @@ fn inverted<'a>(arena: &'a Bump, operand: &Sort<'a>) -> Result<Option<Sort<'a>>,
     Ok(Some(relation_sort(arena, into, from)?))
 }
 
+#[tactic(auto, unfolding(crate::specs::RuleViews::IsMadeOfOne))]
 fn prefixed<'a>(
     arena: &'a Bump,
     prefix: Prefix,
@@ -280,20 +268,9 @@ fn prefixed<'a>(
 {
     match prefix {
         Prefix::Power | Prefix::Finset => subsets(arena, operand),
-        Prefix::Size => Ok(size(operand)),
+        Prefix::Size => Ok(given(operand, Need::Set, Sort::Typed(int_type()))),
         Prefix::Domain => domain(arena, operand),
         Prefix::Range => range(arena, operand),
-    }
-}
-
-#[tactic(auto, unfolding(crate::specs::RuleViews::IsMadeOfOne))]
-fn size<'a>(operand: &Sort<'a>) -> Option<Sort<'a>>
-    ensures { IsMadeOfOne (unary.Sign (sign.Symbol prefix.Size)) (sort_of operand.now) result }
-{
-    if operand.meets(Need::Set) {
-        Some(Sort::Typed(int_type()))
-    } else {
-        None
     }
 }
 

@@ -1,16 +1,14 @@
-use Rattle.zf_calculus.proofs.Prelude.{◌<◌, arith, map, rules, sum_by, comp_of, set_count, counted}
+use Rattle.zf_calculus.proofs.Prelude.{arith, sum_by, comp_of, set_count}
+use Rattle.zf_shape.proofs.Nodes.{none_left}
 use Rattle.zf_calculus.proofs.Counting.{counted_at}
 use Rattle.zf_calculus.proofs.room.after_all_sets.Goals as goal
 
 pub loop-component-preserved : goal.loop-component-preserved
 loop-component-preserved c =
-    let next = counted_at (λ d. sum_by set_count d.sets) comp_of c.args.components.now c.loop-component.component-index c.component-item.result c.loop-component-test.true c.component-item.is in
-    let took = rw c.get.ensures at c.in_ok-left.ensures in
-    omega arith
+    let next = counted_at (λ d. sum_by set_count d.sets) comp_of c.args.components.now c.loop-component.component-index _ c.loop-component-test.true c.component-item.is in
+    omega (arith, c.loop-component.invariant, next, rw c.get.ensures at c.in_ok-left.ensures)
 
 pub returns-in_err-left : goal.returns-in_err-left
 returns-in_err-left c =
-    let next = counted_at (λ d. sum_by set_count d.sets) comp_of c.args.components.now c.loop-component.component-index c.component-item.result c.loop-component-test.true c.component-item.is in
-    let none = rw c.get.ensures at c.in_err-left.ensures in
-    let short : c.args.room < counted set_count (map comp_of c.args.components.now) = omega arith in
-    search (rules, short)
+    let next = counted_at (λ d. sum_by set_count d.sets) comp_of c.args.components.now c.loop-component.component-index _ c.loop-component-test.true c.component-item.is in
+    none_left _ _ _ c.from_residual.ensures (omega (arith, c.loop-component.invariant, next, rw c.get.ensures at c.in_err-left.ensures))

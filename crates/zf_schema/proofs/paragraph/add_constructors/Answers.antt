@@ -1,6 +1,5 @@
-use Rattle.zf_schema.proofs.Prelude.{inl, rules, ℕ, spelling, globals_of, Offence, OffendsConstructors}
+use Rattle.zf_schema.proofs.Prelude.{at_step, if_fault, inl, rules, ℕ, spelling, globals_of, Offence, OffendsConstructors}
 use Rattle.zf_schema.specs.{IsTaken}
-use Rattle.zf_schema.proofs.Texts.{at_step, if_fault}
 use Rattle.zf_schema.proofs.paragraph.add_constructors.Goals as goal
 
 pub returns-in_err-add_name-clause-fault : goal.returns-in_err-add_name-clause-fault

@@ -1,6 +1,5 @@
-use Rattle.zf_schema.proofs.Prelude.{inl, rules, ℕ, globals_of, Offence, OffendsGiven}
+use Rattle.zf_schema.proofs.Prelude.{at_step, if_fault, inl, rules, ℕ, globals_of, Offence, OffendsGiven}
 use Rattle.zf_schema.specs.{IsTaken}
-use Rattle.zf_schema.proofs.Texts.{at_step, if_fault}
 use Rattle.zf_schema.proofs.paragraph.add_given.Goals as goal
 
 pub returns-in_err-add_name-clause-fault : goal.returns-in_err-add_name-clause-fault

@@ -1,5 +1,4 @@
-use Rattle.zf_schema.proofs.Prelude.{inl, inr, refl, rules, ℕ, plain, schema_of, resolved_of, type_of, Offence, AddsAll, CantAdd, OffendsNames}
-use Rattle.zf_schema.proofs.Texts.{at_step, at_end, if_fault}
+use Rattle.zf_schema.proofs.Prelude.{at_step, at_end, if_fault, inl, inr, refl, rules, ℕ, plain, schema_of, resolved_of, type_of, Offence, AddsAll, CantAdd, OffendsNames}
 use Rattle.zf_schema.proofs.text.add_all.Goals as goal
 
 pub loop-name-preserved : goal.loop-name-preserved

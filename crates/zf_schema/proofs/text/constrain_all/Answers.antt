@@ -1,5 +1,5 @@
-use Rattle.zf_schema.proofs.Prelude.{map, refl, rules, ℕ, tree_of, globals_of, schema_of, Offence, Constrains, CantConstrain, OffendsPredicates}
-use Rattle.zf_schema.proofs.Texts.{at_step, at_end, if_fault, first_constrains, later_constrains}
+use Rattle.zf_schema.proofs.Prelude.{at_step, at_end, if_fault, map, refl, rules, ℕ, tree_of, globals_of, schema_of, Offence, Constrains, CantConstrain, OffendsPredicates}
+use Rattle.zf_schema.proofs.Texts.{first_constrains, later_constrains}
 use Rattle.zf_schema.proofs.text.constrain_all.Goals as goal
 
 pub loop-predicate-preserved : goal.loop-predicate-preserved

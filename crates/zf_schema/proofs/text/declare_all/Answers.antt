@@ -1,5 +1,5 @@
-use Rattle.zf_schema.proofs.Prelude.{map, refl, rules, ℕ, decl_of, globals_of, schema_of, Offence, Declares, CantDeclare, OffendsDecls}
-use Rattle.zf_schema.proofs.Texts.{at_step, at_end, if_fault, first_declares, later_declares}
+use Rattle.zf_schema.proofs.Prelude.{at_step, at_end, if_fault, map, refl, rules, ℕ, decl_of, globals_of, schema_of, Offence, Declares, CantDeclare, OffendsDecls}
+use Rattle.zf_schema.proofs.Texts.{first_declares, later_declares}
 use Rattle.zf_schema.proofs.text.declare_all.Goals as goal
 
 pub loop-decl-preserved : goal.loop-decl-preserved

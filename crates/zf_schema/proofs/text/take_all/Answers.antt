@@ -1,5 +1,4 @@
-use Rattle.zf_schema.proofs.Prelude.{inl, inr, map, refl, rules, ℕ, schema_of, resolved_of, Offence, TakesAll, CantTake, OffendsConjuncts}
-use Rattle.zf_schema.proofs.Texts.{at_step, at_end, if_fault}
+use Rattle.zf_schema.proofs.Prelude.{at_step, at_end, if_fault, inl, inr, map, refl, rules, ℕ, schema_of, resolved_of, Offence, TakesAll, CantTake, OffendsConjuncts}
 use Rattle.zf_schema.proofs.text.take_all.Goals as goal
 
 pub loop-conjunct-preserved : goal.loop-conjunct-preserved
