@@ -1,7 +1,10 @@
 -- Words that are refused ask for no work.
 use Rattle.zf_command.proofs.Prelude.{◌∙◌, ◌∷◌, ◌≡◌, [], arith, codes, inl, inr, List, None, Option, Some, subst, suc, sym, zero, ℕ, AllZip, Contains, first_of, IsAmong, Row, Text, HasBadLimit, HasBadNumber, HasBadNumbers, HasBadSetting, IsAsked, IsExploration, IsJob, IsLimit, IsNumberOf, IsRefused, IsSetting, IsShown, ReadsSize, Refuses, RefusesExploration, RefusesShown, size_words, values_of, words_after, Work, Size}
-use Rattle.std.proofs.Common.{◌==◌, ap, Bool, false, true}
+use Rattle.std.proofs.Common.{Bool, false, refl, true}
+use Rattle.std.proofs.lemmas.Bool.{true≢false}
 use Rattle.std.proofs.lemmas.Option.{same_Some}
+use Rattle.std.proofs.lemmas.Slice.Eq.{bytes_eq-Decides}
+use Rattle.std.specs.Str.{bytes_eq}
 use Rattle.zf_command.specs.declared.job.Job.{Job}
 use Rattle.zf_command.specs.declared.job.Exploration.{Exploration}
 use Rattle.zf_command.specs.declared.job.Request.{Request}
@@ -53,37 +56,24 @@ not_shown : (rows : List Row) (r : Request) → RefusesShown rows → IsShown ro
 not_shown rows r (inl bad) (after, bound, counted, only, no_clash) = no_bad_limit LIMIT_MAX (first_of (codes "limit") rows) r.limit bad bound
 not_shown rows r (inr clash) (after, bound, counted, only, no_clash) = not_false _ clash no_clash
 
--- the subcommands differ in their first letter
-begins_with : (letter : ℕ) → Text → Bool
-begins_with letter [] = false
-begins_with letter (b ∷ bs) = b == letter
-
-reach_is_not_check : codes "reach" ≡ codes "check" → ⊥
-unfolding begins_with
-reach_is_not_check e = let both : true ≡ false = ap (begins_with 114) e in cc
-
-reach_is_not_why : codes "reach" ≡ codes "why" → ⊥
-unfolding begins_with
-reach_is_not_why e = let both : true ≡ false = ap (begins_with 114) e in cc
-
-check_is_not_why : codes "check" ≡ codes "why" → ⊥
-unfolding begins_with
-check_is_not_why e = let both : true ≡ false = ap (begins_with 99) e in cc
+-- names that a test tells apart differ
+differ : (x y : Text) → bytes_eq x y ≡ false → x ≡ y → ⊥
+differ x y apart same = true≢false (sym ((bytes_eq-Decides x y).1 same) ∙ apart)
 
 not_both : (name : Text) (rows : List Row) (job : Job) → Refuses name rows → IsJob name rows job → ⊥
 not_both name rows (Check types details format) (inl (is, clash)) (called, (typed, detailed, formed, no_clash)) = not_false _ clash no_clash
-not_both name rows (Check types details format) (inr (inl (is, bad))) (called, asked) = reach_is_not_check (sym is ∙ called)
+not_both name rows (Check types details format) (inr (inl (is, bad))) (called, asked) = differ (codes "reach") (codes "check") refl (sym is ∙ called)
 not_both name rows (Check types details format) (inr (inr (other, no_reach, bad))) (called, asked) = other called
 not_both name rows (Show r) (inl (is, clash)) (no_check, no_reach, no_why, asked, shown) = no_check is
 not_both name rows (Show r) (inr (inl (is, bad))) (no_check, no_reach, no_why, asked, shown) = no_reach is
 not_both name rows (Show r) (inr (inr (other, no_reach, inl bad))) (no_check, not_reach, no_why, (named, set, held_so, told, formed), shown) = no_bad_setting
     (values_of (codes "NAME=SIZE") rows) rows r.setting bad set
 not_both name rows (Show r) (inr (inr (other, no_reach, inr (no_why, bad)))) (no_check, not_reach, is_no_why, asked, shown) = not_shown rows r bad shown
-not_both name rows (Why r) (inl (is, clash)) (called, asked, plain) = check_is_not_why (sym is ∙ called)
-not_both name rows (Why r) (inr (inl (is, bad))) (called, asked, plain) = reach_is_not_why (sym is ∙ called)
+not_both name rows (Why r) (inl (is, clash)) (called, asked, plain) = differ (codes "check") (codes "why") refl (sym is ∙ called)
+not_both name rows (Why r) (inr (inl (is, bad))) (called, asked, plain) = differ (codes "reach") (codes "why") refl (sym is ∙ called)
 not_both name rows (Why r) (inr (inr (other, no_reach, inl bad))) (called, (named, set, held_so, told, formed), plain) = no_bad_setting (values_of (codes "NAME=SIZE") rows) rows r.setting bad set
 not_both name rows (Why r) (inr (inr (other, no_reach, inr (no_why, bad)))) (called, asked, plain) = no_why called
-not_both name rows (Reach x) (inl (is, clash)) (called, asked) = reach_is_not_check (sym called ∙ is)
+not_both name rows (Reach x) (inl (is, clash)) (called, asked) = differ (codes "reach") (codes "check") refl (sym called ∙ is)
 not_both name rows (Reach x) (inr (inl (is, bad))) (called, asked) = not_explored rows x bad asked
 not_both name rows (Reach x) (inr (inr (other, no_reach, bad))) (called, asked) = no_reach called
 

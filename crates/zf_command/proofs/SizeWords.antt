@@ -3,6 +3,7 @@ use Rattle.zf_command.proofs.Prelude.{◌++◌, ◌+◌, ◌<◌, ◌∙◌, ◌
 use Rattle.std.proofs.Common.{append-nil, Bool, cond, false, true}
 use Rattle.std.proofs.lemmas.List.{get_or-map, get_or_default, length-map, map_more}
 use Rattle.std.proofs.lemmas.List.Elements.{filter_more}
+use Rattle.std.proofs.lemmas.Slice.Zip.{all_zipped_more}
 use Rattle.std.specs.List.{filter}
 use Rattle.std.proofs.lemmas.Str.Pattern.{IsSplitOnceResult, split_after, split_parts}
 
@@ -30,12 +31,6 @@ module _ (word : List ℕ) (parts : Bor (List ℕ) × Bor (List ℕ)) (split : I
         counted = counted;
       }
 
-all_zip_push : {A B : Type 0} (R : A → B → Type 0) (xs : List A) (ys : List B) (x : A) (y : B) → AllZip R xs ys → R x y → AllZip R (xs ++ x ∷ []) (ys ++ y ∷ [])
-all_zip_push R [] [] x y all here = (here, tt)
-all_zip_push R [] (b ∷ ys) x y all here = absurd all
-all_zip_push R (a ∷ xs) [] x y all here = absurd all
-all_zip_push R (a ∷ xs) (b ∷ ys) x y all here = (all.0, all_zip_push R xs ys x y all.1 here)
-
 abbrev texts : List (Bor (List ℕ)) → List (List ℕ)
 texts words = map (λ w. w.now) words
 
@@ -43,7 +38,7 @@ texts words = map (λ w. w.now) words
 pub reads_more : (words : List (Bor (List ℕ))) (sizes : List Size) (i : ℕ) (d : Bor (List ℕ)) (size : Size) → i < length words
     → AllZip ReadsSize (texts (take i words)) sizes → ReadsSize (get_or words i d).now size → AllZip ReadsSize (texts (take (i + 1) words)) (sizes ++ size ∷ [])
 reads_more words sizes i d size below all read =
-    rw (map_more (λ (w : Bor (List ℕ)). w.now) words i d below) (all_zip_push ReadsSize (texts (take i words)) sizes _ size all read)
+    rw (map_more (λ (w : Bor (List ℕ)). w.now) words i d below) (all_zipped_more ReadsSize (texts (take i words)) sizes _ size all read)
 
 -- one of the words is bad
 pub bad_among : (words : List (Bor (List ℕ))) (i : ℕ) (d : Bor (List ℕ)) → i < length words → IsBadSize (get_or words i d).now → HasBadSize (texts words)

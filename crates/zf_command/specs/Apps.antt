@@ -2,7 +2,8 @@
 -- `show [--after TEXT] [--with TEXT] [--only TEXT] [--numbers N] [--size N] [--limit N] [--tests] [--json] [--details] FILE SCHEMA [NAME=SIZE]...`
 -- `why [--with TEXT] [--numbers N] [--size N] [--json] [--details] FILE SCHEMA [NAME=SIZE]...`
 -- and `reach [--find SCHEMA] [--dot] [--limit N] [--numbers N] [--size N] [--json] [--details] FILE STATE INIT OPERATION... [NAME=SIZE]...`.
-use Rattle.std.specs.Prelude.{◌≡◌, Some, codes, true, false}
+use Rattle.std.specs.Prelude.{◌≡◌, ◌++◌, ◌∷◌, [], List, Some, codes, true, false}
+use Rattle.std.specs.List.{fold}
 use Rattle.clap.specs.Words.{App, Rule, Text, app_of, new_app, new_rule, rule_of, with_rule, with_subcommand}
 use Rattle.clap.specs.declared.builder.ArgAction.TheVariants.{Append, SetTrue}
 use Rattle.clap.specs.declared.builder.Arg.{Arg}
@@ -37,67 +38,52 @@ option_rule name = record (new_rule name) { long = Some name; value_names = 1 }
 abbrev pub flag_rule : Text → Rule
 flag_rule name = record (new_rule name) { long = Some name; action = Some SetTrue }
 
+-- the command with these rules after those that it has
+abbrev with_rules : App → List Rule → App
+with_rules app rules = fold with_rule app rules
+
 -- `[--json] [--details]`
-abbrev pub with_format : App → App
-with_format app = with_rule (with_rule app (flag_rule (codes "json"))) details_rule
+abbrev format_rules : List Rule
+format_rules = flag_rule (codes "json") ∷ details_rule ∷ []
+
+-- `[--numbers N] [--size N]`
+abbrev size_rules : List Rule
+size_rules = option_rule (codes "numbers") ∷ option_rule (codes "size") ∷ []
+
+-- `FILE SCHEMA [NAME=SIZE]...`
+abbrev schema_rules : List Rule
+schema_rules = required_rule (codes "FILE") ∷ required_rule (codes "SCHEMA") ∷ sizes_rule ∷ []
 
 -- `check [-t] [--json] [--details] FILE`
 abbrev pub check_app : App
-check_app = with_rule (with_format (with_rule (new_app (codes "check")) types_rule)) (required_rule (codes "FILE"))
-
--- `[--numbers N] [--size N]`
-abbrev pub with_sizes : App → App
-with_sizes app = with_rule (with_rule app (option_rule (codes "numbers"))) (option_rule (codes "size"))
-
--- the options of `show`
-abbrev pub show_options : App
-show_options =
-    let held = with_rule (with_rule (new_app (codes "show")) (option_rule (codes "after"))) (option_rule (codes "with")) in
-    let bound = with_sizes (with_rule held (option_rule (codes "only"))) in
-    with_format (with_rule (with_rule bound (option_rule (codes "limit"))) (flag_rule (codes "tests")))
-
--- `FILE SCHEMA [NAME=SIZE]...`
-abbrev pub with_schema : App → App
-with_schema app = with_rule (with_rule (with_rule app (required_rule (codes "FILE"))) (required_rule (codes "SCHEMA"))) sizes_rule
+check_app = with_rules (new_app (codes "check")) (types_rule ∷ (format_rules ++ required_rule (codes "FILE") ∷ []))
 
 -- `show [--after TEXT] [--with TEXT] [--only TEXT] [--numbers N] [--size N] [--limit N] [--tests] [--json] [--details] FILE SCHEMA [NAME=SIZE]...`
 abbrev pub show_app : App
-show_app = with_schema show_options
-
--- the options of `why`
-abbrev pub why_options : App
-why_options = with_format (with_sizes (with_rule (new_app (codes "why")) (option_rule (codes "with"))))
+show_app =
+    let parts = option_rule (codes "after") ∷ option_rule (codes "with") ∷ option_rule (codes "only") ∷ [] in
+    let counts = option_rule (codes "limit") ∷ flag_rule (codes "tests") ∷ [] in
+    with_rules (new_app (codes "show")) (parts ++ size_rules ++ counts ++ format_rules ++ schema_rules)
 
 -- `why [--with TEXT] [--numbers N] [--size N] [--json] [--details] FILE SCHEMA [NAME=SIZE]...`
 abbrev pub why_app : App
-why_app = with_schema why_options
-
--- the options of `reach`
-abbrev pub reach_options : App
-reach_options =
-    let written = with_rule (with_rule (new_app (codes "reach")) (option_rule (codes "find"))) (flag_rule (codes "dot")) in
-    with_format (with_sizes (with_rule written (option_rule (codes "limit"))))
-
--- `FILE STATE INIT OPERATION... [NAME=SIZE]...`
-abbrev pub with_machine : App → App
-with_machine app =
-    let with_state = with_rule (with_rule app (required_rule (codes "FILE"))) (required_rule (codes "STATE")) in
-    with_rule (with_rule with_state (required_rule (codes "INIT"))) operations_rule
+why_app = with_rules (new_app (codes "why")) (option_rule (codes "with") ∷ (size_rules ++ format_rules ++ schema_rules))
 
 -- `reach [--find SCHEMA] [--dot] [--limit N] [--numbers N] [--size N] [--json] [--details] FILE STATE INIT OPERATION... [NAME=SIZE]...`
 abbrev pub reach_app : App
-reach_app = with_machine reach_options
+reach_app =
+    let asked = option_rule (codes "find") ∷ flag_rule (codes "dot") ∷ option_rule (codes "limit") ∷ [] in
+    let machine = required_rule (codes "FILE") ∷ required_rule (codes "STATE") ∷ required_rule (codes "INIT") ∷ operations_rule ∷ [] in
+    with_rules (new_app (codes "reach")) (asked ++ size_rules ++ format_rules ++ machine)
 
 -- `zf [--version]`, which needs a subcommand, and whose words do not begin with its own name
 abbrev pub zf_top : App
 zf_top = record (new_app (codes "zf")) { top = record (new_app (codes "zf")).top { has_version = true; no_binary_name = true; subcommand_required = true } }
 
--- `why` and `reach`
-abbrev pub with_questions : App → App
-with_questions app = with_subcommand (with_subcommand app why_app.top) reach_app.top
-
 abbrev pub zf_app : App
-zf_app = with_questions (with_subcommand (with_subcommand zf_top check_app.top) show_app.top)
+zf_app =
+    let first = with_subcommand (with_subcommand zf_top check_app.top) show_app.top in
+    with_subcommand (with_subcommand first why_app.top) reach_app.top
 
 -- the argument is the rule, and is for its own command alone
 abbrev pub IsArg : Arg → Rule → Type 0

@@ -7,9 +7,10 @@ use Rattle.zf_parse.specs.{RefusesSource}
 use Rattle.zf_term.specs.{Fault}
 use Rattle.zf_checker.proofs.WellTyped.{globals_well_typed}
 use Rattle.zf_meaning.specs.{AreComplete, given_sets, IsEnvironment}
-use Rattle.zf_print.specs.{AreClear, binding_text, HaveClearNames, IsHeldLine, IsNoHeldLine, IsNoLine}
+use Rattle.zf_print.specs.{AreClear, binding_text}
+use Rattle.zf_read.specs.{HaveClearNames, IsHeldLine, IsNoHeldLine, IsNoLine}
 use Rattle.law_names.proofs.Clear.{components_clear, globals_clear}
-use Rattle.zf_print.proofs.Chosen.{held_is_line, line_is_held}
+use Rattle.zf_read.proofs.Chosen.{held_is_line, line_is_held}
 use Rattle.zf_engine.specs.{AreShown, NamesParts, row_after}
 use Rattle.zf_places.specs.{comps_at}
 

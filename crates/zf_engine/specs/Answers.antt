@@ -20,7 +20,8 @@ use Rattle.zf_meaning.specs.declared.sizes.SizeFault.TheVariants.{OutOfMemory}
 use Rattle.zf_meaning.specs.{AreComplete, Environment, given_sets, IsEnvironment, IsRefusal, IsRow}
 use Rattle.zf_enum.specs.{Portion}
 use Rattle.zf_ranges.specs.{IsFirstOut, IsNoneOut}
-use Rattle.zf_print.specs.{binding_text, IsLineOfSome, spellings}
+use Rattle.zf_print.specs.{binding_text, spellings}
+use Rattle.zf_read.specs.{IsLineOfSome}
 use Rattle.zf_lines.specs.declared.fault.Status.{Status}
 use Rattle.zf_lines.specs.declared.fault.Status.TheVariants.{Done, BadSpec, BadRequest, PastBounds}
 use Rattle.zf_lines.specs.Faults.{IsFront}

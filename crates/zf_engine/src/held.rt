@@ -3,7 +3,8 @@ ghost use Rattle.std.specs.Prelude.{◌≡◌, Some, IfOk, IfErr};
 ghost use Rattle.zf_engine.specs.{AreHeld, IfAnswered, TellsNoValues, TellsPlaceHeld};
 ghost use Rattle.zf_meaning.specs.{environment_of};
 ghost use Rattle.zf_term.specs.{schema_of};
-ghost use Rattle.zf_print.specs.{AreClear, HaveClearNames, spellings};
+ghost use Rattle.zf_print.specs.{AreClear, spellings};
+ghost use Rattle.zf_read.specs.{HaveClearNames};
 
 use crate::stop::Stop;
 use std::alloc::Global;
@@ -11,7 +12,8 @@ use zf_data::Word;
 use zf_lines::Status;
 use zf_meaning::Env;
 use zf_messages::texts;
-use zf_print::{AfterFault, Spelling, read_held};
+use zf_print::Spelling;
+use zf_read::{AfterFault, read_held};
 use zf_term::Flat;
 use zf_value::Value;
 

@@ -11,7 +11,8 @@ use zf_data::Word;
 use zf_lines::Status;
 use zf_meaning::Env;
 use zf_messages::texts;
-use zf_print::{AfterFault, Spelling, read_binding};
+use zf_print::Spelling;
+use zf_read::{AfterFault, read_binding};
 use zf_term::Flat;
 use zf_value::Value;
 

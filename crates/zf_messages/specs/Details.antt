@@ -13,7 +13,7 @@ use Rattle.zf_scan.specs.declared.fault.TextFaultKind.TheVariants.{BadByte, Unkn
 use Rattle.zf_term.specs.declared.fault.Limit.{Limit}
 use Rattle.zf_term.specs.declared.fault.Limit.TheVariants.{TypeNodes, Components, Sets, Conjuncts, Nodes, Height}
 use Rattle.zf_term.specs.{a_schema, already_defined, clash, components_max, conjuncts_max, Defined, Fault, first_named, height_max, local_twice, mismatch, misplaced, no_members, nodes_max, not_a_schema, not_declared, Offence, predicate, Schema, schema, sets_max, Sort, too_large, type_nodes_max, type_text, typed, unfit}
-use Rattle.zf_parse.specs.{height_limit}
+use Rattle.zf_grammar.specs.{height_limit}
 use Rattle.zf_extent.specs.declared.offender.Offender.{Offender}
 use Rattle.zf_extent.specs.declared.offender.Offender.TheVariants.{Name, Symbol}
 use Rattle.zf_finite.specs.declared.not_finite.NotFinite.{NotFinite}

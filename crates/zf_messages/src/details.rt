@@ -7,7 +7,7 @@ ghost use Rattle.zf_sorts.specs.{fault_of, offence_of, sort_of};
 
 use crate::quoted::{Aside, Quoted};
 use crate::report::Report;
-use crate::texts::{fault_line, not_finite_text, text_fault_line, type_fault_line};
+use crate::texts::{fault_line, text_fault_line, type_fault_line};
 use itoa::Buffer;
 use std::alloc::{AllocError, Global};
 use zf_extent::Offender;
@@ -203,12 +203,6 @@ fn symbol_text(symbol: &[u8]) -> &[u8]
     symbol
 }
 
-fn is_printed(byte: u8) -> bool
-    ensures { result ≡ spec.is_printed byte }
-{
-    33 <= byte && byte <= 126
-}
-
 /// A command as it is reported: without the byte after its backslash, where that is not printed.
 fn command_text(command: &[u8]) -> &[u8]
     ensures { result.now ≡ spec.command_text command.now }
@@ -217,7 +211,7 @@ fn command_text(command: &[u8]) -> &[u8]
         [] => command,
         [_] => command,
         [_, byte] => {
-            if is_printed(*byte) {
+            if byte.is_ascii_graphic() {
                 command
             } else {
                 &command[..1]
@@ -231,7 +225,7 @@ fn command_text(command: &[u8]) -> &[u8]
 fn append_byte(lines: &mut Vec<u8>, byte: u8) -> Result<(), AllocError>
     ensures { OnOk result (lines.new.items ≡ lines.old.items ++ spec.detail (codes "byte") (spec.byte_text byte)) }
 {
-    if is_printed(byte) {
+    if byte.is_ascii_graphic() {
         return append_detail(lines, b"byte", &[byte]);
     }
     let mut number = Buffer::new();
@@ -415,7 +409,7 @@ pub fn not_finite_lines(
     ensures { IfOk result (λ v. v.items ≡ spec.not_finite_lines report.entry.details report.entry.file.now (globals_of globals.now) cause.now side.now) }
 {
     let line = u64::from(cause.line());
-    let mut lines = fault_line(alloc, report.file, line, not_finite_text())?;
+    let mut lines = fault_line(alloc, report.file, line, b"not finite")?;
     if report.details {
         append_cause(&mut lines, globals, cause, side)?;
     }

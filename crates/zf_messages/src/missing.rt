@@ -5,7 +5,7 @@ ghost use Rattle.zf_messages.specs.Missing as spec;
 ghost use Rattle.zf_term.specs.{globals_of};
 
 use crate::details::append_if_any;
-use crate::texts;
+use crate::texts::around;
 use std::alloc::{AllocError, Global};
 use zf_data::Text;
 use zf_term::{Entry, Globals, is_like};
@@ -19,7 +19,7 @@ pub fn no_schema_lines(
 ) -> Result<Vec<u8>, AllocError>
     ensures { IfOk result (λ v. v.items ≡ spec.no_schema_lines details (globals_of globals.now) name.now) }
 {
-    let mut lines = texts::no_schema_line(alloc, name)?;
+    let mut lines = around(alloc, b"zf: no schema ", name, b"\n")?;
     if details {
         append_schemas(alloc, &mut lines, globals, name)?;
     }
@@ -50,7 +50,7 @@ pub fn no_size_lines(
 ) -> Result<Vec<u8>, AllocError>
     ensures { IfOk result (λ v. v.items ≡ spec.no_size_lines details sets.now name.now) }
 {
-    let mut lines = texts::no_size_line(alloc, name)?;
+    let mut lines = around(alloc, b"zf: no size for ", name, b"\n")?;
     if details {
         let text = names_text(alloc, sets)?;
         append_if_any(&mut lines, b"no size for", &text)?;

@@ -46,13 +46,6 @@ pub fn type_fault_text(kind: TypeFaultKind) -> &'static [u8]
     }
 }
 
-/// The text of a schema that is not finite.
-pub fn not_finite_text() -> &'static [u8]
-    ensures { result.now ≡ spec.not_finite_text }
-{
-    b"not finite"
-}
-
 /// `FILE:LINE: TEXT`
 pub fn fault_line(alloc: Global, file: &[u8], line: u64, text: &[u8]) -> Result<Vec<u8>, AllocError>
     ensures { IfOk result (λ v. v.items ≡ spec.fault_line file.now line text.now) }
@@ -89,7 +82,12 @@ pub fn type_fault_line(
 }
 
 /// The name between the two parts of its line.
-fn around(alloc: Global, before: &[u8], name: &[u8], after: &[u8]) -> Result<Vec<u8>, AllocError>
+pub(crate) fn around(
+    alloc: Global,
+    before: &[u8],
+    name: &[u8],
+    after: &[u8],
+) -> Result<Vec<u8>, AllocError>
     ensures { IfOk result (λ v. v.items ≡ before.now ++ name.now ++ after.now) }
 {
     let mut bytes = Vec::from_slice(alloc, before)?;
@@ -103,13 +101,6 @@ pub fn too_long_line(alloc: Global, file: &[u8]) -> Result<Vec<u8>, AllocError>
     ensures { IfOk result (λ v. v.items ≡ spec.too_long_line file.now) }
 {
     around(alloc, b"", file, b": source too long\n")
-}
-
-/// `zf: no schema S`
-pub fn no_schema_line(alloc: Global, schema: &[u8]) -> Result<Vec<u8>, AllocError>
-    ensures { IfOk result (λ v. v.items ≡ spec.no_schema_line schema.now) }
-{
-    around(alloc, b"zf: no schema ", schema, b"\n")
 }
 
 /// `zf: S has no component x`
@@ -131,13 +122,6 @@ pub fn numbers_too_large_line(alloc: Global) -> Result<Vec<u8>, AllocError>
     ensures { IfOk result (λ v. v.items ≡ spec.numbers_too_large_line) }
 {
     Vec::from_slice(alloc, b"zf: numbers are too large\n")
-}
-
-/// `zf: no size for N`
-pub fn no_size_line(alloc: Global, name: &[u8]) -> Result<Vec<u8>, AllocError>
-    ensures { IfOk result (λ v. v.items ≡ spec.no_size_line name.now) }
-{
-    around(alloc, b"zf: no size for ", name, b"\n")
 }
 
 /// `zf: N is not a given set`

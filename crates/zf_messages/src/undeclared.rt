@@ -72,8 +72,8 @@ fn place_without(
     schema: &[u8],
     component: &[u8],
 ) -> Option<usize> {
-    let (schema, flat) = schema_named(globals, schema)?;
-    let component = place_of(flat, component)?;
+    let schema = schema_named(globals, schema)?;
+    let component = place_in(globals, schema, component)?;
     undeclared_in(boxes, globals, Unbounded { schema, component })
 }
 
@@ -104,10 +104,10 @@ fn lacks(globals: &Globals<'_>, name: &[u8], component: &[u8]) -> bool
     }
 }
 
-/// The schema of the name, with its place.
-fn schema_named<'g, 'a>(globals: &'g Globals<'a>, name: &[u8]) -> Option<(usize, &'g Flat<'a>)> {
+/// The place of the schema of the name.
+fn schema_named(globals: &Globals<'_>, name: &[u8]) -> Option<usize> {
     match global_of(globals, name) {
-        Some((place, Entry::Schema(schema))) => Some((place, schema.flat())),
+        Some((place, Entry::Schema(_))) => Some(place),
         _ => None,
     }
 }
@@ -126,8 +126,16 @@ fn undeclared_in(boxes: &[ZBox<'_>], globals: &Globals<'_>, first: Unbounded) ->
 
 /// Why nothing bounds the component, by the definition of its schema.
 fn cause_of(boxes: &[ZBox<'_>], globals: &Globals<'_>, at: Unbounded) -> Option<Cause> {
-    let component = component_at(globals, at)?.name.as_slice();
+    let component = component_name(globals, at)?;
     cause_in_boxes(globals, boxes, name_at(globals, at.schema), component)
+}
+
+/// The name of the component at these places.
+fn component_name<'g>(globals: &'g Globals<'_>, at: Unbounded) -> Option<&'g [u8]> {
+    match component_at(globals, at) {
+        Some(component) => Some(component.name.as_slice()),
+        None => None,
+    }
 }
 
 /// The component at these places.
@@ -293,18 +301,31 @@ fn referred_to(
     reference: &SchemaRef<'_>,
     name: &[u8],
 ) -> Option<(usize, Option<usize>)> {
-    let (schema, flat) = schema_named(globals, reference.name.base())?;
-    Some((schema, referred(flat, reference, name)))
+    let schema = schema_named(globals, reference.name.base())?;
+    Some((schema, referred(globals, schema, reference, name)))
 }
 
-/// The place of the component of a schema that has this name where the schema is referred to so.
-fn referred(flat: &Flat<'_>, reference: &SchemaRef<'_>, name: &[u8]) -> Option<usize> {
+/// The place of the component of the schema at this place that has this name where the schema is referred to so.
+fn referred(
+    globals: &Globals<'_>,
+    schema: usize,
+    reference: &SchemaRef<'_>,
+    name: &[u8],
+) -> Option<usize> {
     let bare = name.strip_suffix(reference.name.strokes())?;
-    match place_of(flat, bare) {
+    match place_in(globals, schema, bare) {
         None if !matches!(reference.mark, RefMark::Plain) => {
-            place_of(flat, bare.strip_suffix(b"'")?)
+            place_in(globals, schema, bare.strip_suffix(b"'")?)
         }
         place => place,
+    }
+}
+
+/// The place of the component of this name in the schema at a place.
+fn place_in(globals: &Globals<'_>, schema: usize, name: &[u8]) -> Option<usize> {
+    match globals.in_order(schema) {
+        Some((_, Entry::Schema(schema))) => place_of(schema.flat(), name),
+        _ => None,
     }
 }
 

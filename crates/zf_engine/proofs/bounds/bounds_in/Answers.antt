@@ -1,5 +1,6 @@
 use Rattle.zf_engine.proofs.Prelude.{inl, inr, rules, subst, schema_of, environment_of, IfAnswered, IsNamedRow, TellsMisnamed, TellsNoParts, TellsNoRow, TellsNoValues, Value}
-use Rattle.zf_print.specs.{AreClear, HaveClearNames}
+use Rattle.zf_print.specs.{AreClear}
+use Rattle.zf_read.specs.{HaveClearNames}
 use Rattle.std.proofs.Common.{Global, Vec}
 use Rattle.std.specs.Prelude.{option_map}
 use Rattle.zf_engine.proofs.Refusing.{weaker, weaker_err}
