@@ -1,35 +1,17 @@
 -- What a run that stops early has written is a front of an answer.
-use Rattle.law_answered.proofs.Prelude.{◌++◌, ◌∙◌, ◌≡◌, ap, append_assoc, inl, inr, List, Option, subst, sym, ℕ, Event, exact, value_order, Value, Defined, Schema, Environment, one_ranges, Portion, property, Job, Check, Reach, Show, Why, IsFront, AreEventsUpTo, HasEvents, IsBegun, lines, Status, property_told, Answer, IsSearch, JobBegins, Request, ShowBegins, EveryRequestIsAnswered, IsGranted, ShowsEvents, FirstLinesAreAFront, PartsAreFronts, wording}
-use Rattle.zf_value.specs.contracts.plain.ValueOrd.TheImpl.Laws as order_laws
+use Rattle.law_answered.proofs.Prelude.{◌++◌, ◌∙◌, ap, append_assoc, inl, inr, List, Option, sym, ℕ, Event, exact, value_order, Value, Defined, Schema, Environment, Portion, property, Job, Check, Reach, Show, Why, IsFront, HasEvents, IsBegun, lines, Status, property_told, Answer, JobBegins, Request, ShowBegins, EveryRequestIsAnswered, ShowsEvents, FirstLinesAreAFront, PartsAreFronts, wording, total-law}
 use Rattle.law_answered.proofs.FirstLines.{first_lines}
+use Rattle.law_answered.proofs.OneSearch.{listed_in}
 use Rattle.law_answered.proofs.Reached.{first_turns_are_a_front}
 use Rattle.law_answered.proofs.Shown.{events_are_shown}
-
--- nothing stands in the way of a search
-pub granted : (r : Request) (source : List ℕ) (g : List Defined) (a : Schema) (e : Environment) (p : Portion) → IsSearch r source g a e p → IsGranted r source g a e p
-granted r source g a e p search = record {
-  has_schema = search.asked.has_schema;
-  small = search.asked.small;
-  complete = search.asked.complete;
-  environment = search.asked.environment;
-  finite = search.asked.finite;
-  shown = search.shown;
-  after = search.after;
-  are_shown = search.are_shown;
-  named = search.named;
-  begins = search.begins;
-  held = search.held;
-  none_out = search.none_out;
-}
 
 front_shown : (r : Request) (g : List Defined) (a : Schema) (e : Environment) (p : Portion) (last : Option (List Value)) (events : List (Event Value)) (first text : List ℕ) (status : Status)
     → HasEvents e a p last events → IsBegun (wording r g a) r.limit events last first → ShowsEvents r g a e p text status → IsFront text first
 front_shown r g a e p last events first text status listed begun shown =
-    let there = shown.listed in
-    let same : there.ranges ≡ listed.ranges = one_ranges e a p.held there.ranges listed.ranges there.of_components listed.of_components in
     let telling = wording r g a in
-    let front = first_lines value_order order_laws.total-law exact (property e a.conjuncts) (property_told e a.conjuncts) listed.ranges p.after telling r.limit events shown.events last shown.last
-    listed.listed (subst (λ ranges. AreEventsUpTo value_order (property e a.conjuncts) ranges p.after shown.last shown.events) same there.listed) begun.hold begun.within
+    let front = first_lines value_order total-law exact (property e a.conjuncts) (property_told e a.conjuncts) listed.ranges p.after
+    telling r.limit events shown.events last shown.last
+    listed.listed (listed_in e a p listed.ranges listed.of_components shown.last shown.events shown.listed) begun.hold begun.within
     shown.lines status shown.ends in (
       front.0 ++ shown.counted,
       shown.whole ∙ ap (λ t. t ++ shown.counted) front.1 ∙ append_assoc (lines telling events) front.0 shown.counted ∙ ap (λ t. t ++ (front.0 ++ shown.counted)) (sym begun.written),
@@ -37,7 +19,7 @@ front_shown r g a e p last events first text status listed begun shown =
 
 pub first_lines_are_a_front : FirstLinesAreAFront
 first_lines_are_a_front r file source first text status (ShowBegins.bindings g a e p last events all search listed begun) answer =
-    front_shown r g a e p last events first text status listed begun (events_are_shown r file source g a e p text status all (granted r source g a e p search) answer)
+    front_shown r g a e p last events first text status listed begun (events_are_shown r file source g a e p text status all search answer)
 
 -- ---- whatever is written
 

@@ -1,15 +1,9 @@
 -- Each request has an answer: it is refused at a stage, or what is asked for is searched.
-use Rattle.law_answered.proofs.Prelude.{if◌then◌else◌, ◌++◌, ◌∙◌, ◌∷◌, ◌≡◌, ◌⊎◌, [], ap, inl, inr, IsTrue, List, None, Option, refl, Some, subst, sym, ℕ, AllByRecursion, Value, BoxTree, TextFault, ReadsSource, RefusesSource, Comp, Defined, Schema, sets_of, Fault, first, finite_without_cause, causes, NotFinite, one_bounds, Environment, AreComplete, given_sets, Portion, portion, IsNoneOut, Job, Check, Reach, Show, Why, HasLimit, IsBelow, Status, BadRequest, BadSpec, PastBounds, some_search, some_tests_line, Answer, AreHeld, check_status, Checks, HasSchema, IsAsked, IsLimited, IsNamedRow, IsSearch, JobAnswer, Request, RefusesRequest, RequestAnswer, ShowsEvents, TellsWhy, size_fault_lines, stated, wants_details, declared_out_line, no_schema_lines, not_a_binding_line, not_finite_lines, not_held_line, numbers_too_large_line, AreSmall, Cited, text_fault_lines, EveryRequestIsAnswered, EverySourceIsRead, numbers_of, IsFinite, format_of, messages_in, wording, AreShown, not_components_line, row_after, ShowsParts, TellsShown}
-use Rattle.zf_checker.specs.{listing}
-use Rattle.law_answered.proofs.HeldLines.{every_held_line_is_judged}
-use Rattle.law_answered.proofs.NamedRows.{every_line_is_judged}
-use Rattle.law_exists.proofs.Ranges.{first_out_or_none, some_ranges}
-use Rattle.zf_ranges.specs.{AreRanges}
-use Rattle.law_total.proofs.Environments.{some_environment}
-use Rattle.law_total.proofs.StatedSizes.{complete_or_refused}
+use Rattle.law_answered.proofs.Prelude.{if◌then◌else◌, ◌++◌, ◌∙◌, ◌∷◌, ◌≡◌, [], ap, inl, inr, IsTrue, List, None, Option, refl, Some, subst, sym, ℕ, AllByRecursion, Value, Comp, Defined, Schema, sets_of, Fault, one_bounds, Environment, AreComplete, given_sets, Portion, portion, IsNoneOut, Job, Check, Reach, Show, Why, HasLimit, IsBelow, Status, BadRequest, BadSpec, PastBounds, some_search, some_tests_line, AreHeld, check_status, Checks, HasSchema, IsAsked, IsLimited, IsNamedRow, IsSearch, JobAnswer, Request, RefusesRequest, RequestAnswer, ShowsEvents, TellsWhy, size_fault_lines, stated, wants_details, declared_out_line, no_schema_lines, not_a_binding_line, not_held_line, numbers_too_large_line, AreSmall, Cited, text_fault_lines, EveryRequestIsAnswered, EverySourceIsRead, numbers_of, IsFinite, format_of, messages_in, wording, AreShown, not_components_line, row_after, ShowsParts, TellsShown, AreRanges, complete_or_refused, first_out_or_none, listing, some_environment, some_ranges}
+use Rattle.law_answered.proofs.HeldLines.{every_held_line_is_judged, every_line_is_judged}
 use Rattle.law_decided.proofs.Items.{text_has_verdict}
 use Rattle.zf_command.specs.{IsBare}
-use Rattle.law_answered.proofs.EveryName.{named_or_none, none_beside}
+use Rattle.law_answered.proofs.EveryName.{finite_or_told, named_or_none}
 use Rattle.law_answered.proofs.FaultLines.{some_lines}
 use Rattle.law_answered.proofs.NamedParts.{shown_or_none}
 use Rattle.law_answered.proofs.OneParts.{some_shown_parts}
@@ -68,21 +62,14 @@ module _ (Tells : List Defined → Schema → Environment → Portion → List �
         ]
 
       some_at_finiteness : HasSchema source r.name g a → AreSmall (numbers_of r.setting) → AreComplete (given_sets g) (stated g r.setting) → IsAnswered
-      some_at_finiteness has small complete = by (causes (numbers_of r.setting) g a) refl
-        where
-          by : (them : List NotFinite) → causes (numbers_of r.setting) g a ≡ them → IsAnswered
-          by [] none =
-              let e = some_environment g (stated g r.setting) (numbers_of r.setting) complete in
-              some_at_components e.0 (record {
-                has_schema = has;
-                small = small;
-                complete = complete;
-                environment = e.1;
-                finite = subst (λ n. IsFinite n g a)
-                    (sym e.1.3) ((finite_without_cause (numbers_of r.setting) g a).1 none);
-              })
-          by (cause ∷ them) some = refused (not_finite_lines r.details file g cause []) BadSpec
-              (RefusesRequest.not_finite g a cause [] has small complete (ap first some) (none_beside g cause) refl refl)
+      some_at_finiteness has small complete = elim (finite_or_told (numbers_of r.setting) g a r.details file) [
+        | inl finite ↦
+            let e = some_environment g (stated g r.setting) (numbers_of r.setting) complete in
+            let here = subst (λ n. IsFinite n g a) (sym e.1.3) finite in
+            some_at_components e.0 (record { has_schema = has; small = small; complete = complete; environment = e.1; finite = here })
+        | inr ((lines, status), (cause, side, first_cause, beside, told, bad)) ↦
+            refused lines status (RefusesRequest.not_finite g a cause side has small complete first_cause beside told bad)
+      ]
 
       some_at_sizes : HasSchema source r.name g a → AreSmall (numbers_of r.setting) → IsAnswered
       some_at_sizes has small = elim (complete_or_refused (given_sets g) (stated g r.setting)) [
@@ -161,14 +148,13 @@ some_of_job (Reach x) file source limited g faults checks = explorations.some_at
 some_of_job (Why r) file source plain g faults checks = some_at_types (TellsWhy r.format r.details file source) r file source (explained r file source plain) g faults checks
 
 pub every_request_is_answered : EverySourceIsRead → EveryRequestIsAnswered
-every_request_is_answered every_source job file source limited = by (every_source source)
-  where
-    by : ((boxes : List BoxTree) × ReadsSource boxes source) ⊎ ((fault : TextFault) × RefusesSource source fault) → (text : List ℕ) × (status : Status) × Answer job file source text status
-    by (inl read) =
-        let judged = text_has_verdict read.0 in
-        let answer = some_of_job job file source limited judged.0 judged.1 (record { boxes = read.0; reads = read.1; judged = judged.2 }) in
-        (answer.0, answer.1, inr answer.2)
-    by (inr unread) =
-        let none : Cited = record { symbol = []; other = []; line = 0 } in
-        let told = text_fault_lines (wants_details job) file unread.0 none in
-        (messages_in (format_of job) file told, BadSpec, inl (told, (unread.0, none, unread.1, refl, refl), refl))
+every_request_is_answered every_source job file source limited = elim (every_source source) [
+  | inl read ↦
+      let judged = text_has_verdict read.0 in
+      let answer = some_of_job job file source limited judged.0 judged.1 (record { boxes = read.0; reads = read.1; judged = judged.2 }) in
+      (answer.0, answer.1, inr answer.2)
+  | inr unread ↦
+      let none : Cited = record { symbol = []; other = []; line = 0 } in
+      let told = text_fault_lines (wants_details job) file unread.0 none in
+      (messages_in (format_of job) file told, BadSpec, inl (told, (unread.0, none, unread.1, refl, refl), refl))
+]

@@ -1,10 +1,9 @@
 -- Each source is read by a tree, or is refused with a fault.
-use Rattle.law_answered.proofs.Prelude.{◌≡◌, ◌⊎◌, Err, inl, inr, List, map, Ok, refl, ℕ, box_of, BoxTree, TextFault, Token, parsed, refused, ReadsSource, RefusesSource, EverySourceIsRead}
+use Rattle.law_answered.proofs.Prelude.{◌≡◌, ◌⊎◌, Err, inl, inr, List, map, Ok, refl, ℕ, box_of, BoxTree, TextFault, Token, parsed, refused, ReadsSource, RefusesSource, EverySourceIsRead, Refused, TooDeep, height_limit, read_all}
 use Rattle.zf_scan.specs.declared.fault.TextFaultKind.TheVariants as fault
-use Rattle.zf_scan.specs.{HasFault, IsCutInto, IsCutOrFaults, reduced}
+use Rattle.zf_scan.specs.{IsCutInto, IsCutOrFaults, reduced}
 use Rattle.zf_tree.specs.declared.tree.ZBox.{ZBox}
-use Rattle.zf_parse.specs.{height_limit, read_all, Refused, TooDeep}
-use Rattle.zf_parse.specs.TermReading.{Outcome}
+use Rattle.zf_grammar.specs.TermReading.{Outcome}
 
 -- a source that is read, or refused
 abbrev IsAnswered : List ℕ → Type 0
@@ -21,8 +20,7 @@ of_tokens source tokens cut (Err TooDeep) e =
     inr (told, inr (tokens, cut, refused fault.TooDeep 0 tokens e, tt))
 
 pub every_source : IsCutOrFaults → EverySourceIsRead
-every_source cut_or_faults source = by (cut_or_faults source)
-  where
-    by : ((tokens : List Token) × IsCutInto source tokens) ⊎ ((fault : TextFault) × HasFault source fault) → IsAnswered source
-    by (inl c) = of_tokens source c.0 c.1 (read_all height_limit (reduced c.0)) refl
-    by (inr f) = inr (f.0, inl f.1)
+every_source cut_or_faults source = elim (cut_or_faults source) [
+  | inl c ↦ of_tokens source c.0 c.1 (read_all height_limit (reduced c.0)) refl
+  | inr f ↦ inr (f.0, inl f.1)
+]

@@ -1,9 +1,5 @@
 -- Lines of faults, each with something beside it: there are some, of no faults there are none, and without details they are plain.
-use Rattle.law_answered.proofs.Prelude.{◌∙◌, ◌∷◌, ◌≡◌, [], ap, Bool, List, refl, sym, ℕ, flat_map, Fault, AreLines}
-use Rattle.std.proofs.Common.{map}
-use Rattle.std.proofs.lemmas.List.Folds.{flat_map-map}
-use Rattle.zf_messages.specs.{nothing, Reported, reported_lines, type_fault_line}
-use Rattle.law_answered.specs.{PlainLines}
+use Rattle.law_answered.proofs.Prelude.{◌∙◌, ◌∷◌, ◌≡◌, [], ap, Bool, List, refl, sym, ℕ, flat_map, Fault, AreLines, PlainLines, Reported, flat_map-map, map, nothing, reported_lines, type_fault_line}
 
 abbrev bare : Fault → Reported
 bare fault = record { fault = fault; aside = nothing }

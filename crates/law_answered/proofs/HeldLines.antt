@@ -1,8 +1,19 @@
--- A text is the line of some of the components, which holds values of their types, or of none.
-use Rattle.law_answered.proofs.Prelude.{◌∷◌, ◌≡◌, ◌⊎◌, [], ap, arith, inl, inr, length, List, None, Option, refl, Some, subst, suc, sym, cases_eq, Value, Comp, Environment, IsOfType, IsRow, Decided, decided_lists, decided_some, binding_text, spellings, AreHeld, HoldsNoValues, EveryHeldLineIsJudged}
-use Rattle.std.proofs.Common.{⊎_elim}
-use Rattle.zf_print.specs.{held_comps, held_values}
-use Rattle.law_answered.proofs.ListedValues.{values_listed}
+-- A text is the line of a row of the components' types, or of none; and that of some of the components, which holds values of their types, or of none.
+use Rattle.law_answered.proofs.Prelude.{◌∷◌, ◌≡◌, ◌⊎◌, [], ap, arith, inl, inr, length, List, None, Option, refl, Some, subst, suc, sym, cases_eq, Value, Comp, Environment, IsOfType, IsRow, Decided, decided_lists, decided_some, binding_text, spellings, EveryHeldLineIsJudged, held_comps, held_values, ⊎_elim, map, types, EveryLineIsJudged}
+use Rattle.law_answered.proofs.ListedValues.{rows_listed, values_listed}
+
+-- ---- of a row
+
+pub every_line_is_judged : EveryLineIsJudged
+every_line_is_judged e comps None = inl (None, refl)
+every_line_is_judged e comps (Some text) =
+    elim (decided_some (λ row. text ≡ binding_text (spellings e.globals) comps row) (rows_listed e (types (map (λ c. c.type) comps)))
+    (λ row. decided_lists cases_eq text (binding_text (spellings e.globals) comps row))) [
+      | inl found ↦ inl (Some found.0, (found.1, found.2))
+      | inr none ↦ inr (λ row line. none (row, line.0, line.1))
+    ]
+
+-- ---- of some components
 
 module _ (e : Environment) where
   -- values of some of the components make such a row
@@ -53,8 +64,8 @@ module _ (e : Environment) where
 pub every_held_line_is_judged : EveryHeldLineIsJudged
 every_held_line_is_judged e comps None = inl ([], refl)
 every_held_line_is_judged e comps (Some text) =
-    by (decided_chosen e comps (λ ds vs. text ≡ binding_text (spellings e.globals) ds vs) (λ ds vs. decided_lists cases_eq text (binding_text (spellings e.globals) ds vs)))
-  where
-    by : Decided (Chosen e comps (λ ds vs. text ≡ binding_text (spellings e.globals) ds vs)) → ((held : List (Option Value)) × AreHeld e comps (Some text) held) ⊎ HoldsNoValues e comps (Some text)
-    by (inl h) = inl (h.0, record { all = h.1; row = h.2; line = h.3 })
-    by (inr none) = inr (λ held line. none (held, line.all, line.row, line.line))
+    elim (decided_chosen e comps (λ ds vs. text ≡ binding_text (spellings e.globals) ds vs)
+    (λ ds vs. decided_lists cases_eq text (binding_text (spellings e.globals) ds vs))) [
+      | inl h ↦ inl (h.0, record { all = h.1; row = h.2; line = h.3 })
+      | inr none ↦ inr (λ held line. none (held, line.all, line.row, line.line))
+    ]

@@ -155,18 +155,21 @@ module _ {V : Type 0} (cmp : V → V → Ordering) (o : IsTotalOrder cmp) (ties 
     listed_rows x Out e i n = absurd (not_out x.row (subst (IsEvent cmp s ranges after) (with_its x Out e) i) n)
     listed_rows x False e i n = absurd (i.not_false e)
 
-    pub rows_are_events : AreEventsUpTo cmp s ranges after (Some row) events_of
+    rows_are_events : AreEventsUpTo cmp s ranges after (Some row) events_of
     rows_are_events = record {
       ascending = AllPairs-mapped as_event (λ (e f : Event V). ComesAfter cmp e.row f.row) rows ascending;
       members = λ x. (rows_listed x, λ p. listed_rows x x.truth refl p.0 (not_past cmp o ties (Some row) (length ranges) x.row rows_long (long after x p.0) p.1));
     }
 
-    pub last_is_event : (x : Event V) × Contains events_of x × (x.row ≡ row)
+    last_is_event : (x : Event V) × Contains events_of x × (x.row ≡ row)
     last_is_event = (with_truth row True, Contains-map as_event rows row last_row, refl)
 
-    pub rows_hold : Hold events_of
+    rows_hold : Hold events_of
     rows_hold = go rows
       where
         go : (rs : List (List V)) → Hold (map as_event rs)
         go [] = All-nil (λ (x : Event V). x.truth ≡ True)
         go (r ∷ rs) = All-cons (λ (x : Event V). x.truth ≡ True) (with_truth r True) (map as_event rs) refl (go rs)
+
+    pub as_events : AreEventsUpTo cmp s ranges after (Some row) events_of × ((x : Event V) × Contains events_of x × (x.row ≡ row)) × Hold events_of
+    as_events = (rows_are_events, last_is_event, rows_hold)

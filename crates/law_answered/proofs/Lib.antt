@@ -6,6 +6,7 @@ pub mod WrittenRows
 pub mod OneRefusal
 pub mod OneSource
 pub mod OneSearch
+mod Refusals
 mod NamedParts
 mod OneParts
 pub mod Stages
@@ -14,11 +15,9 @@ mod Machines
 mod Explorations
 pub mod OneAnswer
 pub mod Shown
-mod PartsShown
-mod EachPart
+pub mod PartsShown
 pub mod EverySource
 pub mod ListedValues
-pub mod NamedRows
 pub mod HeldLines
 mod EveryName
 mod SomeExploration

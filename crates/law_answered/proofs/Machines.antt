@@ -1,10 +1,5 @@
 -- Schemas make a machine, or one of them is the first that lacks a component, and one component the first that it lacks.
-use Rattle.law_answered.proofs.Prelude.{◌∙◌, ◌∷◌, ◌≡◌, ◌⊎◌, [], ap, inl, inr, List, map, None, Option, refl, Some, subst, sym, ℕ, AllByRecursion, Comp, Decided, Environment, same_Some, Schema}
-use Rattle.zf_machines.specs.{AllowsSought, CanBeInitial, CanStep, FirstFails, HasShape, IsMachineOf, LacksBehind, LacksFirst, LacksStepFirst, Named, Schemas, SoughtLacks, state_of, test_of}
-use Rattle.zf_steps.specs.declared.form.Form.{Form}
-use Rattle.zf_steps.specs.{Allows, AllowsAll, both_states, Has, HasAll, init_in, IsInit, Lacks, LacksInit, LacksStep, Operation, operation_in, StateClashes, System, test_in, with_strokes}
-use Rattle.zf_term.specs.{first_named}
-use Rattle.zf_print.specs.declared.spelling.Spelling.{Spelling}
+use Rattle.law_answered.proofs.Prelude.{◌∙◌, ◌∷◌, ◌≡◌, ◌⊎◌, [], ap, inl, inr, List, map, None, Option, refl, Some, subst, sym, ℕ, AllByRecursion, Comp, Environment, same_Some, Schema, Allows, AllowsAll, AllowsSought, CanBeInitial, CanStep, FirstFails, Form, Has, HasAll, HasShape, IsInit, IsMachineOf, Lacks, LacksBehind, LacksFirst, LacksInit, LacksStep, LacksStepFirst, Named, Operation, Schemas, SoughtLacks, Spelling, StateClashes, System, both_states, first_named, init_in, operation_in, state_of, test_in, test_of, with_strokes}
 use Rattle.law_decided.proofs.Decided.{same_type}
 
 -- ---- the first that fails
@@ -41,11 +36,10 @@ has_or_not comps c = by (first_named (λ d. d.name) c.name comps) refl
   where
     by : (o : Option (ℕ × Comp)) → first_named (λ d. d.name) c.name comps ≡ o → Has comps c ⊎ (Has comps c → ⊥)
     by None none = inr (λ h. let z : None ≡ Some (h.place, h.component) = sym none ∙ h.named in cc)
-    by (Some p) found = of (same_type p.1.type c.type)
-      where
-        of : Decided (p.1.type ≡ c.type) → Has comps c ⊎ (Has comps c → ⊥)
-        of (inl same) = inl (record { place = p.0; component = p.1; named = found; typed = same })
-        of (inr other) = inr (λ h. other (ap (λ (q : ℕ × Comp). q.1.type) (same_Some p (h.place, h.component) (sym found ∙ h.named)) ∙ h.typed))
+    by (Some p) found = elim (same_type p.1.type c.type) [
+      | inl same ↦ inl (record { place = p.0; component = p.1; named = found; typed = same })
+      | inr other ↦ inr (λ h. other (ap (λ (q : ℕ × Comp). q.1.type) (same_Some p (h.place, h.component) (sym found ∙ h.named)) ∙ h.typed))
+    ]
 
 all_or_lack : (comps wanted : List Comp) → HasAll comps wanted ⊎ ((name : List ℕ) × Lacks comps wanted name)
 all_or_lack comps [] = inl tt
@@ -75,11 +69,10 @@ allows_or_not comps c = by (first_named (λ d. d.name) c.name comps) refl
   where
     by : (o : Option (ℕ × Comp)) → first_named (λ d. d.name) c.name comps ≡ o → Allows comps c ⊎ (Allows comps c → ⊥)
     by None none = inl (λ place component found. let z : None ≡ Some (place, component) = sym none ∙ found in cc)
-    by (Some p) found = of (same_type p.1.type c.type)
-      where
-        of : Decided (p.1.type ≡ c.type) → Allows comps c ⊎ (Allows comps c → ⊥)
-        of (inl same) = inl (λ place component also. subst (λ (q : ℕ × Comp). q.1.type ≡ c.type) (same_Some p (place, component) (sym found ∙ also)) same)
-        of (inr other) = inr (λ h. other (h p.0 p.1 found))
+    by (Some p) found = elim (same_type p.1.type c.type) [
+      | inl same ↦ inl (λ place component also. subst (λ (q : ℕ × Comp). q.1.type ≡ c.type) (same_Some p (place, component) (sym found ∙ also)) same)
+      | inr other ↦ inr (λ h. other (h p.0 p.1 found))
+    ]
 
 all_or_clash : (comps state : List Comp) → AllowsAll comps state ⊎ ((name : List ℕ) × StateClashes comps state name)
 all_or_clash comps [] = inl tt
@@ -106,11 +99,10 @@ one_clash comps (c ∷ cs) x y (inr p) (inr q) = one_clash comps cs x y p.1 q.1
 
 sought_or_lacks : (state : List Comp) (o : Option Named) → AllowsSought state o ⊎ ((name component : List ℕ) × SoughtLacks state o name component)
 sought_or_lacks state None = inl tt
-sought_or_lacks state (Some o) = by (all_or_clash o.schema.comps state)
-  where
-    by : AllowsAll o.schema.comps state ⊎ ((name : List ℕ) × StateClashes o.schema.comps state name) → AllowsSought state (Some o) ⊎ ((name component : List ℕ) × SoughtLacks state (Some o) name component)
-    by (inl all) = inl all
-    by (inr clashes) = inr (o.name, clashes.0, (refl, clashes.1))
+sought_or_lacks state (Some o) = elim (all_or_clash o.schema.comps state) [
+  | inl all ↦ inl all
+  | inr clashes ↦ inr (o.name, clashes.0, (refl, clashes.1))
+]
 
 not_allowed_and_lacks : (state : List Comp) (o : Option Named) (name component : List ℕ) → AllowsSought state o → SoughtLacks state o name component → ⊥
 not_allowed_and_lacks state None name component allows lacks = lacks
@@ -136,11 +128,10 @@ not_initial_and_lack state a name (inl all) lacks = lacks.0 all
 not_initial_and_lack state a name (inr all) lacks = not_all_and_lack a.comps state name all lacks.1
 
 steps_or_lack : (state : List Comp) (o : Named) → CanStep state o ⊎ ((b : List ℕ × List ℕ) × ((b.0 ≡ o.name) × LacksStep state o.schema b.1))
-steps_or_lack state o = by (all_or_lack o.schema.comps (both_states state))
-  where
-    by : HasAll o.schema.comps (both_states state) ⊎ ((name : List ℕ) × Lacks o.schema.comps (both_states state) name) → CanStep state o ⊎ ((b : List ℕ × List ℕ) × ((b.0 ≡ o.name) × LacksStep state o.schema b.1))
-    by (inl all) = inl all
-    by (inr lacks) = inr ((o.name, lacks.0), (refl, lacks.1))
+steps_or_lack state o = elim (all_or_lack o.schema.comps (both_states state)) [
+  | inl all ↦ inl all
+  | inr lacks ↦ inr ((o.name, lacks.0), (refl, lacks.1))
+]
 
 pub shape_or_lack : (p : Schemas) → HasShape p ⊎ ((name component : List ℕ) × LacksFirst p name component)
 shape_or_lack p = by (initial_or_lack (state_of p) p.init.schema)

@@ -1,8 +1,6 @@
 -- A line is that of one row, an object too, and what is reported of a text that is refused is that it is the line of none.
-use Rattle.law_answered.proofs.Prelude.{◌∙◌, ◌≡◌, [], ap, List, subst, sym, ℕ, Defined, Schema, Environment, Size, one_row, binding_text, AreClear, spellings}
-use Rattle.zf_format.specs.declared.format.Format.TheVariants.{Lines, Objects}
-use Rattle.zf_print.specs.{IsNoLine}
-use Rattle.law_answered.specs.{IsSchemaAt, OneRowOfALine, OneRowOfAnObject, RefusedLinesAreOfNoRow}
+use Rattle.law_answered.proofs.Prelude.{◌∙◌, ◌≡◌, [], ap, List, subst, sym, ℕ, Defined, Schema, Environment, Size, one_row, binding_text, AreClear, spellings, IsSchemaAt, Lines, Objects, OneRowOfALine, OneRowOfAnObject, RefusedLinesAreOfNoRow}
+use Rattle.zf_read.specs.{IsNoLine}
 use Rattle.law_answered.proofs.OneSearch.{clear_at}
 
 clear_there : (source name : List ℕ) (sizes : List Size) (g : List Defined) (a : Schema) (e : Environment) → IsSchemaAt source name sizes g a e → AreClear (spellings e.globals) e.sizes

@@ -1,7 +1,5 @@
 -- A text names components at one list of places, or none; so one list of components is shown.
-use Rattle.law_answered.proofs.Prelude.{◌∙◌, ◌∷◌, ◌≡◌, ◌≢◌, ◌⊎◌, [], ap, inl, inr, List, map, None, Option, refl, Some, subst, sym, ℕ, cases_eq, AllPairs, AllPairs-cons, AllPairs-head, AllPairs-nil, AllPairs-tail, Contains, Contains-cases, Contains-head, Contains-later, Contains-nil, Comp, AreShown, NamesNoParts, NamesParts}
-use Rattle.zf_places.specs.{comps_at}
-use Rattle.zf_engine.specs.{component_place, names_between}
+use Rattle.law_answered.proofs.Prelude.{◌∙◌, ◌∷◌, ◌≡◌, ◌≢◌, ◌⊎◌, [], ap, inl, inr, List, map, None, Option, refl, Some, subst, sym, ℕ, cases_eq, AllPairs, AllPairs-cons, AllPairs-head, AllPairs-nil, AllPairs-tail, Contains, Contains-cases, Contains-head, Contains-later, Contains-nil, Comp, AreShown, NamesNoParts, NamesParts, component_place, comps_at, names_between}
 
 -- ---- one list
 

@@ -1,10 +1,5 @@
 -- A schema without a binding has one cause, but for which minimal set of conjuncts.
-use Rattle.law_answered.proofs.Prelude.{◌<◌, ◌∙◌, ◌∷◌, ◌≡◌, [], ap, arith, Bool, false, inl, inr, length, List, Option, refl, Some, subst, suc, sym, true, zero, ℕ, slice_get, Value, Comp, Schema, Environment}
-use Rattle.std.proofs.lemmas.Option.{slice_get_within}
-use Rattle.zf_ranges.specs.{first_held, later_held}
-use Rattle.zf_cores.specs.{HasChosen}
-use Rattle.zf_why.specs.{ArePicked, EmptiedBy, HasNoValue, HasRow, HasValue, IsHeldRow, IsInHeldRange, RefutedBy, RefutedTogetherBy, RuleOut}
-use Rattle.zf_why.proofs.Explained.{held_later}
+use Rattle.law_answered.proofs.Prelude.{◌<◌, ◌∙◌, ◌∷◌, ◌≡◌, [], ap, arith, Bool, false, inl, inr, length, List, Option, refl, Some, subst, suc, sym, true, zero, ℕ, slice_get, Value, Comp, Schema, Environment, ArePicked, EmptiedBy, HasChosen, HasNoValue, HasRow, HasValue, IsHeldRow, IsInHeldRange, RefutedBy, RefutedTogetherBy, RuleOut, first_held, held_later, later_held, slice_get_within}
 use Rattle.zf_why.proofs.Lists.{some_at}
 
 -- ---- what is picked

@@ -1,8 +1,7 @@
 -- Of one search there is one list of events up to where the lines end, one text of it and one status.
-use Rattle.law_answered.proofs.Prelude.{◌++◌, ◌+◌, ◌<◌, ◌∙◌, ◌∷◌, ◌≡◌, ◌≤◌, ◌⊎◌, [], ap, arith, inl, inr, length, List, None, Option, refl, Some, subst, sym, take, ℕ, All-contains, IsTotalOrder, lists_total, slice_cmp, AllPairs, Contains, Ordering, AllPairs-across, Contains-head, Contains-right, IsRowOf-length, Conjuncts, IsTruthOf, Event, IsEvent, ComesAfter, TiesAreEqual, IsUpTo, Truth, Out, True, AreEventsUpTo, Hold, IsBelow, IsNotAbove, IsWritten, Status, AreTold, one_truth_of, Wording}
+use Rattle.law_answered.proofs.Prelude.{◌++◌, ◌+◌, ◌<◌, ◌∙◌, ◌∷◌, ◌≡◌, ◌≤◌, ◌⊎◌, [], ap, arith, inl, inr, length, List, None, Option, refl, Some, subst, sym, take, ℕ, All-contains, IsTotalOrder, lists_total, slice_cmp, AllPairs, Contains, Ordering, AllPairs-across, Contains-head, Contains-right, IsRowOf-length, Conjuncts, IsTruthOf, Event, IsEvent, ComesAfter, TiesAreEqual, IsUpTo, Truth, Out, True, AreEventsUpTo, Hold, IsBelow, IsNotAbove, IsWritten, Status, AreTold, one_truth_of, Wording, length-append, append-nil}
 use Rattle.std.specs.declared.cmp.Ordering.TheVariants.{Less, Equal, Greater}
 use Rattle.std.specs.Ordering.{ordering_reverse}
-use Rattle.std.proofs.lemmas.List.{length-append}
 use Rattle.zf_walk.proofs.Order.{slice-ties}
 use Rattle.law_answered.proofs.Rows.{nothing_more, before_last, same_last, All-front, one_begins}
 
@@ -148,16 +147,9 @@ module _ {V : Type 0} (cmp : V → V → Ordering) (o : IsTotalOrder cmp) (ties 
         → AreEventsUpTo cmp s ranges after last xs → AreEventsUpTo cmp s ranges after other_last ys
         → IsWritten telling limit xs last text status → IsWritten telling limit ys other_last other other_status → xs ≡ ys
     one_list_up_to telling limit xs ys last other_last text other status other_status h k w v = elim (begins xs ys last other_last h k) [
-      | inl m ↦ sym (m.1 ∙ whole xs m.0 (no_more xs ys last other_last h k telling limit text other status other_status m.0 m.1 w v))
-      | inr m ↦ m.1 ∙ whole ys m.0 (no_more ys xs other_last last k h telling limit other text other_status status m.0 m.1 v w)
+      | inl m ↦ sym (m.1 ∙ ap (λ more. xs ++ more) (no_more xs ys last other_last h k telling limit text other status other_status m.0 m.1 w v) ∙ append-nil xs)
+      | inr m ↦ m.1 ∙ ap (λ more. ys ++ more) (no_more ys xs other_last last k h telling limit other text other_status status m.0 m.1 v w) ∙ append-nil ys
     ]
-      where
-        whole : (zs more : List (Event V)) → more ≡ [] → zs ++ more ≡ zs
-        whole zs more e = ap (λ m. zs ++ m) e ∙ nil_right zs
-          where
-            nil_right : (zs : List (Event V)) → zs ++ [] ≡ zs
-            nil_right [] = refl
-            nil_right (z ∷ zs) = ap (λ us. z ∷ us) (nil_right zs)
 
     pub one_ending : (telling : Wording V) (limit : Option ℕ) (xs ys : List (Event V)) (last other_last : Option (List V)) (text other : List ℕ) (status other_status : Status)
         → AreEventsUpTo cmp s ranges after last xs → AreEventsUpTo cmp s ranges after other_last ys

@@ -1,27 +1,18 @@
 -- What some components have in events is shown in one way, and in some way.
-use Rattle.law_answered.proofs.Prelude.{◌≡◌, List, None, Option, subst, ℕ, Event, ComesAfter, value_order, Value, Defined, Schema, Environment, AreClear, spellings, one_ranges, Portion, property, AreEventsUpTo, HasEvents, Status, IsNamedRow, NamesParts, Request, ShowsParts, Wording}
-use Rattle.zf_value.specs.contracts.plain.ValueOrd.TheImpl.Laws as order_laws
-use Rattle.zf_walk.proofs.Lists.{AllPairs-unique}
-use Rattle.law_exists.proofs.Searches.{some_list}
-use Rattle.zf_parts.proofs.Growing.{one_list_of_parts, some_list_of_parts}
+use Rattle.law_answered.proofs.Prelude.{◌≡◌, List, None, Option, subst, ℕ, Event, ComesAfter, value_order, Value, Defined, Schema, Environment, AreClear, spellings, Portion, HasEvents, Status, IsNamedRow, NamesParts, Request, ShowsParts, Wording, AllPairs-unique, AreParts, ArePartsWritten, AreRanges, HasParts, Part, comps_at, exact, one_list_of_parts, part_wording, some_list, some_list_of_parts, total-law}
 use Rattle.zf_parts.proofs.Telling.{one_text_of_parts, some_text_of_parts}
-use Rattle.zf_parts.specs.{AreParts, ArePartsWritten, HasParts, Part, part_wording}
-use Rattle.zf_places.specs.{comps_at}
-use Rattle.zf_ranges.specs.{AreRanges}
-use Rattle.zf_value.proofs.Exact.{exact}
 use Rattle.law_answered.proofs.NamedParts.{one_places}
 use Rattle.law_answered.proofs.OneEnding.{never_both}
-use Rattle.law_answered.proofs.OneSearch.{one_named_row}
+use Rattle.law_answered.proofs.OneSearch.{listed_in, one_named_row}
 
 -- ---- all events
 
 -- there is one list of them
 one_whole_list : (e : Environment) (a : Schema) (p : Portion) (xs ys : List (Event Value)) → HasEvents e a p None xs → HasEvents e a p None ys → xs ≡ ys
 one_whole_list e a p xs ys h k =
-    let same : k.ranges ≡ h.ranges = one_ranges e a p.held k.ranges h.ranges k.of_components h.of_components in
-    let other = subst (λ ranges. AreEventsUpTo value_order (property e a.conjuncts) ranges p.after None ys) same k.listed in
+    let other = listed_in e a p h.ranges h.of_components None ys k in
     let one = h.listed in
-    AllPairs-unique (λ (x y : Event Value). ComesAfter value_order x.row y.row) (λ x y u v. never_both value_order order_laws.total-law exact x.row y.row u v) xs ys one.ascending other.ascending
+    AllPairs-unique (λ (x y : Event Value). ComesAfter value_order x.row y.row) (λ x y u v. never_both value_order total-law exact x.row y.row u v) xs ys one.ascending other.ascending
     (λ z m. (other.members z).1 ((one.members z).0 m)) (λ z m. (one.members z).1 ((other.members z).0 m))
 
 -- and some

@@ -1,7 +1,6 @@
 -- The sizes of an environment are one list, and sizes that don't fit have one first fault.
-use Rattle.law_answered.proofs.Prelude.{◌++◌, ◌<◌, ◌∙◌, ◌∷◌, ◌≡◌, ◌≤◌, ◌⊎◌, [], ap, arith, inl, inr, length, List, refl, subst, sym, ℕ, All-contains, ◌≢◌, Contains, Contains-cases, Contains-head, Contains-nil, Contains-right, SET_MAX, abbreviation, constructor, Defined, Definition, free_type, given_set, schema, Size, SizeFault, Contains-map}
+use Rattle.law_answered.proofs.Prelude.{◌++◌, ◌<◌, ◌∙◌, ◌∷◌, ◌≡◌, ◌≤◌, ◌⊎◌, [], ap, arith, inl, inr, length, List, refl, subst, sym, ℕ, All-contains, ◌≢◌, Contains, Contains-cases, Contains-head, Contains-nil, Contains-right, SET_MAX, Defined, Definition, free_type, given_set, Size, SizeFault, Contains-map, AddsSize, AreAccepted, AreComplete, AreSizes, IsAccepted, IsRefusal, IsSizeFault, IsStated, LacksSize, RefusesSize, names}
 use Rattle.zf_meaning.specs.declared.sizes.SizeFault.TheVariants.{NoSize, NotGiven, SizeTwice, SizeTooLarge, OutOfMemory}
-use Rattle.zf_meaning.specs.{AddsSize, AreAccepted, AreComplete, AreSizes, IsAccepted, IsRefusal, IsSizeFault, IsStated, LacksSize, names, RefusesSize}
 
 -- ---- two places of one list
 
@@ -45,19 +44,13 @@ one_way : (sets : List (List ℕ)) (earlier : List Size) (size : Size) (one two 
     → IsSizeFault sets earlier size one → IsSizeFault sets earlier size two → one ≡ two
 one_way sets earlier size OutOfMemory two some other_some r q = absurd (some refl)
 one_way sets earlier size (NoSize n) two some other_some r q = absurd r
-one_way sets earlier size (NotGiven n) OutOfMemory some other_some r q = absurd (other_some refl)
-one_way sets earlier size (NotGiven n) (NoSize m) some other_some r q = absurd q
+one_way sets earlier size _ OutOfMemory some other_some r q = absurd (other_some refl)
+one_way sets earlier size _ (NoSize m) some other_some r q = absurd q
 one_way sets earlier size (NotGiven n) (NotGiven m) some other_some r q = ap NotGiven (r.0 ∙ sym q.0)
-one_way sets earlier size (NotGiven n) (SizeTwice m) some other_some r q = absurd (r.1 (subst (Contains sets) (q.0 ∙ sym r.0) q.1))
-one_way sets earlier size (NotGiven n) (SizeTooLarge m) some other_some r q = absurd (r.1 (subst (Contains sets) (q.0 ∙ sym r.0) q.1))
-one_way sets earlier size (SizeTwice n) OutOfMemory some other_some r q = absurd (other_some refl)
-one_way sets earlier size (SizeTwice n) (NoSize m) some other_some r q = absurd q
-one_way sets earlier size (SizeTwice n) (NotGiven m) some other_some r q = absurd (q.1 (subst (Contains sets) (r.0 ∙ sym q.0) r.1))
+one_way sets earlier size (NotGiven n) _ some other_some r q = absurd (r.1 (subst (Contains sets) (q.0 ∙ sym r.0) q.1))
+one_way sets earlier size _ (NotGiven m) some other_some r q = absurd (q.1 (subst (Contains sets) (r.0 ∙ sym q.0) r.1))
 one_way sets earlier size (SizeTwice n) (SizeTwice m) some other_some r q = ap SizeTwice (r.0 ∙ sym q.0)
 one_way sets earlier size (SizeTwice n) (SizeTooLarge m) some other_some r q = absurd (q.2 (subst (Contains (names earlier)) (r.0 ∙ sym q.0) r.2))
-one_way sets earlier size (SizeTooLarge n) OutOfMemory some other_some r q = absurd (other_some refl)
-one_way sets earlier size (SizeTooLarge n) (NoSize m) some other_some r q = absurd q
-one_way sets earlier size (SizeTooLarge n) (NotGiven m) some other_some r q = absurd (q.1 (subst (Contains sets) (r.0 ∙ sym q.0) r.1))
 one_way sets earlier size (SizeTooLarge n) (SizeTwice m) some other_some r q = absurd (r.2 (subst (Contains (names earlier)) (q.0 ∙ sym r.0) q.2))
 one_way sets earlier size (SizeTooLarge n) (SizeTooLarge m) some other_some r q = ap SizeTooLarge (r.0 ∙ sym q.0)
 
@@ -67,10 +60,8 @@ IsOfEither sets sizes fault = RefusesSize sets sizes fault ⊎ ((name : List ℕ
 
 of_either : (sets : List (List ℕ)) (sizes : List Size) (fault : SizeFault) → fault ≢ OutOfMemory → IsRefusal sets sizes fault → IsOfEither sets sizes fault
 of_either sets sizes (NoSize name) some r = inr (name, refl, r)
-of_either sets sizes (NotGiven name) some r = inl r
-of_either sets sizes (SizeTwice name) some r = inl r
-of_either sets sizes (SizeTooLarge name) some r = inl r
 of_either sets sizes OutOfMemory some r = absurd (some refl)
+of_either sets sizes _ some r = inl r
 
 same_refused : (sets : List (List ℕ)) (sizes : List Size) (one two : SizeFault) → one ≢ OutOfMemory → two ≢ OutOfMemory → RefusesSize sets sizes one → RefusesSize sets sizes two → one ≡ two
 same_refused sets sizes one two some other_some r q = elim (two_places r.earlier r.size r.later q.earlier q.size q.later (sym r.split ∙ q.split)) [
@@ -103,14 +94,13 @@ one_refusal sets sizes one two some other_some r q = go (of_either sets sizes on
 
 -- sizes that fit have none
 pub none_refused : (sets : List (List ℕ)) (sizes : List Size) (fault : SizeFault) → AreComplete sets sizes → fault ≢ OutOfMemory → IsRefusal sets sizes fault → ⊥
-none_refused sets sizes fault complete some r = go (of_either sets sizes fault some r)
-  where
-    go : IsOfEither sets sizes fault → ⊥
-    go (inl x) = lacks_refused sets sizes [] fault some complete.accepted x
-    go (inr x) =
-        let l = x.2 in
-        l.lacking (All-contains (λ set. Contains (names sizes) set) sets x.0 complete.sized
-        (subst (λ xs. Contains xs x.0) (sym l.split) (Contains-right l.earlier (x.0 ∷ l.later) x.0 (Contains-head x.0 l.later))))
+none_refused sets sizes fault complete some r = elim (of_either sets sizes fault some r) [
+  | inl x ↦ lacks_refused sets sizes [] fault some complete.accepted x
+  | inr x ↦
+      let l = x.2 in
+      l.lacking (All-contains (λ set. Contains (names sizes) set) sets x.0 complete.sized
+      (subst (λ xs. Contains xs x.0) (sym l.split) (Contains-right l.earlier (x.0 ∷ l.later) x.0 (Contains-head x.0 l.later))))
+]
 
 -- ---- the sizes
 
@@ -136,9 +126,7 @@ one_added : (stated : List Size) → HasOneSize stated → (name : List ℕ) (d 
     → AddsSize stated name d later k → AddsSize stated name d other l → k ≡ l
 one_added stated one name (given_set n) later other k l e p q = p.2 ∙ ap (λ c. c ∷ later) (one name p.0 q.0 p.1 q.1) ∙ ap (λ cs. q.0 ∷ cs) e ∙ sym q.2
 one_added stated one name (free_type n names) later other k l e p q = p ∙ ap (λ cs. length names ∷ cs) e ∙ sym q
-one_added stated one name (constructor n of_type place) later other k l e p q = p ∙ e ∙ sym q
-one_added stated one name (abbreviation t r x) later other k l e p q = p ∙ e ∙ sym q
-one_added stated one name (schema a) later other k l e p q = p ∙ e ∙ sym q
+one_added stated one name _ later other k l e p q = p ∙ e ∙ sym q
 
 added_all : (stated : List Size) → HasOneSize stated → (g : List Defined) (k l : List ℕ) → AreSizes stated g k → AreSizes stated g l → k ≡ l
 added_all stated one [] k l p q = p ∙ sym q

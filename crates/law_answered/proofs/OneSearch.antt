@@ -1,12 +1,8 @@
 -- What is asked for is one environment and one named row, and its search has one text and one status.
-use Rattle.law_answered.proofs.Prelude.{◌++◌, ◌<◌, ◌∙◌, ◌≡◌, ◌⊎◌, ap, arith, Bool, false, inl, inr, List, None, Option, Some, subst, sym, true, ℕ, cases_order, Event, cut, IsNumberOfTests, IsUpTo, IsWalked, exact, value_order, Value, Comp, Defined, Schema, Fault, first, finite_without_cause, causes, IsFinite, NotFinite, Environment, IsEnvironment, AreComplete, given_sets, Size, one_row, AreClear, spellings, one_ranges, Portion, property, IsFirstOut, AreEventsUpTo, HasEvents, IsTestsLine, IsWritten, Status, property_told, AreHeld, Checks, IsNamed, IsNamedRow, Request, ShowsEvents, Wording, wording}
-use Rattle.zf_format.specs.declared.format.Format.TheVariants.{Lines}
-use Rattle.zf_value.specs.contracts.plain.ValueOrd.TheImpl.Laws as order_laws
+use Rattle.law_answered.proofs.Prelude.{◌++◌, ◌∙◌, ◌≡◌, ap, arith, Bool, false, inl, inr, List, None, Option, Some, subst, sym, true, ℕ, cases_order, Event, cut, IsNumberOfTests, IsUpTo, IsWalked, exact, value_order, Value, Comp, Defined, Schema, Fault, first, finite_without_cause, causes, IsFinite, NotFinite, Environment, IsEnvironment, AreComplete, given_sets, Size, one_row, AreClear, spellings, one_ranges, Portion, property, IsFirstOut, AreEventsUpTo, HasEvents, IsTestsLine, IsWritten, Status, property_told, AreHeld, Checks, IsNamed, IsNamedRow, Request, ShowsEvents, Wording, wording, AreTests, HaveClearNames, Lines, total-law, AreRanges}
 use Rattle.zf_walk.proofs.Counting.{number-le}
 use Rattle.zf_meaning.proofs.Environments.{one_environment}
-use Rattle.zf_enum.specs.{AreTests}
-use Rattle.zf_print.specs.{HaveClearNames}
-use Rattle.zf_print.proofs.Chosen.{line_is_held, one_held_line}
+use Rattle.zf_read.proofs.Chosen.{line_is_held, one_held_line}
 use Rattle.law_names.proofs.Clear.{components_clear, globals_clear}
 use Rattle.law_answered.proofs.OneEnding.{AreOneEnd, one_ending}
 use Rattle.law_answered.proofs.OneRefusal.{one_sizes}
@@ -61,23 +57,28 @@ one_held e comps (Some text) one two clear names p q =
 
 -- there is one first component with a declared set that is out
 pub one_first_out : (e : Environment) (comps : List Comp) (i j : ℕ) → IsFirstOut e comps i → IsFirstOut e comps j → i ≡ j
-one_first_out e comps i j p q = go (cases_order i j)
-  where
-    go : (i ≡ j) ⊎ ((i < j) ⊎ (j < i)) → i ≡ j
-    go (inl e) = e
-    go (inr (inl l)) = absurd (q.first i l p.here)
-    go (inr (inr l)) = absurd (p.first j l q.here)
+one_first_out e comps i j p q = elim (cases_order i j) [
+  | inl e ↦ e
+  | inr (inl l) ↦ absurd (q.first i l p.here)
+  | inr (inr l) ↦ absurd (p.first j l q.here)
+]
 
 -- ---- the events
+
+-- they are those of any ranges of the components
+pub listed_in : (e : Environment) (a : Schema) (p : Portion) (ranges : List (List Value)) → AreRanges e a.comps p.held ranges
+    → (last : Option (List Value)) (xs : List (Event Value)) → HasEvents e a p last xs
+    → AreEventsUpTo value_order (property e a.conjuncts) ranges p.after last xs
+listed_in e a p ranges are last xs h =
+    subst (λ rs. AreEventsUpTo value_order (property e a.conjuncts) rs p.after last xs) (one_ranges e a p.held h.ranges ranges h.of_components are) h.listed
 
 pub one_search : (e : Environment) (a : Schema) (p : Portion) (telling : Wording Value) (limit : Option ℕ) (xs ys : List (Event Value)) (last other_last : Option (List Value))
     (text other : List ℕ) (status other_status : Status)
     → HasEvents e a p last xs → HasEvents e a p other_last ys → IsWritten telling limit xs last text status
     → IsWritten telling limit ys other_last other other_status → AreOneEnd telling limit last other_last text other status other_status
 one_search e a p telling limit xs ys last other_last text other status other_status h k w v =
-    let same : k.ranges ≡ h.ranges = one_ranges e a p.held k.ranges h.ranges k.of_components h.of_components in
-    one_ending value_order order_laws.total-law exact (property e a.conjuncts) (property_told e a.conjuncts) h.ranges p.after telling limit xs ys last other_last text other status other_status
-    h.listed (subst (λ ranges. AreEventsUpTo value_order (property e a.conjuncts) ranges p.after other_last ys) same k.listed) w v
+    one_ending value_order total-law exact (property e a.conjuncts) (property_told e a.conjuncts) h.ranges p.after telling limit xs ys last other_last text other status other_status
+    h.listed (listed_in e a p h.ranges h.of_components other_last ys k) w v
 
 -- ---- the tests
 

@@ -1,23 +1,14 @@
 -- What is written of parts is written of exactly the values that bindings have at the places.
-use Rattle.law_answered.proofs.Prelude.{◌++◌, ◌<◌, ◌↔◌, ◌∙◌, ◌∷◌, ◌≡◌, ◌⊎◌, [], ap, append-nil, arith, inl, inr, length, List, map, None, Option, refl, Some, subst, sym, ℕ, All-contains, AllPairs, AllPairs-across, AllPairs-head, AllPairs-mapped, Contains, Contains-cases, Contains-either, Contains-head, Contains-left, Contains-map, Contains-mapped, Contains-nil, Contains-right, ComesAfter, Defined, Environment, Event, False, flat_map, flat_map-map, HasLimit, IsBefore, IsBelow, IsBinding, IsEvent, IsInDoubt, IsLater, IsNotPast, length-map, Out, Portion, property, Request, Schema, ShowsParts, Status, True, Truth, Value, value_order, AreEventsUpTo, Wording, map-append, spellings}
-use Rattle.zf_lines.specs.declared.fault.Status.TheVariants.{Done, PastBounds}
-use Rattle.zf_value.specs.contracts.plain.ValueOrd.TheImpl.Laws as order_laws
-use Rattle.zf_value.proofs.Exact.{exact}
-use Rattle.zf_walk.proofs.Lists.{AllPairs-back}
-use Rattle.zf_parts.proofs.Growing.{has_each_part}
-use Rattle.zf_parts.specs.{AllHold, AreParts, ArePartsWritten, IsFirstWith, Part, part_lines, part_wording}
-use Rattle.zf_places.specs.{comps_at, values_at}
+use Rattle.law_answered.proofs.Prelude.{EachPartIsShown, ◌++◌, ◌<◌, ◌↔◌, ◌∙◌, ◌∷◌, ◌≡◌, ◌⊎◌, [], ap, append-nil, arith, inl, inr, length, List, map, None, Option, refl, Some, subst, sym, ℕ, All-contains, AllPairs, AllPairs-across, AllPairs-head, AllPairs-mapped, Contains, Contains-cases, Contains-either, Contains-head, Contains-left, Contains-map, Contains-mapped, Contains-nil, Contains-right, ComesAfter, Defined, Environment, Event, False, flat_map, flat_map-map, HasLimit, IsBefore, IsBelow, IsBinding, IsEvent, IsInDoubt, IsLater, IsNotPast, length-map, Out, Portion, property, Request, Schema, ShowsParts, Status, True, Truth, Value, value_order, AreEventsUpTo, Wording, map-append, spellings, AllHold, AllPairs-back, AreParts, ArePartsWritten, Done, EndsLines, IsFirstInDoubt, IsFirstWith, IsPartOfBinding, Part, PastBounds, ShowsEachPart, comps_at, exact, has_each_part, part_lines, part_wording, values_at, total-law, AllPairs-front}
 use Rattle.law_answered.proofs.OneEnding.{never_both, never_itself}
-use Rattle.law_answered.proofs.Rows.{AllPairs-front}
-use Rattle.law_answered.proofs.Shown.{binding_event, doubt_event}
+use Rattle.law_answered.proofs.Shown.{binding_event, doubt_event, shown_told}
 use Rattle.law_answered.proofs.WrittenRows.{with_truth}
-use Rattle.law_answered.specs.{EndsParts, IsFirstInDoubt, IsPartOfBinding, ShowsEachPart}
 
 both_ways : (a b : List Value) → ComesAfter value_order a b → ComesAfter value_order b a → ⊥
-both_ways a b = never_both value_order order_laws.total-law exact a b
+both_ways a b = never_both value_order total-law exact a b
 
 itself : (a : List Value) → ComesAfter value_order a a → ⊥
-itself a = never_itself value_order order_laws.total-law exact a
+itself a = never_itself value_order total-law exact a
 
 apart : (x : Event Value) → x.truth ≡ True → x.truth ≡ Out → ⊥
 apart x t o = let same : True ≡ Out = sym t ∙ o in cc
@@ -123,6 +114,16 @@ module _ (e : Environment) (a : Schema) (ranges : List (List Value)) (start : Op
 
   -- ---- the parts that are written, up to the last ones that are looked at
 
+  pub record AreWritten (w : Wording Value) (limit : Option ℕ) (text : List ℕ) (status : Status) : Type 0 where
+    pub rows : List (List Value)
+    pub last : Option (List Value)
+    pub final : List ℕ
+    pub members : (values : List Value) → Contains rows values ↔ (OfBinding values × IsNotPast value_order last values)
+    pub ascending : AllPairs (ComesAfter value_order) rows
+    pub each : (row : List Value) → Found row ⊎ InDoubt row → IsLater value_order after (values_at places row) → IsBefore value_order last (values_at places row) → Contains rows (values_at places row)
+    pub ending : EndsLines (values_at places) (IsFirstInDoubt e a ranges start places) w limit rows last final status
+    pub whole : text ≡ flat_map w.line rows ++ final
+
   module _ (front rest : List Part) (split : parts ≡ front ++ rest) (hold : AllHold front) (last : Option (List Value))
       (reached : (p : Part) → Contains front p → IsNotPast value_order last p.values)
       (beyond : (p : Part) → Contains rest p → p.first.truth ≡ True → IsNotPast value_order last p.values → ⊥)
@@ -146,47 +147,41 @@ module _ (e : Environment) (a : Schema) (ranges : List (List Value)) (start : Op
         (subst OfBinding c.2 (part_holds c.0 (among c.0 c.1) t), subst (IsNotPast value_order last) c.2 (reached c.0 c.1))
 
     is_written : (values : List Value) → OfBinding values → IsNotPast value_order last values → Contains rows values
-    is_written values b n = by (of_binding values b)
-      where
-        by : (p : Part) × Contains parts p × (p.values ≡ values) × (p.first.truth ≡ True) → Contains rows values
-        by (p, m, same, t) = elim (either p m) [
+    is_written values b n =
+        let (p, m, same, t) = of_binding values b in
+        elim (either p m) [
           | inl there ↦ row_of p values there same
           | inr over ↦ absurd (beyond p over t (subst (IsNotPast value_order last) (sym same) n))
         ]
 
-    pub members : (values : List Value) → Contains rows values ↔ (OfBinding values × IsNotPast value_order last values)
-    members values = (written values, λ h. is_written values h.0 h.1)
-
-    pub ascending : AllPairs (ComesAfter value_order) rows
-    ascending = AllPairs-mapped values_of (ComesAfter value_order) front (AllPairs-front Follows front rest (subst (AllPairs Follows) split are.ascending))
-
     event_row : (x : Event Value) → Contains events x → IsLater value_order after (values_at places x.row) → IsBefore value_order last (values_at places x.row) → Contains rows (values_at places x.row)
-    event_row x m later before = by (of_event x m later)
-      where
-        by : (p : Part) × Contains parts p × (p.values ≡ values_at places x.row) → Contains rows (values_at places x.row)
-        by (p, n, same) = elim (either p n) [
+    event_row x m later before =
+        let (p, n, same) = of_event x m later in
+        elim (either p n) [
           | inl there ↦ row_of p (values_at places x.row) there same
           | inr over ↦ absurd (behind p over (subst (IsBefore value_order last) (sym same) before))
         ]
 
-    pub each : (row : List Value) → Found row ⊎ InDoubt row → IsLater value_order after (values_at places row) → IsBefore value_order last (values_at places row) → Contains rows (values_at places row)
+    each : (row : List Value) → Found row ⊎ InDoubt row → IsLater value_order after (values_at places row) → IsBefore value_order last (values_at places row)
+        → Contains rows (values_at places row)
     each row (inl b) later before = event_row (with_truth row True) (binding_in row b) later before
     each row (inr d) later before = event_row (with_truth row Out) (doubt_in row d) later before
 
+    made : (w : Wording Value) (limit : Option ℕ) (final text : List ℕ) (status : Status)
+        → EndsLines (values_at places) (IsFirstInDoubt e a ranges start places) w limit rows last final status
+        → text ≡ part_lines w front ++ final → AreWritten w limit text status
+    made w limit final text status ending told = record {
+      rows = rows;
+      last = last;
+      final = final;
+      members = λ values. (written values, λ h. is_written values h.0 h.1);
+      ascending = AllPairs-mapped values_of (ComesAfter value_order) front (AllPairs-front Follows front rest (subst (AllPairs Follows) split are.ascending));
+      each = each;
+      ending = ending;
+      whole = told ∙ ap (λ t. t ++ final) (sym (flat_map-map w.line values_of front));
+    }
+
   -- ---- how they end
-
-  pub record AreWritten (w : Wording Value) (limit : Option ℕ) (text : List ℕ) (status : Status) : Type 0 where
-    pub rows : List (List Value)
-    pub last : Option (List Value)
-    pub final : List ℕ
-    pub members : (values : List Value) → Contains rows values ↔ (OfBinding values × IsNotPast value_order last values)
-    pub ascending : AllPairs (ComesAfter value_order) rows
-    pub each : (row : List Value) → Found row ⊎ InDoubt row → IsLater value_order after (values_at places row) → IsBefore value_order last (values_at places row) → Contains rows (values_at places row)
-    pub ending : EndsParts (IsFirstInDoubt e a ranges start places) places w limit rows last final status
-    pub whole : text ≡ flat_map w.line rows ++ final
-
-  lines_of : (w : Wording Value) (front : List Part) → part_lines w front ≡ flat_map w.line (map values_of front)
-  lines_of w front = sym (flat_map-map w.line values_of front)
 
   as_many : (front : List Part) → length (map values_of front) ≡ length front
   as_many front = length-map front values_of
@@ -213,25 +208,14 @@ module _ (e : Environment) (a : Schema) (ranges : List (List Value)) (start : Op
     none_beyond p m (inl same) = itself q.values (subst (ComesAfter value_order q.values) same (over p m))
     none_beyond p m (inr c) = both_ways q.values p.values (over p m) c
 
-    none_holds_beyond : (p : Part) → Contains rest p → p.first.truth ≡ True → IsNotPast value_order (Some q.values) p.values → ⊥
-    none_holds_beyond p m t n = none_beyond p m n
-
     none_stands_before : (p : Part) → Contains rest p → IsBefore value_order (Some q.values) p.values → ⊥
     none_stands_before p m c = both_ways q.values p.values (over p m) c
 
     paused : limit ≡ Some (length front) → text ≡ part_lines w front ++ w.more → status ≡ Done → AreWritten w limit text status
     paused full told done =
-        let last : Option (List Value) = Some q.values in
-        record {
-          rows = map values_of front;
-          last = last;
-          final = w.more;
-          members = members front rest split hold last up_to_last none_holds_beyond none_stands_before;
-          ascending = ascending front rest split hold last up_to_last none_holds_beyond none_stands_before;
-          each = each front rest split hold last up_to_last none_holds_beyond none_stands_before;
-          ending = EndsParts.enough (map values_of init) q.values (ap (map values_of) is ∙ map-append values_of init (q ∷ [])) refl (full ∙ ap Some (sym (as_many front))) refl done;
-          whole = told ∙ ap (λ t. t ++ w.more) (lines_of w front);
-        }
+        made front rest split hold (Some q.values) up_to_last (λ p m t. none_beyond p m) none_stands_before w limit w.more text status
+        (EndsLines.enough (map values_of init) q.values (ap (map values_of) is ∙ map-append values_of init (q ∷ []))
+        refl (full ∙ ap Some (sym (as_many front))) refl done) told
 
   -- up to one that is out
   module _ (w : Wording Value) (limit : Option ℕ) (text : List ℕ) (status : Status) (front : List Part) (p : Part) (rest : List Part) (split : parts ≡ front ++ p ∷ rest) (hold : AllHold front)
@@ -266,34 +250,15 @@ module _ (e : Environment) (a : Schema) (ranges : List (List Value)) (start : Op
 
     broken : IsBelow limit (length front) → text ≡ part_lines w front ++ w.out p.first.row → status ≡ PastBounds → AreWritten w limit text status
     broken below told past =
-        let last : Option (List Value) = Some (values_at places p.first.row) in
-        record {
-          rows = map values_of front;
-          last = last;
-          final = w.out p.first.row;
-          members = members front (p ∷ rest) split hold last before_it none_holds none_before;
-          ascending = ascending front (p ∷ rest) split hold last before_it none_holds none_before;
-          each = each front (p ∷ rest) split hold last before_it none_holds none_before;
-          ending = EndsParts.out p.first.row refl (part_doubts p p_there doubt) (subst (IsBelow limit) (sym (as_many front)) below) refl past;
-          whole = told ∙ ap (λ t. t ++ w.out p.first.row) (lines_of w front);
-        }
+        made front (p ∷ rest) split hold (Some (values_at places p.first.row)) before_it none_holds none_before w limit (w.out p.first.row) text status
+        (EndsLines.out p.first.row refl (part_doubts p p_there doubt) (subst (IsBelow limit) (sym (as_many front)) below) refl past) told
 
   -- all of them
   ended : (w : Wording Value) (limit : Option ℕ) (text : List ℕ) (status : Status) → AllHold parts → IsBelow limit (length parts)
       → text ≡ part_lines w parts ++ w.end → status ≡ Done → AreWritten w limit text status
   ended w limit text status hold below told done =
-      let none : (p : Part) → Contains [] p → ⊥ = λ p m. Contains-nil p m in
-      let split : parts ≡ parts ++ [] = sym (append-nil parts) in
-      record {
-        rows = map values_of parts;
-        last = None;
-        final = w.end;
-        members = members parts [] split hold None (λ p m. tt) (λ p m t n. none p m) (λ p m c. none p m);
-        ascending = ascending parts [] split hold None (λ p m. tt) (λ p m t n. none p m) (λ p m c. none p m);
-        each = each parts [] split hold None (λ p m. tt) (λ p m t n. none p m) (λ p m c. none p m);
-        ending = EndsParts.complete refl (subst (IsBelow limit) (sym (as_many parts)) below) refl done;
-        whole = told ∙ ap (λ t. t ++ w.end) (lines_of w parts);
-      }
+      made parts [] (sym (append-nil parts)) hold None (λ p m. tt) (λ p m t n. Contains-nil p m) (λ p m c. Contains-nil p m) w limit w.end text status
+      (EndsLines.complete refl (subst (IsBelow limit) (sym (as_many parts)) below) refl done) told
 
   pub are_written : (w : Wording Value) (limit : Option ℕ) (text : List ℕ) (status : Status) → HasLimit limit → ArePartsWritten w limit parts text status → AreWritten w limit text status
   are_written w limit text status some (ArePartsWritten.pauses front rest split hold full told done) = elim (last_or_none front) [
@@ -303,7 +268,7 @@ module _ (e : Environment) (a : Schema) (ranges : List (List Value)) (start : Op
   are_written w limit text status some (ArePartsWritten.breaks front p rest split hold doubt below told past) = broken w limit text status front p rest split hold doubt below told past
   are_written w limit text status some (ArePartsWritten.ends hold below told done) = ended w limit text status hold below told done
 
-pub each_part_of : (names : List ℕ) (r : Request) (g : List Defined) (a : Schema) (e : Environment) (p : Portion) (text : List ℕ) (status : Status)
+each_part_of : (names : List ℕ) (r : Request) (g : List Defined) (a : Schema) (e : Environment) (p : Portion) (text : List ℕ) (status : Status)
     → HasLimit r.limit → ShowsParts names r g a e p text status
     → ShowsEachPart names r g a e p text status
 each_part_of names r g a e p text status some s =
@@ -327,3 +292,7 @@ each_part_of names r g a e p text status some s =
       ending = w.ending;
       written = w.whole;
     }
+
+pub each_part_is_shown : EachPartIsShown
+each_part_is_shown r names file source g a e p text status some limited granted answer =
+    each_part_of names r g a e p text status limited (shown_told (Some names) r file source g a e p text status some granted answer)

@@ -1,16 +1,8 @@
 -- What `why` tells of a search is one first event, or one cause but for which minimal set of conjuncts; and there is something to tell.
-use Rattle.law_answered.proofs.Prelude.{◌++◌, ◌+◌, ◌∙◌, ◌∷◌, ◌≡◌, ◌≤◌, ◌⊎◌, [], All-cons, All-contains, All-nil, ap, arith, Bool, false, inl, inr, length, List, None, Option, refl, Some, subst, sym, ℕ, IsTrue, AllByRecursion, Contains, Contains-head, Contains-nil, Event, IsEvent, Out, True, value_order, Value, Comp, Defined, Schema, sets_of, one_bounds, Environment, Portion, property, spellings, HasEvents, IsWritten, lines, Status, PastBounds, empty_lines, TellsConjuncts, TellsWhy, told_lines, HasSome, Format, no_binding_line, row_wording, satisfied_line, Wording}
-use Rattle.std.proofs.lemmas.List.{length-append}
-use Rattle.zf_lines.specs.declared.fault.Status.TheVariants.{Done}
-use Rattle.zf_cores.specs.{chosen_of}
-use Rattle.law_exists.proofs.Ranges.{some_ranges}
-use Rattle.law_exists.proofs.Searches.{some_search}
-use Rattle.zf_why.specs.{EmptiedBy, nothing_beside, others_beside, RefutedBy, RefutedTogetherBy, RuleOut}
-use Rattle.zf_why.proofs.Decided.{event_of}
+use Rattle.law_answered.proofs.Prelude.{◌++◌, ◌+◌, ◌∙◌, ◌∷◌, ◌≡◌, ◌≤◌, ◌⊎◌, [], All-cons, All-contains, All-nil, ap, arith, Bool, false, inl, inr, length, List, None, Option, refl, Some, subst, sym, ℕ, IsTrue, AllByRecursion, Contains, Contains-head, Contains-nil, Event, IsEvent, Out, True, value_order, Value, Comp, Defined, Schema, sets_of, one_bounds, Environment, Portion, property, spellings, HasEvents, IsWritten, lines, Status, PastBounds, empty_lines, TellsConjuncts, TellsWhy, told_lines, HasSome, Format, no_binding_line, row_wording, satisfied_line, Wording, Done, EmptiedBy, RefutedBy, RefutedTogetherBy, ResolvedTree, RuleOut, chosen_of, event_of, length-append, nothing_beside, others_beside, some_ranges, some_search}
 use Rattle.law_answered.proofs.OneCause.{no_row_when_empty, not_both, same_alone, same_empty}
 use Rattle.law_answered.proofs.OneSearch.{one_search}
 use Rattle.law_answered.proofs.SomeCause.{some_cause, some_told_lines}
-use Rattle.zf_term.specs.{ResolvedTree}
 
 -- ---- as `show` would have it, with one binding at most
 
@@ -67,78 +59,61 @@ module _ (f : Format) (details : Bool) (file source : List ℕ) (g : List Define
     pub statuses : s ≡ t
     pub reasons : AreOneReason one two
 
+  -- the line of the first row, by its status
+  abbrev first_line : Status → List Value → List ℕ
+  first_line Done row = telling.line row ++ satisfied_line f
+  first_line _ row = telling.out row
+
+  -- of none the cause is reported
+  abbrev TellsCause : (text : List ℕ) → Type 0
+  TellsCause text = ((m : List Bool) × EmptiedBy e a p.held m × (text ≡ empty_lines f file (chosen_of a.comps m) ++ no_binding_line f))
+      ⊎ (((m : List Bool) × RefutedBy e a p.held m × TellsConjuncts f details file source a e p.held nothing_beside m text)
+      ⊎ ((m : List Bool) × RefutedTogetherBy e a p.held m × TellsConjuncts f details file source a e p.held (others_beside a.conjuncts m) m text))
+
+  abbrev TellsOf : (last : Option (List Value)) → (text : List ℕ) → Status → Type 0
+  TellsOf (Some row) text status = text ≡ first_line status row
+  TellsOf None text status = TellsCause text
+
+  told_of : (text : List ℕ) (status : Status) → TellsWhy f details file source g a e p text status
+      → (last : Option (List Value)) × IsSeen last status × TellsOf last text status
+  told_of text status (TellsWhy.satisfied ev listed true told done) =
+      (Some ev.row, seen_first ev status listed true done, told ∙ ap (λ (s : Status). first_line s ev.row) (sym done))
+  told_of text status (TellsWhy.doubtful ev listed out told past) =
+      (Some ev.row, seen_out ev status listed out past, told ∙ ap (λ (s : Status). first_line s ev.row) (sym past))
+  told_of text status (TellsWhy.emptied m none cause told done) = (None, seen_none status none done, inl (m, cause, told))
+  told_of text status (TellsWhy.refuted m none cause told done) = (None, seen_none status none done, inr (inl (m, cause, told)))
+  told_of text status (TellsWhy.refuted_together m none cause told done) = (None, seen_none status none done, inr (inr (m, cause, told)))
+
   module _ (one two : List ℕ) (s t : Status) where
-    -- a first event and none
-    some_and_none : (row : List Value) → IsSeen (Some row) s → IsSeen None t → AreOneTold one two s t
-    some_and_none row x y = let same = one_seen (Some row) None s t x y in absurd (let z : Some row ≡ None = same.0 in cc)
+    one_cause : TellsCause one → TellsCause two → AreOneReason one two
+    one_cause (inl (m, x, is)) (inl (n, y, also)) =
+        inl (is ∙ ap (λ (z : List Bool). empty_lines f file (chosen_of a.comps z) ++ no_binding_line f) (same_empty e a p.held m n x y) ∙ sym also)
+    one_cause (inl (m, x, is)) (inr (inl (n, y, also))) = absurd (no_row_when_empty e a p.held m x y.0)
+    one_cause (inl (m, x, is)) (inr (inr (n, y, also))) = absurd (no_row_when_empty e a p.held m x y.2)
+    one_cause (inr (inl (m, x, is))) (inl (n, y, also)) = absurd (no_row_when_empty e a p.held n y x.0)
+    one_cause (inr (inl (m, x, is))) (inr (inl (n, y, also))) =
+        inr (inl (
+          n,
+          y,
+          subst (λ (z : List Bool). TellsConjuncts f details file source a e p.held nothing_beside z one)
+              (same_alone e a p.held m n x y) is,
+          also,
+        ))
+    one_cause (inr (inl (m, x, is))) (inr (inr (n, y, also))) = absurd (not_both e a p.held m n x y)
+    one_cause (inr (inr (m, x, is))) (inl (n, y, also)) = absurd (no_row_when_empty e a p.held n y x.2)
+    one_cause (inr (inr (m, x, is))) (inr (inl (n, y, also))) = absurd (not_both e a p.held n m y x)
+    one_cause (inr (inr (m, x, is))) (inr (inr (n, y, also))) = inr (inr (m, n, x, y, is, also))
 
-    none_and_some : (row : List Value) → IsSeen None s → IsSeen (Some row) t → AreOneTold one two s t
-    none_and_some row x y = let same = one_seen None (Some row) s t x y in absurd (let z : None ≡ Some row = same.0 in cc)
-
-    same_row : (of : List Value → List ℕ) (row other : List Value) → IsSeen (Some row) s → IsSeen (Some other) t → one ≡ of row → two ≡ of other → AreOneTold one two s t
-    same_row of row other x y told other_told =
-        let same = one_seen (Some row) (Some other) s t x y in
-        let rows : row ≡ other = let z : Some row ≡ Some other = same.0 in cc in
-        record { statuses = same.1; reasons = inl (told ∙ ap of rows ∙ sym other_told) }
-
-    same_lines : (of : List Bool → List ℕ) (m n : List Bool) → s ≡ Done → t ≡ Done → m ≡ n → one ≡ of m → two ≡ of n → AreOneTold one two s t
-    same_lines of m n done other_done same told other_told = record { statuses = done ∙ sym other_done; reasons = inl (told ∙ ap of same ∙ sym other_told) }
-
-    apart_statuses : s ≡ Done → t ≡ PastBounds → s ≡ t → AreOneTold one two s t
-    apart_statuses done past same = absurd (let z : Done ≡ PastBounds = sym done ∙ same ∙ past in cc)
-
-    apart_other_way : s ≡ PastBounds → t ≡ Done → s ≡ t → AreOneTold one two s t
-    apart_other_way past done same = absurd (let z : PastBounds ≡ Done = sym past ∙ same ∙ done in cc)
+    one_last : (last : Option (List Value)) → s ≡ t → TellsOf last one s → TellsOf last two t → AreOneReason one two
+    one_last (Some row) same told also = inl (told ∙ ap (λ (u : Status). first_line u row) same ∙ sym also)
+    one_last None same told also = one_cause told also
 
     pub one_told : TellsWhy f details file source g a e p one s → TellsWhy f details file source g a e p two t → AreOneTold one two s t
-    one_told (TellsWhy.satisfied ev listed true told done) (TellsWhy.satisfied other other_listed other_true other_told other_done) =
-        same_row (λ row. telling.line row ++ satisfied_line f) ev.row other.row (seen_first ev s listed true done) (seen_first other t other_listed other_true other_done) told other_told
-    one_told (TellsWhy.satisfied ev listed true told done) (TellsWhy.doubtful other other_listed out other_told past) =
-        apart_statuses done past (one_seen (Some ev.row) (Some other.row) s t (seen_first ev s listed true done) (seen_out other t other_listed out past)).1
-    one_told (TellsWhy.satisfied ev listed true told done) (TellsWhy.emptied m none cause other_told other_done) = some_and_none ev.row (seen_first ev s listed true done) (seen_none t none other_done)
-    one_told (TellsWhy.satisfied ev listed true told done) (TellsWhy.refuted m none cause other_told other_done) = some_and_none ev.row (seen_first ev s listed true done) (seen_none t none other_done)
-    one_told (TellsWhy.satisfied ev listed true told done) (TellsWhy.refuted_together m none cause other_told other_done) =
-        some_and_none ev.row (seen_first ev s listed true done) (seen_none t none other_done)
-    one_told (TellsWhy.doubtful ev listed out told past) (TellsWhy.satisfied other other_listed true other_told done) =
-        apart_other_way past done (one_seen (Some ev.row) (Some other.row) s t (seen_out ev s listed out past) (seen_first other t other_listed true done)).1
-    one_told (TellsWhy.doubtful ev listed out told past) (TellsWhy.doubtful other other_listed other_out other_told other_past) =
-        same_row telling.out ev.row other.row (seen_out ev s listed out past) (seen_out other t other_listed other_out other_past) told other_told
-    one_told (TellsWhy.doubtful ev listed out told past) (TellsWhy.emptied m none cause other_told done) = some_and_none ev.row (seen_out ev s listed out past) (seen_none t none done)
-    one_told (TellsWhy.doubtful ev listed out told past) (TellsWhy.refuted m none cause other_told done) = some_and_none ev.row (seen_out ev s listed out past) (seen_none t none done)
-    one_told (TellsWhy.doubtful ev listed out told past) (TellsWhy.refuted_together m none cause other_told done) = some_and_none ev.row (seen_out ev s listed out past) (seen_none t none done)
-    one_told (TellsWhy.emptied m none cause told done) (TellsWhy.satisfied other other_listed true other_told other_done) = none_and_some other.row
-        (seen_none s none done) (seen_first other t other_listed true other_done)
-    one_told (TellsWhy.emptied m none cause told done) (TellsWhy.doubtful other other_listed out other_told past) = none_and_some other.row
-        (seen_none s none done) (seen_out other t other_listed out past)
-    one_told (TellsWhy.emptied m none cause told done) (TellsWhy.emptied n other_none other_cause other_told other_done) =
-        same_lines (λ z. empty_lines f file (chosen_of a.comps z) ++ no_binding_line f) m n done other_done (same_empty e a p.held m n cause other_cause) told other_told
-    one_told (TellsWhy.emptied m none cause told done) (TellsWhy.refuted n other_none other_cause other_told other_done) = absurd (no_row_when_empty e a p.held m cause other_cause.0)
-    one_told (TellsWhy.emptied m none cause told done) (TellsWhy.refuted_together n other_none other_cause other_told other_done) = absurd (no_row_when_empty e a p.held m cause other_cause.2)
-    one_told (TellsWhy.refuted m none cause told done) (TellsWhy.satisfied other other_listed true other_told other_done) = none_and_some other.row
-        (seen_none s none done) (seen_first other t other_listed true other_done)
-    one_told (TellsWhy.refuted m none cause told done) (TellsWhy.doubtful other other_listed out other_told past) = none_and_some other.row
-        (seen_none s none done) (seen_out other t other_listed out past)
-    one_told (TellsWhy.refuted m none cause told done) (TellsWhy.emptied n other_none other_cause other_told other_done) = absurd (no_row_when_empty e a p.held n other_cause cause.0)
-    one_told (TellsWhy.refuted m none cause told done) (TellsWhy.refuted n other_none other_cause other_told other_done) =
-        record {
-          statuses = done ∙ sym other_done;
-          reasons = inr (inl (
-            n,
-            other_cause,
-            subst (λ (z : List Bool). TellsConjuncts f details file source a e p.held nothing_beside z one)
-                (same_alone e a p.held m n cause other_cause) told,
-            other_told,
-          ));
-        }
-    one_told (TellsWhy.refuted m none cause told done) (TellsWhy.refuted_together n other_none other_cause other_told other_done) = absurd (not_both e a p.held m n cause other_cause)
-    one_told (TellsWhy.refuted_together m none cause told done) (TellsWhy.satisfied other other_listed true other_told other_done) =
-        none_and_some other.row (seen_none s none done) (seen_first other t other_listed true other_done)
-    one_told (TellsWhy.refuted_together m none cause told done) (TellsWhy.doubtful other other_listed out other_told past) = none_and_some other.row
-        (seen_none s none done) (seen_out other t other_listed out past)
-    one_told (TellsWhy.refuted_together m none cause told done) (TellsWhy.emptied n other_none other_cause other_told other_done) = absurd (no_row_when_empty e a p.held n other_cause cause.2)
-    one_told (TellsWhy.refuted_together m none cause told done) (TellsWhy.refuted n other_none other_cause other_told other_done) = absurd (not_both e a p.held n m other_cause cause)
-    one_told (TellsWhy.refuted_together m none cause told done) (TellsWhy.refuted_together n other_none other_cause other_told other_done) =
-        record { statuses = done ∙ sym other_done; reasons = inr (inr (m, n, cause, other_cause, told, other_told)) }
+    one_told u v =
+        let x = told_of one s u in
+        let y = told_of two t v in
+        let same = one_seen x.0 y.0 s t x.1 y.1 in
+        record { statuses = same.1; reasons = one_last y.0 same.1 (subst (λ (last : Option (List Value)). TellsOf last one s) same.0 x.2) y.2 }
 
   -- ---- there is something to tell
 

@@ -1,5 +1,5 @@
 -- Lists of rows, and of events: what stands in a front, at the end, and the order of two lists that ascend.
-use Rattle.law_answered.proofs.Prelude.{◌++◌, ◌∙◌, ◌∷◌, ◌≡◌, ◌≤◌, ◌⊎◌, [], ap, arith, inl, inr, length, List, refl, subst, suc, sym, zero, All-head, All-tail, All, AllPairs, Contains, AllPairs-cons, AllPairs-head, AllPairs-nil, AllPairs-tail, Contains-cases, Contains-head, Contains-later, Contains-left}
+use Rattle.law_answered.proofs.Prelude.{◌++◌, ◌∙◌, ◌∷◌, ◌≡◌, ◌≤◌, ◌⊎◌, [], ap, arith, inl, inr, length, List, refl, subst, suc, sym, zero, All-head, All-tail, All, AllPairs, Contains, AllPairs-head, AllPairs-tail, Contains-cases, Contains-head, Contains-later}
 
 -- ---- fronts
 
@@ -37,10 +37,6 @@ All-front P (x ∷ xs) ys h zero d l = All-head P x (xs ++ ys) h
 All-front P (x ∷ xs) ys h (suc k) d l = All-front P xs ys (All-tail P x (xs ++ ys) h) k d (omega arith)
 
 module _ {X : Type 0} (R : X → X → Type 0) where
-  pub AllPairs-front : (xs ys : List X) → AllPairs R (xs ++ ys) → AllPairs R xs
-  AllPairs-front [] ys o = AllPairs-nil R
-  AllPairs-front (x ∷ xs) ys o = AllPairs-cons R x xs (λ y m. AllPairs-head R x (xs ++ ys) o y (Contains-left xs ys y m)) (AllPairs-front xs ys (AllPairs-tail R x (xs ++ ys) o))
-
   -- of two ascending lists, each of which has what comes before a member and stands in the other, one begins with the other
   pub one_begins : ((x y : X) → R x y → R y x → ⊥) → (xs ys : List X) → AllPairs R xs → AllPairs R ys
       → ((x y : X) → Contains xs x → Contains ys y → (x ≡ y) ⊎ (R x y ⊎ R y x))

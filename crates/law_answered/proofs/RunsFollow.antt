@@ -1,12 +1,8 @@
 -- Runs that follow each other make one.
-use Rattle.law_answered.proofs.Prelude.{◌++◌, ◌↔◌, ◌∙◌, ◌∷◌, ◌≡◌, [], ap, append-nil, Bool, false, inr, length, List, map, None, Option, refl, Some, subst, sym, ℕ, length-map, flat_map-map, flat_map, Contains, Event, True, exact, value_order, Value, Defined, Schema, Environment, binding_text, spellings, one_ranges, behind, Portion, property, AreEventsUpTo, HasEvents, Hold, IsTestsLine, IsWritten, lines, Status, property_told, IsLineOf, IsSearch, Request, RequestAnswer, EndsLines, IsBefore, IsBinding, IsInDoubt, IsNotPast, ShowsBindings, AnswersRequest, IsGranted, ShowsEvents, limited, resumed, RunsMakeOne, together, Comp, Format, row_wording, Wording, wording, AreShown, row_after, TellsShown}
-use Rattle.zf_format.specs.declared.format.Format.TheVariants.{Lines, Objects}
-use Rattle.std.specs.Prelude.{codes}
-use Rattle.zf_print.specs.{row_text}
-use Rattle.zf_print.specs.declared.spelling.Spelling.{Spelling}
-use Rattle.zf_value.specs.contracts.plain.ValueOrd.TheImpl.Laws as order_laws
+use Rattle.law_answered.proofs.Prelude.{◌++◌, ◌↔◌, ◌∙◌, ◌∷◌, ◌≡◌, [], ap, append-nil, Bool, false, inr, length, List, map, None, Option, refl, Some, subst, sym, ℕ, length-map, flat_map-map, flat_map, Contains, Event, True, exact, value_order, Value, Defined, Schema, Environment, binding_text, spellings, behind, Portion, property, AreEventsUpTo, HasEvents, Hold, IsTestsLine, IsWritten, lines, Status, property_told, IsLineOf, IsSearch, Request, RequestAnswer, EndsLines, IsBefore, IsBinding, IsInDoubt, IsNotPast, ShowsBindings, AnswersRequest, IsGranted, ShowsEvents, limited, resumed, RunsMakeOne, together, Comp, Format, row_wording, Wording, wording, AreShown, row_after, TellsShown, Lines, Objects, Spelling, codes, row_text, AreHeld, IsNamedRow, total-law}
 use Rattle.law_resumed.specs.{LinesAreRows}
-use Rattle.law_answered.proofs.Joined.{both_listed, both_written, last_event, last_is_event, rows_are_events, rows_hold}
+use Rattle.law_answered.proofs.Joined.{as_events, both_listed, both_written, last_event}
+use Rattle.law_answered.proofs.OneSearch.{listed_in}
 use Rattle.law_answered.proofs.Shown.{binding_event, doubt_event, events_are_shown}
 use Rattle.law_answered.proofs.WrittenRows.{with_truth}
 
@@ -28,7 +24,7 @@ rows_apart Objects ss comps row e = no_more_object (row_text Objects ss comps ro
 
 -- where the last line is `more`, as many rows as the limit are written, and the last of them is the last that was looked at
 paused : {V : Type 0} (InDoubt : List V → Type 0) (telling : Wording V) (limit : Option ℕ) (rows : List (List V)) (last : Option (List V)) (final : List ℕ) (status : Status) (row : List V)
-    → TellsApart telling → EndsLines InDoubt telling limit rows last final status → final ≡ telling.more → last ≡ Some row
+    → TellsApart telling → EndsLines (λ row. row) InDoubt telling limit rows last final status → final ≡ telling.more → last ≡ Some row
     → ((front : List (List V)) × (rows ≡ front ++ row ∷ [])) × (limit ≡ Some (length rows))
 paused InDoubt telling limit rows last final status row apart (EndsLines.enough front r split up reached told done) more at =
     let same : r ≡ row = (let q : Some r ≡ Some row = sym up ∙ at in cc) in
@@ -37,6 +33,21 @@ paused InDoubt telling limit rows last final status row apart (EndsLines.out r u
 paused InDoubt telling limit rows last final status row apart (EndsLines.complete none below told done) more at = absurd (let q : None ≡ Some row = sym none ∙ at in cc)
 
 -- ---- both runs
+
+-- the same request with another named row and another limit
+abbrev changed : Option (List ℕ) → Option ℕ → Request → Request
+changed after limit r =
+    record {
+      name = r.name;
+      setting = r.setting;
+      after = after;
+      held = r.held;
+      only = r.only;
+      limit = limit;
+      tests = r.tests;
+      details = r.details;
+      format = r.format;
+    }
 
 module _ (resuming : LinesAreRows) (r : Request) (n : ℕ) (limit : Option ℕ) (file source : List ℕ) (g : List Defined) (a : Schema) (e : Environment) (p : Portion)
     (first second : List ℕ) (s t : Status) (run : ShowsBindings (limited (Some n) r) g a e p first s) (row : List Value) (granted : IsGranted r source g a e p)
@@ -59,72 +70,63 @@ module _ (resuming : LinesAreRows) (r : Request) (n : ℕ) (limit : Option ℕ) 
   abbrev events : List (Event Value)
   events = map (λ x. with_truth x True) run.rows
 
-  listed : AreEventsUpTo value_order (property e a.conjuncts) run.ranges p.after (Some row) events
-  listed = rows_are_events value_order order_laws.total-law exact (property e a.conjuncts) run.ranges p.after (property_told e a.conjuncts)
-      (IsBinding e a run.ranges p.after) (IsInDoubt e a run.ranges p.after)
+  as_found : AreEventsUpTo value_order (property e a.conjuncts) run.ranges p.after (Some row) events
+      × ((x : Event Value) × Contains events x × (x.row ≡ row)) × Hold events
+  as_found =
+      as_events value_order total-law exact (property e a.conjuncts) run.ranges p.after (property_told e a.conjuncts) (IsBinding e a run.ranges p.after)
+      (IsInDoubt e a run.ranges p.after)
       (binding_event e a run.ranges p.after) (doubt_event e a run.ranges p.after) run.rows as_many.0.0 row as_many.0.1 members run.ascending certain
 
   row_event : (x : Event Value) × Contains events x × (x.row ≡ row)
-  row_event = last_is_event value_order order_laws.total-law exact (property e a.conjuncts) run.ranges p.after (property_told e a.conjuncts)
-      (IsBinding e a run.ranges p.after) (IsInDoubt e a run.ranges p.after)
-      (binding_event e a run.ranges p.after) (doubt_event e a run.ranges p.after) run.rows as_many.0.0 row as_many.0.1 members run.ascending certain
+  row_event = as_found.1
 
-  hold : Hold events
-  hold = rows_hold value_order order_laws.total-law exact (property e a.conjuncts) run.ranges p.after (property_told e a.conjuncts)
-      (IsBinding e a run.ranges p.after) (IsInDoubt e a run.ranges p.after)
-      (binding_event e a run.ranges p.after) (doubt_event e a run.ranges p.after) run.rows as_many.0.0 row as_many.0.1 members run.ascending certain
-
-  search : IsSearch r source g a e p
-  search = record {
-    asked = record { has_schema = granted.has_schema; small = granted.small; complete = granted.complete; environment = granted.environment; finite = granted.finite };
-    shown = granted.shown;
-    after = granted.after;
-    are_shown = granted.are_shown;
-    named = granted.named;
-    begins = granted.begins;
-    held = granted.held;
-    none_out = granted.none_out;
-  }
+  -- a search of the same request but for the named row and the limit
+  searched : (text : Option (List ℕ)) (bound : Option ℕ) (shown : List Comp) (after : Option (List Value)) (start : Portion) → AreShown a.comps r.only shown
+      → IsNamedRow e shown text after → start.after ≡ row_after r.only after → AreHeld e a.comps r.held start.held
+      → IsSearch (changed text bound r) source g a e start
+  searched text bound shown after start are named begins held =
+      let asked = granted.asked in
+      record {
+        asked =
+            record { has_schema = asked.has_schema; small = asked.small; complete = asked.complete; environment = asked.environment; finite = asked.finite };
+        shown = shown;
+        after = after;
+        are_shown = are;
+        named = named;
+        begins = begins;
+        held = held;
+        none_out = granted.none_out;
+      }
 
   -- the text of the last row names it
   named : IsLineOf e a.comps (binding_text (spellings g) a.comps row) row
   named =
-      let has : HasEvents e a p (Some row) events = record { ranges = run.ranges; of_components = run.of_components; listed = listed } in
-      let line_of = resuming r source g a e p (Some row) events row_event.0 search has row_event.1 in
-      subst (λ h. IsLineOf e a.comps (binding_text (spellings h) a.comps row) row) granted.environment.0
+      let has : HasEvents e a p (Some row) events = record { ranges = run.ranges; of_components = run.of_components; listed = as_found.0 } in
+      let line_of = resuming r source g a e p (Some row) events row_event.0 granted has row_event.1 in
+      let environment = granted.asked.environment in
+      subst (λ h. IsLineOf e a.comps (binding_text (spellings h) a.comps row) row) environment.0
       (subst (λ x. IsLineOf e a.comps (binding_text (spellings e.globals) a.comps x) x) row_event.2 line_of)
 
   next_granted : IsGranted next source g a e (behind row p)
-  next_granted = record {
-    has_schema = record { checks = granted.has_schema.checks; named = granted.has_schema.named };
-    small = granted.small;
-    complete = granted.complete;
-    environment = granted.environment;
-    finite = granted.finite;
-    shown = a.comps;
-    after = Some row;
-    are_shown = subst (λ o. AreShown a.comps o a.comps) (sym all) refl;
-    named = named;
-    begins = sym (ap (λ o. row_after o (Some row)) all);
-    held = granted.held;
-    none_out = granted.none_out;
-  }
+  next_granted =
+      searched (Some (binding_text (spellings g) a.comps row)) limit a.comps (Some row) (behind row p)
+      (subst (λ o. AreShown a.comps o a.comps) (sym all) refl) named
+      (sym (ap (λ o. row_after o (Some row)) all)) granted.held
 
   no_tests : (tests : Bool) (start : Portion) (last : Option (List Value)) (counted : List ℕ) → tests ≡ false → IsTestsLine telling tests e a start last counted → counted ≡ []
   no_tests tests start last counted none told = subst (λ b. IsTestsLine telling b e a start last counted) none told
 
   module _ (shown : ShowsEvents next g a e (behind row p) second t) where
-    same_ranges : shown.listed.ranges ≡ run.ranges
-    same_ranges = let there = shown.listed in one_ranges e a p.held there.ranges run.ranges there.of_components run.of_components
-
     there_listed : AreEventsUpTo value_order (property e a.conjuncts) run.ranges (Some row) shown.last shown.events
-    there_listed = let there = shown.listed in subst (λ ranges. AreEventsUpTo value_order (property e a.conjuncts) ranges (Some row) shown.last shown.events) same_ranges there.listed
+    there_listed = listed_in e a (behind row p) run.ranges run.of_components shown.last shown.events shown.listed
 
     both_have : HasEvents e a p shown.last (events ++ shown.events)
     both_have = record {
       ranges = run.ranges;
       of_components = run.of_components;
-      listed = both_listed value_order order_laws.total-law exact (property e a.conjuncts) run.ranges p.after row shown.last events shown.events listed there_listed row_event
+      listed =
+          both_listed value_order total-law exact
+          (property e a.conjuncts) run.ranges p.after row shown.last events shown.events as_found.0 there_listed row_event
           (last_event telling limit shown.events shown.last shown.lines t shown.ends);
     }
 
@@ -133,7 +135,7 @@ module _ (resuming : LinesAreRows) (r : Request) (n : ℕ) (limit : Option ℕ) 
 
     both_end : IsWritten telling (together n limit) (events ++ shown.events) shown.last (lines telling events ++ shown.lines) t
     both_end = subst (λ l. IsWritten telling l (events ++ shown.events) shown.last (lines telling events ++ shown.lines) t) limits
-        (both_written telling limit events shown.events shown.last shown.lines t hold shown.ends)
+        (both_written telling limit events shown.events shown.last shown.lines t as_found.2 shown.ends)
 
     text_of_both : flat_map telling.line run.rows ++ second ≡ (lines telling events ++ shown.lines) ++ []
     text_of_both =
@@ -143,23 +145,7 @@ module _ (resuming : LinesAreRows) (r : Request) (n : ℕ) (limit : Option ℕ) 
         ∙ sym (append-nil (lines telling events ++ shown.lines))
 
     both_searched : IsSearch (limited (together n limit) r) source g a e p
-    both_searched = record {
-      asked = record {
-        has_schema = record { checks = granted.has_schema.checks; named = granted.has_schema.named };
-        small = granted.small;
-        complete
-            = granted.complete;
-        environment = granted.environment;
-        finite = granted.finite;
-      };
-      shown = granted.shown;
-      after = granted.after;
-      are_shown = granted.are_shown;
-      named = granted.named;
-      begins = granted.begins;
-      held = granted.held;
-      none_out = granted.none_out;
-    }
+    both_searched = searched r.after (together n limit) granted.shown granted.after p granted.are_shown granted.named granted.begins granted.held
 
     both_events : ShowsEvents (limited (together n limit) r) g a e p (flat_map telling.line run.rows ++ second) t
     both_events = record {

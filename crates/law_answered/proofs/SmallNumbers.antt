@@ -1,12 +1,9 @@
 -- Numbers are small, or too large: then the set of all of them is out of bounds.
-use Rattle.law_answered.proofs.Prelude.{◌↔◌, ◌⊎◌, inl, inr, None, Option, Some, ℕ, AreSmall, AreTooLarge}
-use Rattle.std.proofs.Common.{arith, pos}
-use Rattle.std.proofs.lemmas.Bool.{cases_lt}
+use Rattle.law_answered.proofs.Prelude.{◌↔◌, ◌⊎◌, inl, inr, None, Option, Some, ℕ, AreSmall, AreTooLarge, IsNumberSet, arith, cases_lt, least, pos}
 use Rattle.std.proofs.lemmas.Int.{ints}
 use Rattle.zf_term.specs.declared.extent.Infinite.TheVariants.{Num}
 use Rattle.zf_value.specs.declared.value.Outcome.TheVariants.{Out}
 use Rattle.zf_value.proofs.Intervals.{interval_not_out, interval_out}
-use Rattle.zf_meaning.specs.{IsNumberSet, least}
 use Rattle.zf_engine.specs.declared.numbers.TheConstants.{NUMBERS_MAX}
 
 pub small_or_too_large : (numbers : Option ℕ) → AreSmall numbers ⊎ AreTooLarge numbers

@@ -1,17 +1,9 @@
 -- A schema without a binding has a cause.
-use Rattle.law_answered.proofs.Prelude.{◌+◌, ◌++◌, ◌∷◌, ◌≡◌, ◌⊎◌, [], ap, arith, Bool, false, inl, inr, length, List, None, Option, refl, Some, subst, suc, sym, true, zero, ℕ, slice_get, Contains-head, Contains-nil, Event, value_order, Value, Comp, Environment, Decided, HasSome, portion, property}
-use Rattle.std.specs.Prelude.{replicate, slice_set}
-use Rattle.zf_term.specs.{ResolvedTree, term_line}
-use Rattle.zf_walk.specs.{IsEvents}
-use Rattle.zf_ranges.specs.{AreRanges, first_held, later_held}
-use Rattle.law_exists.proofs.Searches.{some_list}
-use Rattle.zf_cores.specs.{chosen_of, HasChosen, IsChosen, IsFewer, IsLeft, IsMinimal}
+use Rattle.law_answered.proofs.Prelude.{◌+◌, ◌++◌, ◌∷◌, ◌≡◌, ◌⊎◌, [], ap, arith, Bool, false, inl, inr, length, List, None, Option, refl, Some, subst, suc, sym, true, zero, ℕ, slice_get, Contains-head, Contains-nil, Event, value_order, Value, Comp, Environment, Decided, HasSome, portion, property, AreRanges, HasChosen, IsChosen, IsEvents, IsFewer, IsLeft, IsMinimal, ResolvedTree, chosen_of, event_of, first_held, held_later, later_held, replicate, row_at, slice_set, some_list, some_row, term_line}
 use Rattle.zf_cores.proofs.Choosing.{all_chosen}
 use Rattle.zf_cores.proofs.LeftOut.{IsTrimmed, all_tried, drops, keeps, untouched}
 use Rattle.zf_why.specs.{ArePicked, AreTellings, AreTold, EmptiedBy, has_fewer, HasNoValue, HasRow, HasValue, IsInHeldRange, IsTelling, RefutedBy, RefutedTogetherBy, RuleOut, schema_with}
 use Rattle.zf_why.specs.declared.told.Told.{Told}
-use Rattle.zf_why.proofs.Decided.{event_of, row_at}
-use Rattle.zf_why.proofs.Explained.{held_later, some_row}
 use Rattle.zf_why.proofs.Picking.{all_left}
 use Rattle.law_answered.proofs.SomeOperands.{some_operands}
 

@@ -1,26 +1,10 @@
 -- Each exploration has an answer: it is refused at a stage, or what its machine can reach is reported.
-use Rattle.law_answered.proofs.Prelude.{◌∷◌, ◌≡◌, ◌≤◌, ◌⊎◌, [], ap, arith, inl, inr, List, map, None, Option, refl, Some, subst, sym, ℕ, AllByRecursion, AreSmall, BadRequest, BadSpec, causes, Checks, declared_out_line, Defined, Environment, first, finite_without_cause, given_sets, HasLimit, IsFinite, IsFirstOut, IsNoneOut, no_schema_lines, NotFinite, not_finite_lines, numbers_of, numbers_too_large_line, PastBounds, size_fault_lines, spellings, stated, Status, messages_in}
-use Rattle.std.specs.List.{AllZip}
-use Rattle.std.specs.Prelude.{◌++◌, option_to_list}
-use Rattle.zf_command.specs.declared.job.Exploration.{Exploration}
-use Rattle.law_exists.proofs.Ranges.{first_out_or_none}
-use Rattle.law_exists.proofs.Turns.{some_result, some_turns}
+use Rattle.law_answered.proofs.Prelude.{◌∷◌, ◌≡◌, ◌≤◌, ◌⊎◌, [], arith, inl, inr, List, map, None, Option, refl, Some, subst, sym, ℕ, AllByRecursion, AreSmall, BadRequest, BadSpec, Checks, declared_out_line, Defined, Environment, given_sets, HasLimit, IsFinite, IsNoneOut, no_schema_lines, numbers_of, numbers_too_large_line, PastBounds, size_fault_lines, spellings, stated, Status, messages_in, AllZip, AreSchemasOf, CanExplore, Exploration, ExplorationAnswer, ExploresMachine, Fault, Form, HasSchemas, HasShape, IsBounded, IsInit, IsMachineOf, IsOfSchema, IsSchemaOf, IsSearchable, IsSettled, Named, Operation, RefusesExploration, Schemas, Seeks, Spelling, System, TellsInfinite, TellsMachine, TellsNoSchema, TellsOut, all_of, complete_or_refused, ending_status, explored_in, first_out_or_none, form_of, names_of, no_component_line, of_operations, of_test, operation_in, option_to_list, result_status, some_environment, some_result, some_turns, state_of, states_limit, words, ◌++◌}
 use Rattle.zf_graph.proofs.Existing.{somehow_written}
-use Rattle.zf_machines.proofs.Sole.{of_operations, of_test}
-use Rattle.zf_machines.specs.{all_of, HasShape, IsMachineOf, Named, Schemas, state_of}
-use Rattle.zf_steps.specs.declared.form.Form.{Form}
-use Rattle.zf_steps.specs.{CanExplore, explored_in, IsInit, Operation, operation_in, System, words}
-use Rattle.zf_print.specs.declared.spelling.Spelling.{Spelling}
-use Rattle.law_total.proofs.Environments.{some_environment}
-use Rattle.law_total.proofs.StatedSizes.{complete_or_refused}
-use Rattle.zf_engine.specs.{AreSchemasOf, ending_status, ExplorationAnswer, ExploresMachine, form_of, HasSchemas, IsBounded, IsSchemaOf, IsSearchable, IsSettled, names_of, RefusesExploration, result_status, Seeks, states_limit, TellsInfinite, TellsMachine, TellsNoSchema, TellsOut}
-use Rattle.zf_engine.specs.Explorations.{IsOfSchema}
-use Rattle.zf_messages.specs.{no_component_line}
-use Rattle.law_answered.proofs.EveryName.{named_or_none, none_beside}
+use Rattle.law_answered.proofs.EveryName.{finite_or_told, named_or_none}
 use Rattle.law_answered.proofs.FaultLines.{some_lines}
 use Rattle.law_answered.proofs.Machines.{all_or_first, shape_or_lack, some_machine}
 use Rattle.law_answered.proofs.SmallNumbers.{small_or_too_large}
-use Rattle.zf_term.specs.{Fault}
 
 -- ---- the machine
 
@@ -90,11 +74,10 @@ module _ (x : Exploration) (file source : List ℕ) (limited : HasLimit x.limit)
 
       -- one of the schemas has a declared set that is out, and this is reported of it
       out_or_none : (e : Environment) (n : Named) → IsNoneOut e n.schema.comps ⊎ ((b : List ℕ × Status) × TellsOut e n.schema.comps b.0 b.1)
-      out_or_none e n = by (first_out_or_none e n.schema.comps)
-        where
-          by : ((place : ℕ) × IsFirstOut e n.schema.comps place) ⊎ IsNoneOut e n.schema.comps → IsNoneOut e n.schema.comps ⊎ ((b : List ℕ × Status) × TellsOut e n.schema.comps b.0 b.1)
-          by (inr none) = inl none
-          by (inl out) = let here = out.1.here in inr ((declared_out_line here.0.name, PastBounds), (out.0, out.1, (here.0, here.1, refl, refl)))
+      out_or_none e n = elim (first_out_or_none e n.schema.comps) [
+        | inr none ↦ inl none
+        | inl out ↦ let here = out.1.here in inr ((declared_out_line here.0.name, PastBounds), (out.0, out.1, (here.0, here.1, refl, refl)))
+      ]
 
       some_at_sets : (e : Environment) → IsBounded x source g p e → IsAnswered
       some_at_sets e bounded = elim (all_or_first (λ (n : Named). IsNoneOut e n.schema.comps) (λ (b : List ℕ × Status) n. TellsOut e n.schema.comps b.0 b.1) (out_or_none e) (all_of p)) [
@@ -102,17 +85,10 @@ module _ (x : Exploration) (file source : List ℕ) (limited : HasLimit x.limit)
         | inr out ↦ refused out.0.0 out.0.1 (RefusesExploration.declared_out g p e bounded out.1)
       ]
 
-      finite_or_not : (n : Named) → IsFinite (numbers_of x.setting) g n.schema ⊎ ((b : List ℕ × Status) × TellsInfinite (numbers_of x.setting) g n.schema x.details file b.0 b.1)
-      finite_or_not n = by (causes (numbers_of x.setting) g n.schema) refl
-        where
-          by : (them : List NotFinite) → causes (numbers_of x.setting) g n.schema ≡ them
-              → IsFinite (numbers_of x.setting) g n.schema ⊎ ((b : List ℕ × Status) × TellsInfinite (numbers_of x.setting) g n.schema x.details file b.0 b.1)
-          by [] none = inl ((finite_without_cause (numbers_of x.setting) g n.schema).1 none)
-          by (cause ∷ them) some = inr ((not_finite_lines x.details file g cause [], BadSpec), (cause, [], ap first some, none_beside g cause, refl, refl))
-
       some_at_finiteness : IsSettled x source g p → IsAnswered
       some_at_finiteness settled = elim (all_or_first (λ (n : Named). IsFinite (numbers_of x.setting) g n.schema)
-          (λ (b : List ℕ × Status) n. TellsInfinite (numbers_of x.setting) g n.schema x.details file b.0 b.1) finite_or_not (all_of p)) [
+          (λ (b : List ℕ × Status) n. TellsInfinite (numbers_of x.setting) g n.schema x.details file b.0 b.1)
+          (λ n. finite_or_told (numbers_of x.setting) g n.schema x.details file) (all_of p)) [
             | inl finite ↦
                 let e = some_environment g (stated g x.setting) (numbers_of x.setting) settled.complete in
                 some_at_sets e.0 (record { settled = settled; environment = e.1; finite = subst (λ n. AllByRecursion (λ (m : Named). IsFinite n g m.schema) (all_of p)) (sym e.1.3) finite })

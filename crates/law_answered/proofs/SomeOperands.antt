@@ -1,10 +1,6 @@
 -- The operands of a predicate come to something, so there is something to tell of it.
-use Rattle.law_answered.proofs.Prelude.{◌≡◌, Bool, false, List, None, Option, refl, Some, subst, sym, true, pos, Value, Environment, HasSome}
-use Rattle.zf_term.specs.{references, ResolvedTree}
-use Rattle.zf_value.specs.declared.plain.Value.{Int}
-use Rattle.zf_meaning.specs.{Context, in_row}
+use Rattle.law_answered.proofs.Prelude.{◌≡◌, Bool, false, List, None, Option, refl, Some, subst, sym, true, pos, Value, Environment, HasSome, AreOperands, AreOperandsOf, AreOutcomes, AreOutcomesIn, Context, Int, ResolvedTree, are_held, filled, in_row, operands_of, references}
 use Rattle.law_total.proofs.Terms.{some_outcome}
-use Rattle.zf_why.specs.{are_held, AreOperands, AreOperandsOf, AreOutcomes, AreOutcomesIn, filled, operands_of}
 use Rattle.zf_why.proofs.HeldOutcomes.{of_held, other_told}
 
 some_in : (c : Context) (pair : Option (ResolvedTree × ResolvedTree)) → HasSome (AreOutcomesIn c pair)

@@ -1,23 +1,13 @@
 -- What is found where a state is sought, in the words of the schema's bindings.
-use Rattle.law_answered.proofs.Prelude.{◌∙◌, ◌≡◌, ◌⊎◌, [], ap, inl, inr, List, None, Option, Some, subst, sym, ℕ, Comp, Defined, Environment, Schema, spellings, Status, True}
-use Rattle.std.specs.List.{AllZip}
-use Rattle.std.specs.Prelude.{◌++◌, ◌∷◌, option_to_list, unwrap_or}
-use Rattle.zf_command.specs.declared.job.Exploration.{Exploration}
-use Rattle.law_exists.proofs.Turns.{other_has_none}
-use Rattle.zf_graph.proofs.Meeting.{finds_shortest, meets_reachable}
+use Rattle.law_answered.proofs.Prelude.{◌∙◌, ◌≡◌, [], ap, inl, inr, List, None, Option, Some, subst, sym, ℕ, Comp, Defined, Environment, Schema, spellings, Status, True, AllZip, CanExplore, Exploration, IsMachineOf, IsOther, IsSchemaOf, IsSought, Named, Satisfies, SatisfiesAt, Says, Schemas, Seeks, ShowsWay, System, TellsMachine, WhatIsSoughtIsTold, explored_in, finds_shortest, form_of, graph_in, is_of, meets_reachable, option_to_list, other_has_none, sought_in, state_of, states_limit, test_in, unwrap_or, verdict, words, ◌++◌, ◌∷◌}
 use Rattle.zf_graph.specs.{AreOthers, arrive_all, found, inner_edges, IsMet, IsReachable, IsSearched, Met, missing, nodes_of, open_ended, Result, untold, with_edge}
 use Rattle.zf_graph.specs.Seeking as seeking
-use Rattle.zf_machines.specs.{IsMachineOf, Named, Schemas, state_of}
 use Rattle.zf_steps.proofs.Satisfying as steps
-use Rattle.zf_steps.proofs.Sure.{is_of}
 use Rattle.zf_steps.specs.declared.node.Label.{Label}
 use Rattle.zf_steps.specs.declared.node.Node.{Node}
 use Rattle.zf_steps.specs.declared.node.Node.TheVariants.{Root, State}
-use Rattle.zf_steps.specs.{CanExplore, explored_in, IsOther, IsSought, Satisfies, sought_in, System, test_in, verdict, words}
-use Rattle.zf_engine.specs.{form_of, IsSchemaOf, Seeks, states_limit, TellsMachine}
 use Rattle.law_answered.proofs.Reached.{what_is_reached_is_told}
 use Rattle.law_answered.proofs.SomeExploration.{can_be_explored}
-use Rattle.law_answered.specs.{graph_in, SatisfiesAt, Says, ShowsWay, WhatIsSoughtIsTold}
 
 -- ---- the machine that tests states by a schema
 
@@ -35,11 +25,10 @@ module _ (e : Environment) (state : List Comp) (name : List ℕ) (a : Schema) (m
     other_fails (State values) h s = other_has_none m state name a values True can tests h (λ e. cc) (subst (λ (f : Environment). Satisfies f a state values) (sym here) s)
 
     none_of : (met : List (Met Node Label)) → AreOthers (explored_in m) (sought_in m) met → (b : Node) → IsMet met b → P b → ⊥
-    none_of met others b is s = by (others b is)
-      where
-        by : (b ≡ Root) ⊎ IsOther m b → ⊥
-        by (inl root) = subst P root s
-        by (inr other) = other_fails b other s
+    none_of met others b is s = elim (others b is) [
+      | inl root ↦ subst P root s
+      | inr other ↦ other_fails b other s
+    ]
 
     module _ (limit : ℕ) (text : List ℕ) where
       shows_way : IsSearched (explored_in m) (sought_in m) (words m) (verdict m) limit found text → ShowsWay m P text

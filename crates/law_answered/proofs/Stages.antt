@@ -1,105 +1,53 @@
--- An answer of a request by its stages: at each it is refused, or goes on with what the next one stands on.
-use Rattle.law_answered.proofs.Prelude.{slice_get, Value, Comp, Defined, Schema, Fault, first, causes, IsFinite, NotFinite, Environment, IsEnvironment, AreComplete, given_sets, IsRefusal, SizeFault, Portion, portion, IsFirstOut, IsNoneOut, Status, BadRequest, BadSpec, PastBounds, AreHeld, Checks, HasSchema, HoldsNoValues, IsNamed, IsNamedRow, NamesNoRow, Request, RefusesRequest, RequestAnswer, size_fault_lines, stated, declared_out_line, no_schema_lines, not_a_binding_line, not_finite_lines, not_held_line, numbers_too_large_line, AreLines, AreSmall, AreTooLarge, numbers_of, IsAsked, subst, AreMessages, messages_in, AreShown, NamesNoParts, not_components_line, row_after}
-use Rattle.std.proofs.Common.{◌≡◌, ◌≢◌, ℕ, ◌⊎◌, List, [], Option, Some, inl, inr}
-use Rattle.zf_meaning.specs.declared.sizes.SizeFault.TheVariants as size_faults
+-- An answer of a request by its stages: at each it is refused, or goes on with what the next one stands on. Two answers are refused alike, or both tell of one search.
+use Rattle.law_answered.proofs.Prelude.{Value, Comp, Defined, Schema, IsFinite, Environment, IsEnvironment, AreComplete, given_sets, Portion, portion, IsNoneOut, Status, AreHeld, Checks, HasSchema, HoldsNoValues, IsNamed, IsNamedRow, NamesNoRow, Request, RefusesRequest, RequestAnswer, stated, not_a_binding_line, not_held_line, AreSmall, numbers_of, IsAsked, subst, AreMessages, messages_in, AreShown, NamesNoParts, not_components_line, row_after, ◌≡◌, ℕ, ◌⊎◌, List, [], Option, inl, inr, None, Some, TellsFaults, TellsInfinite, TellsMisfit, TellsNoSchema, TellsNumbers, TellsOut, AreMessagesAlike}
+use Rattle.law_answered.proofs.NamedParts.{none_shown, one_list_shown}
+use Rattle.law_answered.proofs.OneSearch.{clear_at, names_at, one_environment_at, one_held, one_named_row}
+use Rattle.law_answered.proofs.OneSource.{one_checked, one_named}
+use Rattle.law_answered.proofs.Refusals.{IfRefused, is_finite, no_misfit, not_out, one_failure, one_ill, one_infinite, one_large, one_misfit, one_no_schema, one_out, TellsPlace, well_typed}
+use Rattle.law_answered.proofs.SmallNumbers.{small_not_too_large}
 
--- ---- the refusals, as lines
-
-module _ (r : Request) (file source text : List ℕ) (status : Status) where
-  pub record IsIllTyped : Type 0 where
-    pub globals : List Defined
-    pub faults : List Fault
-    pub checks : Checks source globals faults
-    pub some : faults ≢ []
-    pub told : AreLines r.details file faults text
-    pub bad : status ≡ BadSpec
-
-  pub record HasNoSchema (g : List Defined) : Type 0 where
-    pub none : (a : Schema) → IsNamed g r.name a → ⊥
-    pub told : text ≡ no_schema_lines r.details g r.name
-    pub bad : status ≡ BadRequest
-
-  pub record HasLargeNumbers : Type 0 where
-    pub large : AreTooLarge (numbers_of r.setting)
-    pub told : text ≡ numbers_too_large_line
-    pub bad : status ≡ BadRequest
-
-  pub record HasBadSizes (g : List Defined) : Type 0 where
-    pub fault : SizeFault
-    pub refused : IsRefusal (given_sets g) (stated g r.setting) fault
-    pub some : fault ≢ size_faults.OutOfMemory
-    pub told : text ≡ size_fault_lines r.details g (stated g r.setting) fault
-    pub bad : status ≡ BadRequest
-
-  pub record IsInfinite (g : List Defined) (a : Schema) : Type 0 where
-    pub cause : NotFinite
-    pub side : List ℕ
-    pub first_cause : first (causes (numbers_of r.setting) g a) ≡ Some cause
-    pub told : text ≡ not_finite_lines r.details file g cause side
-    pub bad : status ≡ BadSpec
-
-  pub record HasNoParts (a : Schema) : Type 0 where
-    pub place : ℕ
-    pub none : NamesNoParts a.comps r.only
-    pub told : text ≡ not_components_line place
-    pub bad : status ≡ BadRequest
-
-  pub record HasNoRow (e : Environment) (shown : List Comp) : Type 0 where
-    pub place : ℕ
-    pub none : NamesNoRow e shown r.after
-    pub told : text ≡ not_a_binding_line place
-    pub bad : status ≡ BadRequest
-
-  pub record HoldsNothing (a : Schema) (e : Environment) : Type 0 where
-    pub place : ℕ
-    pub none : HoldsNoValues e a.comps r.held
-    pub told : text ≡ not_held_line place
-    pub bad : status ≡ BadRequest
-
-  pub record HasSetOut (a : Schema) (e : Environment) : Type 0 where
-    pub place : ℕ
-    pub component : Comp
-    pub first_out : IsFirstOut e a.comps place
-    pub there : slice_get a.comps place ≡ Some component
-    pub told : text ≡ declared_out_line component.name
-    pub past : status ≡ PastBounds
+-- what is reported of a search
+abbrev pub Telling : Type 1
+Telling = List Defined → Schema → Environment → Portion → List ℕ → Status → Type 0
 
 -- ---- the stages, the last one first
 
-module _ (Tells : List Defined → Schema → Environment → Portion → List ℕ → Status → Type 0) (r : Request) (file source text : List ℕ) (status : Status) where
+module _ (Tells : Telling) (r : Request) (file source text : List ℕ) (status : Status) where
   -- the messages of a refusal
   abbrev Refused : (List ℕ → Status → Type 0) → Type 0
   Refused R = AreMessages r.format file R text status
 
   -- what the request asks for is searched
-  abbrev pub AtSearch : List Defined → Schema → Environment → Portion → Type 0
-  AtSearch g a e p = Refused (λ t s. HasSetOut r file source t s a e) ⊎ (IsNoneOut e a.comps × Tells g a e p text status)
+  abbrev AtSearch : List Defined → Schema → Environment → Portion → Type 0
+  AtSearch g a e p = Refused (TellsOut e a.comps) ⊎ (IsNoneOut e a.comps × Tells g a e p text status)
 
-  abbrev pub AtHeldValues : List Defined → Schema → Environment → Option (List Value) → Type 0
-  AtHeldValues g a e after = Refused (λ t s. HoldsNothing r file source t s a e) ⊎ ((held : List (Option Value)) × AreHeld e a.comps r.held held
+  abbrev AtHeldValues : List Defined → Schema → Environment → Option (List Value) → Type 0
+  AtHeldValues g a e after = Refused (TellsPlace (HoldsNoValues e a.comps r.held) not_held_line) ⊎ ((held : List (Option Value)) × AreHeld e a.comps r.held held
       × AtSearch g a e (portion (row_after r.only after) held))
 
-  abbrev pub AtNamedRow : List Defined → Schema → Environment → (shown : List Comp) → Type 0
-  AtNamedRow g a e shown = Refused (λ t s. HasNoRow r file source t s e shown) ⊎ ((after : Option (List Value)) × IsNamedRow e shown r.after after × AtHeldValues g a e after)
+  abbrev AtNamedRow : List Defined → Schema → Environment → (shown : List Comp) → Type 0
+  AtNamedRow g a e shown = Refused (TellsPlace (NamesNoRow e shown r.after) not_a_binding_line)
+      ⊎ ((after : Option (List Value)) × IsNamedRow e shown r.after after × AtHeldValues g a e after)
 
-  abbrev pub AtComponents : List Defined → Schema → Environment → Type 0
-  AtComponents g a e = Refused (λ t s. HasNoParts r file source t s a) ⊎ ((shown : List Comp) × AreShown a.comps r.only shown × AtNamedRow g a e shown)
+  abbrev AtComponents : List Defined → Schema → Environment → Type 0
+  AtComponents g a e =
+      Refused (TellsPlace (NamesNoParts a.comps r.only) not_components_line) ⊎ ((shown : List Comp) × AreShown a.comps r.only shown × AtNamedRow g a e shown)
 
-  abbrev pub AtFiniteness : List Defined → Schema → Type 0
-  AtFiniteness g a = Refused (λ t s. IsInfinite r file source t s g a) ⊎ (IsFinite (numbers_of r.setting) g a
+  abbrev AtFiniteness : List Defined → Schema → Type 0
+  AtFiniteness g a = Refused (TellsInfinite (numbers_of r.setting) g a r.details file) ⊎ (IsFinite (numbers_of r.setting) g a
       × ((e : Environment) × IsEnvironment g (stated g r.setting) (numbers_of r.setting) e × AtComponents g a e))
 
-  abbrev pub AtSizes : List Defined → Schema → Type 0
-  AtSizes g a = Refused (λ t s. HasBadSizes r file source t s g) ⊎ (AreComplete (given_sets g) (stated g r.setting) × AtFiniteness g a)
+  abbrev AtSizes : List Defined → Schema → Type 0
+  AtSizes g a = Refused (TellsMisfit r.details g (stated g r.setting)) ⊎ (AreComplete (given_sets g) (stated g r.setting) × AtFiniteness g a)
 
-  abbrev pub AtNumbers : List Defined → Schema → Type 0
-  AtNumbers g a = Refused (λ t s. HasLargeNumbers r file source t s) ⊎ (AreSmall (numbers_of r.setting) × AtSizes g a)
+  abbrev AtNumbers : List Defined → Schema → Type 0
+  AtNumbers g a = Refused (TellsNumbers (numbers_of r.setting)) ⊎ (AreSmall (numbers_of r.setting) × AtSizes g a)
 
   abbrev pub AtSchema : List Defined → Type 0
-  AtSchema g = Refused (λ t s. HasNoSchema r file source t s g) ⊎ ((a : Schema) × IsNamed g r.name a × AtNumbers g a)
+  AtSchema g = Refused (λ told status. TellsNoSchema r.details g told status r.name) ⊎ ((a : Schema) × IsNamed g r.name a × AtNumbers g a)
 
   abbrev pub AtTypes : Type 0
-  AtTypes = Refused (λ t s. IsIllTyped r file source t s) ⊎ ((g : List Defined) × Checks source g [] × AtSchema g)
+  AtTypes = Refused (TellsFaults r.details file source) ⊎ ((g : List Defined) × Checks source g [] × AtSchema g)
 
   finite_for : (g : List Defined) (a : Schema) (e : Environment) → IsAsked r source g a e → IsFinite (numbers_of r.setting) g a
   finite_for g a e asked = subst (λ n. IsFinite n g a) asked.environment.3 asked.finite
@@ -115,32 +63,116 @@ module _ (Tells : List Defined → Schema → Environment → Portion → List �
   refused_at : (told : List ℕ) → RefusesRequest r file source told status → text ≡ messages_in r.format file told → AtTypes
   refused_at told (RefusesRequest.ill_typed g faults checks some lines bad) is = inl (told, record { globals = g; faults = faults; checks = checks; some = some; told = lines; bad = bad }, is)
   refused_at told (RefusesRequest.no_schema g checks none line bad) is = inr (g, checks, inl (told, record { none = none; told = line; bad = bad }, is))
-  refused_at told (RefusesRequest.large_numbers g a has large line bad) is =
-      inr (g, has.checks, inr (a, has.named, inl (told, record { large = large; told = line; bad = bad }, is)))
+  refused_at told (RefusesRequest.large_numbers g a has large line bad) is = inr (g, has.checks, inr (a, has.named, inl (told, (large, line, bad), is)))
   refused_at told (RefusesRequest.bad_sizes g a fault has small refused some lines bad) is =
-      inr (g, has.checks, inr (a, has.named, inr (small, inl (told, record { fault = fault; refused = refused; some = some; told = lines; bad = bad }, is))))
+      inr (g, has.checks, inr (a, has.named, inr (small, inl (told, (fault, refused, (some, lines, bad)), is))))
   refused_at told (RefusesRequest.not_finite g a cause side has small complete first_cause beside lines bad) is =
-      at_finiteness g a has small complete (inl (told, record { cause = cause; side = side; first_cause = first_cause; told = lines; bad = bad }, is))
-  refused_at told (RefusesRequest.not_components g a e place asked none line bad) is =
-      at_components g a e asked (inl (told, record { place = place; none = none; told = line; bad = bad }, is))
+      at_finiteness g a has small complete (inl (told, (cause, side, first_cause, beside, lines, bad), is))
+  refused_at told (RefusesRequest.not_components g a e place asked none line bad) is = at_components g a e asked (inl (told, (none, place, line, bad), is))
   refused_at told (RefusesRequest.not_a_binding g a e shown place asked are none line bad) is =
-      at_components g a e asked (inr (shown, are, inl (told, record { place = place; none = none; told = line; bad = bad }, is)))
+      at_components g a e asked (inr (shown, are, inl (told, (none, place, line, bad), is)))
   refused_at told (RefusesRequest.holds_nothing g a e shown after place asked are named none line bad) is =
-      at_components g a e asked (inr (shown, are, inr (after, named, inl (told, record { place = place; none = none; told = line; bad = bad }, is))))
+      at_components g a e asked (inr (shown, are, inr (after, named, inl (told, (none, place, line, bad), is))))
   refused_at told (RefusesRequest.declared_out g a e shown after held place c asked are named holds first_out there line past) is =
-      at_components g a e asked
-      (inr (shown, are, inr (after, named, inr (held, holds, inl (told, record { place = place; component = c; first_out = first_out; there = there; told = line; past = past }, is)))))
+      at_components g a e asked (inr (shown, are, inr (after, named, inr (held, holds, inl (told, (place, first_out, (c, there, line, past)), is)))))
 
   -- and each answer
   pub staged : RequestAnswer Tells r file source text status → AtTypes
   staged (RequestAnswer.refused (told, refuses, is)) = refused_at told refuses is
   staged (RequestAnswer.granted g a e p search told) =
-      at_components g a e search.asked (inr (
-        search.shown,
-        search.are_shown,
-        inr (
-          search.after,
-          search.named,
-          inr (p.held, search.held, subst (λ after. AtSearch g a e (portion after p.held)) search.begins (inr (search.none_out, told))),
-        ),
-      ))
+      let found = subst (λ after. AtSearch g a e (portion after p.held)) search.begins (inr (search.none_out, told)) in
+      at_components g a e search.asked (inr (search.shown, search.are_shown, inr (search.after, search.named, inr (p.held, search.held, found))))
+
+-- ---- two answers
+
+no_named_row : (e : Environment) (comps : List Comp) (text : Option (List ℕ)) (after : Option (List Value)) → NamesNoRow e comps text → IsNamedRow e comps text after → ⊥
+no_named_row e comps None after none named = none
+no_named_row e comps (Some text) None none named = named
+no_named_row e comps (Some text) (Some row) none named = none row named
+
+no_held_values : (e : Environment) (comps : List Comp) (text : Option (List ℕ)) (held : List (Option Value)) → HoldsNoValues e comps text → AreHeld e comps text held → ⊥
+no_held_values e comps None held none are = none
+no_held_values e comps (Some text) held none are = none held are
+
+-- what follows where both tell of one search that is granted
+abbrev pub IfTold : (Tells Also : Telling) → Request → (source one two : List ℕ) → (s t : Status) → Type 0 → Type 0
+IfTold Tells Also r source one two s t C =
+    (g : List Defined) (a : Schema) (e : Environment) (p : Portion) → HasSchema source r.name g a → AreComplete (given_sets g) (stated g r.setting)
+    → IsEnvironment g (stated g r.setting) (numbers_of r.setting) e → Tells g a e p one s → Also g a e p two t → C
+
+module _ {C : Type 0} (Tells Also : Telling) (r : Request) (file source one two : List ℕ) (s t : Status)
+    (refuse : IfRefused r.format r.details file source one two s t C)
+    (tell : IfTold Tells Also r source one two s t C) where
+  module _ (g : List Defined) (checks : Checks source g []) where
+    module _ (a : Schema) (named : IsNamed g r.name a) (complete : AreComplete (given_sets g) (stated g r.setting)) where
+      module _ (e : Environment) (is : IsEnvironment g (stated g r.setting) (numbers_of r.setting) e) where
+        at_search : (p : Portion) → AtSearch Tells r file source one s g a e p → AtSearch Also r file source two t g a e p → C
+        at_search p (inl x) (inl y) = refuse x.0 y.0 (one_out r.details file source x.0 y.0 s t e a.comps x.1 y.1) x.2 y.2
+        at_search p (inl x) (inr y) = absurd (not_out x.0 s e a.comps x.1 y.0)
+        at_search p (inr x) (inl y) = absurd (not_out y.0 t e a.comps y.1 x.0)
+        at_search p (inr x) (inr y) = tell g a e p (record { checks = checks; named = named }) complete is x.1 y.1
+
+        at_values : (after : Option (List Value)) → AtHeldValues Tells r file source one s g a e after → AtHeldValues Also r file source two t g a e after → C
+        at_values after (inl x) (inl y) =
+            refuse x.0 y.0 (one_failure r.details file source x.0 y.0 s t (HoldsNoValues e a.comps r.held) not_held_line
+            AreMessagesAlike.no_values x.1 y.1) x.2 y.2
+        at_values after (inl x) (inr y) = absurd (no_held_values e a.comps r.held y.0 x.1.0 y.1)
+        at_values after (inr x) (inl y) = absurd (no_held_values e a.comps r.held x.0 y.1.0 x.1)
+        at_values after (inr x) (inr y) =
+            let clear = clear_at source g [] (stated g r.setting) (numbers_of r.setting) e checks complete is in
+            let held = one_held e a.comps r.held x.0 y.0 clear (names_at source g [] r.name a checks named) x.1 y.1 in
+            at_search (portion (row_after r.only after) y.0)
+            (subst (λ held. AtSearch Tells r file source one s g a e (portion (row_after r.only after) held)) held x.2) y.2
+
+        at_row : (shown : List Comp) → AtNamedRow Tells r file source one s g a e shown → AtNamedRow Also r file source two t g a e shown → C
+        at_row shown (inl x) (inl y) =
+            refuse x.0 y.0 (one_failure r.details file source x.0 y.0 s t (NamesNoRow e shown r.after) not_a_binding_line
+            AreMessagesAlike.no_binding x.1 y.1) x.2 y.2
+        at_row shown (inl x) (inr y) = absurd (no_named_row e shown r.after y.0 x.1.0 y.1)
+        at_row shown (inr x) (inl y) = absurd (no_named_row e shown r.after x.0 y.1.0 x.1)
+        at_row shown (inr x) (inr y) =
+            let row = one_named_row e shown r.after x.0 y.0 (clear_at source g [] (stated g r.setting) (numbers_of r.setting) e checks complete is) x.1 y.1 in
+            at_values y.0 (subst (AtHeldValues Tells r file source one s g a e) row x.2) y.2
+
+        at_shown : AtComponents Tells r file source one s g a e → AtComponents Also r file source two t g a e → C
+        at_shown (inl x) (inl y) =
+            refuse x.0 y.0 (one_failure r.details file source x.0 y.0 s t (NamesNoParts a.comps r.only) not_components_line
+            AreMessagesAlike.no_components x.1 y.1) x.2 y.2
+        at_shown (inl x) (inr y) = absurd (none_shown a.comps r.only y.0 x.1.0 y.1)
+        at_shown (inr x) (inl y) = absurd (none_shown a.comps r.only x.0 y.1.0 x.1)
+        at_shown (inr x) (inr y) = at_row y.0 (subst (AtNamedRow Tells r file source one s g a e) (one_list_shown a.comps r.only x.0 y.0 x.1 y.1) x.2) y.2
+
+      at_causes : AtFiniteness Tells r file source one s g a → AtFiniteness Also r file source two t g a → C
+      at_causes (inl x) (inl y) = refuse x.0 y.0 (one_infinite r.details file source x.0 y.0 s t (numbers_of r.setting) g a x.1 y.1) x.2 y.2
+      at_causes (inl x) (inr y) = absurd (is_finite x.0 s (numbers_of r.setting) g a r.details file x.1 y.0)
+      at_causes (inr x) (inl y) = absurd (is_finite y.0 t (numbers_of r.setting) g a r.details file y.1 x.0)
+      at_causes (inr (_, (d, is, at))) (inr (_, (e, also, also_at))) =
+          let environment = one_environment_at g (stated g r.setting) (numbers_of r.setting) d e complete is also in
+          at_shown e also (subst (AtComponents Tells r file source one s g a) environment at) also_at
+
+    at_sizes : (a : Schema) → IsNamed g r.name a → AtSizes Tells r file source one s g a → AtSizes Also r file source two t g a → C
+    at_sizes a named (inl x) (inl y) = refuse x.0 y.0 (one_misfit r.details file source x.0 y.0 s t g (stated g r.setting) x.1 y.1) x.2 y.2
+    at_sizes a named (inl x) (inr y) = absurd (no_misfit x.0 s r.details g (stated g r.setting) x.1 y.0)
+    at_sizes a named (inr x) (inl y) = absurd (no_misfit y.0 t r.details g (stated g r.setting) y.1 x.0)
+    at_sizes a named (inr x) (inr y) = at_causes a named y.0 x.1 y.1
+
+    at_numbers : (a : Schema) → IsNamed g r.name a → AtNumbers Tells r file source one s g a → AtNumbers Also r file source two t g a → C
+    at_numbers a named (inl x) (inl y) = refuse x.0 y.0 (one_large r.details file source x.0 y.0 s t (numbers_of r.setting) x.1 y.1) x.2 y.2
+    at_numbers a named (inl x) (inr y) = absurd (small_not_too_large (numbers_of r.setting) y.0 x.1.0)
+    at_numbers a named (inr x) (inl y) = absurd (small_not_too_large (numbers_of r.setting) x.0 y.1.0)
+    at_numbers a named (inr x) (inr y) = at_sizes a named x.1 y.1
+
+    at_schema : AtSchema Tells r file source one s g → AtSchema Also r file source two t g → C
+    at_schema (inl x) (inl y) = refuse x.0 y.0 (one_no_schema r.details file source x.0 y.0 s t g r.name x.1 y.1) x.2 y.2
+    at_schema (inl x) (inr y) = absurd (x.1.none y.0 y.1)
+    at_schema (inr x) (inl y) = absurd (y.1.none x.0 x.1)
+    at_schema (inr x) (inr y) = at_numbers y.0 y.1 (subst (AtNumbers Tells r file source one s g) (one_named g r.name x.0 y.0 x.1 y.1) x.2) y.2
+
+  at_types : AtTypes Tells r file source one s → AtTypes Also r file source two t → C
+  at_types (inl x) (inl y) = refuse x.0 y.0 (one_ill r.details file source x.0 y.0 s t x.1 y.1) x.2 y.2
+  at_types (inl x) (inr y) = absurd (well_typed x.0 s r.details file source y.0 x.1 y.1)
+  at_types (inr x) (inl y) = absurd (well_typed y.0 t r.details file source x.0 y.1 x.1)
+  at_types (inr x) (inr y) = at_schema y.0 y.1 (subst (AtSchema Tells r file source one s) (one_checked source x.0 y.0 [] [] x.1 y.1).0 x.2) y.2
+
+  pub both_answers : RequestAnswer Tells r file source one s → RequestAnswer Also r file source two t → C
+  both_answers x y = at_types (staged Tells r file source one s x) (staged Also r file source two t y)

@@ -52,17 +52,18 @@ IsNotPast cmp (Some last) row = (row ≡ last) ⊎ ComesAfter cmp row last
 
 -- ---- the end
 
--- The last line and the status, by why no further row is written.
-pub data EndsLines {V : Type 0} (InDoubt : List V → Type 0) (w : Wording V) (limit : Option ℕ) (rows : List (List V)) (last : Option (List V)) (final : List ℕ) (status : Status) : Type 0 where
+-- The last line and the status, by why nothing further is written. Of each row these values are written: all, or those of some components.
+pub data EndsLines {V : Type 0} (values : List V → List V) (InDoubt : List V → Type 0) (w : Wording V)
+    (limit : Option ℕ) (rows : List (List V)) (last : Option (List V)) (final : List ℕ) (status : Status) : Type 0 where
   -- as many as the limit are written, and the last of them is the last that is looked at
   enough : (front : List (List V)) (row : List V) → rows ≡ front ++ row ∷ [] → last ≡ Some row → limit ≡ Some (length rows)
-      → final ≡ w.more → status ≡ Done → EndsLines InDoubt w limit rows last final status
+      → final ≡ w.more → status ≡ Done → EndsLines values InDoubt w limit rows last final status
   -- fewer are, and the next one is out of bounds
-  out : (row : List V) → last ≡ Some row → InDoubt row → IsBelow limit (length rows)
-      → final ≡ w.out row → status ≡ PastBounds → EndsLines InDoubt w limit rows last final status
+  out : (row : List V) → last ≡ Some (values row) → InDoubt row → IsBelow limit (length rows)
+      → final ≡ w.out row → status ≡ PastBounds → EndsLines values InDoubt w limit rows last final status
   -- fewer are, and all were looked at
   complete : last ≡ None → IsBelow limit (length rows)
-      → final ≡ w.end → status ≡ Done → EndsLines InDoubt w limit rows last final status
+      → final ≡ w.end → status ≡ Done → EndsLines values InDoubt w limit rows last final status
 
 -- The text and the status of `show` for a schema among these globals, in this environment, after the named row and with the values that are held.
 pub record ShowsBindings (r : Request) (globals : List Defined) (a : Schema) (e : Environment) (p : Portion) (text : List ℕ) (status : Status) : Type 0 where
@@ -81,6 +82,6 @@ pub record ShowsBindings (r : Request) (globals : List Defined) (a : Schema) (e 
   -- their lines, the last line, and the number of tests, if it is asked for
   pub final : List ℕ
   pub counted : List ℕ
-  pub ending : EndsLines (IsInDoubt e a ranges p.after) (wording r globals a) r.limit rows last final status
+  pub ending : EndsLines (λ row. row) (IsInDoubt e a ranges p.after) (wording r globals a) r.limit rows last final status
   pub numbered : IsTestsLine (wording r globals a) r.tests e a p last counted
   pub written : text ≡ flat_map (wording r globals a).line rows ++ final ++ counted

@@ -6,7 +6,6 @@ use Rattle.zf_command.specs.declared.job.Job.TheVariants.{Show, Why}
 use Rattle.zf_format.specs.declared.format.Format.{Format}
 use Rattle.zf_format.specs.{messages_in}
 use Rattle.zf_finite.specs.declared.not_finite.NotFinite.{NotFinite}
-use Rattle.zf_finite.specs.{IsFinite}
 use Rattle.zf_scan.specs.declared.fault.TextFault.{TextFault}
 use Rattle.zf_scan.specs.declared.token.Token.{Token}
 use Rattle.zf_scan.specs.{IsCutInto}
@@ -15,15 +14,14 @@ use Rattle.zf_tree.specs.{BoxTree}
 use Rattle.zf_term.specs.{Comp, Defined, Fault, Schema}
 use Rattle.zf_schema.specs.{Item, OffendsItem}
 use Rattle.zf_value.specs.declared.plain.Value.{Value}
-use Rattle.zf_meaning.specs.{AreComplete, Environment, given_sets, IsEnvironment}
+use Rattle.zf_meaning.specs.{Environment, IsEnvironment}
 use Rattle.zf_meaning.specs.declared.sizes.Size.{Size}
 use Rattle.zf_why.specs.{nothing_beside, others_beside, RefutedBy, RefutedTogetherBy}
 use Rattle.zf_enum.specs.{Portion}
-use Rattle.zf_ranges.specs.{IsNoneOut}
 use Rattle.zf_lines.specs.{HasLimit}
 use Rattle.zf_lines.specs.declared.fault.Status.{Status}
 use Rattle.zf_command.specs.declared.job.Request.{Request}
-use Rattle.zf_engine.specs.{Answer, AreHeld, AreShown, AreSmall, Checks, format_of, HasSchema, HoldsNoValues, IsLimited, IsNamedRow, NamesNoRow, numbers_of, row_after, ShowsEvents, stated, TellsConjuncts, TellsWhy, wants_details}
+use Rattle.zf_engine.specs.{Answer, AreHeld, Checks, format_of, HasSchema, HoldsNoValues, IsLimited, IsNamedRow, IsSearch, NamesNoRow, ShowsEvents, TellsConjuncts, TellsWhy, wants_details}
 use Rattle.zf_messages.specs.{AreLines, Cited, not_a_binding_line, not_components_line, not_finite_lines, not_held_line, text_fault_lines, type_fault_line}
 use Rattle.law_answered.specs.Bindings.{ShowsBindings}
 use Rattle.law_answered.specs.Parts.{ShowsEachPart}
@@ -37,19 +35,8 @@ AnswersRequest r file source text status = Answer (Show r) file source text stat
 -- Nothing stands in the way of the request: a tree reads the source, it is well typed and this is its schema of the name, the numbers and the sizes fit and
 -- this is the environment at them, the schema is finite, these components are shown, the named row is this row of their types, if one is named, and the search comes after it where all
 -- components are shown; these values are held, if a line of some components is given, and no declared set is out.
-pub record IsGranted (r : Request) (source : List ℕ) (globals : List Defined) (a : Schema) (e : Environment) (p : Portion) : Type 0 where
-  pub has_schema : HasSchema source r.name globals a
-  pub small : AreSmall (numbers_of r.setting)
-  pub complete : AreComplete (given_sets globals) (stated globals r.setting)
-  pub environment : IsEnvironment globals (stated globals r.setting) (numbers_of r.setting) e
-  pub finite : IsFinite e.numbers globals a
-  pub shown : List Comp
-  pub after : Option (List Value)
-  pub are_shown : AreShown a.comps r.only shown
-  pub named : IsNamedRow e shown r.after after
-  pub begins : p.after ≡ row_after r.only after
-  pub held : AreHeld e a.comps r.held p.held
-  pub none_out : IsNoneOut e a.comps
+abbrev pub IsGranted : Request → (source : List ℕ) → List Defined → Schema → Environment → Portion → Type 0
+IsGranted r source globals a e p = IsSearch r source globals a e p
 
 -- Then, where all components are shown, every answer has the lines of exactly the schema's bindings after the named row with the held values, each once, in ascending order, up to the limit or the first row that
 -- is out of bounds; then the last line, which says which of these ended it, and the number of tests, if it is asked for.

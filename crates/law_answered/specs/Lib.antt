@@ -7,7 +7,7 @@ pub mod Runs
 pub mod NamedLines
 pub mod Limits
 pub use Rattle.law_answered.specs.Bindings.{EndsLines, IsBefore, IsBinding, IsInDoubt, IsNotPast, ShowsBindings}
-pub use Rattle.law_answered.specs.Parts.{EndsParts, IsFirstInDoubt, IsPartOfBinding, ShowsEachPart}
+pub use Rattle.law_answered.specs.Parts.{IsFirstInDoubt, IsPartOfBinding, ShowsEachPart}
 pub use Rattle.law_answered.specs.Laws.{AnswersRequest, AreAlike, AreMessagesAlike, AreOfSame, EachBindingIsShown, EachPartIsShown, EventsAreShown, EveryHeldLineIsJudged, EveryLineIsJudged, EveryRequestIsAnswered, EverySourceIsRead, IsGranted, IsShownInOneWay, OneStatus, OneText, PlainLines, ReasonIsTold}
 pub use Rattle.law_answered.specs.Reached.{graph_in, ReachableAreMet, SchemasMakeOneMachine, WhatIsReachedIsTold}
 pub use Rattle.law_answered.specs.Sought.{SatisfiesAt, Says, ShowsWay, WhatIsSoughtIsTold}

@@ -4,7 +4,7 @@ use Rattle.zf_command.specs.declared.limit.TheConstants.{LIMIT_MAX, STATES_MAX}
 use Rattle.zf_scan.specs.declared.scan.TheConstants.{SOURCE_MAX}
 use Rattle.zf_scan.specs.{number_max}
 use Rattle.zf_term.specs.{components_max, conjuncts_max, height_max, nodes_max, sets_max, type_nodes_max}
-use Rattle.zf_parse.specs.{height_limit}
+use Rattle.zf_grammar.specs.{height_limit}
 use Rattle.zf_value.specs.declared.TheConstants.{SET_MAX}
 use Rattle.zf_value.specs.declared.value.Outcome.TheVariants.{Out}
 use Rattle.zf_term.specs.declared.extent.Infinite.TheVariants.{Num}

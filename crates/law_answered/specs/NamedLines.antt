@@ -4,7 +4,8 @@ use Rattle.zf_term.specs.{Defined, Schema}
 use Rattle.zf_value.specs.declared.plain.Value.{Value}
 use Rattle.zf_meaning.specs.declared.sizes.Size.{Size}
 use Rattle.zf_meaning.specs.{AreComplete, Environment, given_sets, IsEnvironment, IsRow}
-use Rattle.zf_print.specs.{binding_object, IsNoLine, spellings}
+use Rattle.zf_print.specs.{binding_object, spellings}
+use Rattle.zf_read.specs.{IsNoLine}
 use Rattle.zf_engine.specs.{HasSchema, IsLineOf, NamesNoRow}
 
 -- a schema of the source, and the environment at the sizes

@@ -1,5 +1,5 @@
 -- What `show --only` writes of a schema, in the words of its bindings: which values of some components have a line, in which order, and what ends the lines.
-use Rattle.std.specs.Prelude.{◌≡◌, ◌↔◌, ◌⊎◌, ℕ, List, [], ◌∷◌, ◌++◌, length, Option, Some, None, Contains, AllPairs}
+use Rattle.std.specs.Prelude.{◌≡◌, ◌↔◌, ◌⊎◌, ℕ, List, ◌++◌, Option, Contains, AllPairs}
 use Rattle.std.specs.List.{flat_map}
 use Rattle.zf_term.specs.{Defined, Schema}
 use Rattle.zf_value.specs.declared.plain.Value.{Value}
@@ -10,13 +10,11 @@ use Rattle.zf_enum.specs.{Portion}
 use Rattle.zf_ranges.specs.{AreRanges}
 use Rattle.zf_print.specs.{spellings}
 use Rattle.zf_lines.specs.declared.fault.Status.{Status}
-use Rattle.zf_lines.specs.declared.fault.Status.TheVariants.{Done, PastBounds}
-use Rattle.zf_lines.specs.{IsBelow, Wording}
 use Rattle.zf_places.specs.{comps_at, values_at}
 use Rattle.zf_parts.specs.{part_wording}
 use Rattle.zf_command.specs.declared.job.Request.{Request}
 use Rattle.zf_engine.specs.{IsNamedRow, NamesParts}
-use Rattle.law_answered.specs.Bindings.{IsBefore, IsBinding, IsInDoubt, IsNotPast}
+use Rattle.law_answered.specs.Bindings.{EndsLines, IsBefore, IsBinding, IsInDoubt, IsNotPast}
 
 -- Some binding has these values at the places, and no row with them of which it is not known comes before it; and they come after the named ones, if some are named.
 pub record IsPartOfBinding (e : Environment) (a : Schema) (ranges : List (List Value)) (start : Option (List Value)) (places : List ℕ) (after : Option (List Value)) (values : List Value) : Type 0 where
@@ -30,18 +28,6 @@ pub record IsPartOfBinding (e : Environment) (a : Schema) (ranges : List (List V
 pub record IsFirstInDoubt (e : Environment) (a : Schema) (ranges : List (List Value)) (start : Option (List Value)) (places : List ℕ) (row : List Value) : Type 0 where
   pub doubt : IsInDoubt e a ranges start row
   pub first : (other : List Value) → IsBinding e a ranges start other → values_at places other ≡ values_at places row → ComesAfter value_order other row → ⊥
-
--- The last line and the status, by why no further values are written.
-pub data EndsParts (FirstInDoubt : List Value → Type 0) (places : List ℕ) (w : Wording Value) (limit : Option ℕ) (rows : List (List Value)) (last : Option (List Value)) (final : List ℕ) (status : Status) : Type 0 where
-  -- as many as the limit are written, and the last of them are the last that are looked at
-  enough : (front : List (List Value)) (values : List Value) → rows ≡ front ++ values ∷ [] → last ≡ Some values → limit ≡ Some (length rows)
-      → final ≡ w.more → status ≡ Done → EndsParts FirstInDoubt places w limit rows last final status
-  -- fewer are, and of the first row with the next ones it is not known
-  out : (row : List Value) → last ≡ Some (values_at places row) → FirstInDoubt row → IsBelow limit (length rows)
-      → final ≡ w.out row → status ≡ PastBounds → EndsParts FirstInDoubt places w limit rows last final status
-  -- fewer are, and all were looked at
-  complete : last ≡ None → IsBelow limit (length rows)
-      → final ≡ w.end → status ≡ Done → EndsParts FirstInDoubt places w limit rows last final status
 
 -- The text and the status of `show` for the components of these names of a schema among these globals, in this environment, after the named values and with the values that are held.
 pub record ShowsEachPart (names : List ℕ) (r : Request) (globals : List Defined) (a : Schema) (e : Environment) (p : Portion) (text : List ℕ) (status : Status) : Type 0 where
@@ -66,5 +52,6 @@ pub record ShowsEachPart (names : List ℕ) (r : Request) (globals : List Define
       → IsBefore value_order last (values_at places row) → Contains rows (values_at places row)
   -- their lines, and the last line
   pub final : List ℕ
-  pub ending : EndsParts (IsFirstInDoubt e a ranges p.after places) places (part_wording r.format (spellings globals) (comps_at a.comps places) a.comps) r.limit rows last final status
+  pub ending : EndsLines (values_at places) (IsFirstInDoubt e a ranges p.after places)
+      (part_wording r.format (spellings globals) (comps_at a.comps places) a.comps) r.limit rows last final status
   pub written : text ≡ flat_map (part_wording r.format (spellings globals) (comps_at a.comps places) a.comps).line rows ++ final

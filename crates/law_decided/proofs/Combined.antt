@@ -1,8 +1,7 @@
 -- What operands that are what their places need make, by the rule of their symbol, or that the rule does not take them together.
-use Rattle.law_decided.proofs.Prelude.{◌⊎◌, inl, inr, refl, left_need, need_of, prefix_need, relation_rule, right_need, sign_need, Unary, Relation, int, pair_type, power, mismatch, Offence, unfit, Disagreement, Meets, number_sort, predicate, PrefixTakes, relation_sort, set_sort, SignTakes, Sort, Takes, typed, UnaryTakes}
+use Rattle.law_decided.proofs.Prelude.{◌⊎◌, inl, inr, refl, left_need, need_of, prefix_need, right_need, sign_need, Unary, int, pair_type, power, mismatch, Offence, unfit, Disagreement, Meets, number_sort, predicate, PrefixTakes, relation_sort, set_sort, SignTakes, Sort, Takes, typed, UnaryTakes}
 use Rattle.zf_tree.specs.declared.symbol.Prefix.{Prefix}
 use Rattle.zf_tree.specs.declared.symbol.Prefix.TheVariants.{Power, Finset, Domain, Range, Size}
-use Rattle.zf_tree.specs.declared.symbol.Relation.TheVariants.{Equal, NotEqual, Member, NotMember, Subset, ProperSubset, Less, AtMost, Greater, AtLeast}
 use Rattle.zf_tree.specs.declared.operator.Sign.{Sign}
 use Rattle.zf_tree.specs.declared.operator.Sign.TheVariants as sign
 use Rattle.zf_tree.specs.declared.operator.Rule.{Rule}
@@ -30,30 +29,19 @@ combined rule.RangeRestricting x y p q = where_so (λ e. (relation_sort p.0 p.1,
 combined rule.Relating x y p q = inl (set_sort (power (pair_type p.0 q.0)), (p.0, q.0, p.1, q.1, refl))
 combined rule.Applying x y p q = where_so (λ e. (typed p.1, (p.0, p.1, p.2, (cc), refl))) (λ z w. (cc)) (same_type p.0 q.0)
 combined rule.Imaging x y p q = where_so (λ e. (set_sort p.1, (p.0, p.1, p.2, (cc), refl))) (λ z w. (cc)) (same_type p.0 q.0)
-combined rule.Equating x y p q = where_so (λ e. (predicate, (p.0, p.1, (cc), refl))) (λ z w. (cc)) (same_type p.0 q.0)
-combined rule.Belonging x y p q = where_so (λ e. (predicate, (p.0, p.1, (cc), refl))) (λ z w. (cc)) (same_type p.0 q.0)
-combined rule.Including x y p q = where_so (λ e. (predicate, (p.0, p.1, (cc), refl))) (λ z w. (cc)) (same_type p.0 q.0)
 combined rule.Comparing x y p q = inl (predicate, (p, q, refl))
 combined rule.Connecting x y p q = inl (predicate, (p, q, refl))
+combined _ x y p q = where_so (λ e. (predicate, (p.0, p.1, (cc), refl))) (λ z w. (cc)) (same_type p.0 q.0)
 
 -- what is wrong with operands that a rule doesn't take together
 pub disagreement : (r : Rule) (x y : Sort) → Meets (left_need r) x → Meets (right_need r) y → (o : Offence) × Disagreement r x y o
-disagreement rule.Arithmetic x y p q = (mismatch x y, refl)
-disagreement rule.Interval x y p q = (mismatch x y, refl)
-disagreement rule.Pairing x y p q = (mismatch x y, refl)
-disagreement rule.SetFunction x y p q = (mismatch x y, refl)
-disagreement rule.Overriding x y p q = (mismatch x y, refl)
 disagreement rule.Composing x y p q = (unfit p.1 q.0, (p.0, p.1, q.0, q.1, p.2, q.2, refl))
 disagreement rule.DomainRestricting x y p q = (unfit (power q.0) (power p.0), (q.0, q.1, p.0, p.1, q.2, refl))
 disagreement rule.RangeRestricting x y p q = (unfit (power p.1) (power q.0), (p.0, p.1, q.0, p.2, q.1, refl))
-disagreement rule.Relating x y p q = (mismatch x y, refl)
 disagreement rule.Applying x y p q = (unfit p.0 q.0, (p.0, p.1, q.0, p.2, q.1, refl))
 disagreement rule.Imaging x y p q = (unfit (power p.0) (power q.0), (p.0, p.1, q.0, p.2, q.1, refl))
-disagreement rule.Equating x y p q = (mismatch x y, refl)
 disagreement rule.Belonging x y p q = (unfit q.0 p.0, (p.0, q.0, p.1, q.1, refl))
-disagreement rule.Including x y p q = (mismatch x y, refl)
-disagreement rule.Comparing x y p q = (mismatch x y, refl)
-disagreement rule.Connecting x y p q = (mismatch x y, refl)
+disagreement _ x y p q = (mismatch x y, refl)
 
 prefixed : (op : Prefix) (x : Sort) → Meets (prefix_need op) x → (z : Sort) × PrefixTakes op x z
 prefixed Power x p = (set_sort (power p.0), (p.0, p.1, refl))
@@ -71,16 +59,3 @@ pub made : (op : Unary) (x : Sort) → Meets (need_of op) x → (z : Sort) × Un
 made (unary.Sign op) x p = signed op x p
 made unary.Inverse x p = (relation_sort p.1 p.0, (p.0, p.1, p.2, refl))
 made unary.Not x p = (predicate, (p, refl))
-
--- what the symbol of a relation makes is a predicate
-pub relates : (r : Relation) (x y z : Sort) → Takes (relation_rule r) x y z → Takes (relation_rule r) x y predicate
-relates Equal x y z p = (p.0, p.1, p.2, refl)
-relates NotEqual x y z p = (p.0, p.1, p.2, refl)
-relates Member x y z p = (p.0, p.1, p.2, refl)
-relates NotMember x y z p = (p.0, p.1, p.2, refl)
-relates Subset x y z p = (p.0, p.1, p.2, refl)
-relates ProperSubset x y z p = (p.0, p.1, p.2, refl)
-relates Less x y z p = (p.0, p.1, refl)
-relates AtMost x y z p = (p.0, p.1, refl)
-relates Greater x y z p = (p.0, p.1, refl)
-relates AtLeast x y z p = (p.0, p.1, refl)

@@ -1,8 +1,7 @@
 -- What can be decided: whether names, types and sorts are the same, whether types are small, and what a place takes.
-use Rattle.law_decided.proofs.Prelude.{◌<◌, ◌∷◌, ◌≡◌, ◌≤◌, ◌⊎◌, [], arith, Bool, false, inl, inr, List, refl, true, ℕ, spelling, Need, Name, basic, int, IsSmall, no_types, type_nodes, power, product, Ty, type, Tys, local_twice, IsRepeated, Repeats, a_schema, IsSmallSort, Meets, number_sort, predicate, relation_sort, set_sort, Sort, typed, AreApart, IsApart, SomeOffence}
+use Rattle.law_decided.proofs.Prelude.{◌∷◌, ◌≡◌, ◌≤◌, ◌⊎◌, [], arith, Bool, false, inl, inr, List, refl, true, ℕ, spelling, Need, Name, basic, int, IsSmall, no_types, type_nodes, power, product, Ty, type, Tys, local_twice, IsRepeated, Repeats, IsSmallSort, Meets, number_sort, predicate, relation_sort, set_sort, Sort, typed, AreApart, IsApart, SomeOffence, AllByRecursion}
 use Rattle.std.specs.Bool.{Decides}
 use Rattle.std.specs.Str.{bytes_eq}
-use Rattle.std.specs.List.{AllByRecursion}
 use Rattle.std.proofs.lemmas.Bool.{cases_lt}
 use Rattle.std.proofs.lemmas.Bool.Decides.{not_from_Decides}
 use Rattle.std.proofs.lemmas.Slice.Eq.{bytes_eq-Decides}
@@ -29,11 +28,10 @@ decided_all P d (x ∷ xs) = both (d x) (decided_all P d xs)
 -- ---- numbers and names
 
 pub at_most : (n k : ℕ) → Decided (n ≤ k)
-at_most n k = by (cases_lt k n)
-  where
-    by : (k < n) ⊎ (n ≤ k) → Decided (n ≤ k)
-    by (inl l) = inr (λ h. omega (arith, l, h))
-    by (inr h) = inl h
+at_most n k = elim (cases_lt k n) [
+  | inl l ↦ inr (λ h. omega (arith, l, h))
+  | inr h ↦ inl h
+]
 
 pub same_bytes : (x y : List ℕ) → Decided (x ≡ y)
 same_bytes x y = by (bytes_eq x y) (bytes_eq-Decides x y)
@@ -47,74 +45,44 @@ same_bytes x y = by (bytes_eq x y) (bytes_eq-Decides x y)
 mutual
   pub same_type : (t u : Ty) → Decided (t ≡ u)
   same_type int int = inl refl
-  same_type int (basic n) = inr (λ e. (cc))
-  same_type int (power u) = inr (λ e. (cc))
-  same_type int (product us) = inr (λ e. (cc))
-  same_type (basic m) int = inr (λ e. (cc))
   same_type (basic m) (basic n) = decided_as (λ e. (cc)) (λ e. (cc)) (same_bytes m n)
-  same_type (basic m) (power u) = inr (λ e. (cc))
-  same_type (basic m) (product us) = inr (λ e. (cc))
-  same_type (power t) int = inr (λ e. (cc))
-  same_type (power t) (basic n) = inr (λ e. (cc))
   same_type (power t) (power u) = decided_as (λ e. (cc)) (λ e. (cc)) (same_type t u)
-  same_type (power t) (product us) = inr (λ e. (cc))
-  same_type (product ts) int = inr (λ e. (cc))
-  same_type (product ts) (basic n) = inr (λ e. (cc))
-  same_type (product ts) (power u) = inr (λ e. (cc))
   same_type (product ts) (product us) = decided_as (λ e. (cc)) (λ e. (cc)) (same_types ts us)
+  same_type _ _ = inr (λ e. (cc))
 
   pub same_types : (ts us : Tys) → Decided (ts ≡ us)
   same_types no_types no_types = inl refl
-  same_types no_types (type u us) = inr (λ e. (cc))
-  same_types (type t ts) no_types = inr (λ e. (cc))
   same_types (type t ts) (type u us) = decided_as (λ e. let first = e.0 in let rest = e.1 in (cc)) (λ e. ((cc), (cc))) (both (same_type t u) (same_types ts us))
+  same_types _ _ = inr (λ e. (cc))
 
 pub is_small : (t : Ty) → Decided (IsSmall t)
 is_small t = at_most (type_nodes t) 256
 
 pub is_small_sort : (x : Sort) → Decided (IsSmallSort x)
 is_small_sort (typed t) = is_small t
-is_small_sort predicate = inl tt
-is_small_sort a_schema = inl tt
+is_small_sort _ = inl tt
 
 -- ---- what a place takes
 
 is_number : (x : Sort) → Decided (x ≡ number_sort)
 is_number (typed t) = decided_as (λ e. (cc)) (λ e. (cc)) (same_type t int)
-is_number predicate = inr (λ e. (cc))
-is_number a_schema = inr (λ e. (cc))
+is_number _ = inr (λ e. (cc))
 
 is_expression : (x : Sort) → Decided ((t : Ty) × (x ≡ typed t))
 is_expression (typed t) = inl (t, refl)
-is_expression predicate = inr (λ e. (cc))
-is_expression a_schema = inr (λ e. (cc))
+is_expression _ = inr (λ e. (cc))
 
 is_predicate : (x : Sort) → Decided (x ≡ predicate)
-is_predicate (typed t) = inr (λ e. (cc))
 is_predicate predicate = inl refl
-is_predicate a_schema = inr (λ e. (cc))
+is_predicate _ = inr (λ e. (cc))
 
 is_set : (x : Sort) → Decided ((t : Ty) × (x ≡ set_sort t))
-is_set (typed int) = inr (λ e. (cc))
-is_set (typed (basic n)) = inr (λ e. (cc))
 is_set (typed (power t)) = inl (t, refl)
-is_set (typed (product ts)) = inr (λ e. (cc))
-is_set predicate = inr (λ e. (cc))
-is_set a_schema = inr (λ e. (cc))
+is_set _ = inr (λ e. (cc))
 
 is_relation : (x : Sort) → Decided ((t u : Ty) × (x ≡ relation_sort t u))
-is_relation (typed int) = inr (λ e. (cc))
-is_relation (typed (basic n)) = inr (λ e. (cc))
-is_relation (typed (power int)) = inr (λ e. (cc))
-is_relation (typed (power (basic n))) = inr (λ e. (cc))
-is_relation (typed (power (power t))) = inr (λ e. (cc))
-is_relation (typed (power (product no_types))) = inr (λ e. (cc))
-is_relation (typed (power (product (type t no_types)))) = inr (λ e. (cc))
 is_relation (typed (power (product (type t (type u no_types))))) = inl (t, u, refl)
-is_relation (typed (power (product (type t (type u (type v ts)))))) = inr (λ e. (cc))
-is_relation (typed (product ts)) = inr (λ e. (cc))
-is_relation predicate = inr (λ e. (cc))
-is_relation a_schema = inr (λ e. (cc))
+is_relation _ = inr (λ e. (cc))
 
 pub meets : (n : Need) (x : Sort) → Decided (Meets n x)
 meets need.Expression x = is_expression x

@@ -1,8 +1,7 @@
 -- A paragraph or box defines something, or has an offence; so a text has its globals and its faults.
-use Rattle.law_decided.proofs.Prelude.{◌+◌, ◌∷◌, ◌≡◌, ◌⊎◌, [], inl, inr, List, map, None, Option, refl, Some, subst, ℕ, spelling, BoxTree, definition, free, given, ParagraphTree, Tree, Name, constructor, Defined, free_type, given_set, Schema, schema, first_named, Ty, already_defined, Fault, Offence, Offends, resolved, typed, IsOf, OffendsSchema, OffendsText, SomeOffence}
+use Rattle.law_decided.proofs.Prelude.{◌+◌, ◌∷◌, ◌≡◌, ◌⊎◌, [], inl, inr, List, map, None, Option, refl, Some, subst, ℕ, spelling, BoxTree, definition, free, given, ParagraphTree, Tree, Name, constructor, Defined, free_type, given_set, Schema, schema, first_named, Ty, already_defined, Fault, Offence, Offends, resolved, typed, IsOf, OffendsSchema, OffendsText, SomeOffence, ChecksAll, Constructs, Defines, DefinesParagraph, Gives, IsChecked, IsNew, IsSchema, IsTaken, IsText, Item, OffendsConstructors, OffendsGiven, OffendsItem, OffendsParagraph, a_box, a_paragraph, abbreviated, items, next_number, outside, with_global}
 use Rattle.zf_tree.specs.Trees as text
 use Rattle.zf_tree.specs.declared.operator.Need.TheVariants as need
-use Rattle.zf_schema.specs.{a_box, a_paragraph, abbreviated, ChecksAll, Constructs, Defines, DefinesParagraph, Gives, IsChecked, IsNew, IsSchema, IsTaken, IsText, Item, items, next_number, OffendsConstructors, OffendsGiven, OffendsItem, OffendsParagraph, outside, with_global}
 use Rattle.zf_checker.proofs.OneDefinition.{no_item_offence}
 use Rattle.law_decided.proofs.Decided.{Decided}
 use Rattle.law_decided.proofs.Schemas.{text_judged, schema_judged}

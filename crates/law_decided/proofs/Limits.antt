@@ -1,10 +1,8 @@
 -- What can be decided of schemas: whether their components agree, and whether they are within the limits. So there is a next schema, or it is known why not.
-use Rattle.law_decided.proofs.Prelude.{◌∷◌, ◌≡◌, ◌≤◌, ◌⊎◌, [], inl, inr, length, List, None, Option, refl, Some, ℕ, Comp, Schema, clash, Limit, Offence, too_large, Agree, Agrees, comp_named, decorated, HasTypeOf, MarkAgrees, prime, schema_nodes, AreFew, components_max, conjuncts_max, declared_sets, height_max, IsLow, IsTooLarge, IsWithin, KeepsTo, nodes_max, sets_max, Clashes, Differs, IsNext, MarkClashes, OneClashes, Stops, SomeOffence}
-use Rattle.std.specs.List.{AllByRecursion}
+use Rattle.law_decided.proofs.Prelude.{◌∷◌, ◌≡◌, ◌≤◌, ◌⊎◌, [], inl, inr, length, List, None, Option, refl, Some, ℕ, Comp, Schema, clash, Limit, Offence, too_large, Agree, Agrees, comp_named, decorated, HasTypeOf, MarkAgrees, prime, schema_nodes, AreFew, components_max, conjuncts_max, declared_sets, height_max, IsLow, IsTooLarge, IsWithin, KeepsTo, nodes_max, sets_max, Clashes, Differs, IsNext, MarkClashes, OneClashes, Stops, SomeOffence, AllByRecursion, height}
 use Rattle.zf_tree.specs.declared.tree.RefMark.{RefMark}
 use Rattle.zf_tree.specs.declared.tree.RefMark.TheVariants.{Plain, Delta, Xi}
 use Rattle.zf_term.specs.declared.fault.Limit.TheVariants as limit
-use Rattle.zf_term.specs.{height}
 use Rattle.law_decided.proofs.Decided.{Decided, decided_all, at_most, same_type}
 
 -- it holds, or it is known why not
@@ -33,11 +31,10 @@ is_within a =
 
 has_type_of : (o : Option (ℕ × Comp)) (c : Comp) → OrTold (HasTypeOf o c) (Differs o c)
 has_type_of None c = inl tt
-has_type_of (Some p) c = by (same_type p.1.type c.type)
-  where
-    by : Decided (p.1.type ≡ c.type) → OrTold (p.1.type ≡ c.type) (Differs (Some p) c)
-    by (inl e) = inl e
-    by (inr e) = inr (clash c.name p.1.type c.type, (e, refl))
+has_type_of (Some p) c = elim (same_type p.1.type c.type) [
+  | inl e ↦ inl e
+  | inr e ↦ inr (clash c.name p.1.type c.type, (e, refl))
+]
 
 pub agrees : (cs : List Comp) (c : Comp) → OrTold (Agrees cs c) (Clashes cs c)
 agrees cs c = has_type_of (comp_named c.name cs) c
@@ -60,18 +57,16 @@ mark_agrees Xi a = agree a.comps (decorated prime a).comps
 
 pub next_or_stopped : (Clashing : Offence → Type 0) (Agreed : Type 0) (next : Schema) → OrTold Agreed Clashing → OrTold (Agreed × IsNext next next) (Stops Clashing Agreed next)
 next_or_stopped Clashing Agreed next (inr k) = inr (k.0, inl k.1)
-next_or_stopped Clashing Agreed next (inl agreed) = by (is_within next)
-  where
-    by : OrTold (IsWithin next) (IsTooLarge next) → OrTold (Agreed × IsNext next next) (Stops Clashing Agreed next)
-    by (inl within) = inl (agreed, (refl, within))
-    by (inr k) = inr (k.0, inr (agreed, k.1))
+next_or_stopped Clashing Agreed next (inl agreed) = elim (is_within next) [
+  | inl within ↦ inl (agreed, (refl, within))
+  | inr k ↦ inr (k.0, inr (agreed, k.1))
+]
 
 -- where a stop has a line
 pub next_at :
     (line : ℕ) (Clashing : Offence → Type 0) (Agreed : Type 0) (next : Schema) → OrTold Agreed Clashing
     → ((b : Schema) × (Agreed × IsNext next b)) ⊎ SomeOffence (λ k m. (m ≡ line) × Stops Clashing Agreed next k)
-next_at line Clashing Agreed next agreed = by (next_or_stopped Clashing Agreed next agreed)
-  where
-    by : OrTold (Agreed × IsNext next next) (Stops Clashing Agreed next) → ((b : Schema) × (Agreed × IsNext next b)) ⊎ SomeOffence (λ k m. (m ≡ line) × Stops Clashing Agreed next k)
-    by (inl p) = inl (next, p)
-    by (inr k) = inr (k.0, line, (refl, k.1))
+next_at line Clashing Agreed next agreed = elim (next_or_stopped Clashing Agreed next agreed) [
+  | inl p ↦ inl (next, p)
+  | inr k ↦ inr (k.0, line, (refl, k.1))
+]

@@ -1,9 +1,7 @@
 -- References, declarations, predicates and schema expressions are a schema, or have an offence.
-use Rattle.law_decided.proofs.Prelude.{◌++◌, ◌∷◌, ◌≡◌, ◌⊎◌, [], inl, inr, List, None, Option, refl, Some, subst, ℕ, spelling, both, DeclTree, either, include, schema_reference, schema_bracket, schema_text, SchemaTree, Tree, vars, Name, abbreviation, constructor, DeclaredSet, Defined, Definition, free_type, given_set, plain, Schema, schema, first_named, Ty, not_a_schema, not_declared, Offence, Offends, resolved, predicate, set_sort, IsOf, Agree, Agrees, comp, conjoined, decorated, disjoined, MarkAgrees, marked, empty_schema, schema_with, with_comp, IsTooLarge, IsWithin, Adds, Clashes, Includes, IsNext, MarkClashes, OneClashes, Stops, AnyByRecursion, IsNoSchema, name_line, OffendsAfter, OffendsAlone, OffendsConjuncts, OffendsDecls, OffendsNames, OffendsPredicates, OffendsRef, OffendsSchema, OffendsText, SomeOffence}
+use Rattle.law_decided.proofs.Prelude.{◌++◌, ◌∷◌, ◌≡◌, ◌⊎◌, [], inl, inr, List, None, Option, refl, Some, subst, ℕ, spelling, both, DeclTree, either, include, schema_reference, schema_bracket, schema_text, SchemaTree, Tree, vars, Name, abbreviation, constructor, DeclaredSet, Defined, Definition, free_type, given_set, plain, Schema, schema, first_named, Ty, not_a_schema, not_declared, Offence, Offends, resolved, predicate, set_sort, IsOf, Agree, Agrees, comp, conjoined, decorated, disjoined, MarkAgrees, marked, empty_schema, schema_with, with_comp, IsTooLarge, IsWithin, Adds, Clashes, IsNext, MarkClashes, OneClashes, Stops, AnyByRecursion, IsNoSchema, name_line, OffendsAfter, OffendsAlone, OffendsConjuncts, OffendsDecls, OffendsNames, OffendsPredicates, OffendsRef, OffendsSchema, OffendsText, SomeOffence, AddsAll, Constrains, ConstrainsOne, Declares, DeclaresOne, IsSchema, IsText, Refers, ResolvedTree, TakesAll, conjuncts, inside, outside, term_line}
 use Rattle.zf_tree.specs.declared.tree.SchemaRef.{SchemaRef}
 use Rattle.zf_tree.specs.declared.operator.Need.TheVariants as need
-use Rattle.zf_term.specs.{conjuncts, ResolvedTree, term_line}
-use Rattle.zf_schema.specs.{AddsAll, Constrains, ConstrainsOne, Declares, DeclaresOne, inside, IsSchema, IsText, outside, Refers, TakesAll}
 use Rattle.zf_schema.proofs.Once.{taken_comps}
 use Rattle.law_decided.proofs.Limits.{OrTold, is_within, agrees, agree, mark_agrees, next_or_stopped, next_at}
 use Rattle.law_decided.proofs.Terms.{IsJudged, judged}
@@ -15,12 +13,10 @@ module _ (Step : Schema → Type 0) (Rest : Schema → Schema → Type 0) (Stopp
       ((mid : Schema) × Step mid) ⊎ SomeOffence Stopped → ((mid : Schema) → ((b : Schema) × Rest mid b) ⊎ SomeOffence (Later mid))
       → ((b : Schema) × ((mid : Schema) × Step mid × Rest mid b)) ⊎ SomeOffence (λ k m. Stopped k m ⊎ ((mid : Schema) × Step mid × Later mid k m))
   then_rest (inr o) rest = inr (o.0, o.1, inl o.2)
-  then_rest (inl p) rest = by (rest p.0)
-    where
-      by : ((b : Schema) × Rest p.0 b) ⊎ SomeOffence (Later p.0) → ((b : Schema)
-          × ((mid : Schema) × Step mid × Rest mid b)) ⊎ SomeOffence (λ k m. Stopped k m ⊎ ((mid : Schema) × Step mid × Later mid k m))
-      by (inl q) = inl (q.0, (p.0, p.1, q.1))
-      by (inr o) = inr (o.0, o.1, inr (p.0, p.1, o.2))
+  then_rest (inl p) rest = elim (rest p.0) [
+    | inl q ↦ inl (q.0, (p.0, p.1, q.1))
+    | inr o ↦ inr (o.0, o.1, inr (p.0, p.1, o.2))
+  ]
 
 -- ---- references
 
@@ -37,14 +33,11 @@ module _ (g : List Defined) (r : SchemaRef) where
   of_definition i x (free_type n names) e = no_schema i (record { name = x; definition = free_type n names }) e tt
   of_definition i x (constructor n of_type place) e = no_schema i (record { name = x; definition = constructor n of_type place }) e tt
   of_definition i x (abbreviation t u w) e = no_schema i (record { name = x; definition = abbreviation t u w }) e tt
-  of_definition i x (schema a) e = by (next_or_stopped (MarkClashes r.mark a) (MarkAgrees r.mark a) (decorated r.name.strokes (marked r.mark r.name.line a)) (mark_agrees r.mark a))
-    where
-      by :
-          (MarkAgrees r.mark a × IsNext (decorated r.name.strokes (marked r.mark r.name.line a)) (decorated r.name.strokes (marked r.mark r.name.line a)))
-          ⊎ ((k : Offence) × Stops (MarkClashes r.mark a) (MarkAgrees r.mark a) (decorated r.name.strokes (marked r.mark r.name.line a)) k)
-          → ((b : Schema) × Refers g r b) ⊎ SomeOffence (OffendsRef g r)
-      by (inl p) = inl (decorated r.name.strokes (marked r.mark r.name.line a), (i, x, a, e, p.0, p.1))
-      by (inr o) = inr (o.0, r.name.line, (refl, inr (inr (i, x, a, e, o.1))))
+  of_definition i x (schema a) e =
+      elim (next_or_stopped (MarkClashes r.mark a) (MarkAgrees r.mark a) (decorated r.name.strokes (marked r.mark r.name.line a)) (mark_agrees r.mark a)) [
+        | inl p ↦ inl (decorated r.name.strokes (marked r.mark r.name.line a), (i, x, a, e, p.0, p.1))
+        | inr o ↦ inr (o.0, r.name.line, (refl, inr (inr (i, x, a, e, o.1))))
+      ]
 
   of_base : (o : Option (ℕ × Defined)) → first_named (λ e. e.name) r.name.base g ≡ o → ((b : Schema) × Refers g r b) ⊎ SomeOffence (OffendsRef g r)
   of_base None e = inr (not_declared (spelling r.name), r.name.line, (refl, inl (refl, e)))
@@ -79,11 +72,10 @@ of_vars g a ns e (inl p) = by (subst (IsOf (outside g) e) p.2.1 p.1) (names_judg
 
 of_include : (g : List Defined) (a : Schema) (r : SchemaRef) → ((c : Schema) × Refers g r c) ⊎ SomeOffence (OffendsRef g r) → IsTakenIn g a (include r)
 of_include g a r (inr o) = inr (inl o)
-of_include g a r (inl c) = by (next_at r.name.line (OneClashes a.comps c.0.comps) (Agree a.comps c.0.comps) (conjoined a c.0) (agree a.comps c.0.comps))
-  where
-    by : ((b : Schema) × Includes a c.0 b) ⊎ SomeOffence (λ k m. (m ≡ r.name.line) × Stops (OneClashes a.comps c.0.comps) (Agree a.comps c.0.comps) (conjoined a c.0) k) → IsTakenIn g a (include r)
-    by (inl q) = inl (q.0, (c.0, c.1, q.1))
-    by (inr o) = inr (inr (o.0, o.1, (c.0, c.1, o.2.0, o.2.1)))
+of_include g a r (inl c) = elim (next_at r.name.line (OneClashes a.comps c.0.comps) (Agree a.comps c.0.comps) (conjoined a c.0) (agree a.comps c.0.comps)) [
+  | inl q ↦ inl (q.0, (c.0, c.1, q.1))
+  | inr o ↦ inr (inr (o.0, o.1, (c.0, c.1, o.2.0, o.2.1)))
+]
 
 declaration_judged : (g : List Defined) (a : Schema) (d : DeclTree) → IsTakenIn g a d
 declaration_judged g a (vars ns e) = of_vars g a ns e (judged (outside g) need.Set e)
@@ -101,11 +93,10 @@ first_declared :
     → ((b : Schema) × Declares g a (d ∷ ds) b) ⊎ SomeOffence (OffendsDecls g a (d ∷ ds))
 first_declared g a d ds (inr (inl o)) rest = inr (o.0, o.1, inl (inl o.2))
 first_declared g a d ds (inr (inr o)) rest = inr (o.0, o.1, inr (inl o.2))
-first_declared g a d ds (inl p) rest = by (rest p.0)
-  where
-    by : ((b : Schema) × Declares g p.0 ds b) ⊎ SomeOffence (OffendsDecls g p.0 ds) → ((b : Schema) × Declares g a (d ∷ ds) b) ⊎ SomeOffence (OffendsDecls g a (d ∷ ds))
-    by (inl q) = inl (q.0, (p.0, p.1, q.1))
-    by (inr o) = inr (o.0, o.1, later_declared g a p.0 d ds o.0 o.1 p.1 o.2)
+first_declared g a d ds (inl p) rest = elim (rest p.0) [
+  | inl q ↦ inl (q.0, (p.0, p.1, q.1))
+  | inr o ↦ inr (o.0, o.1, later_declared g a p.0 d ds o.0 o.1 p.1 o.2)
+]
 
 declarations_judged : (g : List Defined) (a : Schema) (ds : List DeclTree) → ((b : Schema) × Declares g a ds b) ⊎ SomeOffence (OffendsDecls g a ds)
 declarations_judged g a [] = inl (a, refl)
@@ -116,11 +107,10 @@ declarations_judged g a (d ∷ ds) = first_declared g a d ds (declaration_judged
 conjunct_judged :
     (line : ℕ) (next : Schema)
     → ((mid : Schema) × IsNext next mid) ⊎ SomeOffence (λ k m. (m ≡ line) × IsTooLarge next k)
-conjunct_judged line next = by (is_within next)
-  where
-    by : OrTold (IsWithin next) (IsTooLarge next) → ((mid : Schema) × IsNext next mid) ⊎ SomeOffence (λ k m. (m ≡ line) × IsTooLarge next k)
-    by (inl within) = inl (next, (refl, within))
-    by (inr large) = inr (large.0, line, (refl, large.1))
+conjunct_judged line next = elim (is_within next) [
+  | inl within ↦ inl (next, (refl, within))
+  | inr large ↦ inr (large.0, line, (refl, large.1))
+]
 
 conjuncts_judged : (a : Schema) (cs : List ResolvedTree) → ((b : Schema) × TakesAll a cs b) ⊎ SomeOffence (OffendsConjuncts a cs)
 conjuncts_judged a [] = inl (a, refl)
@@ -173,13 +163,11 @@ module _ (g : List Defined) (x y : SchemaTree) where
       → ((c : Schema) × IsSchema g (both x y) c) ⊎ SomeOffence (OffendsSchema g (both x y))
   of_both (inr o) right = inr (o.0, o.1, inl o.2)
   of_both (inl p) (inr o) = inr (o.0, o.1, inr (inl o.2))
-  of_both (inl p) (inl q) = by (next_or_stopped (OneClashes p.0.comps q.0.comps) (Agree p.0.comps q.0.comps) (conjoined p.0 q.0) (agree p.0.comps q.0.comps))
-    where
-      by :
-          (Agree p.0.comps q.0.comps × IsNext (conjoined p.0 q.0) (conjoined p.0 q.0)) ⊎ ((k : Offence) × Stops (OneClashes p.0.comps q.0.comps) (Agree p.0.comps q.0.comps) (conjoined p.0 q.0) k)
-          → ((c : Schema) × IsSchema g (both x y) c) ⊎ SomeOffence (OffendsSchema g (both x y))
-      by (inl n) = inl (conjoined p.0 q.0, (p.0, q.0, p.1, q.1, n.0, n.1))
-      by (inr o) = inr (o.0, name_line y, inr (inr (p.0, q.0, p.1, q.1, refl, o.1)))
+  of_both (inl p) (inl q) =
+      elim (next_or_stopped (OneClashes p.0.comps q.0.comps) (Agree p.0.comps q.0.comps) (conjoined p.0 q.0) (agree p.0.comps q.0.comps)) [
+        | inl n ↦ inl (conjoined p.0 q.0, (p.0, q.0, p.1, q.1, n.0, n.1))
+        | inr o ↦ inr (o.0, name_line y, inr (inr (p.0, q.0, p.1, q.1, refl, o.1)))
+      ]
 
   of_either :
       (l : ℕ) → ((a : Schema) × IsSchema g x a) ⊎ SomeOffence (OffendsSchema g x) → ((b : Schema) × IsSchema g y b) ⊎ SomeOffence (OffendsSchema g y)

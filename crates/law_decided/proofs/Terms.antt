@@ -1,5 +1,5 @@
 -- A term has a sort that its place takes, or an offence there: its parts are judged first.
-use Rattle.law_decided.proofs.Prelude.{◌++◌, ◌≡◌, ◌⊎◌, [], inl, inr, List, None, Option, refl, Some, subst, sym, ℕ, spelling, left_need, need_of, relation_rule, right_need, rule_of, absent, binary, bracket, comprehension, chain, constant, empty_set, line_of, link, Links, listed, named, no_decls, no_links, no_trees, numeral, Perhaps, present, quantified, Tree, tree, Trees, unary, var_decl, VarDecls, Need, Unary, Relation, Name, IsSmall, no_types, power, Ty, type, Tys, mismatch, no_members, not_declared, Offence, too_large, TypeNodes, Differ, LinksOffend, Misplaced, Offends, OneDiffers, OneOffends, PartOffends, Repeats, SetsOffend, a_schema, constant_sort, IsSmallSort, Meets, number_sort, predicate, set_sort, Sort, Takes, typed, UnaryTakes, AreAll, AreApart, LinksAreTyped, AreMembers, HasMemberType, PartIsPredicate, Declare, declared, IsOf, Makes, member_need, member_sort, row_type, variables, SomeOffence}
+use Rattle.law_decided.proofs.Prelude.{◌++◌, ◌≡◌, ◌⊎◌, [], inl, inr, List, None, Option, refl, Some, subst, sym, ℕ, spelling, left_need, need_of, relation_rule, right_need, rule_of, absent, binary, bracket, comprehension, chain, constant, empty_set, line_of, link, Links, listed, named, no_decls, no_links, no_trees, numeral, Perhaps, present, quantified, Tree, tree, Trees, unary, var_decl, VarDecls, Need, Unary, Relation, Name, IsSmall, no_types, power, Ty, type, Tys, mismatch, no_members, not_declared, Offence, too_large, TypeNodes, Differ, LinksOffend, Misplaced, Offends, OneDiffers, OneOffends, PartOffends, Repeats, SetsOffend, a_schema, constant_sort, IsSmallSort, Meets, number_sort, predicate, set_sort, Sort, Takes, typed, UnaryTakes, AreAll, AreApart, LinksAreTyped, AreMembers, HasMemberType, PartIsPredicate, Declare, declared, IsOf, Makes, member_need, member_sort, row_type, variables, SomeOffence, Scope, Var, meaning, with_variables}
 use Rattle.zf_tree.specs.declared.symbol.Quantifier.{Quantifier}
 use Rattle.zf_tree.specs.declared.operator.Need.TheVariants as need
 use Rattle.zf_tree.specs.declared.operator.Listed.{Listed}
@@ -8,8 +8,8 @@ use Rattle.zf_tree.specs.declared.operator.Operator.{Operator}
 use Rattle.zf_reference.specs.declared.reference.Reference.{Reference}
 use Rattle.zf_term.specs.Faults as fault
 use Rattle.zf_term.specs.Types as t
-use Rattle.zf_typing.specs.{meaning, Scope, Var, with_variables}
-use Rattle.law_decided.proofs.Combined.{AreCombined, combined, disagreement, made, relates}
+use Rattle.zf_typing.proofs.Chains.{compares}
+use Rattle.law_decided.proofs.Combined.{AreCombined, combined, disagreement, made}
 use Rattle.law_decided.proofs.Decided.{Decided, same_type, is_small, is_small_sort, meets, are_apart}
 
 abbrev pub IsJudged : Scope → Need → Tree → Type 0
@@ -19,11 +19,10 @@ IsJudged s n e = ((x : Sort) × IsOf s e x × Meets n x) ⊎ SomeOffence (Offend
 
 module _ (s : Scope) (n : Need) (e : Tree) where
   placed : (x : Sort) → IsOf s e x → ((k : Offence) (m : ℕ) → Misplaced s n e k m → Offends s n e k m) → IsJudged s n e
-  placed x p offends = by (meets n x)
-    where
-      by : Decided (Meets n x) → IsJudged s n e
-      by (inl h) = inl (x, p, h)
-      by (inr h) = inr (fault.misplaced n x, line_of e, offends (fault.misplaced n x) (line_of e) (x, p, h, refl, refl))
+  placed x p offends = elim (meets n x) [
+    | inl h ↦ inl (x, p, h)
+    | inr h ↦ inr (fault.misplaced n x, line_of e, offends (fault.misplaced n x) (line_of e) (x, p, h, refl, refl))
+  ]
 
 -- ---- forms, from what is judged of their parts
 
@@ -37,10 +36,7 @@ of_empty_set s n l e (inr o) = inr (o.0, o.1, inl o.2)
 
 not_a_schema : (n : Need) (x : Sort) → Meets n x → x ≡ a_schema → ⊥
 not_a_schema need.Expression x p e = (cc)
-not_a_schema need.Number x p e = (cc)
-not_a_schema need.Set x p e = (cc)
-not_a_schema need.Relation x p e = (cc)
-not_a_schema need.Predicate x p e = (cc)
+not_a_schema _ x p e = (cc)
 
 of_bracket : (s : Scope) (n : Need) (l : ℕ) (e : Tree) → IsJudged s n e → IsJudged s n (bracket l e)
 of_bracket s n l e (inl p) = inl (p.0, (p.1, not_a_schema n p.0 p.2), p.2)
@@ -49,8 +45,7 @@ of_bracket s n l e (inr o) = inr (o.0, o.1, inl o.2)
 -- what a member is that its place takes
 told : (form : Listed) (x : Sort) → Meets (member_need form) x → (v : Ty) × (x ≡ member_sort form v)
 told Tuple x p = p
-told Display x p = p
-told Product x p = p
+told _ x p = p
 
 -- the members have this type too, or one has another
 alike : (s : Scope) (u : Ty) (es : Trees) (us : Tys) → AreMembers Display s es us → AreAll (type u us) u ⊎ SomeOffence (OneDiffers s u es)
@@ -70,11 +65,10 @@ makes : (form : Listed) (s : Scope) (l : ℕ) (es : Trees) (us : Tys) → AreMem
 makes Tuple s l es us p = inl (t.product us, refl)
 makes Product s l es us p = inl (power (t.product us), refl)
 makes Display s l no_trees us p = inr (no_members, l, (refl, refl))
-makes Display s l (tree e es) us p = by (alike s p.0 es p.1 p.3)
-  where
-    by : AreAll (type p.0 p.1) p.0 ⊎ SomeOffence (OneDiffers s p.0 es) → ((u : Ty) × Makes Display us u) ⊎ SomeOffence (Differ Display s l (tree e es))
-    by (inl all) = inl (power p.0, (p.0, subst (λ vs. AreAll vs p.0) (sym p.4) all, refl))
-    by (inr o) = inr (o.0, o.1, (p.0, p.2, o.2))
+makes Display s l (tree e es) us p = elim (alike s p.0 es p.1 p.3) [
+  | inl all ↦ inl (power p.0, (p.0, subst (λ vs. AreAll vs p.0) (sym p.4) all, refl))
+  | inr o ↦ inr (o.0, o.1, (p.0, p.2, o.2))
+]
 
 of_listed : (s : Scope) (n : Need) (l : ℕ) (form : Listed) (es : Trees) → ((us : Tys) × AreMembers form s es us) ⊎ SomeOffence (OneOffends s (member_need form) es) → IsJudged s n (listed l form es)
 of_listed s n l form es (inr o) = inr (o.0, o.1, inl o.2)
@@ -127,7 +121,7 @@ module _ (s : Scope) (left : Tree) (x : Sort) (r : Relation) (e : Tree) (ks : Li
     where
       linked : (z : Sort) → Takes (relation_rule r) x q.0 z → LinksAreTyped s q.0 ks ⊎ SomeOffence (LinksOffend s e ks)
           → LinksAreTyped s x (link r e ks) ⊎ SomeOffence (LinksOffend s left (link r e ks))
-      linked z w (inl links) = inl (q.0, q.1, relates r x q.0 z w, links)
+      linked z w (inl links) = inl (q.0, q.1, compares r x q.0 z w, links)
       linked z w (inr o) = inr (o.0, o.1, inr (inr (inr o.2)))
 
       by : AreCombined (relation_rule r) x q.0 → LinksAreTyped s x (link r e ks) ⊎ SomeOffence (LinksOffend s left (link r e ks))

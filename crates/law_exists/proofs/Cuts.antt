@@ -1,9 +1,8 @@
 -- What is written of a list of events: up to the last one that is written, or all.
-use Rattle.law_exists.proofs.Prelude.{◌++◌, ◌+◌, ◌∙◌, ◌∷◌, ◌≡◌, ◌⊎◌, [], ap, append-nil, append_assoc, arith, inl, inr, length, length-append, List, None, Option, refl, Some, subst, sym, take, ℕ, ⊎_elim, cases_lt, IsTotalOrder, lists_total, slice_cmp, ◌≢◌, AllPairs, Contains, Ordering, Greater, Less, Conjuncts, Event, IsEvent, IsEvents, ComesAfter, Truth, False, Out, True, AreEventsUpTo, breaks, ends, Hold, IsBelow, IsWritten, lines, pauses, Status, Wording}
+use Rattle.law_exists.proofs.Prelude.{◌++◌, ◌+◌, ◌∙◌, ◌∷◌, ◌≡◌, ◌⊎◌, [], ap, append-nil, append_assoc, arith, inl, inr, length, length-append, List, None, Option, refl, Some, subst, sym, take, ℕ, ⊎_elim, cases_lt, IsTotalOrder, lists_total, slice_cmp, ◌≢◌, AllPairs, Contains, Ordering, Greater, Less, Conjuncts, Event, IsEvent, IsEvents, ComesAfter, Truth, False, Out, True, AreEventsUpTo, breaks, ends, Hold, IsBelow, IsWritten, lines, pauses, Status, Wording, AllPairs-across, AllPairs-back, AllPairs-cons, AllPairs-head, AllPairs-nil, AllPairs-tail, Contains-cases, Contains-either, Contains-head, Contains-later, Contains-left, Contains-nil, Contains-right}
 use Rattle.std.specs.Ordering.{ordering_reverse}
 use Rattle.std.proofs.lemmas.List.{take_all}
 use Rattle.std.proofs.lemmas.List.Elements.{All-nil, All-push}
-use Rattle.zf_walk.proofs.Lists.{Contains-head, Contains-later, Contains-cases, Contains-nil, Contains-left, Contains-right, Contains-either, AllPairs-nil, AllPairs-cons, AllPairs-head, AllPairs-tail, AllPairs-across, AllPairs-back}
 use Rattle.zf_walk.proofs.Picks.{IsRowOf-length}
 use Rattle.zf_lines.specs.declared.fault.Status.TheVariants.{Done, PastBounds}
 
@@ -79,6 +78,11 @@ module _ {V : Type 0} (w : Wording V) (limit : Option ℕ) (all : List (Event V)
 
 -- ---- the events up to a row
 
+pub AllPairs-front : {X : Type 0} (R : X → X → Type 0) (xs ys : List X) → AllPairs R (xs ++ ys) → AllPairs R xs
+AllPairs-front R [] ys o = AllPairs-nil R
+AllPairs-front R (x ∷ xs) ys o =
+    AllPairs-cons R x xs (λ y m. AllPairs-head R x (xs ++ ys) o y (Contains-left xs ys y m)) (AllPairs-front R xs ys (AllPairs-tail R x (xs ++ ys) o))
+
 module _ {V : Type 0} (cmp : V → V → Ordering) (order : IsTotalOrder cmp) (s : Conjuncts V) (ranges : List (List V)) (after : Option (List V)) where
   never_both : (a b : List V) → ComesAfter cmp a b → ComesAfter cmp b a → ⊥
   never_both a b h k = let e : slice_cmp cmp a b ≡ Greater = (lists_total order).antisymm a b ∙ ap ordering_reverse k in let f : Less ≡ Greater = sym h ∙ e in (cc)
@@ -90,19 +94,9 @@ module _ {V : Type 0} (cmp : V → V → Ordering) (order : IsTotalOrder cmp) (s
   abbrev IsBefore : Event V → Event V → Type 0
   IsBefore e f = ComesAfter cmp e.row f.row
 
-  front_ascending : (front rest : List (Event V)) (e : Event V) → AllPairs IsBefore (front ++ e ∷ rest) → AllPairs IsBefore (front ++ e ∷ [])
-  front_ascending [] rest e h = AllPairs-cons IsBefore e [] (λ f m. absurd (Contains-nil f m)) (AllPairs-nil IsBefore)
-  front_ascending (x ∷ front) rest e h = AllPairs-cons IsBefore x (front ++ e ∷ [])
-      (λ f m. AllPairs-head IsBefore x (front ++ e ∷ rest) h f (⊎_elim (λ a. Contains-left front (e ∷ rest) f a)
-      (λ b. Contains-right front (e ∷ rest) f (first f b)) (Contains-either front (e ∷ []) f m)))
-      (front_ascending front rest e (AllPairs-tail IsBefore x (front ++ e ∷ rest) h))
-    where
-      first : (f : Event V) → Contains (e ∷ []) f → Contains (e ∷ rest) f
-      first f m = ⊎_elim (λ q. subst (Contains (e ∷ rest)) q (Contains-head e rest)) (λ n. absurd (Contains-nil f n)) (Contains-cases e [] f m)
-
   up_to_event : (front rest : List (Event V)) (e : Event V) → IsEvents cmp s ranges after (front ++ e ∷ rest) → AreEventsUpTo cmp s ranges after (Some e.row) (front ++ e ∷ [])
   up_to_event front rest e h = record {
-    ascending = front_ascending front rest e h.ascending;
+    ascending = AllPairs-front IsBefore (front ++ e ∷ []) rest (subst (AllPairs IsBefore) whole h.ascending);
     members = λ f. (
       λ m. let i = (h.members f).0 (there f m) in (i, λ c. not_after f m (subst (λ r. slice_cmp cmp r f.row ≡ Less) (up_to_of e f here i) c)),
       λ i. back f i.0 (λ c. i.1 (subst (λ r. slice_cmp cmp r f.row ≡ Less) (sym (up_to_of e f here i.0)) c)),
@@ -115,9 +109,11 @@ module _ {V : Type 0} (cmp : V → V → Ordering) (order : IsTotalOrder cmp) (s
       alone : (f : Event V) → Contains (e ∷ []) f → e ≡ f
       alone f m = ⊎_elim (λ q. q) (λ n. absurd (Contains-nil f n)) (Contains-cases e [] f m)
 
+      whole : front ++ e ∷ rest ≡ (front ++ e ∷ []) ++ rest
+      whole = sym (append_assoc front (e ∷ []) rest)
+
       there : (f : Event V) → Contains (front ++ e ∷ []) f → Contains (front ++ e ∷ rest) f
-      there f m = ⊎_elim (λ a. Contains-left front (e ∷ rest) f a) (λ b. Contains-right front (e ∷ rest) f
-          (subst (Contains (e ∷ rest)) (alone f b) (Contains-head e rest))) (Contains-either front (e ∷ []) f m)
+      there f m = subst (λ es. Contains es f) (sym whole) (Contains-left (front ++ e ∷ []) rest f m)
 
       not_after : (f : Event V) → Contains (front ++ e ∷ []) f → ComesAfter cmp e.row f.row → ⊥
       not_after f m c =
@@ -126,12 +122,8 @@ module _ {V : Type 0} (cmp : V → V → Ordering) (order : IsTotalOrder cmp) (s
 
       back : (f : Event V) → IsEvent cmp s ranges after f → (ComesAfter cmp e.row f.row → ⊥) → Contains (front ++ e ∷ []) f
       back f i n =
-          ⊎_elim (λ a. Contains-left front (e ∷ []) f a)
-          (λ b. ⊎_elim (λ q. Contains-right front (e ∷ []) f (subst (Contains (e ∷ [])) q (Contains-head e []))) (λ k. absurd (n (after_it f k)))
-          (Contains-cases e rest f b)) (Contains-either front (e ∷ rest) f ((h.members f).1 i))
-        where
-          after_it : (f : Event V) → Contains rest f → ComesAfter cmp e.row f.row
-          after_it f k = AllPairs-head IsBefore e rest (AllPairs-back IsBefore front (e ∷ rest) h.ascending) f k
+          ⊎_elim (λ a. a) (λ k. absurd (n (AllPairs-head IsBefore e rest (AllPairs-back IsBefore front (e ∷ rest) h.ascending) f k)))
+          (Contains-either (front ++ e ∷ []) rest f (subst (λ es. Contains es f) whole ((h.members f).1 i)))
 
   pub cut_events : (all : List (Event V)) (last : Option (List V)) (events : List (Event V)) → IsEvents cmp s ranges after all → IsCut all last events → AreEventsUpTo cmp s ranges after last events
   cut_events all last events h (inl c) =

@@ -1,14 +1,12 @@
 -- What is a member of declared sets is decided, and where they are bounded it is listed.
-use Rattle.law_exists.proofs.Prelude.{◌≡◌, Bool, false, inl, inr, None, Option, Some, subst, true, ⊎_elim, and_parts, or_cases, IsMember, members, Value, carrier, DeclaredSet, DeclaredSets, no_sets, plain, set, sides, ResolvedTree, Ty, bounds, one_bounds, Environment, globally, HasOutcome, Decided, decided_both, decided_either, decided_in, Listed, listed_either, listed_kept, listed_none, listed_same, some_outcome, listed_members, same_value, IsCarrierOut, IsInCarrier, IsInOne, IsInPlain, IsInSet, IsInSets, IsOneOut, IsPlainOut, IsSetOut, is_none}
+use Rattle.law_exists.proofs.Prelude.{◌≡◌, Bool, false, inl, inr, None, Option, Some, subst, true, ⊎_elim, and_parts, or_cases, IsMember, members, Value, carrier, DeclaredSet, DeclaredSets, no_sets, plain, set, sides, ResolvedTree, Ty, bounds, one_bounds, Environment, globally, HasOutcome, Decided, decided_both, decided_either, decided_in, Listed, listed_either, listed_kept, listed_none, listed_same, some_outcome, listed_members, same_value, IsCarrierOut, IsInCarrier, IsInOne, IsInPlain, IsInSet, IsInSets, IsOneOut, IsPlainOut, IsSetOut, is_none, IsCarrier, has_endless, infinite_in}
 use Rattle.zf_term.specs.declared.extent.Infinite.{Infinite}
 use Rattle.zf_value.specs.declared.value.Outcome.{Outcome}
 use Rattle.zf_value.specs.declared.value.Outcome.TheVariants.{Is, Undefined, Out}
-use Rattle.zf_meaning.specs.{infinite_in, IsCarrier}
 use Rattle.zf_meaning.proofs.Environments.{one_carrier}
 use Rattle.zf_meaning.proofs.Unique.{one_outcome}
 use Rattle.law_total.proofs.Carriers.{some_carrier}
 use Rattle.law_total.proofs.Truths.{decided_is_in}
-use Rattle.zf_ranges.specs.{has_endless}
 use Rattle.zf_ranges.proofs.Single.{bounding, endless}
 use Rattle.law_exists.proofs.Typed.{decided_of_type}
 

@@ -1,15 +1,10 @@
 -- The first component that is out, and the ranges of bounded ones.
-use Rattle.law_exists.proofs.Prelude.{◌<◌, ◌∷◌, ◌≡◌, ◌⊎◌, [], arith, inl, inr, length, List, None, Option, refl, Some, subst, suc, zero, ℕ, ⊎_elim, IsTrue, slice_get, Value, Comp, sets_of, one_bounds, Environment, Decided, HasSome, listed_kept, first_or_none, same_value, IsOneOut, AreRanges, first_held, IsFirstOut, IsHeld, IsNoneOut, IsOutAt, IsComponentRange, later_held}
-use Rattle.std.specs.List.{AllByRecursion}
+use Rattle.law_exists.proofs.Prelude.{◌∷◌, ◌≡◌, ◌⊎◌, [], inl, inr, length, List, None, Option, refl, Some, subst, ℕ, ⊎_elim, IsTrue, slice_get, Value, Comp, sets_of, one_bounds, Environment, Decided, HasSome, listed_kept, first_or_none, same_value, IsOneOut, AreRanges, first_held, IsFirstOut, IsHeld, IsNoneOut, IsOutAt, IsComponentRange, later_held, AllByRecursion}
+use Rattle.std.proofs.lemmas.Option.{slice_get_within}
 use Rattle.law_total.proofs.Sets.{ordered}
 use Rattle.law_exists.proofs.DeclaredSets.{decided_one_out, listed_in_sets}
 
 -- ---- the first that is out
-
-got_below : {A : Type 0} (xs : List A) (i : ℕ) (x : A) → slice_get xs i ≡ Some x → i < length xs
-got_below [] i x h = absurd (cc)
-got_below (y ∷ xs) zero x h = omega arith
-got_below (y ∷ xs) (suc i) x h = let l = got_below xs i x h in omega arith
 
 out_at_or_not : (e : Environment) (x : Option Comp) → Decided ((c : Comp) × (x ≡ Some c) × IsOneOut e (sets_of c.sets))
 out_at_or_not e None = inr (λ h. let s = h.1 in (cc))
@@ -20,7 +15,7 @@ out_at_or_not e (Some c) = elim (decided_one_out e (sets_of c.sets)) [
 
 pub first_out_or_none : (e : Environment) (cs : List Comp) → ((place : ℕ) × IsFirstOut e cs place) ⊎ IsNoneOut e cs
 first_out_or_none e cs =
-    ⊎_elim (λ h. inl (h.0, record { here = h.1; first = h.2 })) (λ g. inr (λ place o. g place (got_below cs place o.0 o.1) o))
+    ⊎_elim (λ h. inl (h.0, record { here = h.1; first = h.2 })) (λ g. inr (λ place o. g place (slice_get_within cs place o.0 o.1) o))
     (first_or_none (IsOutAt e cs) (λ place. out_at_or_not e (slice_get cs place)) (length cs))
 
 -- ---- ranges

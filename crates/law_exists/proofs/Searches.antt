@@ -1,7 +1,6 @@
 -- A search has events and a number of tests.
-use Rattle.law_exists.proofs.Prelude.{[], Bool, false, List, Option, refl, true, ℕ, Event, cut, value_order, Value, Schema, Environment, HasSome, same_value, AreRanges, HasEvents, IsBelow, IsTestsLine, IsWritten, Status, Wording}
+use Rattle.law_exists.proofs.Prelude.{[], Bool, false, List, Option, refl, true, ℕ, Event, cut, value_order, Value, Schema, Environment, HasSome, same_value, AreRanges, HasEvents, IsBelow, IsTestsLine, IsWritten, Status, Wording, AreEvents, IsBoundOf, Portion, property}
 use Rattle.zf_value.specs.contracts.plain.ValueOrd.TheImpl.Laws.{total-law}
-use Rattle.zf_enum.specs.{AreEvents, IsBoundOf, Portion, property}
 use Rattle.law_exists.proofs.Cuts.{some_written, cut_events, not_false}
 use Rattle.law_exists.proofs.Tests.{some_bound, some_number_of_tests}
 use Rattle.zf_parts.proofs.Told.{events_of, property_told}

@@ -1,6 +1,5 @@
 -- The number of the tests of a walk.
-use Rattle.law_exists.proofs.Prelude.{◌<◌, ◌≡◌, ap, inl, length, List, None, Option, refl, Some, take, ℕ, cases_eq, slice_cmp, Ordering, Greater, Less, Conjuncts, IsBound, IsCount, IsNumberOfTests, IsDueTest, IsReached, IsUpTo, IsWalked, False, Decided, decided_all, decided_both, decided_lists, decided_not, decided_same, decided_then, HasSome, Listed, listed_kept, listed_pairs, listed_same, decided_lt, listed_below, distinct_of}
-use Rattle.law_total.proofs.Rows.{AreTold, same_ordering, fronts_of}
+use Rattle.law_exists.proofs.Prelude.{◌<◌, ◌≡◌, ap, inl, length, List, None, Option, refl, Some, take, ℕ, cases_eq, slice_cmp, Ordering, Greater, Less, Conjuncts, IsBound, IsCount, IsNumberOfTests, IsDueTest, IsReached, IsUpTo, IsWalked, False, Decided, decided_all, decided_both, decided_lists, decided_not, decided_same, decided_then, HasSome, Listed, listed_kept, listed_pairs, listed_same, decided_lt, listed_below, distinct_of, AreTold, fronts_of, same_ordering}
 
 same_pair : {A B : Type 0} → ((x y : A) → Decided (x ≡ y)) → ((x y : B) → Decided (x ≡ y)) → (p q : A × B) → Decided (p ≡ q)
 same_pair f g p q = decided_same (λ e. (λ i. (e.0 i, e.1 i))) (λ e. (ap (λ r. r.0) e, ap (λ r. r.1) e)) (decided_both (f p.0 q.0) (g p.1 q.1))

@@ -1,18 +1,6 @@
 -- In an exploration each state has its steps, or one that can't be decided; in a search for one each is sought, or another, or it can't be decided.
-use Rattle.std.proofs.Common.{◌∷◌, ◌≡◌, ◌⊎◌, [], false, inl, inr, List, None, Option, refl, subst, sym, true, ℕ}
-use Rattle.std.specs.List.{AllByRecursion}
-use Rattle.std.specs.Prelude.{AllPairs, Contains}
-use Rattle.zf_term.specs.{Schema}
-use Rattle.zf_finite.specs.{IsFinite}
-use Rattle.zf_value.specs.declared.plain.Value.{Value}
-use Rattle.zf_value.specs.{value_order}
-use Rattle.zf_walk.proofs.Lists.{AllPairs-head, Contains-cases, Contains-head, Contains-nil}
-use Rattle.zf_walk.specs.declared.judge.Truth.{Truth}
-use Rattle.zf_walk.specs.declared.judge.Truth.TheVariants.{False, Out, True}
-use Rattle.zf_walk.specs.{ComesAfter, Event, IsEvent}
-use Rattle.zf_meaning.specs.{Environment}
+use Rattle.law_exists.proofs.Prelude.{◌∷◌, ◌≡◌, ◌⊎◌, [], false, inl, inr, List, None, Option, refl, subst, sym, true, ℕ, AllByRecursion, AllPairs, Contains, Schema, IsFinite, Value, value_order, AllPairs-head, Contains-cases, Contains-head, Contains-nil, Truth, False, Out, True, ComesAfter, Event, IsEvent, Environment, portion, property}
 use Rattle.zf_enum.proofs.EventLaws.{one_ranges}
-use Rattle.zf_enum.specs.{portion, property}
 use Rattle.zf_graph.proofs.SomeSearch.{somehow_searched}
 use Rattle.zf_graph.proofs.Having.{AreListed, each_turn, IsStrayTold}
 use Rattle.zf_graph.specs.{EachIsTold, EachNodeHasTurn}

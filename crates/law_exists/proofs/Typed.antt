@@ -1,11 +1,9 @@
 -- Whether a value is of a type is decided.
-use Rattle.law_exists.proofs.Prelude.{◌<◌, ◌∙◌, ◌∷◌, ◌≡◌, ◌≤◌, [], ap, inl, inr, length, List, None, Option, refl, Some, subst, sym, ℕ, ℤ, FitsSigned, slice_get, Less, IsAscending, members, parts, value_order, Elem, Int, SetOf, Tuple, Value, basic, int, no_types, power, product, Ty, type, Tys, Environment, type_number, Decided, decided_both, decided_same, decided_some, decided_le, listed_below, same_row, same_value, AllByRecursion}
+use Rattle.law_exists.proofs.Prelude.{◌<◌, ◌∙◌, ◌∷◌, ◌≡◌, ◌≤◌, [], ap, inl, inr, length, List, None, Option, refl, Some, subst, sym, ℕ, ℤ, FitsSigned, slice_get, Less, IsAscending, members, parts, value_order, Elem, Int, SetOf, Tuple, Value, basic, int, no_types, power, product, Ty, type, Tys, Environment, type_number, Decided, decided_both, decided_same, decided_some, decided_le, listed_below, same_row, same_value, AllByRecursion, AreOfTypes, IsExistingElement, IsOfType, same_ordering}
 use Rattle.std.specs.Int.{w64}
 use Rattle.zf_value.specs.declared.TheConstants.{SET_MAX}
 use Rattle.zf_value.proofs.Seen.{members-SetOf, parts-Tuple, same_number}
-use Rattle.zf_meaning.specs.{AreOfTypes, IsExistingElement, IsOfType}
 use Rattle.law_total.proofs.Numbers.{decided_fits, number_or_not}
-use Rattle.law_total.proofs.Rows.{same_ordering}
 
 decided_every : (P : Value → Type 0) → ((v : Value) → Decided (P v)) → (xs : List Value) → Decided (AllByRecursion P xs)
 decided_every P d [] = inl tt

@@ -1,7 +1,5 @@
 -- The constructors of a free type are names of which no two are the same.
-use Rattle.law_names.proofs.Prelude.{◌++◌, ◌+◌, ◌∷◌, ◌≡◌, ◌⊎◌, [], Bool, false, inl, inr, List, map, None, Option, refl, Some, subst, sym, true, ℕ, none-some, if◌then◌else◌, bytes_eq, spelling, Name, constructor, Defined, Constructs, with_global, AreApart, IsNoneOf}
-use Rattle.zf_term.specs.{first_named, later}
-use Rattle.zf_term.proofs.SameNames.{is_itself}
+use Rattle.law_names.proofs.Prelude.{◌++◌, ◌+◌, ◌∷◌, ◌≡◌, ◌⊎◌, [], Bool, false, inl, inr, List, map, None, Option, refl, Some, subst, sym, true, ℕ, none-some, if◌then◌else◌, bytes_eq, spelling, Name, constructor, Defined, Constructs, with_global, AreApart, IsNoneOf, first_named, is_itself, later}
 
 -- a global has the name
 abbrev Has : List Defined → List ℕ → Type 0

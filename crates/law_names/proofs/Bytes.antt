@@ -1,9 +1,7 @@
 -- A name is spelled by the bytes of a name.
-use Rattle.law_names.proofs.Prelude.{◌++◌, ◌∙◌, ◌∷◌, ◌≡◌, [], arith, Bool, false, length-append, List, refl, subst, sym, true, ℕ, list_all, ◌&&◌, ◌==◌, ◌||◌, and_left, and_right, eq_is, is_in_name, IsName}
-use Rattle.std.proofs.lemmas.List.Folds.{list_all-append}
+use Rattle.law_names.proofs.Prelude.{◌||◌, ◌++◌, ◌∙◌, ◌∷◌, ◌≡◌, [], arith, Bool, false, length-append, List, refl, subst, sym, true, ℕ, list_all, ◌&&◌, ◌==◌, and_left, and_right, eq_is, is_in_name, IsName, is_base, is_letter, is_one, is_run, is_two, list_all-append}
 use Rattle.zf_scan.specs.declared.pieces.Run.{Run}
 use Rattle.zf_scan.specs.declared.pieces.Run.TheVariants.{Base, Strokes}
-use Rattle.zf_scan.specs.{is_base, is_letter, is_one, is_run, is_two}
 use Rattle.std.specs.Char.{is_ascii_digit}
 use Rattle.zf_scan.proofs.Longest.{either}
 

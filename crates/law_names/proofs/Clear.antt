@@ -1,19 +1,17 @@
 -- The types of a text, at sizes of its given sets, have clear spellings, and the components of its schemas clear names.
-use Rattle.law_names.proofs.Prelude.{◌++◌, ◌+◌, ◌<◌, ◌^◌, ◌∙◌, ◌∷◌, ◌≡◌, [], ap, arith, Bool, drop, false, None, Option, refl, true, if◌then◌else◌, bytes_eq, drop-cons, length, List, slice_get, Some, subst, suc, sym, take, zero, ℕ, none-some, same_Some, abbreviation, constructor, Defined, Definition, free_type, given_set, schema, IsClear}
+use Rattle.law_names.proofs.Prelude.{◌++◌, ◌+◌, ◌<◌, ◌^◌, ◌∙◌, ◌∷◌, ◌≡◌, [], ap, arith, drop, refl, drop-cons, length, List, slice_get, Some, subst, suc, sym, take, zero, ℕ, none-some, same_Some, Defined, Definition, free_type, given_set, schema, IsClear, HasCompsOnce, spellings, with_spelling}
 use Rattle.std.proofs.lemmas.List.{take-append-drop}
 use Rattle.std.proofs.lemmas.List.Sums.{sum_by-cons}
-use Rattle.zf_term.specs.{first_named, has_elements, later, next_number, Schema}
+use Rattle.zf_term.specs.{has_elements, later, next_number}
 use Rattle.zf_meaning.specs.declared.sizes.Size.{Size}
 use Rattle.zf_meaning.specs.{AddsSize, AreComplete, AreSizes, given_sets, IsStated}
 use Rattle.zf_print.specs.declared.spelling.Spelling.{Spelling}
 use Rattle.zf_print.specs.declared.spelling.Spelling.TheVariants.{Numbered, Named}
-use Rattle.zf_print.specs.{spellings, with_spelling}
 use Rattle.law_names.specs.{ComponentsAreClear, EachLineIsHeld, GlobalsAreClear}
-use Rattle.zf_schema.specs.{HasCompsOnce, HaveCompsOnce}
 use Rattle.zf_checker.proofs.Globals.{names_once}
-use Rattle.zf_print.proofs.Chosen.{line_is_held}
+use Rattle.zf_read.proofs.Chosen.{line_is_held}
 use Rattle.law_names.proofs.Components.{once_apart}
-use Rattle.law_names.proofs.Named.{IsNamed, AreNamed, found_named, globals_named}
+use Rattle.law_names.proofs.Named.{IsNamed, AreNamed, found_in, globals_named}
 
 -- ---- the stated sizes
 
@@ -52,9 +50,7 @@ type_told :
     → IsTold ss total later → AddsSize stated name d later ks → IsTold (with_spelling name d ss) (has_elements d + total) ks
 type_told stated small name (given_set n) ss total ks later named more p = one_told (Numbered name) p.0 ss total ks later (named, small name p.0 p.1) more p.2
 type_told stated small name (free_type n names) ss total ks later named more p = one_told (Named names) (length names) ss total ks later (named.0, named.1, omega arith) more p
-type_told stated small name (constructor n of_type place) ss total ks later named more p = none_told ss total ks later more p
-type_told stated small name (abbreviation t r x) ss total ks later named more p = none_told ss total ks later more p
-type_told stated small name (schema a) ss total ks later named more p = none_told ss total ks later more p
+type_told stated small name _ ss total ks later named more p = none_told ss total ks later more p
 
 types_told : (stated : List Size) → AreSmall stated → (g : List Defined) (ks : List ℕ) → AreNamed g → AreSizes stated g ks → IsTold (spellings g) (next_number g) ks
 types_told stated small [] ks named p = (λ n k at. absurd (none-some k (ap (λ ks. slice_get ks n) (sym p) ∙ at)), ap length p)
@@ -71,23 +67,12 @@ globals_clear boxes source globals faults stated numbers e reads checked complet
     let told = types_told stated (stated_small (given_sets globals) stated complete) globals e.sizes named.0 environment.1 in
     record { numbers = omega (arith, named.1, told.1, reads.1.short); spelled = told.0 }
 
--- what holds of all holds of the schema that is found
-found_once : (x y : List ℕ) (i : ℕ) (a : Schema) (g : List Defined) → HaveCompsOnce g → first_named (λ d. d.name) x g ≡ Some (i, record { name = y; definition = schema a }) → HasCompsOnce (schema a)
-found_once x y i a [] all e = absurd (none-some _ e)
-found_once x y i a (d ∷ g) all e = by (bytes_eq d.name x) (first_named (λ d. d.name) x g) (λ j. found_once x y j a g all.1) e
-  where
-    by :
-        (t : Bool) (o : Option (ℕ × Defined)) → ((j : ℕ) → o ≡ Some (j, record { name = y; definition = schema a }) → HasCompsOnce (schema a))
-        → (if t then Some (0, d) else later o) ≡ Some (i, record { name = y; definition = schema a }) → HasCompsOnce (schema a)
-    by true o rest e = subst (λ q. HasCompsOnce q.1.definition) (same_Some (0, d) _ e) all.0
-    by false None rest e = absurd (none-some _ e)
-    by false (Some q) rest e = rest q.0 (ap (λ r. Some (q.0, r.1)) (same_Some (q.0 + 1, q.1) _ e))
-
 pub components_clear : ComponentsAreClear
 components_clear source globals a s =
     let named = globals_named s.boxes source globals s.faults s.reads s.checked in
-    let once = found_once s.name s.name s.place a globals (names_once s.boxes globals s.faults s.checked).1 s.there in
-    (found_named s.name globals (s.place, record { name = s.name; definition = schema a }) named.0 s.there, once_apart a.comps once)
+    let found : ℕ × Defined = (s.place, record { name = s.name; definition = schema a }) in
+    let once = found_in (λ d. HasCompsOnce d.definition) s.name globals found (names_once s.boxes globals s.faults s.checked).1 s.there in
+    (found_in (λ d. IsNamed d.name d.definition) s.name globals found named.0 s.there, once_apart a.comps once)
 
 pub lines_held : EachLineIsHeld
 lines_held source globals a e text held s line = line_is_held (spellings globals) e a.comps text held (components_clear source globals a s) line

@@ -1,11 +1,5 @@
 -- The schema calculus makes schemas whose components have names of schemas that are so.
-use Rattle.law_names.proofs.Prelude.{◌++◌, ◌∙◌, ◌∷◌, ◌≡◌, [], arith, Bool, false, length-append, List, map, None, refl, Some, subst, sym, true, ℕ, none-some, list_all, if◌then◌else◌, bytes_eq, and_right, AreApart, AreNames, is_in_name, IsName, IsNoneOf}
-use Rattle.std.proofs.lemmas.List.Folds.{list_all-append}
-use Rattle.zf_tree.specs.declared.tree.RefMark.{RefMark}
-use Rattle.zf_tree.specs.declared.tree.RefMark.TheVariants.{Plain, Delta, Xi}
-use Rattle.zf_term.specs.{Comp, later, Schema}
-use Rattle.zf_term.proofs.SameNames.{is_itself}
-use Rattle.zf_calculus.specs.{AreOnce, comp, comp_named, decorated, either_comps, marked, prime, with_comp, with_comps}
+use Rattle.law_names.proofs.Prelude.{◌++◌, ◌∙◌, ◌∷◌, ◌≡◌, [], arith, Bool, false, length-append, List, map, None, refl, Some, subst, sym, true, ℕ, none-some, list_all, if◌then◌else◌, bytes_eq, and_right, AreApart, AreNames, is_in_name, IsName, IsNoneOf, AreOnce, Comp, Delta, Plain, RefMark, Schema, Xi, comp, comp_named, decorated, either_comps, is_itself, later, list_all-append, marked, prime, with_comp, with_comps}
 use Rattle.law_names.proofs.Apart.{none_later}
 use Rattle.law_names.proofs.Bytes.{both_true}
 

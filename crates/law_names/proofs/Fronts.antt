@@ -1,11 +1,8 @@
 -- What a tree spells is a front of the symbols: the rest stands after it.
-use Rattle.law_names.proofs.Prelude.{◌++◌, ◌∙◌, ◌∷◌, ◌≡◌, [], ap, append_assoc, List, sym, DeclTree, include, schema_reference, SchemaTree, Tree, vars, Name, separator, Symbol, symbol, Kind, Next, PartedBy, Spells, SpellsDecl, SpellsMarked, SpellsName, SpellsPredicates, SpellsSchema}
-use Rattle.zf_tree.specs.declared.symbol.Connective.TheVariants.{And, Or}
+use Rattle.law_names.proofs.Prelude.{◌++◌, ◌∙◌, ◌∷◌, ◌≡◌, [], ap, append_assoc, List, sym, DeclTree, include, schema_reference, SchemaTree, Tree, vars, Name, separator, Symbol, symbol, Kind, Next, PartedBy, Spells, SpellsDecl, SpellsMarked, SpellsName, SpellsPredicates, SpellsSchema, And, Delta, Or, Plain, RefMark, Xi}
 use Rattle.zf_scan.specs.declared.token.Kind.TheVariants as k
-use Rattle.zf_tree.specs.declared.tree.RefMark.{RefMark}
-use Rattle.zf_tree.specs.declared.tree.RefMark.TheVariants.{Plain, Delta, Xi}
 use Rattle.zf_tree.specs.Trees as shape
-use Rattle.zf_parse.proofs.TermsApart.{Spelling, Own, names_own, term_own}
+use Rattle.zf_grammar.proofs.TermsApart.{Spelling, Own, names_own, term_own}
 
 -- these symbols are a front and the rest
 pub record Behind (ts us : List Symbol) : Type 0 where

@@ -1,12 +1,10 @@
 -- Each given set and free type of a text, and each component of its schemas, is named clearly, and there are no more types than the text has bytes.
-use Rattle.law_names.proofs.Prelude.{◌+◌, ◌∷◌, ◌≡◌, ◌≤◌, [], ap, arith, Bool, false, inl, inr, length, List, map, None, Option, refl, Some, subst, sym, true, ℕ, none-some, same_Some, if◌then◌else◌, bytes_eq, spelling, BoxTree, DeclTree, free, given, include, ParagraphTree, SchemaTree, Tree, vars, Name, ReadsSource, abbreviation, constructor, Defined, Definition, free_type, given_set, schema, AreApart, AreNames, IsName}
-use Rattle.std.specs.List.{AllByRecursion}
+use Rattle.law_names.proofs.Prelude.{◌+◌, ◌∷◌, ◌≡◌, ◌≤◌, [], ap, arith, inl, inr, length, List, map, Some, subst, sym, ℕ, none-some, same_Some, spelling, BoxTree, DeclTree, free, given, include, ParagraphTree, SchemaTree, Tree, vars, Name, ReadsSource, abbreviation, constructor, Defined, Definition, free_type, given_set, schema, AreApart, AreNames, IsName, AllByRecursion, DeclaredSet, Fault, Schema, Ty, comp, empty_schema, first_named, marked, plain, slice_get, suc, zero}
 use Rattle.zf_tree.specs.Trees as text
 use Rattle.zf_tree.specs.declared.tree.SchemaRef.{SchemaRef}
-use Rattle.zf_term.specs.{DeclaredSet, Fault, first_named, later, plain, Schema, Ty}
 use Rattle.zf_typing.specs.{resolved}
-use Rattle.zf_calculus.specs.{comp, empty_schema, marked}
 use Rattle.zf_schema.specs.{a_box, a_paragraph, AddsAll, ChecksAll, ChecksOne, Constructs, Declares, DeclaresOne, Defines, DefinesParagraph, Gives, IsChecked, IsSchema, IsText, Item, items, next_number, outside, Refers, with_global}
+use Rattle.zf_schema.proofs.Named.{named_there}
 use Rattle.zf_schema.proofs.Numbering.{next_more, defined_numbers}
 use Rattle.zf_schema.proofs.Once.{constrained_comps}
 use Rattle.law_names.proofs.Apart.{constructors_apart}
@@ -22,28 +20,26 @@ IsNamed name (abbreviation t r x) = Unit {0}
 IsNamed name (schema a) = HaveNames a.comps
 
 abbrev pub AreNamed : List Defined → Type 0
-AreNamed [] = Unit {0}
-AreNamed (d ∷ g) = IsNamed d.name d.definition × AreNamed g
+AreNamed g = AllByRecursion (λ d. IsNamed d.name d.definition) g
+
+-- what holds of all holds of the one that is found
+pub found_in : (P : Defined → Type 0) (x : List ℕ) (g : List Defined) (p : ℕ × Defined) → AllByRecursion P g → first_named (λ d. d.name) x g ≡ Some p → P p.1
+found_in P x g p all e = at g p.0 all (named_there (λ (d : Defined). d.name) x g p e).0
+  where
+    at : (g : List Defined) (i : ℕ) → AllByRecursion P g → slice_get g i ≡ Some p.1 → P p.1
+    at [] i all there = absurd (none-some p.1 there)
+    at (d ∷ g) zero all there = subst P (same_Some d p.1 there) all.0
+    at (d ∷ g) (suc i) all there = at g i all.1 there
 
 one_more : (g : List Defined) (n : Name) (d : Definition) → AreNamed g → IsNamed (spelling n) d → AreNamed (with_global g n d)
 one_more [] n d all one = (one, tt)
 one_more (e ∷ g) n d all one = (all.0, one_more g n d all.1 one)
 
--- so is the one that is found
-pub found_named : (x : List ℕ) (g : List Defined) (p : ℕ × Defined) → AreNamed g → first_named (λ d. d.name) x g ≡ Some p → IsNamed p.1.name p.1.definition
-found_named x [] p all e = absurd (none-some p e)
-found_named x (d ∷ g) p all e = by (bytes_eq d.name x) (first_named (λ d. d.name) x g) (λ q. found_named x g q all.1) e
-  where
-    by : (t : Bool) (o : Option (ℕ × Defined)) → ((q : ℕ × Defined) → o ≡ Some q → IsNamed q.1.name q.1.definition) → (if t then Some (0, d) else later o) ≡ Some p → IsNamed p.1.name p.1.definition
-    by true o rest e = subst (λ q. IsNamed q.1.name q.1.definition) (same_Some (0, d) p e) all.0
-    by false None rest e = absurd (none-some p e)
-    by false (Some q) rest e = subst (λ r. IsNamed r.1.name r.1.definition) (same_Some (q.0 + 1, q.1) p e) (rest q refl)
-
 -- ---- schema expressions
 
 reference_named : (g : List Defined) (r : SchemaRef) (b : Schema) → AreNamed g → Refers g r b → IsName (spelling r.name) → HaveNames b.comps
 reference_named g r b all p named =
-    let base = found_named r.name.base g (p.0, record { name = p.1; definition = schema p.2 }) all p.3 in
+    let base = found_in (λ d. IsNamed d.name d.definition) r.name.base g (p.0, record { name = p.1; definition = schema p.2 }) all p.3 in
     let strokes = strokes_of r.name.base r.name.strokes named in
     let whole = decorated_named r.name.strokes (marked r.mark r.name.line p.2) strokes (marked_named r.mark r.name.line p.2 base) in
     subst (λ v. HaveNames v.comps) (sym p.5.0) whole

@@ -1,14 +1,8 @@
 -- What the paragraphs of a source define has names of the bytes of names, and they define no more types than the source has bytes.
-use Rattle.law_names.proofs.Prelude.{◌++◌, ◌+◌, ◌∷◌, ◌≡◌, ◌≤◌, [], arith, length, length-append, List, map, refl, subst, sym, ℕ, spelling, Name, reduced, separator, Symbol, Kind, ReadsSource, PartedBy, SpellsBoxes, SpellsName, SpellsParagraph, a_box, a_paragraph, Item, items, items_in, AreNames, IsName}
+use Rattle.law_names.proofs.Prelude.{◌++◌, ◌+◌, ◌∷◌, ◌≡◌, ◌≤◌, [], arith, length, length-append, List, map, refl, subst, sym, ℕ, spelling, Name, reduced, separator, Symbol, Kind, ReadsSource, PartedBy, SpellsBoxes, SpellsName, SpellsParagraph, a_box, a_paragraph, Item, items, items_in, AreNames, IsName, AllByRecursion, And, Delta, Or, Plain, RefMark, SpellsDecl, SpellsMarked, SpellsSchema, Xi, elements}
 use Rattle.std.proofs.lemmas.List.Concat.{flat_map-cons}
 use Rattle.zf_scan.specs.declared.token.Kind.TheVariants as k
-use Rattle.std.specs.List.{AllByRecursion}
-use Rattle.zf_tree.specs.declared.symbol.Connective.TheVariants.{And, Or}
-use Rattle.zf_tree.specs.declared.tree.RefMark.{RefMark}
-use Rattle.zf_tree.specs.declared.tree.RefMark.TheVariants.{Plain, Delta, Xi}
 use Rattle.zf_tree.specs.{abbreviation, both, BoxTree, DeclTree, definition, either, free, given, include, ParagraphTree, schema_box, schema_bracket, schema_reference, schema_text, SchemaTree, vars, zed}
-use Rattle.zf_parse.specs.{SpellsDecl, SpellsMarked, SpellsSchema}
-use Rattle.zf_schema.specs.{elements}
 use Rattle.law_names.proofs.Fronts.{Behind, next_behind, name_behind, then, term_behind, decl_behind, decls_behind, predicates_behind, schema_behind}
 use Rattle.law_names.proofs.Tokens.{AreSpelled, symbols_spelled}
 

@@ -1,5 +1,5 @@
 -- The tokens of a source are no more than its bytes, and the names among them have the bytes of names.
-use Rattle.law_names.proofs.Prelude.{◌++◌, ◌∷◌, ◌≤◌, [], ap, arith, Bool, false, length, length-append, List, subst, sym, true, ℕ, if◌then◌else◌, ◌||◌, Cuts, IsCutInto, past, Spot, Stands, start, tokens_from, tokens_of, canonical, is_separator, opens, reduced, reduced_after, starts_closed, Symbol, symbol_of, Piece, Kind}
+use Rattle.law_names.proofs.Prelude.{◌||◌, ◌++◌, ◌∷◌, ◌≤◌, [], ap, arith, Bool, false, length, length-append, List, subst, sym, true, ℕ, if◌then◌else◌, Cuts, IsCutInto, past, Spot, Stands, start, tokens_from, tokens_of, canonical, is_separator, opens, reduced, reduced_after, starts_closed, Symbol, symbol_of, Piece, Kind}
 use Rattle.zf_scan.specs.declared.pieces.Piece.TheVariants as pieces
 use Rattle.zf_scan.specs.declared.token.Kind.TheVariants as k
 use Rattle.zf_scan.specs.declared.token.Token.{Token}

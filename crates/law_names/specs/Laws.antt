@@ -6,7 +6,8 @@ use Rattle.zf_term.specs.{Defined, Fault, first_named, Schema, schema}
 use Rattle.zf_schema.specs.{IsChecked}
 use Rattle.zf_meaning.specs.declared.sizes.Size.{Size}
 use Rattle.zf_meaning.specs.{AreComplete, Environment, given_sets, IsEnvironment}
-use Rattle.zf_print.specs.{AreClear, HaveClearNames, IsHeldLine, IsLineOfSome, spellings}
+use Rattle.zf_print.specs.{AreClear, spellings}
+use Rattle.zf_read.specs.{HaveClearNames, IsHeldLine, IsLineOfSome}
 use Rattle.zf_value.specs.declared.plain.Value.{Value}
 
 -- the globals of a text, at sizes of all its given sets, have clear spellings

@@ -3,7 +3,7 @@ use Rattle.std.proofs.Common.{◌≡◌, ℕ, List, [], ◌∷◌, Option, Some,
 use Rattle.zf_term.specs.{Comp}
 use Rattle.zf_value.specs.declared.plain.Value.{Value}
 use Rattle.zf_meaning.specs.{Environment, IsOfType, IsRow}
-use Rattle.zf_print.specs.{held_comps, held_values}
+use Rattle.zf_read.specs.{held_comps, held_values}
 use Rattle.law_sound.specs.{AreHeldTyped}
 use Rattle.zf_engine.specs.{AreHeld}
 

@@ -1,7 +1,6 @@
 -- The carrier of a type is a set of values of the type.
-use Rattle.law_sound.proofs.Prelude.{◌≡◌, List, None, Option, refl, Some, subst, ℕ, IsCross, IsPower, members, Is, Value, basic, int, no_types, power, product, Ty, type, Tys, AreCarriers, IsCarrier, IsTypeSetIf, Environment, type_number, values, AreOfTypes, IsOfType}
+use Rattle.law_sound.proofs.Prelude.{◌≡◌, List, None, Option, refl, Some, subst, ℕ, IsCross, IsPower, members, Is, Value, basic, int, no_types, power, product, Ty, type, Tys, AreCarriers, IsCarrier, IsTypeSetIf, Environment, type_number, values, AreOfTypes, IsOfType, Num}
 use Rattle.law_sound.proofs.Globals.{type_set_typed}
-use Rattle.zf_term.specs.declared.extent.Infinite.TheVariants.{Num}
 use Rattle.law_sound.proofs.OfTypes.{members_of}
 use Rattle.law_sound.proofs.Operations.{number_set}
 use Rattle.law_sound.proofs.Relations.{a_power}

@@ -1,9 +1,8 @@
 -- The declared sets of components are sets for them, and stay so where schemas are made of others.
-use Rattle.law_sound.proofs.Prelude.{if◌then◌else◌, ◌++◌, ◌∙◌, ◌∷◌, ◌≡◌, [], ap, Bool, false, List, map, None, Option, refl, Some, subst, suc, sym, true, zero, ℕ, none-some, same_Some, slice_get, bytes_eq, swapped, Comp, DeclaredSet, Defined, Schema, sets_of, later, Ty, joined_type, named_there, type_of_once, type_one_more, decorated_once, joined_once, type_found, type_named, option_or}
+use Rattle.law_sound.proofs.Prelude.{AllByRecursion, if◌then◌else◌, ◌++◌, ◌∙◌, ◌∷◌, ◌≡◌, [], ap, Bool, false, List, map, None, Option, refl, Some, subst, suc, sym, true, zero, ℕ, none-some, same_Some, slice_get, bytes_eq, swapped, Comp, DeclaredSet, Defined, Schema, sets_of, later, Ty, joined_type, named_there, type_of_once, type_one_more, decorated_once, joined_once, type_found, type_named, option_or, Agree, Agrees, AreOnce, HasTypeOf, MarkAgrees, comp, comp_named, decorated, either_comps, marked, prime, sets_on, with_comp, with_comps}
 use Rattle.zf_tree.specs.declared.tree.RefMark.{RefMark}
 use Rattle.zf_tree.specs.declared.tree.RefMark.TheVariants.{Plain, Delta, Xi}
 use Rattle.zf_term.proofs.Choices.{or_none}
-use Rattle.zf_calculus.specs.{Agree, Agrees, AreOnce, comp, comp_named, decorated, either_comps, HasTypeOf, MarkAgrees, marked, prime, sets_on, with_comp, with_comps}
 use Rattle.zf_calculus.proofs.Merging.{nothing_before}
 use Rattle.law_sound.proofs.DeclaredSets.{IsSome, AreSetsFor}
 
@@ -12,13 +11,12 @@ abbrev pub IsCompFor : List Defined → Comp → Type 0
 IsCompFor g c = IsSome (sets_of c.sets) × AreSetsFor g c.type (sets_of c.sets)
 
 abbrev pub AreCompsFor : List Defined → List Comp → Type 0
-AreCompsFor g [] = Unit {0}
-AreCompsFor g (c ∷ cs) = IsCompFor g c × AreCompsFor g cs
+AreCompsFor g cs = AllByRecursion (IsCompFor g) cs
 
-comp_at : (g : List Defined) (cs : List Comp) (i : ℕ) (c : Comp) → AreCompsFor g cs → slice_get cs i ≡ Some c → IsCompFor g c
-comp_at g [] i c h at = absurd (none-some c at)
-comp_at g (d ∷ ds) zero c h at = subst (IsCompFor g) (same_Some d c at) h.0
-comp_at g (d ∷ ds) (suc i) c h at = comp_at g ds i c h.1 at
+pub all_at : {A : Type 0} (P : A → Type 0) (xs : List A) (i : ℕ) (x : A) → AllByRecursion P xs → slice_get xs i ≡ Some x → P x
+all_at P [] i x h e = absurd (none-some x e)
+all_at P (y ∷ ys) zero x h e = subst P (same_Some y x e) h.0
+all_at P (y ∷ ys) (suc i) x h e = all_at P ys i x h.1 e
 
 -- ---- one more component
 
@@ -89,7 +87,7 @@ side_for : (g : List Defined) (cs : List Comp) (x : List ℕ) (t : Ty) → AreCo
     → (o : Option (ℕ × Comp)) → comp_named x cs ≡ o → IsSome (sets_of (sets_on o t)) × AreSetsFor g t (sets_of (sets_on o t))
 side_for g cs x t h same None e = (tt, (refl, tt))
 side_for g cs x t h same (Some p) e =
-    let k = comp_at g cs p.0 p.1 h (named_there (λ c. c.name) x cs p e).0 in
+    let k = all_at (IsCompFor g) cs p.0 p.1 h (named_there (λ c. c.name) x cs p e).0 in
     (k.0, subst (λ u. AreSetsFor g u (sets_of p.1.sets)) (same p e) k.1)
 
 -- a component of the one schema, or of the other, has the type that it has in both
@@ -97,16 +95,11 @@ type_left : (cs ds : List Comp) (i : ℕ) (c : Comp) → AreOnce (with_comps cs 
 type_left cs ds i c once at p e =
     same_Some p.1.type c.type (ap (λ o. option_or (type_found o) (type_named c.name ds)) (sym e) ∙ sym (joined_type c.name cs ds) ∙ type_of_once (with_comps cs ds) i c once at)
 
-agrees_at : (cs ds : List Comp) (i : ℕ) (c : Comp) → Agree cs ds → slice_get ds i ≡ Some c → Agrees cs c
-agrees_at cs [] i c agreed e = absurd (none-some c e)
-agrees_at cs (d ∷ ds) zero c agreed e = subst (Agrees cs) (same_Some d c e) agreed.0
-agrees_at cs (d ∷ ds) (suc i) c agreed e = agrees_at cs ds i c agreed.1 e
-
 type_right : (cs ds : List Comp) (i : ℕ) (c : Comp) → AreOnce (with_comps cs ds) → Agree cs ds → slice_get (with_comps cs ds) i ≡ Some c → (p : ℕ × Comp)
     → comp_named c.name ds ≡ Some p → p.1.type ≡ c.type
 type_right cs ds i c once agree at p e =
     let there = named_there (λ d. d.name) c.name ds p e in
-    let agrees = subst (λ x. HasTypeOf (comp_named x cs) p.1) there.1 (agrees_at cs ds p.0 p.1 agree there.0) in
+    let agrees = subst (λ x. HasTypeOf (comp_named x cs) p.1) there.1 (all_at (Agrees cs) ds p.0 p.1 agree there.0) in
     by (comp_named c.name cs) agrees (sym (joined_type c.name cs ds) ∙ type_of_once (with_comps cs ds) i c once at)
   where
     by : (o : Option (ℕ × Comp)) → HasTypeOf o p.1 → option_or (type_found o) (type_named c.name ds) ≡ Some c.type → p.1.type ≡ c.type

@@ -1,9 +1,5 @@
 -- What is a member of the declared sets of a component is of its type, where it can be listed.
-use Rattle.law_sound.proofs.Prelude.{◌+◌, ◌^◌, ◌↔◌, ◌∙◌, ◌∷◌, ◌≡◌, ◌⊎◌, [], ap, arith, Bool, false, inl, inr, List, None, Option, refl, Some, subst, sym, take, true, ℕ, ℤ, ⊎_elim, ints, none-some, same_Some, w64, ◌<ℤ◌, ◌≤ℤ◌, FitsSigned, negsuc, pos, slice_get, number_of-Int, same_number, number_of, IsMember, members, Outcome, Is, Int, Value, Tree, carrier, DeclaredSet, DeclaredSets, Defined, no_sets, plain, set, sides, ResolvedTree, int, power, Ty, Infinite, resolved, set_sort, IsOf, direct, outside, AreWellTyped, Environment, globally, HasOutcome, IsOfType, IsIn}
-use Rattle.std.proofs.lemmas.Bool.{cases_lt}
-use Rattle.zf_term.specs.declared.extent.Infinite.TheVariants.{Num, Nat, Nat1}
-use Rattle.zf_meaning.specs.{infinite_in, unended}
-use Rattle.zf_ranges.specs.{has_endless, IsInCarrier, IsInPlain, IsInSet, IsInSets}
+use Rattle.law_sound.proofs.Prelude.{◌+◌, ◌^◌, ◌↔◌, ◌∙◌, ◌∷◌, ◌≡◌, ◌⊎◌, [], ap, arith, Bool, false, inl, inr, List, None, Option, refl, Some, subst, sym, take, true, ℕ, ℤ, ⊎_elim, ints, none-some, same_Some, w64, ◌<ℤ◌, ◌≤ℤ◌, FitsSigned, negsuc, pos, slice_get, number_of-Int, same_number, number_of, IsMember, members, Outcome, Is, Int, Value, Tree, carrier, DeclaredSet, DeclaredSets, Defined, no_sets, plain, set, sides, ResolvedTree, int, power, Ty, Infinite, resolved, set_sort, IsOf, direct, outside, AreWellTyped, Environment, globally, HasOutcome, IsOfType, IsIn, IsInCarrier, IsInPlain, IsInSet, IsInSets, Nat, Nat1, Num, cases_lt, has_endless, infinite_in, unended}
 use Rattle.law_sound.proofs.Carriers.{carrier_typed}
 use Rattle.law_sound.proofs.Directs.{are_numbers}
 use Rattle.law_sound.proofs.Globals.{in_front}

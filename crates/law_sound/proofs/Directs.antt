@@ -1,5 +1,5 @@
 -- A term that is an infinite set is a set of numbers.
-use Rattle.law_sound.proofs.Prelude.{◌<◌, ◌∙◌, ◌∷◌, ◌≡◌, [], ap, arith, List, None, Option, refl, Some, suc, sym, take, zero, ℕ, none-some, same_Some, slice_get, Reference, spelling, Tree, Constant, abbreviation, constructor, Defined, Definition, free_type, given_set, schema, first_named, int, power, Ty, Infinite, referent, resolved, constant_sort, typed, definition_sort, global_meaning, IsOf, constant_set, definition_extent, direct, extent_by, extent_found, extent_named, extent_set, offending, named_there, outside, AreWellTyped, IsMadeAfter}
+use Rattle.law_sound.proofs.Prelude.{◌<◌, ◌∙◌, ◌∷◌, ◌≡◌, [], ap, arith, List, None, Option, refl, Some, suc, sym, take, zero, ℕ, none-some, same_Some, slice_get, Reference, spelling, Tree, Constant, abbreviation, Defined, Definition, first_named, int, power, Ty, Infinite, referent, resolved, constant_sort, typed, definition_sort, global_meaning, IsOf, constant_set, definition_extent, direct, extent_by, extent_found, extent_named, extent_set, offending, named_there, outside, AreWellTyped, IsMadeAfter}
 use Rattle.zf_extent.specs.declared.offender.Offender.{Offender}
 use Rattle.zf_tree.specs.declared.symbol.Constant.TheVariants as constants
 use Rattle.zf_tree.specs.Trees as text
@@ -33,21 +33,16 @@ IsNumbersAt g n = (h : List Defined) (a : Tree) (u : Ty) (s : Infinite) → Begi
 constant_numbers : (k : Constant) (u : Ty) (s : Infinite) → typed u ≡ constant_sort k → constant_set k ≡ Some s → u ≡ power int
 constant_numbers constants.True u s h e = none_found s e
 constant_numbers constants.False u s h e = none_found s e
-constant_numbers constants.Integers u s h e = typed_same u (power int) h
-constant_numbers constants.Naturals u s h e = typed_same u (power int) h
-constant_numbers constants.Positives u s h e = typed_same u (power int) h
+constant_numbers _ u s h e = typed_same u (power int) h
 
 module _ (g : List Defined) (well : AreWellTyped g) where
   -- a global whose extent is infinite
   global_numbers : (j : ℕ) (name : List ℕ) (x : Definition) (u : Ty) (s : Infinite) → IsNumbersAt g j → IsMadeAfter (take j g) name x
       → definition_sort name x ≡ typed u → extent_set (definition_extent x) ≡ Some s → u ≡ power int
-  global_numbers j name (given_set n) u s before made sort e = none_found s e
-  global_numbers j name (free_type n names) u s before made sort e = none_found s e
-  global_numbers j name (constructor n t p) u s before made sort e = none_found s e
   global_numbers j name (abbreviation t r x) u s before made sort e =
       let there = extent_infinite (direct (take j g) r) (offending (take j g) r) s (sym (ap extent_set made.3) ∙ e) in
       sym (typed_same t u sort) ∙ before (take j g) made.0 t s (λ i l. front_of j i g l) made.1 (sym (ap (direct (take j g)) made.2) ∙ there)
-  global_numbers j name (schema a) u s before made sort e = none_found s e
+  global_numbers j name _ u s before made sort e = none_found s e
 
   named_numbers : (n : ℕ) (h : List Defined) (x : List ℕ) (u : Ty) (s : Infinite) → ((j : ℕ) → j < n → IsNumbersAt g j) → Begin n g h → (r : Reference)
       → (o : Option (ℕ × Defined)) → first_named (λ d. d.name) x (take n g) ≡ o → global_meaning o ≡ Some (r, typed u)
@@ -63,14 +58,7 @@ module _ (g : List Defined) (well : AreWellTyped g) where
   tree_numbers n before h (text.named m) u s begin is e = named_numbers n h (spelling m) u s before begin is.0 (first_named (λ d. d.name) (spelling m) (take n g)) refl is.1 e
   tree_numbers n before h (text.constant l k) u s begin is e = constant_numbers k u s is e
   tree_numbers n before h (text.bracket l a) u s begin is e = tree_numbers n before h a u s begin is.0 e
-  tree_numbers n before h (text.numeral l v) u s begin is e = none_found s e
-  tree_numbers n before h (text.empty_set l a) u s begin is e = none_found s e
-  tree_numbers n before h (text.listed l form es) u s begin is e = none_found s e
-  tree_numbers n before h (text.comprehension l ds p a) u s begin is e = none_found s e
-  tree_numbers n before h (text.unary l op a) u s begin is e = none_found s e
-  tree_numbers n before h (text.binary l op a b) u s begin is e = none_found s e
-  tree_numbers n before h (text.chain l a ks) u s begin is e = none_found s e
-  tree_numbers n before h (text.quantified l q ds p a) u s begin is e = none_found s e
+  tree_numbers n before h _ u s begin is e = none_found s e
 
   numbers_below : (k n : ℕ) → n < k → IsNumbersAt g n
   numbers_below zero n l = absurd (omega (arith, l))

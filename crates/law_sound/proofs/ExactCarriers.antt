@@ -1,19 +1,12 @@
 -- Each value of a type is a member of the type's carrier, and the carrier is the outcome of the expression that spells the type.
-use Rattle.law_sound.proofs.Prelude.{if◌then◌else◌, ◌<◌, ◌^◌, ◌∙◌, ◌∷◌, ◌≡◌, [], ap, Bool, false, List, nat_lt, None, Option, refl, Some, subst, sym, true, ℕ, same_Some, slice_get, every_at, members-SetOf, AreFrom, IsSubset, AreElements, IsCross, IsPower, IsAscending, IsMember, IsSetOf, members, AreAmong, Outcome, Is, Out, Undefined, Elem, SetOf, Tuple, Value, abbreviation, constructor, Defined, Definition, free_type, given_set, schema, listed, ResolvedTree, ResolvedTrees, term, unary, basic, int, no_types, power, product, Ty, type, Tys, named_there, AreCarriers, IsCarrier, IsTypeSetIf, AreElementsIf, before, definition_number, Environment, found_number, globally, IsTypeSet, outcome_or, type_number, AreWorkedOut, IsOutcomeOf, HasOutcome, HaveOutcomes, one_out, one_undefined, OnOne, OnSeveral, Several, values, AreOfTypes, IsExistingElement, IsOfType, ListedOutcome, UnaryOutcome}
-use Rattle.std.specs.Prelude.{◌||◌, ◌⊎◌}
-use Rattle.std.proofs.Common.{inl, inr, ⊎_elim}
-use Rattle.std.proofs.Common.{true≢false}
+use Rattle.law_sound.proofs.Prelude.{◌||◌, ◌<◌, ◌∙◌, ◌∷◌, ◌≡◌, [], ap, Bool, false, List, None, Option, refl, Some, subst, sym, true, ℕ, same_Some, slice_get, every_at, members-SetOf, AreFrom, IsSubset, AreElements, IsCross, IsPower, IsAscending, IsMember, IsSetOf, members, AreAmong, Outcome, Is, Out, Elem, SetOf, Tuple, Value, Defined, Definition, free_type, given_set, ResolvedTree, ResolvedTrees, basic, int, no_types, power, product, Ty, type, Tys, named_there, AreCarriers, IsCarrier, IsTypeSetIf, before, definition_number, Environment, found_number, globally, IsTypeSet, outcome_or, type_number, AreWorkedOut, IsOutcomeOf, HasOutcome, HaveOutcomes, OnOne, OnSeveral, Several, values, AreOfTypes, IsExistingElement, IsOfType, ListedOutcome, UnaryOutcome, CarriersAreExact, CarriersAreOutcomes, IsNumberSet, IsTypeAt, Num, Product, SpellAll, Spells, has_numbers, have_numbers, inl, inr, true≢false, ⊎_elim, ◌⊎◌, ◌↔◌}
 use Rattle.zf_tree.specs.declared.symbol.Prefix.TheVariants.{Power}
-use Rattle.zf_term.specs.{has_numbers, have_numbers}
-use Rattle.zf_term.specs.declared.extent.Infinite.TheVariants.{Num}
-use Rattle.zf_meaning.specs.{IsNumberSet}
 use Rattle.zf_tree.specs.declared.operator.Sign.TheVariants.{Symbol}
-use Rattle.zf_tree.specs.declared.operator.Listed.TheVariants.{Product}
 use Rattle.zf_tree.specs.declared.operator.Unary.TheVariants.{Sign}
 use Rattle.zf_value.specs.Operations as op
 use Rattle.zf_meaning.proofs.Environments.{one_carrier}
-use Rattle.law_sound.specs.{CarriersAreExact, CarriersAreOutcomes, IsTypeAt, SpellAll, Spells}
 use Rattle.law_sound.proofs.Carriers.{carrier_typed}
+use Rattle.law_sound.proofs.Globals.{elements_of}
 use Rattle.law_sound.proofs.OfTypes.{members_of}
 use Rattle.law_sound.proofs.Terms.{all_values, one, several}
 
@@ -35,16 +28,10 @@ in_cross : (sets vs : List Value) (v z : Value) → IsCross sets (Is v) → z �
 unfolding IsCross
 in_cross sets vs v z h is from = set_has (λ y. (ws : List Value) × (y ≡ Tuple ws) × AreFrom ws sets) v z h (vs, is, from)
 
-no_value : {A : Type 0} (v : Value) → Is v ≡ Undefined → A
-no_value v h = absurd (cc)
-
 in_type_set : (e : Environment) (n : ℕ) (v z : Value) → IsTypeSet e n (Is v) → IsExistingElement e (Some n) z → IsMember z (members v)
-in_type_set e n v z h (k, i, size, below, is) = go (nat_lt n (2 ^ 32)) (slice_get e.sizes n) refl h
-  where
-    go : (b : Bool) (m : Option ℕ) → slice_get e.sizes n ≡ m → AreElementsIf n (if b then m else None) (Is v) → IsMember z (members v)
-    go false m at p = no_value v p
-    go true None at p = no_value v p
-    go true (Some m) at p = in_elements n m i v z p is (subst (λ j. i < j) (same_Some k m (sym size ∙ at)) below)
+in_type_set e n v z h (k, i, size, below, is) =
+    let (m, at, are) = elements_of e n v h in
+    in_elements n m i v z are is (subst (λ j. i < j) (same_Some k m (sym size ∙ at)) below)
 
 -- numbers that end are no part of the type
 abbrev IsWhole : Environment → Bool → Type 0
@@ -99,29 +86,15 @@ carriers_are_exact e t v h =
 is_type_set : (e : Environment) (place : ℕ) (x : Definition) (n : ℕ) (o : Outcome) → definition_number x ≡ Some n → IsOutcomeOf (before e place) x o → IsTypeSet e n o
 is_type_set e place (given_set m) n o number h = subst (λ k. IsTypeSet e k o) (same_Some m n number) h
 is_type_set e place (free_type m names) n o number h = subst (λ k. IsTypeSet e k o) (same_Some m n number) h
-is_type_set e place (constructor m t p) n o number h = absurd (cc)
-is_type_set e place (abbreviation t r x) n o number h = absurd (cc)
-is_type_set e place (schema a) n o number h = absurd (cc)
+is_type_set e place _ n o number h = absurd (cc)
 
-power_outcome : (x o : Outcome) → OnOne x (λ v. IsPower (members v)) o → OnOne x (UnaryOutcome (Sign (Symbol Power))) o
-power_outcome Out o h = h
-power_outcome Undefined o h = h
-power_outcome (Is v) o h = h
+same_power : (x o : Outcome) → OnOne x (λ v. IsPower (members v)) o ↔ OnOne x (UnaryOutcome (Sign (Symbol Power))) o
+same_power (Is v) o = (λ h. h, λ h. h)
+same_power _ o = (λ h. h, λ h. h)
 
-outcome_power : (x o : Outcome) → OnOne x (UnaryOutcome (Sign (Symbol Power))) o → OnOne x (λ v. IsPower (members v)) o
-outcome_power Out o h = h
-outcome_power Undefined o h = h
-outcome_power (Is v) o h = h
-
-product_outcome : (s : Several) (o : Outcome) → OnSeveral s IsCross o → OnSeveral s (ListedOutcome Product) o
-product_outcome one_out o h = h
-product_outcome one_undefined o h = h
-product_outcome (values vs) o h = h
-
-outcome_product : (s : Several) (o : Outcome) → OnSeveral s (ListedOutcome Product) o → OnSeveral s IsCross o
-outcome_product one_out o h = h
-outcome_product one_undefined o h = h
-outcome_product (values vs) o h = h
+same_product : (s : Several) (o : Outcome) → OnSeveral s IsCross o ↔ OnSeveral s (ListedOutcome Product) o
+same_product (values vs) o = (λ h. h, λ h. h)
+same_product _ o = (λ h. h, λ h. h)
 
 module _ (e : Environment) (worked : AreWorkedOut e) where
   -- the outcome of the global is the carrier of its type
@@ -134,40 +107,27 @@ module _ (e : Environment) (worked : AreWorkedOut e) where
       (subst (λ p. IsTypeSet e n (outcome_or p)) (sym at) (is_type_set e place d.definition n o number is))
 
   mutual
-    to_outcome : (t : Ty) (x : ResolvedTree) (o : Outcome) → Spells e.globals t x → IsCarrier e t o → HasOutcome (globally e) x o
-    to_outcome int x o (line, is) h = subst (λ y. HasOutcome (globally e) y o) (sym is) h
-    to_outcome (basic name) x o (line, place, at, is) h =
-        subst (λ y. HasOutcome (globally e) y o) (sym is) (one_carrier e (basic name) o (outcome_or (slice_get e.outcomes place)) h (type_outcome name place at))
-    to_outcome (power t) x o (line, y, spelled, is) h =
-        subst (λ y. HasOutcome (globally e) y o) (sym is) (h.0, to_outcome t y h.0 spelled h.1, power_outcome h.0 o h.2)
-    to_outcome (product ts) x o (line, ys, spelled, is) h =
-        subst (λ y. HasOutcome (globally e) y o) (sym is) (h.0, to_outcomes ts ys h.0 spelled h.1, product_outcome h.0 o h.2)
+    same_outcome : (t : Ty) (x : ResolvedTree) (o : Outcome) → Spells e.globals t x → IsCarrier e t o ↔ HasOutcome (globally e) x o
+    same_outcome int x o (line, is) = subst (λ y. IsCarrier e int o ↔ HasOutcome (globally e) y o) (sym is) (λ h. h, λ h. h)
+    same_outcome (basic name) x o (line, place, at, is) = subst (λ y. IsCarrier e (basic name) o ↔ HasOutcome (globally e) y o) (sym is) (
+      λ h. one_carrier e (basic name) o (outcome_or (slice_get e.outcomes place)) h (type_outcome name place at),
+      λ h. subst (IsCarrier e (basic name)) (sym h) (type_outcome name place at),
+    )
+    same_outcome (power t) x o (line, y, spelled, is) = subst (λ z. IsCarrier e (power t) o ↔ HasOutcome (globally e) z o) (sym is) (
+      λ h. (h.0, (same_outcome t y h.0 spelled).0 h.1, (same_power h.0 o).0 h.2),
+      λ h. (h.0, (same_outcome t y h.0 spelled).1 h.1, (same_power h.0 o).1 h.2),
+    )
+    same_outcome (product ts) x o (line, ys, spelled, is) = subst (λ z. IsCarrier e (product ts) o ↔ HasOutcome (globally e) z o) (sym is) (
+      λ h. (h.0, (same_outcomes ts ys h.0 spelled).0 h.1, (same_product h.0 o).0 h.2),
+      λ h. (h.0, (same_outcomes ts ys h.0 spelled).1 h.1, (same_product h.0 o).1 h.2),
+    )
 
-    to_outcomes : (ts : Tys) (ys : ResolvedTrees) (s : Several) → SpellAll e.globals ts ys → AreCarriers e ts s → HaveOutcomes (globally e) ys s
-    to_outcomes no_types ys s is h = subst (λ zs. HaveOutcomes (globally e) zs s) (sym is) h
-    to_outcomes (type t ts) ys s (z, zs, first, rest, is) h =
-        subst (λ zs. HaveOutcomes (globally e) zs s) (sym is) (h.0, h.1, to_outcome t z h.0 first h.2, to_outcomes ts zs h.1 rest h.3, h.4)
-
-  mutual
-    from_outcome : (t : Ty) (x : ResolvedTree) (o : Outcome) → Spells e.globals t x → HasOutcome (globally e) x o → IsCarrier e t o
-    from_outcome int x o (line, is) h = subst (λ y. HasOutcome (globally e) y o) is h
-    from_outcome (basic name) x o (line, place, at, is) h =
-        let same : o ≡ outcome_or (slice_get e.outcomes place) = subst (λ y. HasOutcome (globally e) y o) is h in
-        subst (IsCarrier e (basic name)) (sym same) (type_outcome name place at)
-    from_outcome (power t) x o (line, y, spelled, is) h =
-        let k : HasOutcome (globally e) (unary line (Sign (Symbol Power)) y) o = subst (λ y. HasOutcome (globally e) y o) is h in
-        (k.0, from_outcome t y k.0 spelled k.1, outcome_power k.0 o k.2)
-    from_outcome (product ts) x o (line, ys, spelled, is) h =
-        let k : HasOutcome (globally e) (listed line Product ys) o = subst (λ y. HasOutcome (globally e) y o) is h in
-        (k.0, from_outcomes ts ys k.0 spelled k.1, outcome_product k.0 o k.2)
-
-    from_outcomes : (ts : Tys) (ys : ResolvedTrees) (s : Several) → SpellAll e.globals ts ys → HaveOutcomes (globally e) ys s → AreCarriers e ts s
-    from_outcomes no_types ys s is h = subst (λ zs. HaveOutcomes (globally e) zs s) is h
-    from_outcomes (type t ts) ys s (z, zs, first, rest, is) h =
-        let k : HaveOutcomes (globally e) (term z zs) s = subst (λ zs. HaveOutcomes (globally e) zs s) is h in
-        (k.0, k.1, from_outcome t z k.0 first k.2, from_outcomes ts zs k.1 rest k.3, k.4)
+    same_outcomes : (ts : Tys) (ys : ResolvedTrees) (s : Several) → SpellAll e.globals ts ys → AreCarriers e ts s ↔ HaveOutcomes (globally e) ys s
+    same_outcomes no_types ys s is = subst (λ zs. AreCarriers e no_types s ↔ HaveOutcomes (globally e) zs s) (sym is) (λ h. h, λ h. h)
+    same_outcomes (type t ts) ys s (z, zs, first, rest, is) = subst (λ us. AreCarriers e (type t ts) s ↔ HaveOutcomes (globally e) us s) (sym is) (
+      λ h. (h.0, h.1, (same_outcome t z h.0 first).0 h.2, (same_outcomes ts zs h.1 rest).0 h.3, h.4),
+      λ h. (h.0, h.1, (same_outcome t z h.0 first).1 h.2, (same_outcomes ts zs h.1 rest).1 h.3, h.4),
+    )
 
 pub carriers_are_outcomes : CarriersAreOutcomes
-carriers_are_outcomes g stated numbers e t x o (same, sizes, worked, given) spelled =
-    let here : Spells e.globals t x = subst (λ h. Spells h t x) (sym same) spelled in
-    (to_outcome e worked t x o here, from_outcome e worked t x o here)
+carriers_are_outcomes g stated numbers e t x o (same, sizes, worked, given) spelled = same_outcome e worked t x o (subst (λ h. Spells h t x) (sym same) spelled)

@@ -1,14 +1,10 @@
 -- The outcomes of globals are of their types.
-use Rattle.law_sound.proofs.Prelude.{if◌then◌else◌, ◌+◌, ◌<◌, ◌^◌, ◌∙◌, ◌∷◌, ◌≡◌, [], add-one, ap, arith, Bool, false, length, List, map, None, Option, refl, Some, subst, suc, sym, take, true, zero, ℕ, none-some, same_Some, bytes_eq, AreElements, Outcome, Is, Undefined, Elem, Value, is_itself, is_same, abbreviation, Comp, constructor, Defined, Definition, free_type, given_set, schema, first_named, later, basic, power, types, typed, Var, types_of, EachOnce, outside, AreDefinedOnce, AreWellTyped, IsMadeAfter, AreElementsIf, before, Context, definition_number, element, Environment, found_number, globally, IsTypeSet, type_number, AreWorkedOut, IsEnvironment, IsOutcomeOf, HasOutcome, AreOfTypes, IsExistingElement, IsFrontOfRow, IsOfType}
-use Rattle.std.specs.Prelude.{slice_get, nat_lt}
+use Rattle.law_sound.proofs.Prelude.{slice_get_within, if◌then◌else◌, ◌+◌, ◌<◌, ◌^◌, ◌∙◌, ◌∷◌, ◌≡◌, [], add-one, ap, arith, Bool, false, length, List, map, None, Option, refl, Some, subst, suc, sym, take, true, zero, ℕ, none-some, same_Some, bytes_eq, AreElements, Outcome, Is, Undefined, Elem, Value, is_itself, is_same, abbreviation, Comp, constructor, Defined, Definition, free_type, given_set, schema, first_named, later, basic, power, types, typed, Var, types_of, EachOnce, outside, AreDefinedOnce, AreWellTyped, IsMadeAfter, AreElementsIf, before, Context, definition_number, element, Environment, found_number, globally, IsTypeSet, type_number, AreWorkedOut, IsEnvironment, IsOutcomeOf, HasOutcome, AreOfTypes, IsExistingElement, IsFrontOfRow, IsOfType, AddsSize, AreSizes, OutcomesTyped, context, has_elements, nat_lt, next_number, scope, slice_get}
 use Rattle.std.proofs.lemmas.List.Sums.{sum_by-cons}
-use Rattle.zf_term.specs.{has_elements, next_number}
 use Rattle.zf_value.specs.Operations as op
 use Rattle.zf_meaning.specs.declared.sizes.Size.{Size}
-use Rattle.zf_meaning.specs.{AddsSize, AreSizes}
-use Rattle.law_sound.specs.{context, OutcomesTyped, scope}
 use Rattle.law_sound.proofs.Names.{HasValues, Fits}
-use Rattle.law_sound.proofs.OfTypes.{a_set, first_of_types}
+use Rattle.law_sound.proofs.OfTypes.{a_set, first_of_types, never_undefined}
 use Rattle.law_sound.proofs.Terms.{term_typed}
 
 -- ---- lists
@@ -48,9 +44,7 @@ none_behind n later sizes e = ap (λ xs. slice_get xs (0 + n)) e ∙ ap (slice_g
 size_behind : (stated : List Size) (name : List ℕ) (d : Definition) (later sizes : List ℕ) (n : ℕ) → AddsSize stated name d later sizes → slice_get sizes (has_elements d + n) ≡ slice_get later n
 size_behind stated name (given_set m) later sizes n h = one_behind h.0 n later sizes h.2
 size_behind stated name (free_type m ns) later sizes n h = one_behind (length ns) n later sizes h
-size_behind stated name (constructor m t p) later sizes n h = none_behind n later sizes h
-size_behind stated name (abbreviation t r x) later sizes n h = none_behind n later sizes h
-size_behind stated name (schema a) later sizes n h = none_behind n later sizes h
+size_behind stated name _ later sizes n h = none_behind n later sizes h
 
 pub size_at : (stated : List Size) (g : List Defined) (sizes : List ℕ) (i : ℕ) (name : List ℕ) (n : ℕ) (names : List (List ℕ)) → AreSizes stated g sizes
     → slice_get g i ≡ Some (record { name = name; definition = free_type n names }) → slice_get sizes (next_number (take i g)) ≡ Some (length names)
@@ -72,16 +66,17 @@ set_typed : (e : Environment) (name : List ℕ) (n m : ℕ) (v : Value) → type
 unfolding AreElements op.IsElement
 set_typed e name n m v number size h = a_set e (basic name) (op.IsElement n m) v h (λ z p. element_typed e name n m p.0 z number size p.2 p.1)
 
-never_undefined : {A : Type 0} (v : Value) → Is v ≡ Undefined → A
-never_undefined v h = absurd (cc)
+-- a set of elements is that of so many as the size says
+pub elements_of : (e : Environment) (n : ℕ) (v : Value) → IsTypeSet e n (Is v) → (m : ℕ) × (slice_get e.sizes n ≡ Some m) × AreElements n m (Is v)
+elements_of e n v h = go (nat_lt n (2 ^ 32)) (slice_get e.sizes n) h
+  where
+    go : (b : Bool) (k : Option ℕ) → AreElementsIf n (if b then k else None) (Is v) → (m : ℕ) × (k ≡ Some m) × AreElements n m (Is v)
+    go true (Some m) p = (m, refl, p)
+    go true None p = never_undefined v p
+    go false k p = never_undefined v p
 
 pub type_set_typed : (e : Environment) (name : List ℕ) (n : ℕ) (v : Value) → type_number e name ≡ Some n → IsTypeSet e n (Is v) → IsOfType e (power (basic name)) v
-type_set_typed e name n v number h = go (nat_lt n (2 ^ 32)) (slice_get e.sizes n) refl h
-  where
-    go : (b : Bool) (k : Option ℕ) → slice_get e.sizes n ≡ k → AreElementsIf n (if b then k else None) (Is v) → IsOfType e (power (basic name)) v
-    go false k at p = never_undefined v p
-    go true None at p = never_undefined v p
-    go true (Some m) at p = set_typed e name n m v number at p
+type_set_typed e name n v number h = let (m, size, are) = elements_of e n v h in set_typed e name n m v number size are
 
 is_element : (n i : ℕ) (v : Value) → Is v ≡ element n i → v ≡ Elem n i
 is_element n i v h = go (nat_lt n (2 ^ 32)) h
@@ -89,11 +84,6 @@ is_element n i v h = go (nat_lt n (2 ^ 32)) h
     go : (b : Bool) → Is v ≡ (if b then Is (Elem n i) else Undefined) → v ≡ Elem n i
     go true p = cc
     go false p = never_undefined v p
-
-below : {A : Type 0} (xs : List A) (i : ℕ) (x : A) → slice_get xs i ≡ Some x → i < length xs
-below [] i x e = absurd (none-some x e)
-below (y ∷ xs) zero x e = omega arith
-below (y ∷ xs) (suc i) x e = let l = below xs i x e in omega (arith, l)
 
 -- ---- globals
 
@@ -112,7 +102,7 @@ module _ (e : Environment) (stated : List Size) (well : AreWellTyped e.globals) 
       let there = in_front i made.0 e.globals whole made.2 in
       let number = number_of_type made.0 whole n there.1 refl in
       let size = ap (slice_get e.sizes) (well made.0 whole there.1) ∙ size_at stated e.globals e.sizes made.0 of_type n made.1 sizes there.1 in
-      element_typed e of_type n (length made.1) place v number size (below made.1 place name made.3) (is_element n place v h)
+      element_typed e of_type n (length made.1) place v number size (slice_get_within made.1 place name made.3) (is_element n place v h)
 
   fits_before : (n : ℕ) → AreTypedBelow e n → (c : Context) → c.environment.outcomes ≡ take n e.outcomes → c.locals ≡ [] → Fits e (outside (take n e.globals)) c
   fits_before n before c outcomes locals = record {

@@ -2,7 +2,7 @@
 use Rattle.law_sound.proofs.Prelude.{if◌then◌else◌, ◌++◌, ◌+◌, ◌∙◌, ◌∷◌, ◌≡◌, [], add-one, ap, Bool, false, List, None, Option, refl, Some, subst, suc, sym, true, zero, ℕ, none-some, same_Some, slice_get, bytes_eq, Reference, Outcome, Is, Value, Comp, Defined, first_named, later, Sort, typed, global_sort, last_named, meaning, Scope, Var, component_meaning, global_meaning, variable_meaning, types_of, named_there, Context, Environment, outcome_in, outcome_or, value_or, within, AreOfTypes, IsOfType, option_or}
 use Rattle.zf_reference.specs.declared.reference.Reference.TheVariants.{Component, Local, Global}
 use Rattle.zf_typing.specs.Scopes as scopes
-use Rattle.law_sound.proofs.OfTypes.{first_of_types}
+use Rattle.law_sound.proofs.OfTypes.{first_of_types, nil_not_cons}
 use Rattle.law_sound.proofs.Operations.{IsOfSort, sorted}
 
 -- ---- where a name is found
@@ -31,9 +31,6 @@ pub record Fits (e : Environment) (s : Scope) (c : Context) : Type 0 where
   pub globals : (i : ℕ) (d : Defined) (o : Outcome) → slice_get s.globals i ≡ Some d → slice_get c.environment.outcomes i ≡ Some o → HasValues e d o
   pub comps : (i : ℕ) (d : Comp) (v : Value) → slice_get s.comps i ≡ Some d → slice_get c.row i ≡ Some v → IsOfType e d.type v
   pub locals : AreOfTypes e (types_of s.locals) c.locals
-
-nil_not_cons : {X : Type 0} (w : Value) (ws : List Value) → [] ≡ w ∷ ws → X
-nil_not_cons w ws e = absurd (cc)
 
 joined : (e : Environment) (us vs : List Var) (xs ys : List Value) → AreOfTypes e (types_of us) xs → AreOfTypes e (types_of vs) ys → AreOfTypes e (types_of (us ++ vs)) (xs ++ ys)
 joined e [] vs xs ys h k = subst (λ zs. AreOfTypes e (types_of vs) (zs ++ ys)) (sym h) k

@@ -1,6 +1,22 @@
 -- Values of types: the sets, pairs and tuples that are made of them, and the parts that these have.
-use Rattle.law_sound.proofs.Prelude.{◌∙◌, ◌∷◌, ◌≡◌, ◌≤◌, [], ap, length, List, refl, subst, sym, ℤ, every_at, every_from, members-SetOf, parts-Tuple, IsNumber, Relates, IsAscending, IsMember, IsSetOf, members, parts, SET_MAX, Is, Tuple, Value, int, no_types, pair_type, power, product, Ty, type, Tys, Environment, AreOfTypes, IsOfType}
+use Rattle.law_sound.proofs.Prelude.{◌∙◌, ◌∷◌, ◌≡◌, ◌≤◌, [], ap, length, List, refl, subst, sym, ℤ, every_at, every_from, members-SetOf, parts-Tuple, IsNumber, Relates, IsAscending, IsMember, IsSetOf, members, parts, SET_MAX, Is, Tuple, Value, int, no_types, pair_type, power, product, Ty, type, Tys, Environment, AreOfTypes, IsOfType, Undefined}
 use Rattle.zf_value.specs.Operations as op
+
+-- ---- what can't be
+
+pub never_undefined : {A : Type 0} (v : Value) → Is v ≡ Undefined → A
+never_undefined v h = absurd (cc)
+
+pub is_value : (w u : Value) → Is w ≡ Is u → w ≡ u
+is_value w u q = cc
+
+pub cons_not_nil : {X : Type 0} (w : Value) (ws : List Value) → w ∷ ws ≡ [] → X
+cons_not_nil w ws e = absurd (cc)
+
+pub nil_not_cons : {X : Type 0} (w : Value) (ws : List Value) → [] ≡ w ∷ ws → X
+nil_not_cons w ws e = absurd (cc)
+
+-- ---- sets
 
 -- the members of a set of the type
 pub record AreMembers (e : Environment) (t : Ty) (xs : List Value) : Type 0 where

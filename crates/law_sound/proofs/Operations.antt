@@ -1,14 +1,7 @@
 -- What each symbol makes of values of the types that it takes is a value of the type that it gives.
-use Rattle.law_sound.proofs.Prelude.{◌∙◌, ◌≡◌, ◌⊎◌, ap, arith, List, Some, subst, sym, ℕ, ℤ, ⊎_elim, ints, w64, number_of-Int, number_of, OnNumber, OnNumbers, IsBetweenNumbers, IsDifference, IsInterval, IsModulus, IsNegation, IsProduct, IsQuotient, IsSum, IsInDomain, IsInRange, IsPairOf, Relates, IsApplied, IsComposition, IsDomain, IsDomainRestriction, IsDomainSubtraction, IsImage, IsIntersection, IsInverse, IsOverriding, IsRange, IsRangeRestriction, IsRangeSubtraction, IsSetDifference, IsSize, IsUnion, IsMember, IsSetOf, members, Outcome, Is, Undefined, Value, function_rule, rule_of, Operator, Unary, int, pair_type, power, Ty, a_schema, number_sort, predicate, PrefixTakes, relation_sort, set_sort, Sort, Takes, typed, UnaryTakes, Environment, IsOfType, BinaryOutcome, InfixOutcome, PrefixOutcome, UnaryOutcome, refl}
-use Rattle.std.specs.Prelude.{◌<◌, ◌≤◌, zero, suc, pos, negsuc, ◌+ℤ◌, ◌≤ℤ◌, FitsSigned, Option, None}
-use Rattle.std.proofs.lemmas.Bool.{cases_lt}
-use Rattle.zf_term.specs.declared.extent.Infinite.{Infinite}
-use Rattle.zf_term.specs.declared.extent.Infinite.TheVariants.{Num, Nat, Nat1}
-use Rattle.zf_value.specs.declared.TheConstants.{SET_MAX}
-use Rattle.zf_value.specs.declared.value.Outcome.TheVariants.{Out}
+use Rattle.law_sound.proofs.Prelude.{◌∙◌, ◌≡◌, ◌⊎◌, ap, arith, List, Some, subst, sym, ℕ, ℤ, ⊎_elim, ints, w64, number_of-Int, number_of, OnNumber, OnNumbers, IsBetweenNumbers, IsDifference, IsInterval, IsModulus, IsNegation, IsProduct, IsQuotient, IsSum, IsInDomain, IsInRange, IsPairOf, Relates, IsApplied, IsComposition, IsDomain, IsDomainRestriction, IsDomainSubtraction, IsImage, IsIntersection, IsInverse, IsOverriding, IsRange, IsRangeRestriction, IsRangeSubtraction, IsSetDifference, IsSize, IsUnion, IsMember, IsSetOf, members, Outcome, Is, Value, function_rule, rule_of, Operator, Unary, int, pair_type, power, Ty, a_schema, number_sort, predicate, PrefixTakes, relation_sort, set_sort, Sort, Takes, typed, UnaryTakes, Environment, IsOfType, BinaryOutcome, InfixOutcome, PrefixOutcome, UnaryOutcome, refl, FitsSigned, Infinite, IsNumberSet, Nat, Nat1, None, Num, Option, Out, SET_MAX, cases_lt, least, negsuc, pos, suc, zero, ◌+ℤ◌, ◌<◌, ◌≤ℤ◌, ◌≤◌}
 use Rattle.zf_value.proofs.Intervals.{interval_out}
 use Rattle.zf_value.proofs.Once.{one_Interval}
-use Rattle.zf_meaning.specs.{IsNumberSet, least}
 use Rattle.zf_tree.specs.declared.symbol.Infix.{Infix}
 use Rattle.zf_tree.specs.declared.symbol.Infix.TheVariants.{Maplet, UpTo, Plus, Minus, Union, Difference, Times, Div, Mod, Intersection, Composition, Overriding, DomainRestriction, RangeRestriction, DomainSubtraction, RangeSubtraction}
 use Rattle.zf_tree.specs.declared.symbol.Prefix.{Prefix}
@@ -17,7 +10,7 @@ use Rattle.zf_tree.specs.declared.operator.Sign.TheVariants as sign
 use Rattle.zf_tree.specs.declared.operator.Operator.TheVariants as operator
 use Rattle.zf_tree.specs.declared.operator.Unary.TheVariants as unary
 use Rattle.zf_value.specs.Operations as op
-use Rattle.law_sound.proofs.OfTypes.{AreMembers, members_of, a_set, a_number, a_pair, related}
+use Rattle.law_sound.proofs.OfTypes.{AreMembers, members_of, a_set, a_number, a_pair, is_value, never_undefined, related}
 use Rattle.law_sound.proofs.Relations.{a_power, an_arrow}
 
 -- a value of the type, where the term is an expression
@@ -44,9 +37,7 @@ between_fits a (negsuc n) b f g l m = at_least_fits n a f l
 
 wide : (s : Infinite) (n : ℕ) → SET_MAX < n → (least s n +ℤ pos SET_MAX) ≤ℤ pos n
 wide Num zero l = absurd (omega (arith, l))
-wide Num (suc k) l = omega (arith, ints, l)
-wide Nat n l = omega (arith, ints, l)
-wide Nat1 n l = omega (arith, ints, l)
+wide _ _ l = omega (arith, ints, l)
 
 -- where the set of all up to a greatest number is there, this is not greater than such a set may have members
 greatest_small : (s : Infinite) (n : ℕ) (v : Value) → IsInterval (least s n) (pos n) (Is v) → n ≤ SET_MAX
@@ -76,25 +67,6 @@ module _ (e : Environment) where
   on_numbers (Some m) None P v f h = absurd (cc)
   on_numbers (Some m) (Some n) P v f h = f m n v h
 
-  a_negation : (m : ℤ) (v : Value) → IsNegation m (Is v) → IsOfType e int v
-  unfolding IsNegation
-  a_negation m v h = a_number e _ v h
-
-  a_sum : MakesNumbers IsSum
-  unfolding IsSum
-  a_sum m n v h = a_number e _ v h
-
-  a_difference : MakesNumbers IsDifference
-  unfolding IsDifference
-  a_difference m n v h = a_number e _ v h
-
-  a_product : MakesNumbers IsProduct
-  unfolding IsProduct
-  a_product m n v h = a_number e _ v h
-
-  never_undefined : {A : Type 0} (v : Value) → Is v ≡ Undefined → A
-  never_undefined v h = absurd (cc)
-
   a_quotient : MakesNumbers IsQuotient
   unfolding IsQuotient
   a_quotient m n v h = ⊎_elim (λ p. never_undefined v p.1) (λ p. a_number e p.0 v p.3) h
@@ -102,10 +74,6 @@ module _ (e : Environment) where
   a_modulus : MakesNumbers IsModulus
   unfolding IsModulus
   a_modulus m n v h = ⊎_elim (λ p. never_undefined v p.1) (λ p. a_number e p.1 v p.3) h
-
-  a_size : (a : List Value) (v : Value) → IsSize a (Is v) → IsOfType e int v
-  unfolding IsSize
-  a_size a v h = a_number e _ v h
 
   between_numbers : (m n : ℤ) (z : Value) → FitsSigned w64 m → FitsSigned w64 n → IsBetweenNumbers m n z → IsOfType e int z
   unfolding IsBetweenNumbers
@@ -176,22 +144,6 @@ module _ (e : Environment) where
   pairs_of : (t u : Ty) (r : List Value) (P : Value → Value → Type 0) (v : Value) → AreMembers e (pair_type t u) r → IsSetOf (IsPairOf r P) (Is v) → IsOfType e (power (pair_type t u)) v
   pairs_of t u r P v h p = a_set e (pair_type t u) (IsPairOf r P) v p (λ z q. pair_of t u r P z h q)
 
-  domain_restricted : (t u : Ty) (a r : List Value) (v : Value) → AreMembers e (pair_type t u) r → IsDomainRestriction a r (Is v) → IsOfType e (power (pair_type t u)) v
-  unfolding IsDomainRestriction
-  domain_restricted t u a r v h p = pairs_of t u r (λ x y. IsMember x a) v h p
-
-  domain_subtracted : (t u : Ty) (a r : List Value) (v : Value) → AreMembers e (pair_type t u) r → IsDomainSubtraction a r (Is v) → IsOfType e (power (pair_type t u)) v
-  unfolding IsDomainSubtraction
-  domain_subtracted t u a r v h p = pairs_of t u r (λ x y. IsMember x a → ⊥) v h p
-
-  range_restricted : (t u : Ty) (r b : List Value) (v : Value) → AreMembers e (pair_type t u) r → IsRangeRestriction r b (Is v) → IsOfType e (power (pair_type t u)) v
-  unfolding IsRangeRestriction
-  range_restricted t u r b v h p = pairs_of t u r (λ x y. IsMember y b) v h p
-
-  range_subtracted : (t u : Ty) (r b : List Value) (v : Value) → AreMembers e (pair_type t u) r → IsRangeSubtraction r b (Is v) → IsOfType e (power (pair_type t u)) v
-  unfolding IsRangeSubtraction
-  range_subtracted t u r b v h p = pairs_of t u r (λ x y. IsMember y b → ⊥) v h p
-
   applied : (t u : Ty) (r : List Value) (x v : Value) → AreMembers e (pair_type t u) r → IsApplied r x (Is v) → IsOfType e u v
   unfolding IsApplied
   applied t u r x v h p = (related e t u r x v h p.0).1
@@ -205,16 +157,14 @@ module _ (e : Environment) where
   listed z t v q h = members_of e t v (sorted z (set_sort t) v q h)
 
   pub infixed : (op : Infix) (x y z : Sort) (a b v : Value) → Takes (function_rule op) x y z → IsOfSort e x a → IsOfSort e y b → InfixOutcome op a b (Is v) → IsOfSort e z v
+  unfolding IsSum IsDifference IsProduct IsDomainRestriction IsDomainSubtraction IsRangeRestriction IsRangeSubtraction
   infixed Maplet x y z a b v k h g p = sorted (typed (pair_type k.0 k.1)) z v (sym k.4)
       (subst (IsOfType e (pair_type k.0 k.1)) (sym (is_value v (op.pair a b) p))
       (a_pair e k.0 k.1 a b (sorted x (typed k.0) a k.2 h) (sorted y (typed k.1) b k.3 g)))
-    where
-      is_value : (w u : Value) → Is w ≡ Is u → w ≡ u
-      is_value w u q = cc
   infixed UpTo x y z a b v k h g p = sorted (set_sort int) z v (sym k.2) (an_interval a b v (sorted x number_sort a k.0 h) (sorted y number_sort b k.1 g) p)
-  infixed Plus x y z a b v k h g p = sorted number_sort z v (sym k.2) (on_numbers (number_of a) (number_of b) IsSum v a_sum p)
-  infixed Minus x y z a b v k h g p = sorted number_sort z v (sym k.2) (on_numbers (number_of a) (number_of b) IsDifference v a_difference p)
-  infixed Times x y z a b v k h g p = sorted number_sort z v (sym k.2) (on_numbers (number_of a) (number_of b) IsProduct v a_product p)
+  infixed Plus x y z a b v k h g p = sorted number_sort z v (sym k.2) (on_numbers (number_of a) (number_of b) IsSum v (λ m n w q. a_number e _ w q) p)
+  infixed Minus x y z a b v k h g p = sorted number_sort z v (sym k.2) (on_numbers (number_of a) (number_of b) IsDifference v (λ m n w q. a_number e _ w q) p)
+  infixed Times x y z a b v k h g p = sorted number_sort z v (sym k.2) (on_numbers (number_of a) (number_of b) IsProduct v (λ m n w q. a_number e _ w q) p)
   infixed Div x y z a b v k h g p = sorted number_sort z v (sym k.2) (on_numbers (number_of a) (number_of b) IsQuotient v a_quotient p)
   infixed Mod x y z a b v k h g p = sorted number_sort z v (sym k.2) (on_numbers (number_of a) (number_of b) IsModulus v a_modulus p)
   infixed Union x y z a b v k h g p = sorted (set_sort k.0) z v (sym k.3) (a_union k.0 (members a) (members b) v (listed x k.0 a k.1 h) (listed y k.0 b k.2 g) p)
@@ -224,10 +174,14 @@ module _ (e : Environment) where
       sorted (relation_sort k.0 k.2) z v (sym k.5) (a_composition k.0 k.1 k.2 (members a) (members b) v (listed x (pair_type k.0 k.1) a k.3 h) (listed y (pair_type k.1 k.2) b k.4 g) p)
   infixed Overriding x y z a b v k h g p = sorted (relation_sort k.0 k.1) z v (sym k.4)
       (an_overriding k.0 k.1 (members a) (members b) v (listed x (pair_type k.0 k.1) a k.2 h) (listed y (pair_type k.0 k.1) b k.3 g) p)
-  infixed DomainRestriction x y z a b v k h g p = sorted (relation_sort k.0 k.1) z v (sym k.4) (domain_restricted k.0 k.1 (members a) (members b) v (listed y (pair_type k.0 k.1) b k.3 g) p)
-  infixed DomainSubtraction x y z a b v k h g p = sorted (relation_sort k.0 k.1) z v (sym k.4) (domain_subtracted k.0 k.1 (members a) (members b) v (listed y (pair_type k.0 k.1) b k.3 g) p)
-  infixed RangeRestriction x y z a b v k h g p = sorted (relation_sort k.0 k.1) z v (sym k.4) (range_restricted k.0 k.1 (members a) (members b) v (listed x (pair_type k.0 k.1) a k.2 h) p)
-  infixed RangeSubtraction x y z a b v k h g p = sorted (relation_sort k.0 k.1) z v (sym k.4) (range_subtracted k.0 k.1 (members a) (members b) v (listed x (pair_type k.0 k.1) a k.2 h) p)
+  infixed DomainRestriction x y z a b v k h g p =
+      sorted (relation_sort k.0 k.1) z v (sym k.4) (pairs_of k.0 k.1 (members b) (λ u w. IsMember u (members a)) v (listed y (pair_type k.0 k.1) b k.3 g) p)
+  infixed DomainSubtraction x y z a b v k h g p =
+      sorted (relation_sort k.0 k.1) z v (sym k.4) (pairs_of k.0 k.1 (members b) (λ u w. IsMember u (members a) → ⊥) v (listed y (pair_type k.0 k.1) b k.3 g) p)
+  infixed RangeRestriction x y z a b v k h g p =
+      sorted (relation_sort k.0 k.1) z v (sym k.4) (pairs_of k.0 k.1 (members a) (λ u w. IsMember w (members b)) v (listed x (pair_type k.0 k.1) a k.2 h) p)
+  infixed RangeSubtraction x y z a b v k h g p =
+      sorted (relation_sort k.0 k.1) z v (sym k.4) (pairs_of k.0 k.1 (members a) (λ u w. IsMember w (members b) → ⊥) v (listed x (pair_type k.0 k.1) a k.2 h) p)
 
   pub binary : (op : Operator) (x y z : Sort) (a b v : Value) → Takes (rule_of op) x y z → IsOfSort e x a → IsOfSort e y b → BinaryOutcome op a b (Is v) → IsOfSort e z v
   binary (operator.Function f) x y z a b v k h g p = infixed f x y z a b v k h g p
@@ -237,14 +191,16 @@ module _ (e : Environment) where
   binary operator.Image x y z a b v k h g p = sorted (set_sort k.1) z v (sym k.4) (an_image k.0 k.1 (members a) (members b) v (listed x (pair_type k.0 k.1) a k.2 h) p)
 
   prefixed : (op : Prefix) (x z : Sort) (a v : Value) → PrefixTakes op x z → IsOfSort e x a → PrefixOutcome op a (Is v) → IsOfSort e z v
+  unfolding IsSize
   prefixed prefix.Power x z a v k h p = sorted (set_sort (power k.0)) z v (sym k.2) (a_power e k.0 (members a) v (listed x k.0 a k.1 h) p)
   prefixed prefix.Finset x z a v k h p = sorted (set_sort (power k.0)) z v (sym k.2) (a_power e k.0 (members a) v (listed x k.0 a k.1 h) p)
-  prefixed prefix.Size x z a v k h p = sorted number_sort z v (sym k.2) (a_size (members a) v p)
+  prefixed prefix.Size x z a v k h p = sorted number_sort z v (sym k.2) (a_number e _ v p)
   prefixed prefix.Domain x z a v k h p = sorted (set_sort k.0) z v (sym k.3) (a_domain k.0 k.1 (members a) v (listed x (pair_type k.0 k.1) a k.2 h) p)
   prefixed prefix.Range x z a v k h p = sorted (set_sort k.1) z v (sym k.3) (a_range k.0 k.1 (members a) v (listed x (pair_type k.0 k.1) a k.2 h) p)
 
   pub unary_made : (op : Unary) (x z : Sort) (a v : Value) → UnaryTakes op x z → IsOfSort e x a → UnaryOutcome op a (Is v) → IsOfSort e z v
-  unary_made (unary.Sign sign.Minus) x z a v k h p = sorted number_sort z v (sym k.1) (on_number (number_of a) IsNegation v (λ m q. a_negation m v q) p)
+  unfolding IsNegation
+  unary_made (unary.Sign sign.Minus) x z a v k h p = sorted number_sort z v (sym k.1) (on_number (number_of a) IsNegation v (λ m q. a_number e _ v q) p)
   unary_made (unary.Sign (sign.Symbol f)) x z a v k h p = prefixed f x z a v k h p
   unary_made unary.Inverse x z a v k h p = sorted (relation_sort k.1 k.0) z v (sym k.3) (an_inverse k.0 k.1 (members a) v (listed x (pair_type k.0 k.1) a k.2 h) p)
   unary_made unary.Not x z a v k h p = never_undefined v p

@@ -1,10 +1,8 @@
 -- The rows of a schema's ranges are rows of its types.
-use Rattle.law_sound.proofs.Prelude.{◌∷◌, ◌≡◌, [], List, None, Option, refl, Some, subst, sym, ℕ, MatchOption, slice_get, member, Outcome, Value, Comp, Defined, schema, sets_of, AreWellTyped, Environment, IsOfType, IsRow}
+use Rattle.law_sound.proofs.Prelude.{◌∷◌, ◌≡◌, [], List, None, Option, refl, Some, subst, sym, ℕ, MatchOption, slice_get, member, Outcome, Value, Comp, Defined, schema, sets_of, AreWellTyped, Environment, IsOfType, IsRow, AreHeldTyped, AreRanges, EventsOfTextsTyped, EventsTyped, IsComponentRange, RowsTyped, first_held, later_held}
 use Rattle.zf_checker.proofs.Globals.{names_once}
 use Rattle.zf_checker.proofs.WellTyped.{globals_well_typed}
 use Rattle.zf_walk.specs.{IsRowOf}
-use Rattle.zf_ranges.specs.{AreRanges, first_held, IsComponentRange, later_held}
-use Rattle.law_sound.specs.{AreHeldTyped, EventsOfTextsTyped, EventsTyped, RowsTyped}
 use Rattle.law_sound.proofs.Components.{AreCompsFor}
 use Rattle.law_sound.proofs.DeclaredSets.{listed_typed}
 use Rattle.law_sound.proofs.Globals.{globals_typed}

@@ -1,10 +1,9 @@
 -- The declared sets of each schema that is defined are sets for its components.
-use Rattle.law_sound.proofs.Prelude.{◌<◌, ◌∷◌, ◌≡◌, [], arith, List, refl, Some, subst, suc, sym, take, zero, ℕ, none-some, same_Some, slice_get, spelling, both, DeclTree, either, include, schema_reference, schema_bracket, schema_text, SchemaTree, vars, Name, abbreviation, constructor, DeclaredSet, Defined, Definition, free_type, given_set, plain, Schema, schema, Ty, resolved, comp, marked, empty_schema, named_there, constrained_comps, reference_once, schema_once, AddsAll, Declares, DeclaresOne, IsSchema, outside, Refers, HasCompsOnce, HaveCompsOnce, AreWellTyped, IsMadeAfter}
-use Rattle.std.specs.List.{AllByRecursion}
+use Rattle.law_sound.proofs.Prelude.{AllByRecursion, ◌<◌, ◌∷◌, ◌≡◌, [], arith, List, refl, Some, subst, suc, sym, take, zero, ℕ, slice_get, spelling, both, DeclTree, either, include, schema_reference, schema_bracket, schema_text, SchemaTree, vars, Name, DeclaredSet, Defined, Definition, plain, Schema, schema, Ty, resolved, comp, marked, empty_schema, named_there, constrained_comps, reference_once, schema_once, AddsAll, Declares, DeclaresOne, IsSchema, outside, Refers, HasCompsOnce, HaveCompsOnce, AreWellTyped, IsMadeAfter}
 use Rattle.zf_tree.specs.declared.tree.SchemaRef.{SchemaRef}
 use Rattle.law_sound.proofs.DeclaredSets.{IsSetFor}
 use Rattle.law_sound.proofs.Globals.{in_front}
-use Rattle.law_sound.proofs.Components.{AreCompsFor, one_more_for, joined_for, decorated_for, marked_for, either_for}
+use Rattle.law_sound.proofs.Components.{all_at, AreCompsFor, one_more_for, joined_for, decorated_for, marked_for, either_for}
 
 -- ---- names of their own
 
@@ -12,17 +11,9 @@ all_of : {A : Type 0} (P : A → Type 0) (xs : List A) → ((i : ℕ) (x : A) �
 all_of P [] f = tt
 all_of P (x ∷ xs) f = (f 0 x refl, all_of P xs (λ i y e. f (suc i) y e))
 
-all_at : {A : Type 0} (P : A → Type 0) (xs : List A) (i : ℕ) (x : A) → AllByRecursion P xs → slice_get xs i ≡ Some x → P x
-all_at P [] i x h e = absurd (none-some x e)
-all_at P (y ∷ ys) zero x h e = subst P (same_Some y x e) h.0
-all_at P (y ∷ ys) (suc i) x h e = all_at P ys i x h.1 e
-
 definition_once : (g : List Defined) (name : List ℕ) (x : Definition) → HaveCompsOnce g → IsMadeAfter g name x → HasCompsOnce x
-definition_once g name (given_set n) all made = tt
-definition_once g name (free_type n names) all made = tt
-definition_once g name (constructor n t p) all made = tt
-definition_once g name (abbreviation t r x) all made = tt
 definition_once g name (schema a) all made = schema_once g made.0 a all made.1
+definition_once g name _ all made = tt
 
 once_below : (g : List Defined) → AreWellTyped g → (k i : ℕ) (d : Defined) → i < k → slice_get g i ≡ Some d → HasCompsOnce d.definition
 once_below g well zero i d l at = absurd (omega (arith, l))

@@ -1,5 +1,5 @@
 -- The outcome of a well typed term is of its type, where each value that is bound is of its own.
-use Rattle.law_sound.proofs.Prelude.{◌++◌, ◌∙◌, ◌∷◌, ◌≡◌, [], ap, arith, length, List, Option, refl, replicate, subst, sym, ℕ, ⊎_elim, pos, AreFrom, IsCross, IsDisplay, IsMember, Outcome, Is, Out, Undefined, SetOf, Value, spelling, rule_of, no_decls, no_trees, Perhaps, Tree, tree, Trees, var_decl, VarDecls, Operator, Unary, Constant, Name, ResolvedPart, ResolvedTree, no_types, power, Ty, type, Tys, bound, referent, resolved, resolved_all, resolved_part, resolved_ranges, constant_sort, number_sort, predicate, set_sort, Sort, Takes, typed, UnaryTakes, Scope, Var, AreAll, AreMembers, Declare, IsOf, Makes, member_sort, row_type, types_of, variables, Context, Environment, outcome_in, within, HasOutcome, HaveOutcomes, HaveRanges, IsBuilt, IsBuiltBy, IsConstraint, row_value, OnBoth, one_more, one_out, one_undefined, OnOne, OnSeveral, repeated, Several, values, AreOfTypes, IsOfType, BinaryOutcome, ListedOutcome, UnaryOutcome}
+use Rattle.law_sound.proofs.Prelude.{◌++◌, ◌∙◌, ◌∷◌, ◌≡◌, [], ap, arith, length, List, Option, refl, replicate, subst, sym, ℕ, ⊎_elim, pos, AreFrom, IsCross, IsDisplay, IsMember, Outcome, Is, Out, Undefined, SetOf, Value, spelling, rule_of, no_decls, no_trees, Perhaps, Tree, tree, Trees, var_decl, VarDecls, Operator, Unary, Constant, Name, ResolvedPart, ResolvedTree, no_types, power, Ty, type, Tys, bound, referent, resolved, resolved_all, resolved_part, resolved_ranges, constant_sort, number_sort, predicate, set_sort, Sort, Takes, typed, UnaryTakes, Scope, Var, AreAll, AreMembers, Declare, IsOf, Makes, member_sort, row_type, types_of, variables, Context, Environment, outcome_in, within, HasOutcome, HaveOutcomes, HaveRanges, IsBuilt, IsBuiltBy, IsConstraint, row_value, OnBoth, one_more, one_out, one_undefined, OnOne, OnSeveral, repeated, Several, values, AreOfTypes, IsOfType, BinaryOutcome, ListedOutcome, UnaryOutcome, IsConstantOutcome, Nat, Nat1, Num}
 use Rattle.zf_tree.specs.declared.symbol.Constant.TheVariants as constants
 use Rattle.zf_tree.specs.Trees as text
 use Rattle.zf_tree.specs.declared.operator.Listed.{Listed}
@@ -10,11 +10,9 @@ use Rattle.zf_typing.specs.Typing as typing
 use Rattle.zf_typing.proofs.ResolvedAlike.{part_within}
 use Rattle.zf_value.specs.declared.plain.Value as value
 use Rattle.zf_value.specs.declared.value.Truth.{Truth}
-use Rattle.zf_term.specs.declared.extent.Infinite.TheVariants.{Num, Nat, Nat1}
 use Rattle.zf_meaning.specs.Meaning as meaning
-use Rattle.zf_meaning.specs.{IsConstantOutcome}
 use Rattle.law_sound.proofs.Names.{Fits, fits_within, named_typed}
-use Rattle.law_sound.proofs.OfTypes.{members_of, a_set, a_number, first_of_types}
+use Rattle.law_sound.proofs.OfTypes.{members_of, a_set, a_number, cons_not_nil, first_of_types, is_value, nil_not_cons}
 use Rattle.law_sound.proofs.Operations.{IsOfSort, sorted, binary, number_set, unary_made}
 
 -- ---- outcomes that are values, by those of the operands
@@ -70,12 +68,6 @@ abbrev pub powers : Tys → Tys
 powers no_types = no_types
 powers (type u us) = type (power u) (powers us)
 
-cons_not_nil : {X : Type 0} (w : Value) (ws : List Value) → w ∷ ws ≡ [] → X
-cons_not_nil w ws e = absurd (cc)
-
-nil_not_cons : {X : Type 0} (w : Value) (ws : List Value) → [] ≡ w ∷ ws → X
-nil_not_cons w ws e = absurd (cc)
-
 -- members of sets of the types are of the types
 from_typed : (e : Environment) (us : Tys) (ss vs : List Value) → AreOfTypes e (powers us) ss → AreFrom vs ss → AreOfTypes e us vs
 from_typed e no_types [] [] h k = refl
@@ -101,9 +93,6 @@ row_typed e (v ∷ []) (w ∷ x ∷ ws) h = cons_not_nil x ws (first_of_types e 
 row_typed e (v ∷ u ∷ vs) (w ∷ []) h = let p = (first_of_types e v.type (types_of (u ∷ vs)) w [] h).1 in nil_not_cons p.0 p.1 p.2
 row_typed e (v ∷ u ∷ vs) (w ∷ x ∷ ws) h = (w ∷ x ∷ ws, refl, h)
 
-is_value : (w u : Value) → Is w ≡ Is u → w ≡ u
-is_value w u q = cc
-
 empty_typed : (e : Environment) (u : Ty) (v : Value) → Is v ≡ Is (SetOf []) → IsOfType e (power u) v
 empty_typed e u v h = ([], is_value v (SetOf []) h, tt, omega arith, tt)
 
@@ -125,14 +114,12 @@ member_types Product us = powers us
 
 none_told : (e : Environment) (form : Listed) → AreOfTypes e (member_types form no_types) []
 none_told e Tuple = refl
-none_told e Display = refl
-none_told e Product = refl
+none_told e _ = refl
 
 one_told : (e : Environment) (form : Listed) (u : Ty) (us : Tys) (w : Value) (ws : List Value) → IsOfSort e (member_sort form u) w
     → AreOfTypes e (member_types form us) ws → AreOfTypes e (member_types form (type u us)) (w ∷ ws)
 one_told e Tuple u us w ws h k = (w, ws, refl, h, k)
-one_told e Display u us w ws h k = (w, ws, refl, h, k)
-one_told e Product u us w ws h k = (w, ws, refl, h, k)
+one_told e _ u us w ws h k = (w, ws, refl, h, k)
 
 -- each of several that are all of one type
 each_typed : (e : Environment) (us : Tys) (u : Ty) (vs : List Value) → AreAll us u → AreOfTypes e us vs → (x : Value) → IsMember x vs → IsOfType e u x

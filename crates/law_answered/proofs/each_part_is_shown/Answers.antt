@@ -1,4 +1,4 @@
-use Rattle.law_answered.proofs.EachPart.{each_part_is_shown}
+use Rattle.law_answered.proofs.PartsShown.{each_part_is_shown}
 use Rattle.law_answered.proofs.each_part_is_shown.Goals as goal
 
 pub returns : goal.returns

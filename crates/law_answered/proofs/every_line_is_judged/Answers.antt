@@ -1,5 +1,4 @@
-use Rattle.law_answered.proofs.HeldLines.{every_held_line_is_judged}
-use Rattle.law_answered.proofs.NamedRows.{every_line_is_judged}
+use Rattle.law_answered.proofs.HeldLines.{every_held_line_is_judged, every_line_is_judged}
 use Rattle.law_answered.proofs.every_line_is_judged.Goals as goal
 
 pub returns : goal.returns
