@@ -1,9 +1,7 @@
 //! Tests of single calls, and of runs over devices.
 mod answers;
 mod calls;
-mod captures;
 mod chunks;
-mod finiteness;
 mod fronts;
 mod holds;
 mod program;
@@ -11,4 +9,3 @@ mod runs;
 mod searches;
 mod sources;
 mod stops;
-mod terms;
