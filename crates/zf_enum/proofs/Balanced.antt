@@ -1,24 +1,16 @@
 -- Relations between sums: with a value for which the difference of the sides lies elsewhere they are False.
-use Rattle.zf_enum.proofs.Prelude.{◌++◌, ◌+◌, ◌-◌, ◌<◌, ◌∙◌, ◌∷◌, ◌≡◌, ◌≤◌, [], ap, ap₂, arith, Bool, cases_lt, Contains, false, get_or, inl, length, Less, List, refl, slice_get, Some, subst, suc, sym, true, zero, ℕ, ⊎_elim, AllPairs, AreWithin, binary, Component, Environment, HasOutcome, in_row, Is, IsRowOf, IsTruth, Leaves, link, chain, length-picked, no_links, number, of-Binary, of-Name, of-Unary, picked, Reference, reference, Resolved, resolved_of, unary, value_or, property, ResolvedTree, StaysIn, Value, value_order, follows_outcome, uses, ℤ, pos, ◌+ℤ◌, ◌-ℤ◌, ◌*ℤ◌, ◌≤ℤ◌, ◌<ℤ◌, neg_ℤ, negsuc, FitsSigned, if◌then◌else◌, None, w32, w64, ints, Relation, Unary, Operator, Int, out-Value, get_or_default, cmp_is, is_Int, number_of-Int, same_number, InfixOutcome, SignOutcome, Holds, Context, Span, IsSmall, Spans, IsSpanOf, IsSpanAhead, IsDifferenceOf, IsRuledOut, AreRuledOut}
-use Rattle.std.proofs.lemmas.Cmp.{int_ranked}
-use Rattle.std.specs.Ordering.{int_cmp}
-use Rattle.std.specs.declared.cmp.Ordering.TheVariants.{Greater}
+use Rattle.zf_enum.proofs.Prelude.{◌++◌, ◌+◌, ◌-◌, ◌<◌, ◌∙◌, ◌∷◌, ◌≡◌, ◌≤◌, [], ap, ap₂, arith, Bool, cases_lt, Contains, false, get_or, inl, length, Less, List, refl, slice_get, Some, subst, suc, sym, true, zero, ℕ, ⊎_elim, AllPairs, AreWithin, binary, Component, Environment, HasOutcome, in_row, Is, IsRowOf, IsTruth, Leaves, link, chain, length-picked, no_links, number, of-Binary, of-Name, of-Unary, picked, Reference, reference, Resolved, resolved_of, unary, value_or, property, ResolvedTree, StaysIn, Value, value_order, follows_outcome, uses, ℤ, pos, ◌+ℤ◌, ◌-ℤ◌, ◌*ℤ◌, ◌≤ℤ◌, ◌<ℤ◌, neg_ℤ, negsuc, FitsSigned, if◌then◌else◌, None, w32, w64, ints, Relation, Unary, Operator, Int, out-Value, get_or_default, cmp_is, is_Int, number_of-Int, same_number, InfixOutcome, SignOutcome, Holds, Context, Span, IsSmall, Spans, IsSpanOf, IsSpanAhead, IsDifferenceOf, IsRuledOut, AreRuledOut, int_ranked, int_cmp, Greater, Infix, Function, IsLink, infinite_in, infinite_right, of-Number}
 use Rattle.zf_extent.specs.{is_membership}
 use Rattle.zf_tree.specs.declared.symbol.Infix.TheVariants as infixes
-use Rattle.zf_tree.specs.declared.symbol.Infix.{Infix}
 use Rattle.zf_tree.specs.declared.operator.Sign.TheVariants.{Minus}
 use Rattle.zf_tree.specs.declared.operator.Sign.{Sign}
 use Rattle.zf_tree.specs.declared.operator.Unary.TheVariants as unaries
-use Rattle.zf_tree.specs.declared.operator.Operator.TheVariants.{Function}
 use Rattle.zf_value.specs.declared.plain.Value.TheVariants.{outs-Int}
 use Rattle.zf_value.specs.declared.plain.Value.TheOpen.{Value-F}
 use Rattle.zf_value.specs.declared.value.Truth.TheVariants as truth
 use Rattle.zf_value.specs.{IsDifference, IsNegation, IsProduct, IsSum, level_order, number_at}
 use Rattle.zf_value.proofs.Compared.{compared_numbers}
-use Rattle.zf_outcome.specs.{IsLink}
-use Rattle.zf_meaning.specs.{infinite_in, infinite_right}
 use Rattle.zf_term.specs.declared.resolved.Resolved.TheVariants as form
-use Rattle.zf_term.proofs.ResolvedSeen.{of-Number}
 use Rattle.zf_enum.proofs.Fixed.{truth_at, get_front, get_next}
 use Rattle.zf_enum.proofs.Spanning.{spans_fit}
 

@@ -1,10 +1,8 @@
 -- One list of ranges, one list of events; resuming, and the bound.
-use Rattle.zf_enum.proofs.Prelude.{◌∙◌, ◌∷◌, ◌≡◌, [], ap, List, Option, refl, subst, value_order, Value, Comp, Environment, property, AreRanges, first_held, IsComponentRange, later_held}
+use Rattle.zf_enum.proofs.Prelude.{◌∙◌, ◌∷◌, ◌≡◌, [], ap, List, Option, refl, subst, value_order, Value, Comp, Environment, property, AreRanges, first_held, IsComponentRange, later_held, IsBound, IsEvents, EventsResume, OneEvents, OneRanges, TestsAreBound}
 use Rattle.zf_value.specs.contracts.plain.ValueOrd.TheImpl.Laws as order_laws
 use Rattle.zf_value.proofs.Once as once
-use Rattle.zf_walk.specs.{IsBound, IsEvents}
 use Rattle.zf_walk.proofs.LawProofs as walk
-use Rattle.zf_enum.specs.{EventsResume, OneEvents, OneRanges, TestsAreBound}
 
 one_range : (e : Environment) (c : Comp) (held : Option Value) (xs ys : List Value) → IsComponentRange e c held xs → IsComponentRange e c held ys → xs ≡ ys
 one_range e c held xs ys h k = once.one_list xs ys h.ascending k.ascending (λ z. (λ m. (k.members z).1 ((h.members z).0 m), λ m. (h.members z).1 ((k.members z).0 m)))

@@ -1,6 +1,5 @@
 -- Equations that fix a component: where its value is another than the expression's, they are False.
-use Rattle.zf_enum.proofs.Prelude.{◌++◌, ◌+◌, ◌<◌, ◌∙◌, ◌∷◌, ◌≡◌, ◌≤◌, ◌⊎◌, [], ap, ap₂, arith, Bool, cases_lt, cond, false, get_or, inl, inr, length, List, max, refl, Some, subst, suc, sym, true, zero, ℕ, ⊎_elim, eqb-true, false≢true, Contains, slice_get, length-picked, AreWithin, picked, Leaves, Reference, Component, Global, Local, Outcome, Is, Out, Undefined, Value, Equal, chain, link, no_links, ResolvedTree, references, Environment, value_or, in_row, HasOutcome, IsTruth, IsAtom, need, AreCandidates, Fixes, IsKept, due, greatest_place, HasTruth, is_among, is_component, place_named, property, uses, Context, outcome_in, Holds}
-use Rattle.std.proofs.lemmas.Bool.{eq-eqb}
+use Rattle.zf_enum.proofs.Prelude.{◌++◌, ◌+◌, ◌<◌, ◌∙◌, ◌∷◌, ◌≡◌, ◌≤◌, ◌⊎◌, [], ap, ap₂, arith, Bool, cases_lt, cond, false, get_or, inl, inr, length, List, max, refl, Some, subst, suc, sym, true, zero, ℕ, ⊎_elim, eqb-true, false≢true, Contains, slice_get, length-picked, AreWithin, picked, Leaves, Reference, Component, Global, Local, Outcome, Is, Out, Undefined, Value, Equal, chain, link, no_links, ResolvedTree, references, Environment, value_or, in_row, HasOutcome, IsTruth, IsAtom, need, AreCandidates, Fixes, IsKept, due, greatest_place, HasTruth, is_among, is_component, place_named, property, uses, Context, outcome_in, Holds, eq-eqb}
 use Rattle.zf_value.specs.declared.value.Truth.TheVariants as truth
 use Rattle.zf_enum.specs.declared.candidates.Tie.TheVariants as tie
 use Rattle.zf_enum.proofs.Dues.{due_need, either_true}

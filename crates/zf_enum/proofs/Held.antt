@@ -1,6 +1,5 @@
 -- The ranges where other values of the same components are held.
-use Rattle.zf_enum.proofs.Prelude.{◌∷◌, ◌≡◌, [], ap, length, List, None, Option, refl, Some, subst, suc, sym, zero, Value, Comp, Environment, AreRanges, first_held, IsComponentRange, later_held, exchanged, AreHeldRanges, IsHeldRange}
-use Rattle.zf_enum.specs.{AreHeldAgain}
+use Rattle.zf_enum.proofs.Prelude.{◌∷◌, ◌≡◌, [], ap, length, List, None, Option, refl, Some, subst, suc, sym, zero, Value, Comp, Environment, AreRanges, first_held, IsComponentRange, later_held, exchanged, AreHeldRanges, IsHeldRange, AreHeldAgain}
 
 one_exchanged : (e : Environment) (c : Comp) (was is : Option Value) (xs : List Value) (xss : List (List Value)) (range : Option (List Value)) (ranges : List (Option (List Value)))
     → IsComponentRange e c was xs → (is ≡ None → was ≡ None) → IsHeldRange e c is range

@@ -1,8 +1,7 @@
 -- Keys of the values of a component: where the sides of an equation have two of them, it is False.
-use Rattle.zf_enum.proofs.Prelude.{◌++◌, ◌+◌, ◌-◌, ◌<◌, ◌∙◌, ◌∷◌, ◌≡◌, ◌≤◌, ◌⊎◌, [], ap, ap₂, arith, cond, false, get_or, inl, inr, length, List, refl, Some, subst, suc, sym, true, zero, ℕ, ⊎_elim, cases_Bool, cases_lt, false≢true, length-picked, slice_get, AreWithin, picked, Outcome, Is, Out, Undefined, Value, Equal, chain, link, no_links, ResolvedTree, Environment, in_row, IsTruth, IsAtom, due, due_of, None, max, property, uses, follows_outcome, need, ◌≢◌, IfSome, replicate, Holds, IsKeyOf, AreSides, HasKey, HasKeyWith, IsKey, IsKeyed, IsKeyOfValue, IsOnly, key_side}
+use Rattle.zf_enum.proofs.Prelude.{◌++◌, ◌+◌, ◌-◌, ◌<◌, ◌∙◌, ◌∷◌, ◌≡◌, ◌≤◌, ◌⊎◌, [], ap, ap₂, arith, cond, false, get_or, inl, inr, length, List, refl, Some, subst, suc, sym, true, zero, ℕ, ⊎_elim, cases_Bool, cases_lt, false≢true, length-picked, slice_get, AreWithin, picked, Outcome, Is, Out, Undefined, Value, Equal, chain, link, no_links, ResolvedTree, Environment, in_row, IsTruth, IsAtom, due, due_of, None, max, property, uses, follows_outcome, need, ◌≢◌, IfSome, replicate, Holds, IsKeyOf, AreSides, HasKey, HasKeyWith, IsKey, IsKeyed, IsKeyOfValue, IsOnly, key_side, number_of}
 use Rattle.zf_value.specs.declared.value.Truth.TheVariants as truth
 use Rattle.zf_walk.specs.declared.judge.Truth.TheVariants.{False}
-use Rattle.zf_enum.specs.{number_of}
 use Rattle.zf_enum.proofs.Dues.{due_need}
 use Rattle.zf_enum.proofs.Fixed.{get_front, get_next, truth_at, uses_below}
 

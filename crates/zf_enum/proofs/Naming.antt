@@ -1,9 +1,8 @@
 -- Predicates in which closed parts are names: they say what they said, and so do trees over them.
-use Rattle.zf_enum.proofs.Prelude.{◌++◌, ◌+◌, ◌<◌, ◌↔◌, ◌∙◌, ◌∷◌, ◌≡◌, ◌≤◌, ◌⊎◌, [], ap, arith, inl, inr, length, List, map, refl, subst, suc, sym, take, zero, ℕ, ⊎_elim, slice_get, Truth, SayTheSame, both, either, HasLeavesWithin, HaveLeavesWithin, IsOfBoth, IsOfEither, IsTreeTruth, leaf, negated, opposite, planted, Tree, tree_at, Reference, Component, Global, Local, Outcome, Value, Resolved, resolved_of, ResolvedTree, references, Environment, longer, AreEach, AreLifted, IsLifted, IsLonger, due, due_of, greatest_place, HasTruth, NeedWithin, place_named, property, told, uses_first, with_first}
+use Rattle.zf_enum.proofs.Prelude.{◌++◌, ◌+◌, ◌<◌, ◌↔◌, ◌∙◌, ◌∷◌, ◌≡◌, ◌≤◌, ◌⊎◌, [], ap, arith, inl, inr, length, List, map, refl, subst, suc, sym, take, zero, ℕ, ⊎_elim, slice_get, Truth, SayTheSame, both, either, HasLeavesWithin, HaveLeavesWithin, IsOfBoth, IsOfEither, IsTreeTruth, leaf, negated, opposite, planted, Tree, tree_at, Reference, Component, Global, Local, Outcome, Value, Resolved, resolved_of, ResolvedTree, references, Environment, longer, AreEach, AreLifted, IsLifted, IsLonger, due, due_of, greatest_place, HasTruth, NeedWithin, place_named, property, told, uses_first, with_first, AreBelow, IsBelow, UsesFirst}
 use Rattle.zf_value.specs.declared.value.Truth as meaning
 use Rattle.zf_walk.specs.declared.judge.Truth.TheVariants.{True, False, Out}
 use Rattle.zf_walk.specs.Conjuncts.{Conjuncts}
-use Rattle.zf_meaning.specs.{AreBelow, IsBelow, UsesFirst}
 
 -- ---- what was not changed
 

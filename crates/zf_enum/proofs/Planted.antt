@@ -1,8 +1,7 @@
 -- What is planted of a predicate has its truths.
-use Rattle.zf_enum.proofs.Prelude.{◌++◌, ◌+◌, ◌<◌, ◌↔◌, ◌∙◌, ◌∷◌, ◌≡◌, ◌≤◌, ◌⊎◌, [], ap, arith, inl, inr, length, List, map, max, refl, Some, subst, suc, sym, zero, ℕ, ⊎_elim, All, slice_get, unwrap_or, Truth, SayTheSame, Grove, Grows, Takes, trees_made, trees_of, both, either, HasLeavesWithin, HaveLeavesWithin, IsOfBoth, IsOfEither, IsTreeTruth, leaf, negated, opposite, planted, Tree, tree_at, Value, Not, of-Binary, of-Unary, binary, resolved_of, ResolvedTree, unary, Resolved, Environment, in_row, IsTruth, IsConjunction, IsDisjunction, ArePlanted, IsPlanted, NeedWithin, Plants, PlantsNext, due, HasTruth, property, told, Operator, Unary}
+use Rattle.zf_enum.proofs.Prelude.{◌++◌, ◌+◌, ◌<◌, ◌↔◌, ◌∙◌, ◌∷◌, ◌≡◌, ◌≤◌, ◌⊎◌, [], ap, arith, inl, inr, length, List, map, max, refl, Some, subst, suc, sym, zero, ℕ, ⊎_elim, All, slice_get, unwrap_or, Truth, SayTheSame, Grove, Grows, Takes, trees_made, trees_of, both, either, HasLeavesWithin, HaveLeavesWithin, IsOfBoth, IsOfEither, IsTreeTruth, leaf, negated, opposite, planted, Tree, tree_at, Value, Not, of-Binary, of-Unary, binary, resolved_of, ResolvedTree, unary, Resolved, Environment, in_row, IsTruth, IsConjunction, IsDisjunction, ArePlanted, IsPlanted, NeedWithin, Plants, PlantsNext, due, HasTruth, property, told, Operator, Unary, Connective}
 use Rattle.zf_tree.specs.declared.symbol.Connective as connective
 use Rattle.zf_tree.specs.declared.symbol.Connective.TheVariants as connectives
-use Rattle.zf_tree.specs.declared.operator.Operator.TheVariants.{Connective}
 use Rattle.zf_term.specs.declared.resolved.Resolved.TheVariants as form
 use Rattle.zf_value.specs.declared.value.Truth as value
 use Rattle.zf_walk.specs.declared.judge.Truth.TheVariants.{True, False, Out}

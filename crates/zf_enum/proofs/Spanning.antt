@@ -1,8 +1,6 @@
 -- Sums, differences and products of numbers that lie between two others.
-use Rattle.zf_enum.proofs.Prelude.{◌≡◌, ◌∙◌, ℕ, ◌+◌, ◌^◌, ◌≤◌, zero, suc, sym, ap, ap₂, subst, arith, to_z, of_z, Option, Some, None, ℤ, pos, negsuc, neg_ℤ, ◌+ℤ◌, ◌-ℤ◌, ◌*ℤ◌, ◌≤ℤ◌, ◌<ℤ◌, FitsSigned, unsigned_abs, unwrap_or, Span, IsSmall, Spans, w32, w64, ints, to_z-of_z, unsigned_abs-mul, zero-*ℤ, suc_ℤ-*ℤ, *ℤ-negsuc, *ℤ_comm}
+use Rattle.zf_enum.proofs.Prelude.{◌≡◌, ◌∙◌, ℕ, ◌+◌, ◌^◌, ◌≤◌, zero, suc, sym, ap, ap₂, subst, arith, to_z, of_z, Option, Some, None, ℤ, pos, negsuc, neg_ℤ, ◌+ℤ◌, ◌-ℤ◌, ◌*ℤ◌, ◌≤ℤ◌, ◌<ℤ◌, FitsSigned, unsigned_abs, unwrap_or, Span, IsSmall, Spans, w32, w64, ints, to_z-of_z, unsigned_abs-mul, zero-*ℤ, suc_ℤ-*ℤ, *ℤ-negsuc, *ℤ_comm, SomeIff, none-some}
 use Rattle.std.proofs.Math.Nat.{mul-le-mul}
-use Rattle.std.specs.Option.{SomeIff}
-use Rattle.std.proofs.lemmas.Option.{none-some}
 
 -- ---- products
 

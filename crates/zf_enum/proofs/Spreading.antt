@@ -1,13 +1,9 @@
 -- Where a component has none of the values that a quantifier equates it with, the quantifier is False.
-use Rattle.zf_enum.proofs.Prelude.{◌≡◌, ⊎_elim, inl, inr, ℕ, ◌+◌, ◌≤◌, List, [], ◌∷◌, ◌++◌, length, get_or, Some, sym, ap, ◌∙◌, subst, arith, Contains, slice_get, Component, ResolvedTree, ResolvedPart, reference, number, constant, empty_set, bracket, listed, comprehension, unary, binary, chain, quantified, absent, present, Value, Outcome, Is, Undefined, Out, IsMember, members, members-SetOf, picked, AreWithin, length-picked, Leaves, Environment, value_or, in_row, HasOutcome, IsTruth, need, IsKept, AreCandidates, due, property, Context, within, outcome_in, IsThere, Equates, IsSpread}
-use Rattle.zf_tree.specs.declared.operator.Operator.TheVariants.{Function, Generic, Connective, Application, Image}
+use Rattle.zf_enum.proofs.Prelude.{◌≡◌, ⊎_elim, inl, inr, ℕ, ◌+◌, ◌≤◌, List, [], ◌∷◌, ◌++◌, length, get_or, Some, sym, ap, ◌∙◌, subst, arith, Contains, slice_get, Component, ResolvedTree, ResolvedPart, reference, number, constant, empty_set, bracket, listed, comprehension, unary, binary, chain, quantified, absent, present, Value, Outcome, Is, Undefined, Out, IsMember, members, members-SetOf, picked, AreWithin, length-picked, Leaves, Environment, value_or, in_row, HasOutcome, IsTruth, need, IsKept, AreCandidates, due, property, Context, within, outcome_in, IsThere, Equates, IsSpread, Function, Generic, Connective, Application, Image, AreFrom, Builds, IsBuilt, IsBuiltOver, IsConstraint, IsQuantified, IsTold, one_out, one_undefined, Several, values}
 use Rattle.zf_tree.specs.declared.symbol.Connective.TheVariants as connective
 use Rattle.zf_tree.specs.declared.symbol.Quantifier.{Quantifier}
 use Rattle.zf_tree.specs.declared.symbol.Quantifier.TheVariants.{ForAll, Exists, ExistsOne}
 use Rattle.zf_value.specs.declared.value.Truth.TheVariants as truth
-use Rattle.zf_value.specs.{AreFrom}
-use Rattle.zf_meaning.specs.{Builds, IsBuilt, IsBuiltOver, IsConstraint}
-use Rattle.zf_outcome.specs.{IsQuantified, IsTold, one_out, one_undefined, Several, values}
 use Rattle.zf_enum.specs.declared.candidates.Tie.TheVariants as tie
 use Rattle.zf_enum.proofs.Dues.{due_need}
 use Rattle.zf_enum.proofs.Fixed.{IsOther, false_in, side_need, truth_at, get_front, get_next}

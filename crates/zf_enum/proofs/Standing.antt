@@ -1,8 +1,6 @@
 -- Where a value stands in an ascending range.
-use Rattle.zf_enum.proofs.Prelude.{cases_lt, AllPairs, slice_get, exact, value_order, Value, ◌≡◌, ⊎_elim, ℕ, zero, suc, ◌<◌, List, [], ◌∷◌, length, get_or, Some, refl, sym, ap, ◌∙◌, Ok, Err, Less, arith}
-use Rattle.std.specs.Ordering.{ordering_index}
+use Rattle.zf_enum.proofs.Prelude.{cases_lt, AllPairs, slice_get, exact, value_order, Value, ◌≡◌, ⊎_elim, ℕ, zero, suc, ◌<◌, List, [], ◌∷◌, length, get_or, Some, refl, sym, ap, ◌∙◌, Ok, Err, Less, arith, ordering_index, tied_itself}
 use Rattle.std.specs.List.Sorted.{IsBinarySearchResult, IsNonDecreasingBy}
-use Rattle.std.proofs.lemmas.Cmp.{tied_itself}
 use Rattle.zf_value.specs.contracts.plain.ValueOrd.TheImpl.Laws.{total-law}
 use Rattle.zf_value.proofs.Searched.{index_below}
 

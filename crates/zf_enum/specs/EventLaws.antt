@@ -1,14 +1,9 @@
 -- What is claimed of the events of a schema: that there is one list of them, how it goes on after a row, and the bound of its tests.
 use Rattle.std.specs.Prelude.{◌≡◌, ℕ, ◌≤◌, List, ◌∷◌, ◌++◌, Option}
-use Rattle.zf_term.specs.{Schema}
-use Rattle.zf_value.specs.declared.plain.Value.{Value}
-use Rattle.zf_value.specs.{value_order}
-use Rattle.zf_walk.specs.{Event, IsBound, IsEvents}
-use Rattle.zf_meaning.specs.{Environment}
+use Rattle.zf_enum.specs.Prelude.{Schema, Value, value_order, Event, IsBound, IsEvents, Environment, AreRanges}
 use Rattle.zf_enum.specs.Property.{property}
 use Rattle.zf_enum.specs.Portions.{Portion}
 use Rattle.zf_enum.specs.PortionViews.{behind}
-use Rattle.zf_ranges.specs.{AreRanges}
 use Rattle.zf_enum.specs.Events.{AreTests}
 
 -- the list of the events

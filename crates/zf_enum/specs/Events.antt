@@ -1,13 +1,8 @@
 -- The events of a schema in an environment: the bindings that come after the named one, have the values that are held and are not False, each with its truth.
 use Rattle.std.specs.Prelude.{ℕ, List, Option}
-use Rattle.zf_term.specs.{Schema}
-use Rattle.zf_value.specs.declared.plain.Value.{Value}
-use Rattle.zf_value.specs.{value_order}
-use Rattle.zf_walk.specs.{IsNumberOfTests}
-use Rattle.zf_meaning.specs.{Environment}
+use Rattle.zf_enum.specs.Prelude.{Schema, Value, value_order, IsNumberOfTests, Environment, AreRanges}
 use Rattle.zf_enum.specs.Property.{property}
 use Rattle.zf_enum.specs.Portions.{Portion}
-use Rattle.zf_ranges.specs.{AreRanges}
 
 -- the number of the tests up to a whole row, or up to the end
 pub record AreTests (e : Environment) (s : Schema) (p : Portion) (whole : Option (List Value)) (number : ℕ) : Type 0 where

@@ -1,14 +1,6 @@
 -- Predicates that fix a component, and the places of a range that they leave. No public clause rests on this.
 use Rattle.std.specs.Prelude.{◌≡◌, ◌⊎◌, ℕ, ◌<◌, true, false, List, length, Some, Contains, slice_get}
-use Rattle.zf_reference.specs.declared.reference.Reference.TheVariants.{Component}
-use Rattle.zf_tree.specs.declared.symbol.Relation.TheVariants.{Equal}
-use Rattle.zf_term.specs.{chain, link, no_links, reference, ResolvedTree}
-use Rattle.zf_value.specs.declared.plain.Value.{Value}
-use Rattle.zf_value.specs.declared.value.Outcome.{Outcome}
-use Rattle.zf_value.specs.declared.value.Outcome.TheVariants.{Is, Undefined, Out}
-use Rattle.zf_value.specs.{IsMember, members}
-use Rattle.zf_walk.specs.{IsRowOf}
-use Rattle.zf_meaning.specs.{Environment, HasOutcome, in_row}
+use Rattle.zf_enum.specs.Prelude.{Component, Equal, chain, link, no_links, reference, ResolvedTree, Value, Outcome, Is, Undefined, Out, IsMember, members, IsRowOf, Environment, HasOutcome, in_row}
 use Rattle.zf_enum.specs.declared.candidates.Tie.{Tie}
 use Rattle.zf_enum.specs.declared.candidates.Tie.TheVariants as tie
 use Rattle.zf_enum.specs.Uses.{uses}

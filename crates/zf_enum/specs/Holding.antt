@@ -1,10 +1,6 @@
 -- A search that is begun again with other values of the components of which values are held.
 use Rattle.std.specs.Prelude.{◌≡◌, ℕ, List, Option, None}
-use Rattle.zf_term.specs.{Schema}
-use Rattle.zf_value.specs.declared.plain.Value.{Value}
-use Rattle.zf_plan.specs.{SayTheSame}
-use Rattle.zf_meaning.specs.{Environment}
-use Rattle.zf_ranges.specs.{AreRanges, held_at, IsNoneOut}
+use Rattle.zf_enum.specs.Prelude.{Schema, Value, SayTheSame, Environment, AreRanges, held_at, IsNoneOut}
 use Rattle.zf_enum.specs.Property.{property}
 use Rattle.zf_enum.specs.Searches.{Goal, conjuncts_of}
 

@@ -1,11 +1,6 @@
 -- That trees over leaves have the events of a schema.
 use Rattle.std.specs.Prelude.{◌↔◌, List, Option}
-use Rattle.zf_term.specs.{ResolvedTree}
-use Rattle.zf_value.specs.declared.plain.Value.{Value}
-use Rattle.zf_value.specs.{value_order}
-use Rattle.zf_walk.specs.{Event, IsEvent}
-use Rattle.zf_plan.specs.{planted, SayTheSame, Tree}
-use Rattle.zf_meaning.specs.{Environment}
+use Rattle.zf_enum.specs.Prelude.{ResolvedTree, Value, value_order, Event, IsEvent, planted, SayTheSame, Tree, Environment}
 use Rattle.zf_enum.specs.Property.{property}
 
 -- Trees over leaves that say the same as the conjuncts of a schema have its events.

@@ -1,13 +1,8 @@
 -- Equations of an expression of one component alone with one of those before, and the keys of the component's values. No public clause rests on this.
 use Rattle.std.specs.Prelude.{◌≡◌, ◌⊎◌, ℕ, ◌-◌, ◌≤◌, true, cond, List, Some, IfSome, fold, slice_get}
+use Rattle.zf_enum.specs.Prelude.{Equal, chain, link, no_links, ResolvedTree, Value, Outcome, Is, Undefined, Out, Environment, HasOutcome, in_row}
 use Rattle.std.specs.Hash.FoldHasher as folding
-use Rattle.zf_tree.specs.declared.symbol.Relation.TheVariants.{Equal}
-use Rattle.zf_term.specs.{chain, link, no_links, ResolvedTree}
-use Rattle.zf_value.specs.declared.plain.Value.{Value}
 use Rattle.zf_value.specs.contracts.plain.ValueHash.TheImpl as hashed
-use Rattle.zf_value.specs.declared.value.Outcome.{Outcome}
-use Rattle.zf_value.specs.declared.value.Outcome.TheVariants.{Is, Undefined, Out}
-use Rattle.zf_meaning.specs.{Environment, HasOutcome, in_row}
 use Rattle.zf_enum.specs.Property.{due}
 use Rattle.zf_enum.specs.Uses.{uses}
 

@@ -1,3 +1,4 @@
+pub mod Prelude
 pub mod Property
 pub mod Uses
 pub mod PropertyLaws
@@ -19,7 +20,7 @@ pub mod Instances
 pub use Rattle.zf_enum.specs.Property.{due, due_of, greatest_place, HasTruth, place_named, property, told}
 pub use Rattle.zf_enum.specs.Uses.{is_among, is_component, uses, uses_of}
 pub use Rattle.zf_enum.specs.PropertyLaws.{follows_outcome, one_truth_in, uses_first}
-pub use Rattle.zf_enum.specs.Dues.{all_need, links_need, need, part_need, place_after, place_up_to, ranges_need}
+pub use Rattle.zf_enum.specs.Dues.{need, place_up_to}
 pub use Rattle.zf_enum.specs.Portions.{Portion}
 pub use Rattle.zf_enum.specs.PortionViews.{behind, portion}
 pub use Rattle.zf_enum.specs.Events.{AreTests}

@@ -1,11 +1,8 @@
 -- Predicates as trees over their parts that are no connectives. No public clause rests on this.
 use Rattle.std.specs.Prelude.{◌≡◌, ◌↔◌, ℕ, ◌<◌, ◌≤◌, List, [], ◌∷◌, ◌++◌, length, map, Some, slice_get}
+use Rattle.zf_enum.specs.Prelude.{resolved_of, ResolvedTree, Value, Grove, HasLeavesWithin, IsTreeTruth, Tree, tree_at, trees_made, trees_of, Environment, in_row, IsTruth}
 use Rattle.zf_term.specs.declared.resolved.Resolved.{Resolved}
-use Rattle.zf_term.specs.{resolved_of, ResolvedTree}
-use Rattle.zf_value.specs.declared.plain.Value.{Value}
 use Rattle.zf_walk.specs.declared.judge.Truth.{Truth}
-use Rattle.zf_plan.specs.{Grove, HasLeavesWithin, IsTreeTruth, Tree, tree_at, trees_made, trees_of}
-use Rattle.zf_meaning.specs.{Environment, in_row, IsTruth}
 use Rattle.zf_enum.specs.Property.{due, due_of, told, property}
 
 -- the tree has the predicate's truths, over these leaves

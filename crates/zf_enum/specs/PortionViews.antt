@@ -1,6 +1,6 @@
 -- Portions as the program and the laws make them.
 use Rattle.std.specs.Prelude.{List, Option, Some}
-use Rattle.zf_value.specs.declared.plain.Value.{Value}
+use Rattle.zf_enum.specs.Prelude.{Value}
 use Rattle.zf_enum.specs.Portions.{Portion}
 
 abbrev pub portion : Option (List Value) → List (Option Value) → Portion

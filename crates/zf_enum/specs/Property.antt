@@ -1,16 +1,9 @@
 -- The property of a schema in an environment, as the conjuncts of a walk.
 use Rattle.std.specs.Prelude.{ℕ, ◌+◌, max, List, [], ◌∷◌, length, Option, slice_get, IsSomeAnd}
-use Rattle.std.specs.Option.{option_map_or}
-use Rattle.zf_reference.specs.declared.reference.Reference.{Reference}
-use Rattle.zf_reference.specs.declared.reference.Reference.TheVariants.{Component}
-use Rattle.zf_term.specs.{references, ResolvedTree}
-use Rattle.zf_value.specs.declared.plain.Value.{Value}
-use Rattle.zf_value.specs.declared.value.Truth.{Truth}
+use Rattle.zf_enum.specs.Prelude.{option_map_or, Reference, Component, references, ResolvedTree, Value, Truth, Conjuncts, Environment, in_row, IsTruth}
 use Rattle.zf_value.specs.declared.value.Truth.TheVariants as truth
 use Rattle.zf_walk.specs.declared.judge.Truth as walk
 use Rattle.zf_walk.specs.declared.judge.Truth.TheVariants.{True, False, Out}
-use Rattle.zf_walk.specs.Conjuncts.{Conjuncts}
-use Rattle.zf_meaning.specs.{Environment, in_row, IsTruth}
 
 -- the place of a component, from 1
 abbrev pub place_named : Reference → ℕ

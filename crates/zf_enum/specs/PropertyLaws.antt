@@ -1,18 +1,11 @@
 -- The property of a schema has one truth on a row, keeps it on longer ones, and has it on each row that agrees in what is used. No public clause rests on this.
-use Rattle.std.proofs.Common.{◌≡◌, ℕ, ◌≤◌, Bool, true, false, cond, List, [], ◌∷◌, ◌++◌, length, Option, Some, None, refl, sym, ap, ◌∙◌, subst, arith}
-use Rattle.std.specs.Prelude.{slice_get}
+use Rattle.std.specs.Prelude.{◌≡◌, ℕ, ◌≤◌, Bool, true, false, cond, List, [], ◌∷◌, ◌++◌, length, Option, Some, None, slice_get}
+use Rattle.std.proofs.Common.{◌∙◌}
+use Rattle.zf_enum.specs.Prelude.{refl, sym, ap, subst, arith, Reference, Component, Local, Global, references, ResolvedTree, Value, Outcome, Truth, FollowUsed, HaveOneTruth, KeepTruths, AreBelow, Environment, HasOutcome, in_row, IsBelow, UsesFirst}
 use Rattle.std.proofs.lemmas.Bool.{eq-eqb}
-use Rattle.zf_reference.specs.declared.reference.Reference.{Reference}
-use Rattle.zf_reference.specs.declared.reference.Reference.TheVariants.{Component, Local, Global}
-use Rattle.zf_term.specs.{references, ResolvedTree}
-use Rattle.zf_value.specs.declared.plain.Value.{Value}
-use Rattle.zf_value.specs.declared.value.Outcome.{Outcome}
-use Rattle.zf_value.specs.declared.value.Truth.{Truth}
 use Rattle.zf_value.specs.declared.value.Truth.TheVariants as truth
 use Rattle.zf_walk.specs.declared.judge.Truth as walk
 use Rattle.zf_walk.specs.declared.judge.Truth.TheVariants.{True, False, Out}
-use Rattle.zf_walk.specs.{FollowUsed, HaveOneTruth, KeepTruths}
-use Rattle.zf_meaning.specs.{AreBelow, Environment, HasOutcome, in_row, IsBelow, UsesFirst}
 use Rattle.zf_meaning.proofs.Unique.{one_truth}
 use Rattle.zf_meaning.proofs.Stays.{truths_stay}
 use Rattle.zf_meaning.proofs.SameRows.{AgreeAt, Agree, same_outcome, same_truth}

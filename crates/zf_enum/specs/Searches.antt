@@ -1,12 +1,8 @@
 -- What a search for bindings is seen as.
 use Rattle.std.specs.Prelude.{ℕ, List, Option, Some, None, map, take}
-use Rattle.zf_term.specs.{resolved_of, ResolvedTree}
-use Rattle.zf_value.specs.declared.plain.Value.{Value}
-use Rattle.zf_walk.specs.Conjuncts.{Conjuncts}
+use Rattle.zf_enum.specs.Prelude.{resolved_of, ResolvedTree, Value, Conjuncts, planted, Tree, trees_of, Environment, environment_of}
 use Rattle.zf_walk.specs.Progress as walk
-use Rattle.zf_plan.specs.{planted, Tree, trees_of}
 use Rattle.zf_plan.specs.Progress as plan
-use Rattle.zf_meaning.specs.{Environment, environment_of}
 use Rattle.zf_enum.specs.declared.property.Property as judge
 use Rattle.zf_enum.specs.Property.{property}
 

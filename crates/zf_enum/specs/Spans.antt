@@ -1,6 +1,6 @@
 -- Numbers of which it is known between which two they lie, by the value of a component. No public clause rests on this.
 use Rattle.std.specs.Prelude.{ℤ, ◌+ℤ◌, ◌*ℤ◌, ◌≤ℤ◌, FitsSigned}
-use Rattle.std.specs.Int.{w32}
+use Rattle.zf_enum.specs.Prelude.{w32}
 use Rattle.zf_enum.specs.declared.span.Span.{Span}
 
 -- m is so many times v, and a number from the lowest to the highest

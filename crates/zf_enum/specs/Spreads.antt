@@ -1,10 +1,10 @@
 -- Predicates that ask for values of variables with which a component is equal to an expression. No public clause rests on this.
 use Rattle.std.specs.Prelude.{◌≡◌, ◌⊎◌, ℕ, List, Some, All, IfSome, slice_get}
+use Rattle.zf_enum.specs.Prelude.{absent, binary, bracket, comprehension, chain, present, quantified, resolved_of, ResolvedTree}
 use Rattle.zf_tree.specs.declared.operator.Operator.TheVariants.{Connective}
 use Rattle.zf_tree.specs.declared.symbol.Connective.TheVariants as connective
 use Rattle.zf_tree.specs.declared.symbol.Quantifier.{Quantifier}
 use Rattle.zf_tree.specs.declared.symbol.Quantifier.TheVariants.{ForAll, Exists, ExistsOne}
-use Rattle.zf_term.specs.{absent, binary, bracket, comprehension, chain, present, quantified, resolved_of, ResolvedTree}
 use Rattle.zf_enum.specs.declared.spread.Spread.{Spread}
 use Rattle.zf_enum.specs.Fixing.{Fixes}
 

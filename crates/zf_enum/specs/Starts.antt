@@ -1,16 +1,10 @@
 -- What a search begins with.
 use Rattle.std.specs.Prelude.{◌≡◌, map, None}
-use Rattle.zf_term.specs.{resolved_of, Schema}
-use Rattle.zf_value.specs.declared.plain.Value.{Value}
-use Rattle.zf_value.specs.{value_order}
-use Rattle.zf_walk.specs.{AreAllAhead, Stage}
-use Rattle.zf_plan.specs.{SayTheSame}
-use Rattle.zf_meaning.specs.{Environment}
+use Rattle.zf_enum.specs.Prelude.{resolved_of, Schema, Value, value_order, AreAllAhead, Stage, SayTheSame, Environment, AreRanges, IsNoneOut}
 use Rattle.zf_enum.specs.declared.bindings.Bindings.{Bindings}
 use Rattle.zf_enum.specs.Property.{property}
 use Rattle.zf_enum.specs.Searches.{Goal, conjuncts_of, counted_goal}
 use Rattle.zf_enum.specs.Portions.{Portion}
-use Rattle.zf_ranges.specs.{AreRanges, IsNoneOut}
 
 -- What goes by this and stands here is the search of the schema in the environment: its conjuncts say the same as those of the schema, no declared set is out, and every event is ahead.
 pub record Begins (e : Environment) (s : Schema) (p : Portion) (g : Goal) (b : Stage Value) : Type 0 where

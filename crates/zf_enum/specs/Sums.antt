@@ -1,14 +1,7 @@
 -- Relations between sums, and the values of a component with which they are False. No public clause rests on this.
 use Rattle.std.specs.Prelude.{◌≡◌, ℕ, ℤ, ◌-ℤ◌, false, List, ◌∷◌, ◌++◌, Some, Contains, FitsSigned, slice_get}
-use Rattle.std.specs.Int.{w32}
+use Rattle.zf_enum.specs.Prelude.{w32, is_membership, ResolvedTree, Value, Int, Is, IsRowOf, picked, Holds, Environment, HasOutcome, in_row}
 use Rattle.zf_tree.specs.declared.symbol.Relation.{Relation}
-use Rattle.zf_extent.specs.{is_membership}
-use Rattle.zf_term.specs.{ResolvedTree}
-use Rattle.zf_value.specs.declared.plain.Value.{Value, Int}
-use Rattle.zf_value.specs.declared.value.Outcome.TheVariants.{Is}
-use Rattle.zf_walk.specs.{IsRowOf, picked}
-use Rattle.zf_outcome.specs.{Holds}
-use Rattle.zf_meaning.specs.{Environment, HasOutcome, in_row}
 use Rattle.zf_enum.specs.declared.span.Span.{Span}
 use Rattle.zf_enum.specs.Spans.{Spans}
 

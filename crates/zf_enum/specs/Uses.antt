@@ -1,8 +1,6 @@
 -- Which components a term uses: for private contracts alone.
 use Rattle.std.specs.Prelude.{ℕ, Bool, true, false, cond, eqb, List, [], ◌∷◌, Option, Some, None, slice_get}
-use Rattle.zf_reference.specs.declared.reference.Reference.{Reference}
-use Rattle.zf_reference.specs.declared.reference.Reference.TheVariants.{Component, Local, Global}
-use Rattle.zf_term.specs.{references, ResolvedTree}
+use Rattle.zf_enum.specs.Prelude.{Reference, Component, Local, Global, references, ResolvedTree}
 
 -- whether the name is of this component
 abbrev pub is_component : ℕ → Reference → Bool

@@ -1,8 +1,6 @@
 //! The search for the bindings of a schema.
 ghost use Rattle.std.specs.Prelude.{◌≡◌, ◌≤◌, length, IfOk, OnOk, OnErr};
-ghost use Rattle.std.specs.Option.{option_copied};
-ghost use Rattle.zf_value.specs.{value_order};
-ghost use Rattle.zf_walk.specs.{Advances, AreAllAhead, AreAscending, AreDueWithin, AreTests, ended, HasLength, IsBounded, SameProblem, Stays};
+ghost use Rattle.zf_enum.specs.Prelude.{option_copied, value_order, Advances, AreAllAhead, AreAscending, AreDueWithin, AreTests, ended, HasLength, IsBounded, SameProblem, Stays};
 ghost use Rattle.zf_enum.specs.{judged};
 
 use crate::property::Property;

@@ -1,12 +1,7 @@
 //! The places of a range at which the values of an expression stand.
 ghost use Rattle.std.specs.Prelude.{◌≡◌, ◌<◌, ◌≤◌, ℕ, [], length, true, AllPairs, Some, IsTrue, IfOk, OnOk, slice_get, slice_index_or};
-ghost use Rattle.std.specs.declared.cmp.Ordering.TheVariants.{Less};
-ghost use Rattle.zf_term.specs.{resolved_of};
+ghost use Rattle.zf_enum.specs.Prelude.{Less, resolved_of, IsMember, value_order, AreAscending, AreWithin, picked, StaysIn, environment_of};
 ghost use Rattle.zf_value.specs.declared.plain.Value as value;
-ghost use Rattle.zf_value.specs.{IsMember, value_order};
-ghost use Rattle.zf_walk.specs.{AreAscending, AreWithin, picked};
-ghost use Rattle.zf_plan.specs.{StaysIn};
-ghost use Rattle.zf_meaning.specs.{environment_of};
 ghost use Rattle.zf_enum.specs.{AreCandidates, HasPlace, IsKept};
 ghost use Rattle.zf_enum.specs.Property as spec;
 ghost use Rattle.zf_enum.specs.Uses as named;

@@ -1,6 +1,6 @@
 //! Conjuncts, with what those leave that ask for values of variables.
 ghost use Rattle.std.specs.Prelude.{◌≡◌, ◌<◌, ◌^◌, ℕ, IfOk, IfSome, get_or, length, map, slice_get};
-ghost use Rattle.zf_term.specs.{resolved_of};
+ghost use Rattle.zf_enum.specs.Prelude.{resolved_of};
 ghost use Rattle.zf_enum.specs.{due_of, IsSpread};
 
 use crate::spread::{Spread, spread_at, spreads};

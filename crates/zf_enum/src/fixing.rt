@@ -1,8 +1,6 @@
 //! Equations of a component with an expression.
 ghost use Rattle.std.specs.Prelude.{◌≡◌, ℕ, IfSome, IsTrue};
-ghost use Rattle.zf_reference.specs.declared.reference.Reference.TheVariants.{Component};
-ghost use Rattle.zf_tree.specs.declared.symbol.Relation.TheVariants.{Equal};
-ghost use Rattle.zf_term.specs.{chain, link, no_links, resolved_of};
+ghost use Rattle.zf_enum.specs.Prelude.{Component, Equal, chain, link, no_links, resolved_of};
 ghost use Rattle.zf_enum.specs.{Fixes, IsBeside, IsName};
 
 use crate::due::uses;

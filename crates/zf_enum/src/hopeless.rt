@@ -71,9 +71,9 @@ fn excludes_all<'a>(
 
 /// The one component that a term names.
 fn only_named(term: &Resolved<'_>) -> Option<usize> {
-    let component = last_up_to(term, usize::MAX, None)?;
+    let component = last_up_to(term, usize::MAX)?;
     match component.checked_sub(1) {
-        Some(before) if last_up_to(term, before, None).is_some() => None,
+        Some(before) if last_up_to(term, before).is_some() => None,
         _ => Some(component),
     }
 }
@@ -97,7 +97,7 @@ fn turn(bound: usize, leaf: usize, leaves: usize) -> usize {
 
 /// How many first components have values when the search asks for a leaf. It may ask for one that narrows a range before any has.
 fn bound_of(term: &Resolved<'_>) -> usize {
-    match last_up_to(term, usize::MAX, None) {
+    match last_up_to(term, usize::MAX) {
         Some(place) if !may_narrow(term) => place.saturating_add(1),
         _ => 0,
     }

@@ -1,12 +1,7 @@
 //! The search for the bindings of a schema that counts no tests.
 ghost use Rattle.std.specs.Prelude.{length, IfOk, IfErr};
-ghost use Rattle.std.specs.Option.{option_copied};
-ghost use Rattle.zf_term.specs.{schema_of};
-ghost use Rattle.zf_finite.specs.{IsFinite};
-ghost use Rattle.zf_walk.specs.{AreDueWithin, HasLength};
-ghost use Rattle.zf_meaning.specs.{environment_of};
+ghost use Rattle.zf_enum.specs.Prelude.{option_copied, schema_of, IsFinite, AreDueWithin, HasLength, environment_of, RefusesStart};
 ghost use Rattle.zf_enum.specs.{Begins, CanHold, planted_goal, portion, property};
-ghost use Rattle.zf_ranges.specs.{RefusesStart};
 
 use crate::hopeless::is_hopeless;
 use crate::lifting::{lifted, unfolded};

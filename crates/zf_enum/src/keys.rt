@@ -1,8 +1,6 @@
 //! Keys of the values of a component: what a side of an equation that names nothing else comes to with them, a number each.
 ghost use Rattle.std.specs.Prelude.{◌≡◌, ◌<◌, ◌^◌, Some, IsTrue, IfOk, IfSome, slice_get, slice_index_or, []};
-ghost use Rattle.zf_term.specs.{resolved_of};
-ghost use Rattle.zf_walk.specs.{AreWithin, picked};
-ghost use Rattle.zf_meaning.specs.{environment_of};
+ghost use Rattle.zf_enum.specs.Prelude.{resolved_of, AreWithin, picked, environment_of};
 ghost use Rattle.zf_value.specs.declared.plain.Value as plain;
 ghost use Rattle.zf_enum.specs.{AreSides, HasKey, HasKeyWith, IsKey, IsKeyed, IsOnly, number_of};
 ghost use Rattle.zf_enum.specs.Property as spec;

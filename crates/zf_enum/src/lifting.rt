@@ -1,7 +1,6 @@
 //! Conjuncts with quantifiers written out, and properties in which closed parts are names.
 ghost use Rattle.std.specs.Prelude.{◌≡◌, ◌<◌, ◌^◌, ℕ, IfOk, map, slice_get};
-ghost use Rattle.zf_term.specs.{resolved_of, schema_of};
-ghost use Rattle.zf_meaning.specs.{environment_of};
+ghost use Rattle.zf_enum.specs.Prelude.{resolved_of, schema_of, environment_of};
 ghost use Rattle.zf_lift.specs.{AreLifted};
 ghost use Rattle.zf_enum.specs.{due_of};
 

@@ -1,7 +1,6 @@
 //! Predicates as trees over their parts that are no connectives.
 ghost use Rattle.std.specs.Prelude.{IfOk, OnOk, map};
-ghost use Rattle.zf_term.specs.{resolved_of};
-ghost use Rattle.zf_plan.specs.{trees_of};
+ghost use Rattle.zf_enum.specs.Prelude.{resolved_of, trees_of};
 ghost use Rattle.zf_enum.specs.{ArePlanted, Plants, PlantsNext};
 
 use bumpalo::Bump;

@@ -1,6 +1,6 @@
 //! The property of a schema in an environment, as the judge of a walk.
 ghost use Rattle.std.specs.Prelude.{◌≡◌, ◌<◌, ◌^◌, ℕ, IfOk, map, slice_get};
-ghost use Rattle.zf_term.specs.{resolved_of};
+ghost use Rattle.zf_enum.specs.Prelude.{resolved_of};
 ghost use Rattle.zf_enum.specs.Property.{due, due_of, told};
 
 use crate::candidates::{Tie, gather_candidates, gather_spread, gather_value, is_tried};

@@ -1,7 +1,6 @@
 //! What a search for the bindings of a schema does, whether it counts its tests or not.
 ghost use Rattle.std.specs.Prelude.{◌≡◌, ◌<◌, length, take, IfOk, OnOk, OnErr, IfSome, slice_get, slice_index_or, unwrap_or, []};
-ghost use Rattle.zf_value.specs.{value_order};
-ghost use Rattle.zf_walk.specs.{Advances, AreAscending, ended, past, SameRanges, Stays};
+ghost use Rattle.zf_enum.specs.Prelude.{value_order, Advances, AreAscending, ended, past, SameRanges, Stays};
 ghost use Rattle.zf_enum.specs.{conjuncts_of};
 
 use std::alloc::AllocError;

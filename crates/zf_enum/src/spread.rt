@@ -1,6 +1,6 @@
 //! Expressions that a quantifier equates a component with, for some values of its variables.
 ghost use Rattle.std.specs.Prelude.{◌≡◌, ◌<◌, ◌^◌, ℕ, List, Some, IfOk, IfSome, OnOk, IsTrue, map, slice_get};
-ghost use Rattle.zf_term.specs.{absent, comprehension, present, range_of, ranges, resolved_of, ResolvedTree};
+ghost use Rattle.zf_enum.specs.Prelude.{absent, comprehension, present, range_of, ranges, resolved_of, ResolvedTree};
 ghost use Rattle.zf_enum.specs.Property as spec;
 ghost use Rattle.zf_enum.specs.{AddsSpreads, AreSpreads, AsksFor, Equates, IsSetOver, IsSpread, IsThere};
 

@@ -1,12 +1,7 @@
 //! Where a search begins.
 ghost use Rattle.std.specs.Prelude.{◌≡◌, length, IfOk, IfErr, map};
-ghost use Rattle.std.specs.Option.{option_copied};
-ghost use Rattle.zf_term.specs.{conjunct_of, resolved_of, schema_of};
-ghost use Rattle.zf_finite.specs.{IsFinite};
-ghost use Rattle.zf_walk.specs.{AreDueWithin, HasLength};
-ghost use Rattle.zf_meaning.specs.{environment_of};
+ghost use Rattle.zf_enum.specs.Prelude.{option_copied, conjunct_of, resolved_of, schema_of, IsFinite, AreDueWithin, HasLength, environment_of, RefusesStart};
 ghost use Rattle.zf_enum.specs.{BeginsCounting, portion, property};
-ghost use Rattle.zf_ranges.specs.{RefusesStart};
 
 use crate::bindings::Bindings;
 use crate::conjuncts::Conjuncts;

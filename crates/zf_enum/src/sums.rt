@@ -1,18 +1,8 @@
 //! Relations between sums, and the places of a range that they leave.
 ghost use Rattle.std.specs.Prelude.{◌≡◌, ◌<◌, ℕ, ℤ, pos, ◌-ℤ◌, ◌≤ℤ◌, List, length, false, true, AllPairs, Contains, FitsSigned, IfOk, IfSome, IsTrue, OnOk, Some, slice_get};
-ghost use Rattle.std.specs.Int.{w32};
-ghost use Rattle.std.specs.declared.cmp.Ordering.TheVariants.{Less};
+ghost use Rattle.zf_enum.specs.Prelude.{w32, Less, is_membership, resolved_of, ResolvedTree, Int, Is, value_order, Holds, InfixOutcome, AreAscending, AreWithin, StaysIn, environment_of};
 ghost use Rattle.zf_tree.specs.declared.operator.Sign.TheVariants.{Minus};
-ghost use Rattle.zf_extent.specs.{is_membership};
-ghost use Rattle.zf_term.specs.{resolved_of, ResolvedTree};
-ghost use Rattle.zf_value.specs.declared.plain.Value.{Int};
-ghost use Rattle.zf_value.specs.declared.value.Outcome.TheVariants.{Is};
-ghost use Rattle.zf_value.specs.{value_order};
-ghost use Rattle.zf_outcome.specs.{Holds, InfixOutcome};
-ghost use Rattle.zf_walk.specs.{AreAscending, AreWithin};
-ghost use Rattle.zf_plan.specs.{StaysIn};
 ghost use Rattle.zf_plan.specs.Choices.{Leaves};
-ghost use Rattle.zf_meaning.specs.{environment_of};
 ghost use Rattle.zf_enum.specs.Property as spec;
 ghost use Rattle.zf_enum.specs.{AreRuledOut, IsDifferenceOf, IsRuledOut, IsSmall, IsSpanAhead, IsSpanOf, IsSpanOver};
 ghost use Rattle.zf_enum.specs.Spans.{Spans};

@@ -1,15 +1,11 @@
 -- What is made of a term's parts is a lift of the term.
-use Rattle.zf_lift.proofs.Prelude.{◌++◌, ◌+◌, ◌<◌, ◌∙◌, ◌∷◌, ◌≡◌, ◌≤◌, [], ap, arith, Bool, get_or, length, List, map, None, Option, refl, Some, subst, sym, take, true, ℕ, Reference, Global, Listed, Operator, Unary, Constant, Quantifier, Relation, link-seen, new_link, new_range, of-Binary, of-Bracket, of-Comprehension, of-Chain, of-Constant, of-EmptySet, of-link, of-Listed, of-Name, of-Number, of-Quantified, of-range, of-Unary, range-seen, links, part_of, range_of, ranges, reference, resolved_link_of, resolved_of, ResolvedTree, terms, Environment, AreEach, IsLonger, is_liftable, IsNamed, Outcome, AreLifts, AreLinkLifts, AreRangeLifts, IsClosed, IsLift, IsPartLift, IsLinkLift, IsRangeLift, need}
+use Rattle.zf_lift.proofs.Prelude.{◌++◌, ◌+◌, ◌<◌, ◌∙◌, ◌∷◌, ◌≡◌, ◌≤◌, [], ap, arith, Bool, get_or, length, List, map, None, Option, refl, Some, subst, sym, take, true, ℕ, Reference, Global, Listed, Operator, Unary, Constant, Quantifier, Relation, link-seen, new_link, new_range, of-Binary, of-Bracket, of-Comprehension, of-Chain, of-Constant, of-EmptySet, of-link, of-Listed, of-Name, of-Number, of-Quantified, of-range, of-Unary, range-seen, links, part_of, range_of, ranges, reference, resolved_link_of, resolved_of, ResolvedTree, terms, Environment, AreEach, IsLonger, is_liftable, IsNamed, Outcome, AreLifts, AreLinkLifts, AreRangeLifts, IsClosed, IsLift, IsPartLift, IsLinkLift, IsRangeLift, need, add-one, SomeIff, suc, zero, Err, IfOk, IfSome, Ok, Result, IsBehind, variables_of}
 use Rattle.zf_term.specs.declared.resolved.Range.{Range}
 use Rattle.zf_term.specs.declared.resolved.Resolved.{Resolved}
 use Rattle.zf_term.specs.declared.resolved.Resolved.TheVariants as v
 use Rattle.zf_term.specs.declared.resolved.ResolvedLink.{ResolvedLink}
-use Rattle.std.proofs.Common.{add-one, SomeIff, suc, zero}
-use Rattle.std.specs.Prelude.{Err, IfOk, IfSome, Ok, Result}
 use Rattle.std.specs.Result.{result_unwrap_or}
-use Rattle.zf_meaning.specs.{IsBehind}
 use Rattle.zf_lift.proofs.Each.{each_more, each_also, each_done, whole}
-use Rattle.zf_lift.specs.{variables_of}
 use Rattle.zf_lift.proofs.Wherever as made
 
 across : (b : ℕ) (f e : Environment) (c : Bool) (t t' u u' : ResolvedTree) → t' ≡ t → u' ≡ u → IsLift b f e c t u → IsLift b f e c t' u'

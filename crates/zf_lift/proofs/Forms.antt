@@ -1,17 +1,9 @@
 -- Terms of one form mean the same where their parts do.
-use Rattle.zf_lift.proofs.Prelude.{◌↔◌, ◌≡◌, ap, List, None, Option, refl, subst, sym, ℕ, if◌then◌else◌, Reference, Outcome, Truth, Value, Listed, Operator, Unary, Constant, Quantifier, Relation, absent, binary, bracket, comprehension, chain, constant, empty_set, link, listed, no_links, no_ranges, no_terms, number, present, quantified, range, Ranges, reference, ResolvedLinks, ResolvedPart, ResolvedTree, ResolvedTrees, term, unary, Infinite, direct, is_membership, Context, outcome_in, within, AreLinked, Builds, HasOutcome, infinite_right, IsConstraint, IsLink, IsTruth, IsTold, opposite, AreSame, AreSameLinks, AreSameRanges, IsSame, IsSamePart}
+use Rattle.zf_lift.proofs.Prelude.{◌↔◌, ◌≡◌, ap, List, None, Option, refl, subst, sym, ℕ, if◌then◌else◌, Reference, Outcome, Truth, Value, Listed, Operator, Unary, Constant, Quantifier, Relation, absent, binary, bracket, comprehension, chain, constant, empty_set, link, listed, no_links, no_ranges, no_terms, number, present, quantified, range, Ranges, reference, ResolvedLinks, ResolvedPart, ResolvedTree, ResolvedTrees, term, unary, Infinite, direct, is_membership, Context, outcome_in, within, AreLinked, Builds, HasOutcome, infinite_right, IsConstraint, IsLink, IsTruth, IsTold, opposite, AreSame, AreSameLinks, AreSameRanges, IsSame, IsSamePart, constant_set, HaveRanges, IsConstantOutcome, unended, one_out, one_undefined, repeated, Several, values, ◌+◌, ◌++◌, [], length, replicate, ◌∙◌, arith, length-append, length-replicate, variables_of}
 use Rattle.zf_tree.specs.declared.operator.Operator.TheVariants as operator
 use Rattle.zf_tree.specs.declared.operator.Unary.TheVariants as the_unary
-use Rattle.zf_extent.specs.{constant_set}
-use Rattle.zf_meaning.specs.{HaveRanges, IsConstantOutcome, unended}
 use Rattle.zf_value.specs.declared.value.Outcome.TheVariants.{Is, Undefined, Out}
-use Rattle.zf_outcome.specs.{one_out, one_undefined, repeated, Several, values}
 use Rattle.zf_meaning.proofs.Early.{from_length}
-use Rattle.std.specs.Prelude.{◌+◌, ◌++◌, [], length, replicate}
-use Rattle.std.proofs.Common.{◌∙◌, arith}
-use Rattle.std.proofs.lemmas.List.{length-append, length-replicate}
-use Rattle.zf_term.specs.{no_ranges, range}
-use Rattle.zf_lift.specs.{variables_of}
 use Rattle.zf_lift.proofs.Mapped as mapped
 use Rattle.zf_lift.proofs.Mapped.{IsFrom}
 

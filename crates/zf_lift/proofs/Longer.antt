@@ -1,6 +1,5 @@
 -- Environments with further outcomes.
-use Rattle.zf_lift.proofs.Prelude.{◌++◌, ◌<◌, ◌∙◌, ◌∷◌, ◌≡◌, ◌≤◌, [], ap, arith, length, List, None, refl, Some, subst, suc, sym, zero, ℕ, slice_get, Outcome, Defined, Context, Environment, longer, IsLonger, Wherever}
-use Rattle.std.proofs.lemmas.List.{append_assoc}
+use Rattle.zf_lift.proofs.Prelude.{◌++◌, ◌<◌, ◌∙◌, ◌∷◌, ◌≡◌, ◌≤◌, [], ap, arith, length, List, None, refl, Some, subst, suc, sym, zero, ℕ, slice_get, Outcome, Defined, Context, Environment, longer, IsLonger, Wherever, append_assoc}
 
 no_more : (xs : List Outcome) → xs ++ [] ≡ xs
 no_more [] = refl

@@ -1,19 +1,11 @@
 -- Terms of one form are lifts, or closed, where their parts are.
-use Rattle.zf_lift.proofs.Prelude.{◌++◌, ◌<◌, ◌↔◌, ◌∙◌, ◌∷◌, ◌≡◌, ◌≤◌, [], ap, arith, Bool, false, length, List, None, Option, refl, subst, sym, true, ℕ, Reference, Component, Global, Local, Outcome, Truth, Value, Listed, Operator, Unary, Constant, Quantifier, Relation, Defined, absent, binary, bracket, comprehension, chain, constant, empty_set, link, links, listed, number, present, quantified, range, Ranges, ranges, reference, ResolvedLinks, ResolvedPart, ResolvedTree, ResolvedTrees, terms, unary, extent_found, extent_set, Context, Environment, outcome_in, outcome_or, longer, HasOutcome, IsTruth, AreEach, IsLifted, IsLonger, at, is_liftable, AreLifts, AreLinkLifts, AreRangeLifts, IsClosed, IsLift, IsPartLift, AreAllLifts, IsLinkLift, IsRangeLift, IsLater, Lifts, Wherever, need, AreSameLinks, AreSameRanges, IsSame, IsSamePart}
-use Rattle.std.specs.Prelude.{◌&&◌, is_some, Some}
-use Rattle.std.proofs.Common.{true≢false}
+use Rattle.zf_lift.proofs.Prelude.{◌++◌, ◌<◌, ◌↔◌, ◌∙◌, ◌∷◌, ◌≡◌, ◌≤◌, [], ap, arith, Bool, false, length, List, None, Option, refl, subst, sym, true, ℕ, Reference, Component, Global, Local, Outcome, Truth, Value, Listed, Operator, Unary, Constant, Quantifier, Relation, Defined, absent, binary, bracket, comprehension, chain, constant, empty_set, link, links, listed, number, present, quantified, range, Ranges, ranges, reference, ResolvedLinks, ResolvedPart, ResolvedTree, ResolvedTrees, terms, unary, extent_found, extent_set, Context, Environment, outcome_in, outcome_or, longer, HasOutcome, IsTruth, AreEach, IsLifted, IsLonger, at, is_liftable, AreLifts, AreLinkLifts, AreRangeLifts, IsClosed, IsLift, IsPartLift, AreAllLifts, IsLinkLift, IsRangeLift, IsLater, Lifts, Wherever, need, AreSameLinks, AreSameRanges, IsSame, IsSamePart, ◌&&◌, is_some, Some, true≢false, Infinite, constant_set, constant_truth, infinite_in, unended, ◌+◌, length-append, variables_of}
 use Rattle.zf_tree.specs.declared.symbol.Constant.TheVariants as constants
 use Rattle.zf_tree.specs.declared.operator.Operator.TheVariants as operator
 use Rattle.zf_tree.specs.declared.operator.Unary.TheVariants as the_unary
 use Rattle.zf_value.specs.declared.value.Truth.TheVariants as truth
-use Rattle.zf_term.specs.declared.extent.Infinite.{Infinite}
-use Rattle.zf_extent.specs.{constant_set}
-use Rattle.zf_meaning.specs.{constant_truth, infinite_in, unended}
 use Rattle.zf_meaning.proofs.Unique.{one_outcome}
-use Rattle.std.specs.Prelude.{◌+◌}
-use Rattle.std.proofs.lemmas.List.{length-append}
 unfoldable use Rattle.zf_meaning.specs.{IsBehind}
-use Rattle.zf_lift.specs.{variables_of}
 use Rattle.zf_lift.proofs.Needs.{uses_no_more}
 use Rattle.zf_lift.proofs.Forms as forms
 use Rattle.zf_lift.proofs.Longer as longer_ones

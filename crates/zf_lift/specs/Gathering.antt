@@ -1,8 +1,6 @@
 -- What has been gathered while terms are lifted. No public clause rests on this.
 use Rattle.std.specs.Prelude.{◌≡◌, ◌≤◌, ℕ, Bool, true, length, []}
-use Rattle.zf_term.specs.{ResolvedTree}
-use Rattle.zf_value.specs.declared.value.Outcome.{Outcome}
-use Rattle.zf_meaning.specs.{Environment, environment_of, IsBehind}
+use Rattle.zf_lift.specs.Prelude.{ResolvedTree, Outcome, Environment, environment_of, IsBehind}
 use Rattle.zf_lift.specs.declared.lifting.Gathered.{Gathered}
 use Rattle.zf_lift.specs.Lifted.{IsLonger}
 use Rattle.zf_lift.specs.Lifts.{is_liftable}

@@ -1,3 +1,4 @@
+pub mod Prelude
 pub mod Lifted
 pub mod Same
 pub mod Needs

@@ -1,10 +1,6 @@
 -- Predicates in which closed parts are names.
 use Rattle.std.specs.Prelude.{◌≡◌, ◌↔◌, ℕ, List, [], ◌∷◌}
-use Rattle.zf_term.specs.{ResolvedTree}
-use Rattle.zf_value.specs.declared.plain.Value.{Value}
-use Rattle.zf_value.specs.declared.value.Outcome.{Outcome}
-use Rattle.zf_value.specs.declared.value.Truth.{Truth}
-use Rattle.zf_meaning.specs.{Environment, in_row, IsTruth, longer, UsesFirst}
+use Rattle.zf_lift.specs.Prelude.{ResolvedTree, Value, Outcome, Truth, Environment, in_row, IsTruth, longer, UsesFirst}
 
 -- f has the names of e, and maybe more after them
 abbrev pub IsLonger : Environment → Environment → Type 0

@@ -1,12 +1,8 @@
 -- Terms in which closed parts are names of what they come to, which stand after all others. Public clauses rest on `is_liftable` alone.
 use Rattle.std.specs.Prelude.{◌≡◌, ◌+◌, ◌≤◌, ℕ, Bool, true, false, ◌&&◌, is_some, length, List, [], Option}
+use Rattle.zf_lift.specs.Prelude.{constant_set, binary, bracket, comprehension, chain, constant, empty_set, listed, no_ranges, number, quantified, range, Ranges, reference, ResolvedLinks, ResolvedPart, ResolvedTree, unary, ResolvedTrees, Value, Context, Environment}
 use Rattle.zf_tree.specs.declared.operator.Operator.TheVariants as operator
 use Rattle.zf_tree.specs.declared.operator.Unary.TheVariants as the_unary
-use Rattle.zf_extent.specs.{constant_set}
-use Rattle.zf_term.specs.{binary, bracket, comprehension, chain, constant, empty_set, listed, no_ranges, number, quantified, range, Ranges, reference, ResolvedLinks, ResolvedPart, ResolvedTree, unary}
-use Rattle.zf_term.specs.ResolvedTrees.{ResolvedTrees}
-use Rattle.zf_value.specs.declared.plain.Value.{Value}
-use Rattle.zf_meaning.specs.{Context, Environment}
 use Rattle.zf_lift.specs.Lifted.{IsLonger}
 use Rattle.zf_lift.specs.Needs.{need, all_need, links_need, ranges_need, part_need}
 use Rattle.zf_lift.specs.Same.{IsSame, AreSame, AreSameRanges, AreSameLinks, IsSamePart}

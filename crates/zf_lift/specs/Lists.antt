@@ -1,8 +1,7 @@
 -- Lists of terms in which closed parts are names. No public clause rests on this.
 use Rattle.std.specs.Prelude.{◌≡◌, ℕ, Bool, List}
+use Rattle.zf_lift.specs.Prelude.{ResolvedTree, Environment}
 use Rattle.zf_tree.specs.declared.symbol.Relation.{Relation}
-use Rattle.zf_term.specs.{ResolvedTree}
-use Rattle.zf_meaning.specs.{Environment}
 use Rattle.zf_lift.specs.Lifted.{AreEach}
 use Rattle.zf_lift.specs.Lifts.{IsLift}
 

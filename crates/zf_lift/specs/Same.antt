@@ -1,11 +1,6 @@
 -- Terms that mean the same, each in a context of its own. No public clause rests on this.
 use Rattle.std.specs.Prelude.{◌≡◌, ◌↔◌, List}
-use Rattle.zf_term.specs.{Ranges, ResolvedLinks, ResolvedPart, ResolvedTree}
-use Rattle.zf_term.specs.ResolvedTrees.{ResolvedTrees}
-use Rattle.zf_value.specs.declared.plain.Value.{Value}
-use Rattle.zf_value.specs.declared.value.Outcome.{Outcome}
-use Rattle.zf_value.specs.declared.value.Truth.{Truth}
-use Rattle.zf_meaning.specs.{AreLinked, Builds, Context, HasOutcome, HaveOutcomes, HaveRanges, infinite_in, IsConstraint, IsTruth}
+use Rattle.zf_lift.specs.Prelude.{Ranges, ResolvedLinks, ResolvedPart, ResolvedTree, ResolvedTrees, Value, Outcome, Truth, AreLinked, Builds, Context, HasOutcome, HaveOutcomes, HaveRanges, infinite_in, IsConstraint, IsTruth}
 use Rattle.zf_outcome.specs.{Several}
 
 pub record IsSame (c : Context) (t : ResolvedTree) (d : Context) (u : ResolvedTree) : Type 0 where

@@ -1,8 +1,6 @@
 //! Which parts of a predicate are worth a name.
 ghost use Rattle.std.specs.Prelude.{◌≡◌, ◌&&◌, ℕ, Option, is_some};
-ghost use Rattle.zf_extent.specs.{constant_set};
-ghost use Rattle.zf_term.specs.{binary, resolved_of, ResolvedTree, unary};
-ghost use Rattle.zf_meaning.specs.{environment_of};
+ghost use Rattle.zf_lift.specs.Prelude.{constant_set, binary, resolved_of, ResolvedTree, unary, environment_of};
 ghost use Rattle.zf_lift.specs.Lifts as spec;
 
 use zf_meaning::{Env, value_of};

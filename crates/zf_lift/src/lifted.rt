@@ -1,7 +1,6 @@
 //! Predicates in which closed parts are names.
 ghost use Rattle.std.specs.Prelude.{◌≡◌, IfOk, IfSome, OnOk, true, map};
-ghost use Rattle.zf_term.specs.{resolved_of};
-ghost use Rattle.zf_meaning.specs.{environment_of};
+ghost use Rattle.zf_lift.specs.Prelude.{resolved_of, environment_of};
 ghost use Rattle.zf_lift.specs.{AreAllLifts, AreLifted, Follows, IsLonger};
 
 use crate::lifting::{Gathered, lifted};

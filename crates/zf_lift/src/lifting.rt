@@ -1,8 +1,8 @@
 //! Terms in which closed parts are names of what they come to.
 ghost use Rattle.std.specs.Prelude.{◌≡◌, ◌+◌, ◌<◌, ℕ, Bool, true, IfOk, IfSome, OnOk, length, map};
+ghost use Rattle.zf_lift.specs.Prelude.{environment_of};
 ghost use Rattle.zf_reference.specs.declared.reference.Reference.TheVariants as names;
 ghost use Rattle.zf_term.specs.{links, part_of, range_of, ranges, reference as reference_tree, resolved_link_of, resolved_of, terms};
-ghost use Rattle.zf_meaning.specs.{environment_of};
 ghost use Rattle.zf_lift.specs.{Follows, IsLinkLift, IsLonger, IsNamed, IsRangeLift};
 ghost use Rattle.zf_lift.specs.Lifts as spec;
 

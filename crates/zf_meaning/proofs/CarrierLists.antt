@@ -1,7 +1,6 @@
 -- The carriers of several types, one after another.
-use Rattle.zf_meaning.proofs.Prelude.{◌+◌, ◌<◌, ◌∙◌, ◌∷◌, ◌≡◌, [], ap, drop, get_or, length, List, map, None, Option, refl, Some, subst, sym, ℕ, drop_more, MatchOption, Bor, Outcome, Value, Defined, definition_of, type_of, types, AreCarriers, IsCarrier, definition_number, Environment, found_number, lack_with, several_by, values_with, one_more, Several, values, Lack, Nothing}
+use Rattle.zf_meaning.proofs.Prelude.{◌+◌, ◌<◌, ◌∙◌, ◌∷◌, ◌≡◌, [], ap, drop, get_or, length, List, map, None, Option, refl, Some, subst, sym, ℕ, drop_more, MatchOption, Bor, Outcome, Value, Defined, definition_of, type_of, types, AreCarriers, IsCarrier, definition_number, Environment, found_number, lack_with, several_by, values_with, one_more, Several, values, Lack, Nothing, first_named}
 use Rattle.zf_term.specs.declared.globals.Entry.{Entry}
-use Rattle.zf_term.specs.{first_named}
 use Rattle.zf_term.specs.declared.ztype.ZType.{ZType}
 use Rattle.zf_meaning.proofs.Gathering.{joined, joined-begun, joined-all, joined-more}
 

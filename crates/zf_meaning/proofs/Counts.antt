@@ -1,6 +1,5 @@
 -- The given sets among globals, and how many elements each type has, one global after another.
-use Rattle.zf_meaning.proofs.Prelude.{◌++◌, ◌+◌, ◌∙◌, ◌∷◌, ◌≡◌, [], add-one, ap, append-nil, append_assoc, arith, drop, length, List, None, Option, refl, Some, subst, suc, sym, zero, ℕ, All-contains, Contains-append_left, Contains-append_right, Contains, MatchOption, option_to_list, slice_get, abbreviation, constructor, Defined, Definition, free_type, given_set, schema, AreComplete, AreSizes, given_sets, IsStated, names, with_given, Size}
-use Rattle.zf_meaning.specs.{CountsAt, CountsBy, CountsFor, given_at, given_by}
+use Rattle.zf_meaning.proofs.Prelude.{◌++◌, ◌+◌, ◌∙◌, ◌∷◌, ◌≡◌, [], add-one, ap, append-nil, append_assoc, arith, drop, length, List, None, Option, refl, Some, subst, suc, sym, zero, ℕ, All-contains, Contains-append_left, Contains-append_right, Contains, MatchOption, option_to_list, slice_get, abbreviation, constructor, Defined, Definition, free_type, given_set, schema, AreComplete, AreSizes, given_sets, IsStated, names, with_given, Size, CountsAt, CountsBy, CountsFor, given_at, given_by}
 
 with-before : (name : List ℕ) (d : Definition) (rest : List (List ℕ)) → with_given name d rest ≡ with_given name d [] ++ rest
 with-before name (given_set n) rest = refl

@@ -1,7 +1,5 @@
 -- Parts of a binder that tell that rows do not count.
-use Rattle.zf_meaning.proofs.Prelude.{◌++◌, ◌+◌, ◌<◌, ◌↔◌, ◌∙◌, ◌∷◌, ◌≡◌, ◌≤◌, ◌⊎◌, [], ap, arith, Bool, false, get_or, inl, inr, length, List, map, None, Option, refl, Some, slice_get, subst, suc, sym, take, true, zero, ℕ, ⊎_elim, take_all, false≢true, All-push, All, Bor, IfSome, AreFrom, Is, Out, Outcome, Undefined, Truth, False, Value, And, Quantifier, Exists, ExistsOne, ForAll, Local, Reference, link-seen, of-Binary, of-Bracket, of-Comprehension, of-Chain, of-Name, of-Quantified, chain, link, links, no_links, part_of, reference, resolved_link_of, resolved_of, ResolvedTree, Range, Resolved, ResolvedLink, size-Resolved, IsEarlier, seen, AreNeutral, AreNeutralIf, IsBound, IsEquation, IsOther, IsPart, IsPiece, IsVariable, IsWanted, neutral, PassesBy, ArePassed, Falsifies, IsNeutral, Refutes, Wants, Context, value_or, within, HasOutcome, IsConstraint, IsTruth, need, part_need, NeedsFront, Front, IsPassed, Passing, Holds, IsAtom, IsTold, Span, Wanted}
-use Rattle.std.proofs.lemmas.Option.{same_Some}
-use Rattle.zf_tree.specs.declared.symbol.Relation.TheVariants.{Equal}
+use Rattle.zf_meaning.proofs.Prelude.{◌++◌, ◌+◌, ◌<◌, ◌↔◌, ◌∙◌, ◌∷◌, ◌≡◌, ◌≤◌, ◌⊎◌, [], ap, arith, Bool, false, get_or, inl, inr, length, List, map, None, Option, refl, Some, slice_get, subst, suc, sym, take, true, zero, ℕ, ⊎_elim, take_all, false≢true, All-push, All, Bor, IfSome, AreFrom, Is, Out, Outcome, Undefined, Truth, False, Value, And, Quantifier, Exists, ExistsOne, ForAll, Local, Reference, link-seen, of-Binary, of-Bracket, of-Comprehension, of-Chain, of-Name, of-Quantified, chain, link, links, no_links, part_of, reference, resolved_link_of, resolved_of, ResolvedTree, Range, Resolved, ResolvedLink, size-Resolved, IsEarlier, seen, AreNeutral, AreNeutralIf, IsBound, IsEquation, IsOther, IsPart, IsPiece, IsVariable, IsWanted, neutral, PassesBy, ArePassed, Falsifies, IsNeutral, Refutes, Wants, Context, value_or, within, HasOutcome, IsConstraint, IsTruth, need, part_need, NeedsFront, Front, IsPassed, Passing, Holds, IsAtom, IsTold, Span, Wanted, same_Some, Equal}
 use Rattle.zf_tree.specs.declared.operator.Operator.TheVariants.{Connective}
 use Rattle.zf_term.specs.declared.resolved.Resolved.TheVariants as v
 use Rattle.zf_meaning.specs.declared.evaluate.early.Piece.{Piece}

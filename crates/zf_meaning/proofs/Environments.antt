@@ -1,7 +1,6 @@
 -- A type has one carrier, and globals at the same sizes, with the same numbers, have one list of outcomes.
-use Rattle.zf_meaning.proofs.Prelude.{◌<◌, ◌∙◌, ◌∷◌, ◌≡◌, ◌≤◌, [], ap, arith, length, List, None, Option, refl, Some, subst, suc, sym, take, zero, ℕ, slice_get, HasOne, one_set, AreElements, IsCross, IsPower, members, Outcome, abbreviation, constructor, Definition, free_type, given_set, schema, basic, int, no_types, power, product, Ty, type, Tys, AreCarriers, IsCarrier, IsTypeSetIf, AreElementsIf, before, element_count, Environment, globally, type_number, AreWorkedOut, IsOutcomeOf, OnOne, OnSeveral, Several}
+use Rattle.zf_meaning.proofs.Prelude.{◌<◌, ◌∙◌, ◌∷◌, ◌≡◌, ◌≤◌, [], ap, arith, length, List, None, Option, refl, Some, subst, suc, sym, take, zero, ℕ, slice_get, HasOne, one_set, AreElements, IsCross, IsPower, members, Outcome, abbreviation, constructor, Definition, free_type, given_set, schema, basic, int, no_types, power, product, Ty, type, Tys, AreCarriers, IsCarrier, IsTypeSetIf, AreElementsIf, before, element_count, Environment, globally, type_number, AreWorkedOut, IsOutcomeOf, OnOne, OnSeveral, Several, Num}
 use Rattle.zf_value.proofs.Once as once
-use Rattle.zf_term.specs.declared.extent.Infinite.TheVariants.{Num}
 use Rattle.zf_meaning.proofs.Unique.{one_number_set, one_outcome, one_on_one, one_on_several}
 
 one_elements : (n k : ℕ) → HasOne (AreElements n k)

@@ -1,8 +1,5 @@
 -- Where no variable is bound, a scope is the context of its row.
-use Rattle.zf_meaning.proofs.Prelude.{◌≡◌, [], ap, List, subst, sym, IfOk-weaker, Result, IfOk, AllocError, Bor, Outcome, Truth, Value, ResolvedTree, Describes, environment_of, HasOutcome, IsTruth, seen, scope_of, Described, Env}
-use Rattle.std.specs.Prelude.{ℕ, ◌+◌, ◌≤◌, length}
-use Rattle.std.proofs.Common.{◌∙◌, arith, refl}
-use Rattle.zf_meaning.specs.{in_row, need}
+use Rattle.zf_meaning.proofs.Prelude.{◌≡◌, [], ap, List, subst, sym, IfOk-weaker, Result, IfOk, AllocError, Bor, Outcome, Truth, Value, ResolvedTree, Describes, environment_of, HasOutcome, IsTruth, seen, scope_of, Described, Env, ℕ, ◌+◌, ◌≤◌, length, ◌∙◌, arith, refl, in_row, need}
 unfoldable use Rattle.zf_meaning.specs.{IsBehind}
 use Rattle.zf_meaning.proofs.NextRow.{seen-length}
 use Rattle.zf_meaning.proofs.SameLocals.{same-row-outcome}

@@ -25,7 +25,6 @@ pub mod WorkedOut
 pub mod Linking
 pub mod Turns
 pub mod Early
-pub mod NeedsFound
 mod NeedsBelow
 pub mod Binding
 pub mod CarrierLists

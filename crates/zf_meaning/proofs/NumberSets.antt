@@ -1,9 +1,6 @@
 -- The sets of numbers, built and described.
-use Rattle.zf_meaning.proofs.Prelude.{◌≡◌, None, Option, refl, Some, subst, sym, ℕ, pos, IfOk-weaker, Result, IfOk, AllocError, IsInterval, Outcome, Out, Infinite, Describes, Interval, Plain}
-use Rattle.std.specs.Prelude.{ℤ}
+use Rattle.zf_meaning.proofs.Prelude.{◌≡◌, None, Option, refl, Some, subst, sym, ℕ, pos, IfOk-weaker, Result, IfOk, AllocError, IsInterval, Outcome, Out, Infinite, Describes, Interval, Plain, ℤ, IsNumberSet, least, plain-describes}
 use Rattle.zf_outcome.specs.declared.found.Found.TheVariants as found
-use Rattle.zf_meaning.specs.{IsNumberSet, least}
-use Rattle.zf_outcome.proofs.Tests.{plain-describes}
 
 from-interval : (n : Option ℕ) (s : Infinite) (k : ℕ) (a b : ℤ) (o : Outcome) → n ≡ Some k → a ≡ least s k → b ≡ pos k → IsInterval a b o → IsNumberSet n s o
 from-interval n s k a b o e f g h = subst (λ m. IsNumberSet m s o) (sym e) (subst (λ x. IsInterval x (pos k) o) f (subst (λ y. IsInterval a y o) g h))

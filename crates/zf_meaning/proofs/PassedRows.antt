@@ -1,6 +1,5 @@
 -- The rows that a walk passes: those that begin with the same values.
-use Rattle.zf_meaning.proofs.Prelude.{◌++◌, ◌+◌, ◌<◌, ◌∙◌, ◌∷◌, ◌≡◌, ◌≤◌, ◌⊎◌, [], ap, append-nil, append_assoc, arith, get_or, inl, inr, length, List, map, MatchOption, None, Option, refl, set, slice_get, Some, subst, suc, sym, take, zero, ℕ, ⊎_elim, Value, AreOthers, Front, headed, headed_from, IsPassed, Others, Passing, Skips, with_value_at, all_rows, ArePlaces, picked, rows_after}
-use Rattle.std.proofs.lemmas.Option.{same_Some, slice_get_read}
+use Rattle.zf_meaning.proofs.Prelude.{◌++◌, ◌+◌, ◌<◌, ◌∙◌, ◌∷◌, ◌≡◌, ◌≤◌, ◌⊎◌, [], ap, append-nil, append_assoc, arith, get_or, inl, inr, length, List, map, MatchOption, None, Option, refl, set, slice_get, Some, subst, suc, sym, take, zero, ℕ, ⊎_elim, Value, AreOthers, Front, headed, headed_from, IsPassed, Others, Passing, Skips, with_value_at, all_rows, ArePlaces, picked, rows_after, same_Some, slice_get_read}
 use Rattle.zf_meaning.proofs.AllRows.{IsAmong, AreApart, among-append, among-right}
 use Rattle.zf_meaning.proofs.NextRow.{before_or}
 

@@ -1,6 +1,5 @@
 -- A term that uses the bound components alone means the same in every longer row.
-use Rattle.zf_meaning.proofs.Prelude.{◌++◌, ◌<◌, ◌∷◌, ◌≡◌, [], arith, length, List, refl, subst, suc, sym, zero, ℕ, slice_get, Reference, Component, Global, Local, Outcome, Truth, Value, onto, ResolvedTree, Context, with_further, HasOutcome, IsTruth}
-use Rattle.zf_meaning.specs.{AreBelow, IsBelow}
+use Rattle.zf_meaning.proofs.Prelude.{◌++◌, ◌<◌, ◌∷◌, ◌≡◌, [], arith, length, List, refl, subst, suc, sym, zero, ℕ, slice_get, Reference, Component, Global, Local, Outcome, Truth, Value, onto, ResolvedTree, Context, with_further, HasOutcome, IsTruth, AreBelow, IsBelow}
 use Rattle.zf_meaning.proofs.SameRows.{AgreeAt, Agree, same_outcome, same_truth}
 
 same_place : (xs vs : List Value) (i : ℕ) → i < length xs → slice_get xs i ≡ slice_get (xs ++ vs) i

@@ -1,8 +1,7 @@
 -- A term has one outcome at most, and one truth.
-use Rattle.zf_meaning.proofs.Prelude.{◌∙◌, ◌≡◌, List, None, Option, refl, Some, subst, sym, ⊎_elim, pos, one_Modulus, one_Quotient, HasOne, one_number, one_on_number, one_on_numbers, one_set, IsDifference, IsModulus, IsNegation, IsProduct, IsSum, IsInterval, IsQuotient, AreFrom, Outcome, Is, Out, Undefined, Truth, Value, Listed, Operator, Unary, Arrow, Connective, Infix, Composition, Difference, Div, DomainRestriction, DomainSubtraction, Intersection, Maplet, Minus, Mod, Overriding, Plus, RangeRestriction, RangeSubtraction, Times, Union, UpTo, Quantifier, Relation, absent, binary, bracket, comprehension, chain, constant, empty_set, link, listed, no_links, no_ranges, no_terms, number, present, quantified, range, Ranges, reference, ResolvedLinks, ResolvedPart, ResolvedTree, ResolvedTrees, term, unary, Infinite, Context, within, AreLinked, Builds, HasOutcome, HaveOutcomes, HaveRanges, infinite_right, IsBuilt, IsBuiltBy, IsBuiltOver, IsConstraint, IsLink, IsOutOfBounds, IsTruth, IsWithinBounds, OnBoth, one_out, one_undefined, OnOne, OnSeveral, Several, values, ArrowOutcome, BinaryOutcome, Holds, HoldsOf, InfixOutcome, ListedOutcome, PrefixOutcome, SignOutcome, UnaryOutcome, IsAtom, IsConjunction, IsConnected, IsDisjunction, IsEquivalence, IsExists, IsExistsOne, IsForAll, IsOver, IsQuantified, IsTest, IsTold, opposite, Tells, ℕ}
+use Rattle.zf_meaning.proofs.Prelude.{◌∙◌, ◌≡◌, List, None, Option, refl, Some, subst, sym, ⊎_elim, pos, one_Modulus, one_Quotient, HasOne, one_number, one_on_number, one_on_numbers, one_set, IsDifference, IsModulus, IsNegation, IsProduct, IsSum, IsInterval, IsQuotient, AreFrom, Outcome, Is, Out, Undefined, Truth, Value, Listed, Operator, Unary, Arrow, Connective, Infix, Composition, Difference, Div, DomainRestriction, DomainSubtraction, Intersection, Maplet, Minus, Mod, Overriding, Plus, RangeRestriction, RangeSubtraction, Times, Union, UpTo, Quantifier, Relation, absent, binary, bracket, comprehension, chain, constant, empty_set, link, listed, no_links, no_ranges, no_terms, number, present, quantified, range, Ranges, reference, ResolvedLinks, ResolvedPart, ResolvedTree, ResolvedTrees, term, unary, Infinite, Context, within, AreLinked, Builds, HasOutcome, HaveOutcomes, HaveRanges, infinite_right, IsBuilt, IsBuiltBy, IsBuiltOver, IsConstraint, IsLink, IsOutOfBounds, IsTruth, IsWithinBounds, OnBoth, one_out, one_undefined, OnOne, OnSeveral, Several, values, ArrowOutcome, BinaryOutcome, Holds, HoldsOf, InfixOutcome, ListedOutcome, PrefixOutcome, SignOutcome, UnaryOutcome, IsAtom, IsConjunction, IsConnected, IsDisjunction, IsEquivalence, IsExists, IsExistsOne, IsForAll, IsOver, IsQuantified, IsTest, IsTold, opposite, Tells, ℕ, Constant, Num, Nat, Nat1, IsConstantOutcome, IsNumberSet}
 use Rattle.zf_tree.specs.declared.symbol.Arrow.TheVariants as arrow
 use Rattle.zf_tree.specs.declared.symbol.Connective.TheVariants as connective
-use Rattle.zf_tree.specs.declared.symbol.Constant.{Constant}
 use Rattle.zf_tree.specs.declared.symbol.Constant.TheVariants as the_constant
 use Rattle.zf_tree.specs.declared.symbol.Prefix.{Prefix}
 use Rattle.zf_tree.specs.declared.symbol.Prefix.TheVariants as prefix
@@ -13,8 +12,6 @@ use Rattle.zf_tree.specs.declared.operator.Listed.TheVariants as the_listed
 use Rattle.zf_tree.specs.declared.operator.Operator.TheVariants as operator
 use Rattle.zf_tree.specs.declared.operator.Unary.TheVariants as the_unary
 use Rattle.zf_value.specs.declared.value.Truth.TheVariants as truth
-use Rattle.zf_term.specs.declared.extent.Infinite.TheVariants.{Num, Nat, Nat1}
-use Rattle.zf_meaning.specs.{IsConstantOutcome, IsNumberSet}
 use Rattle.zf_value.proofs.Once as once
 
 one_infix : (op : Infix) (v w : Value) → HasOne (InfixOutcome op v w)

@@ -1,6 +1,5 @@
 -- A walk over the rows of sets, with what it binds.
-use Rattle.zf_meaning.proofs.Prelude.{◌++◌, ◌∙◌, ◌∷◌, ◌≡◌, ◌≤◌, ◌⊎◌, [], ap, arith, drop, inl, inr, length, length-append, List, map, refl, subst, sym, ⊎_elim, Bor, AreFrom, IsAscending, value_order, every_at, not_below_itself, members, Outcome, Truth, Value, Quantifier, resolved_of, ResolvedPart, ResolvedTree, Resolved, IsNeutral, Context, within, Builds, IsConstraint, IsTruth, seen, all_rows, ahead, IsAt, IsFirst, IsNext, IsPassed, lists_of, Passing, row_of, Skips, scope_of, IsTold, Env, Rows, AllByRecursion}
-use Rattle.std.proofs.Common.{Less}
+use Rattle.zf_meaning.proofs.Prelude.{◌++◌, ◌∙◌, ◌∷◌, ◌≡◌, ◌≤◌, ◌⊎◌, [], ap, arith, drop, inl, inr, length, length-append, List, map, refl, subst, sym, ⊎_elim, Bor, AreFrom, IsAscending, value_order, every_at, not_below_itself, members, Outcome, Truth, Value, Quantifier, resolved_of, ResolvedPart, ResolvedTree, Resolved, IsNeutral, Context, within, Builds, IsConstraint, IsTruth, seen, all_rows, ahead, IsAt, IsFirst, IsNext, IsPassed, lists_of, Passing, row_of, Skips, scope_of, IsTold, Env, Rows, AllByRecursion, Less}
 use Rattle.zf_meaning.proofs.AllRows.{AreDistinct, HaveDistinct, IsAmong, row-among, among-row, rows-apart}
 use Rattle.zf_meaning.proofs.Midway as midway
 use Rattle.zf_meaning.proofs.Midway.{IsMidway}

@@ -1,11 +1,7 @@
 -- Worked rows, as a check of the definitions.
-use Rattle.zf_meaning.proofs.Prelude.{◌≡◌, [], arith, inl, None, refl, subst, sym, pos, members-SetOf, number_of-Int, IsQuotient, IsSize, Is, Out, Undefined, False, True, Int, SetOf, Function, Symbol, Sign, Div, binary, chain, constant, empty_set, link, no_links, number, ResolvedTree, unary, Context, HasOutcome, IsConjunction, IsLink, IsTruth}
-use Rattle.std.specs.Prelude.{Some}
+use Rattle.zf_meaning.proofs.Prelude.{◌≡◌, [], arith, inl, None, refl, subst, sym, pos, members-SetOf, number_of-Int, IsQuotient, IsSize, Is, Out, Undefined, False, True, Int, SetOf, Function, Symbol, Sign, Div, binary, chain, constant, empty_set, link, no_links, number, ResolvedTree, unary, Context, HasOutcome, IsConjunction, IsLink, IsTruth, Some, Member, NotMember, Num, IsNumberSet, unended}
 use Rattle.zf_tree.specs.declared.symbol.Constant.TheVariants.{Integers}
 use Rattle.zf_tree.specs.declared.symbol.Prefix.TheVariants.{Size}
-use Rattle.zf_tree.specs.declared.symbol.Relation.TheVariants.{Member, NotMember}
-use Rattle.zf_term.specs.declared.extent.Infinite.TheVariants.{Num}
-use Rattle.zf_meaning.specs.{IsNumberSet, unended}
 
 one_by_zero : ResolvedTree
 one_by_zero = binary 1 (Function Div) (number 1 1) (number 1 0)

@@ -1,9 +1,6 @@
 -- What one row adds to a comprehension. No public clause rests on this.
 use Rattle.std.specs.Prelude.{◌≡◌, ◌⊎◌, Bool, true, false, List, [], ◌∷◌, ◌++◌}
-use Rattle.zf_value.specs.declared.plain.Value.{Value}
-use Rattle.zf_value.specs.declared.value.Outcome.{Outcome}
-use Rattle.zf_value.specs.declared.value.Outcome.TheVariants.{Is, Undefined, Out}
-use Rattle.zf_value.specs.declared.value.Truth.{Truth}
+use Rattle.zf_meaning.specs.Prelude.{Value, Outcome, Is, Undefined, Out, Truth}
 use Rattle.zf_value.specs.declared.value.Truth.TheVariants as truth
 
 -- T says the outcome of the term; the list grows by its value

@@ -1,6 +1,6 @@
 -- The sizes of globals one after another. No public clause rests on this.
 use Rattle.std.specs.Prelude.{◌≡◌, ℕ, List, [], length, Option, Some, None, slice_get}
-use Rattle.zf_term.specs.{abbreviation, constructor, Defined, Definition, free_type, given_set, schema}
+use Rattle.zf_meaning.specs.Prelude.{abbreviation, constructor, Defined, Definition, free_type, given_set, schema}
 use Rattle.zf_meaning.specs.declared.sizes.Size.{Size}
 use Rattle.zf_meaning.specs.Sizes.{with_given, IsStated}
 

@@ -1,15 +1,9 @@
 -- Rows that do not count, and the parts of a binder that tell so before all variables are bound. No public clause rests on this.
 use Rattle.std.specs.Prelude.{◌≡◌, ◌⊎◌, ℕ, ◌+◌, ◌<◌, ◌≤◌, max, List, length, Option, Some, None, IfSome, slice_get}
-use Rattle.zf_reference.specs.declared.reference.Reference.TheVariants.{Local}
-use Rattle.zf_tree.specs.declared.symbol.Quantifier.{Quantifier}
+use Rattle.zf_meaning.specs.Prelude.{Local, Quantifier, Resolved, size-Resolved, binary, bracket, comprehension, chain, constant, empty_set, link, listed, no_links, number, quantified, reference, resolved_of, ResolvedPart, ResolvedTree, unary, Value, Outcome, Truth, IsTold}
 use Rattle.zf_tree.specs.declared.symbol.Quantifier.TheVariants.{ForAll, Exists, ExistsOne}
 use Rattle.zf_tree.specs.declared.symbol.Relation.TheVariants.{Equal}
-use Rattle.zf_term.specs.declared.resolved.Resolved.{Resolved, size-Resolved}
-use Rattle.zf_term.specs.{binary, bracket, comprehension, chain, constant, empty_set, link, listed, no_links, number, quantified, reference, resolved_of, ResolvedPart, ResolvedTree, unary}
-use Rattle.zf_value.specs.declared.plain.Value.{Value}
-use Rattle.zf_value.specs.declared.value.Outcome.{Outcome}
 use Rattle.zf_value.specs.declared.value.Outcome.TheVariants as outcome
-use Rattle.zf_value.specs.declared.value.Truth.{Truth}
 use Rattle.zf_value.specs.declared.value.Truth.TheVariants.{True, False}
 use Rattle.zf_meaning.specs.declared.evaluate.early.Piece.{Piece}
 use Rattle.zf_meaning.specs.declared.evaluate.early.Span.{Span}
@@ -20,7 +14,6 @@ use Rattle.zf_meaning.specs.Environments.{Context, within}
 use Rattle.zf_meaning.specs.Meaning.{HasOutcome, IsConstraint, IsTruth}
 use Rattle.zf_meaning.specs.Needs.{need, part_need}
 use Rattle.zf_meaning.specs.Rowed.{IsPassed}
-use Rattle.zf_outcome.specs.{IsTold}
 
 -- what a quantifier tells of a row that does not count
 abbrev pub neutral : Quantifier → Truth

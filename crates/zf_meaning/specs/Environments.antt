@@ -1,13 +1,6 @@
 -- What names stand for: the globals with the sizes of given sets and free types, which numbers there are, and what a row and bound variables give.
 use Rattle.std.specs.Prelude.{◌≡◌, ℕ, ◌^◌, nat_lt, if◌then◌else◌, List, [], ◌++◌, take, Option, Some, None, slice_get, MatchOption, unwrap_or}
-use Rattle.std.specs.Option.{option_and_then, option_map_or}
-use Rattle.zf_reference.specs.declared.reference.Reference.{Reference}
-use Rattle.zf_reference.specs.declared.reference.Reference.TheVariants.{Component, Local, Global}
-use Rattle.zf_term.specs.{Defined, Definition, first_named, free_type, given_set}
-use Rattle.zf_value.specs.declared.plain.Value.{Value, Elem}
-use Rattle.zf_value.specs.declared.value.Outcome.{Outcome}
-use Rattle.zf_value.specs.declared.value.Outcome.TheVariants.{Is, Undefined}
-use Rattle.zf_value.specs.{AreElements}
+use Rattle.zf_meaning.specs.Prelude.{option_and_then, option_map_or, Reference, Component, Local, Global, Defined, Definition, first_named, free_type, given_set, Value, Elem, Outcome, Is, Undefined, AreElements}
 
 -- with how many elements each given set and free type has, the outcome of each global, and, if numbers end, the greatest: `\num` goes from its opposite to it
 pub record Environment : Type 0 where

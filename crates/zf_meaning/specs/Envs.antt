@@ -1,7 +1,6 @@
 -- The program's environments as environments.
 use Rattle.std.specs.Prelude.{List, ◌++◌}
-use Rattle.zf_term.specs.{globals_of}
-use Rattle.zf_value.specs.declared.value.Outcome.{Outcome}
+use Rattle.zf_meaning.specs.Prelude.{globals_of, Outcome}
 use Rattle.zf_meaning.specs.declared.env.Env.{Env}
 use Rattle.zf_meaning.specs.Environments.{Environment}
 

@@ -1,8 +1,6 @@
 -- The outcomes of the globals, worked out in order: each by those before it.
 use Rattle.std.specs.Prelude.{◌≡◌, ℕ, List, length, Option, Some, slice_get}
-use Rattle.zf_term.specs.{abbreviation, constructor, Defined, Definition, free_type, given_set, schema}
-use Rattle.zf_value.specs.declared.value.Outcome.{Outcome}
-use Rattle.zf_value.specs.declared.value.Outcome.TheVariants.{Undefined}
+use Rattle.zf_meaning.specs.Prelude.{abbreviation, constructor, Defined, Definition, free_type, given_set, schema, Outcome, Undefined}
 use Rattle.zf_meaning.specs.declared.sizes.Size.{Size}
 use Rattle.zf_meaning.specs.Environments.{Environment, before, element, IsTypeSet, globally}
 use Rattle.zf_meaning.specs.Sizes.{AreSizes}

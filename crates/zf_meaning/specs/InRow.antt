@@ -1,8 +1,6 @@
 -- The context of a row: these components are bound, and no variables; and what stands after variables.
 use Rattle.std.specs.Prelude.{◌≡◌, ℕ, List, [], length}
-use Rattle.zf_term.specs.{ResolvedTree}
-use Rattle.zf_value.specs.declared.plain.Value.{Value}
-use Rattle.zf_value.specs.declared.value.Outcome.{Outcome}
+use Rattle.zf_meaning.specs.Prelude.{ResolvedTree, Value, Outcome}
 use Rattle.zf_meaning.specs.Environments.{Environment, Context}
 use Rattle.zf_meaning.specs.Meaning.{HasOutcome}
 

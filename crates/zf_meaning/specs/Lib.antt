@@ -1,3 +1,4 @@
+pub mod Prelude
 pub mod Environments
 pub mod NumberSets
 pub mod Meaning

@@ -1,11 +1,7 @@
 -- The last link of a chain. No public clause rests on this.
-use Rattle.zf_tree.specs.declared.symbol.Relation.{Relation}
-use Rattle.zf_term.specs.{ResolvedTree}
-use Rattle.zf_value.specs.declared.value.Outcome.{Outcome}
-use Rattle.zf_value.specs.declared.value.Truth.{Truth}
+use Rattle.zf_meaning.specs.Prelude.{Relation, ResolvedTree, Outcome, Truth, IsLink}
 use Rattle.zf_meaning.specs.Environments.{Context}
 use Rattle.zf_meaning.specs.Meaning.{HasOutcome, infinite_right}
-use Rattle.zf_outcome.specs.{IsLink}
 
 -- u is the truth of a link after an operand of this outcome; the right side has an outcome, which need not be worked out
 unfoldable pub IsLastLink : Context → Relation → ResolvedTree → Outcome → Truth → Type 0

@@ -1,11 +1,6 @@
 -- What is made of a look-up that may find nothing. No public clause rests on this.
 use Rattle.std.specs.Prelude.{◌≡◌, ℕ, Option, MatchOption, unwrap_or}
-use Rattle.std.specs.Option.{option_and_then, option_map_or}
-use Rattle.zf_term.specs.{Defined}
-use Rattle.zf_value.specs.declared.plain.Value.{Value}
-use Rattle.zf_value.specs.declared.value.Outcome.{Outcome}
-use Rattle.zf_value.specs.declared.value.Outcome.TheVariants.{Is, Undefined}
-use Rattle.zf_value.specs.{AreElements}
+use Rattle.zf_meaning.specs.Prelude.{option_and_then, option_map_or, Defined, Value, Outcome, Is, Undefined, AreElements}
 use Rattle.zf_meaning.specs.Environments.{Environment, IsTypeSet, definition_number}
 
 abbrev pub value_or : Option Value → Outcome

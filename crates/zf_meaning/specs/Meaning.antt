@@ -1,24 +1,12 @@
 -- The outcome of an expression and the truth of a predicate, as relations. What typing rules out is undefined, or false.
 use Rattle.std.specs.Prelude.{◌≡◌, ◌⊎◌, ℕ, pos, if◌then◌else◌, List, [], ◌∷◌, Option, None}
+use Rattle.zf_meaning.specs.Prelude.{Relation, Infinite, Num, Nat, Nat1, Connective, is_membership, absent, binary, bracket, comprehension, chain, constant, empty_set, link, listed, no_links, no_ranges, no_terms, number, present, quantified, range, Ranges, reference, ResolvedLinks, ResolvedPart, ResolvedTree, term, unary, ResolvedTrees, Value, Tuple, Outcome, Is, Undefined, Out, Truth, AreFrom, IsEmptySet, IsNumber, IsSetOf, BinaryOutcome, IsConjunction, IsConnected, IsLink, IsQuantified, IsTold, ListedOutcome, OnBoth, one_more, one_out, one_undefined, OnOne, OnSeveral, opposite, repeated, Several, UnaryOutcome, values}
 use Rattle.zf_tree.specs.declared.symbol.Constant.{Constant}
 use Rattle.zf_tree.specs.declared.symbol.Constant.TheVariants as constants
-use Rattle.zf_tree.specs.declared.symbol.Relation.{Relation}
-use Rattle.zf_term.specs.declared.extent.Infinite.{Infinite}
-use Rattle.zf_term.specs.declared.extent.Infinite.TheVariants.{Num, Nat, Nat1}
-use Rattle.zf_tree.specs.declared.operator.Operator.TheVariants.{Connective}
 use Rattle.zf_tree.specs.declared.operator.Unary.TheVariants.{Not}
-use Rattle.zf_extent.specs.{is_membership}
-use Rattle.zf_term.specs.{absent, binary, bracket, comprehension, chain, constant, empty_set, link, listed, no_links, no_ranges, no_terms, number, present, quantified, range, Ranges, reference, ResolvedLinks, ResolvedPart, ResolvedTree, term, unary}
-use Rattle.zf_term.specs.ResolvedTrees.{ResolvedTrees}
-use Rattle.zf_value.specs.declared.plain.Value.{Value, Tuple}
-use Rattle.zf_value.specs.declared.value.Outcome.{Outcome}
-use Rattle.zf_value.specs.declared.value.Outcome.TheVariants.{Is, Undefined, Out}
-use Rattle.zf_value.specs.declared.value.Truth.{Truth}
 use Rattle.zf_value.specs.declared.value.Truth.TheVariants as truth
-use Rattle.zf_value.specs.{AreFrom, IsEmptySet, IsNumber, IsSetOf}
 use Rattle.zf_meaning.specs.Environments.{Context, within, outcome_in}
 use Rattle.zf_meaning.specs.NumberSets.{IsNumberSet, infinite_in}
-use Rattle.zf_outcome.specs.{BinaryOutcome, IsConjunction, IsConnected, IsLink, IsQuantified, IsTold, ListedOutcome, OnBoth, one_more, one_out, one_undefined, OnOne, OnSeveral, opposite, repeated, Several, UnaryOutcome, values}
 
 -- where these are the numbers
 abbrev pub IsConstantOutcome : (numbers : Option ℕ) → Constant → Outcome → Type 0

@@ -1,9 +1,10 @@
--- The last bound variable before a place that a term names, form by form. No public clause rests on this.
-use Rattle.std.specs.Prelude.{ℕ, ◌+◌, max, nat_lt, cond}
+-- The last bound variable before a place that a term names. No public clause rests on this.
+use Rattle.std.specs.Prelude.{ℕ, ◌+◌, nat_lt, cond}
 use Rattle.zf_reference.specs.declared.reference.Reference.{Reference}
 use Rattle.zf_reference.specs.declared.reference.Reference.TheVariants.{Component, Local, Global}
-use Rattle.zf_term.specs.{absent, binary, bracket, comprehension, chain, constant, empty_set, link, listed, no_links, no_ranges, no_terms, number, present, quantified, range, Ranges, reference, ResolvedLinks, ResolvedPart, ResolvedTree, term, unary}
+use Rattle.zf_term.specs.{Ranges, ResolvedLinks, ResolvedPart, ResolvedTree}
 use Rattle.zf_term.specs.ResolvedTrees.{ResolvedTrees}
+use Rattle.zf_shape.specs.{all_greatest, greatest, links_greatest, part_greatest, ranges_greatest}
 
 -- the place of a bound variable, from 1, if it is one before place m
 abbrev pub place_below : ℕ → Reference → ℕ
@@ -11,32 +12,17 @@ place_below m (Component i) = 0
 place_below m (Local i) = cond (nat_lt i m) (i + 1) 0
 place_below m (Global i) = 0
 
-abbrev mutual
-  pub need : ℕ → ResolvedTree → ℕ
-  need m (reference l r) = place_below m r
-  need m (number l n) = 0
-  need m (constant l k) = 0
-  need m (empty_set l t) = need m t
-  need m (bracket l t) = need m t
-  need m (listed l form ts) = all_need m ts
-  need m (comprehension l rs p t) = max (max (ranges_need m rs) (part_need m p)) (part_need m t)
-  need m (unary l op t) = need m t
-  need m (binary l op a b) = max (need m a) (need m b)
-  need m (chain l t ks) = max (need m t) (links_need m ks)
-  need m (quantified l q rs p t) = max (max (ranges_need m rs) (part_need m p)) (need m t)
+abbrev pub need : ℕ → ResolvedTree → ℕ
+need m = greatest (place_below m)
 
-  pub all_need : ℕ → ResolvedTrees → ℕ
-  all_need m no_terms = 0
-  all_need m (term t ts) = max (need m t) (all_need m ts)
+abbrev pub all_need : ℕ → ResolvedTrees → ℕ
+all_need m = all_greatest (place_below m)
 
-  pub links_need : ℕ → ResolvedLinks → ℕ
-  links_need m no_links = 0
-  links_need m (link r t ks) = max (need m t) (links_need m ks)
+abbrev pub links_need : ℕ → ResolvedLinks → ℕ
+links_need m = links_greatest (place_below m)
 
-  pub ranges_need : ℕ → Ranges → ℕ
-  ranges_need m no_ranges = 0
-  ranges_need m (range n t rs) = max (need m t) (ranges_need m rs)
+abbrev pub ranges_need : ℕ → Ranges → ℕ
+ranges_need m = ranges_greatest (place_below m)
 
-  pub part_need : ℕ → ResolvedPart → ℕ
-  part_need m absent = 0
-  part_need m (present t) = need m t
+abbrev pub part_need : ℕ → ResolvedPart → ℕ
+part_need m = part_greatest (place_below m)

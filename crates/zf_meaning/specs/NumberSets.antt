@@ -1,12 +1,6 @@
 -- The sets of numbers: infinite, or, where numbers end at a greatest one and its opposite, sets like others.
 use Rattle.std.specs.Prelude.{◌≡◌, ℕ, ℤ, pos, neg_ℤ, Option, Some, None}
-use Rattle.zf_term.specs.declared.extent.Infinite.{Infinite}
-use Rattle.zf_term.specs.declared.extent.Infinite.TheVariants.{Num, Nat, Nat1}
-use Rattle.zf_extent.specs.{direct}
-use Rattle.zf_term.specs.{ResolvedTree}
-use Rattle.zf_value.specs.declared.value.Outcome.{Outcome}
-use Rattle.zf_value.specs.declared.value.Outcome.TheVariants.{Out}
-use Rattle.zf_value.specs.{IsInterval}
+use Rattle.zf_meaning.specs.Prelude.{Infinite, Num, Nat, Nat1, direct, ResolvedTree, Outcome, Out, IsInterval}
 use Rattle.zf_meaning.specs.Environments.{Environment}
 
 -- the least number of a set, where n is the greatest of all numbers

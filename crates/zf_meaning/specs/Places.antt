@@ -1,7 +1,6 @@
 -- The rows of ranges one after another, as a walk by places in the ranges meets them. No public clause rests on this.
 use Rattle.std.specs.Prelude.{◌≡◌, ◌⊎◌, ℕ, zero, suc, ◌<◌, List, [], ◌∷◌, ◌++◌, length, map}
-use denote.Bor.{Bor}
-use Rattle.zf_value.specs.declared.plain.Value.{Value}
+use Rattle.zf_meaning.specs.Prelude.{Bor, Value}
 
 -- what references stand for
 abbrev pub seen : {A : Type 0} → List (Bor A) → List A

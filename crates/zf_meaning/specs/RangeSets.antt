@@ -1,11 +1,9 @@
 -- The declared sets of variables, one after another. No public clause rests on this.
 use Rattle.std.specs.Prelude.{◌≡◌, ℕ, List, [], ◌∷◌, ◌++◌, replicate}
-use Rattle.zf_value.specs.declared.plain.Value.{Value}
-use Rattle.zf_value.specs.declared.value.Outcome.{Outcome}
+use Rattle.zf_meaning.specs.Prelude.{Value, Outcome, lack_with, Several, several_by}
 use Rattle.zf_value.specs.declared.value.Outcome.TheVariants as outcome
 use Rattle.zf_meaning.specs.declared.evaluate.ranges.Declared.{Declared}
 use Rattle.zf_meaning.specs.declared.evaluate.ranges.Spread.{Spread}
-use Rattle.zf_outcome.specs.{lack_with, Several, several_by}
 
 -- the set of each variable
 abbrev pub spread : List Spread → List Value

@@ -1,6 +1,6 @@
 -- Where a walk over rows is. No public clause rests on this.
 use Rattle.std.specs.Prelude.{◌≡◌, ◌⊎◌, ◌<◌, ◌≤◌, ℕ, List, ◌∷◌, ◌++◌, take, Some, slice_get}
-use Rattle.zf_value.specs.declared.plain.Value.{Value}
+use Rattle.zf_meaning.specs.Prelude.{Value}
 use Rattle.zf_meaning.specs.declared.rows.Passing.{Passing}
 use Rattle.zf_meaning.specs.declared.rows.Passing.TheVariants.{Front, Others}
 use Rattle.zf_meaning.specs.declared.rows.Rows.{Rows}

@@ -1,7 +1,6 @@
 -- Contexts, by their parts. No public clause rests on this.
 use Rattle.std.specs.Prelude.{List}
-use denote.Bor.{Bor}
-use Rattle.zf_value.specs.declared.plain.Value.{Value}
+use Rattle.zf_meaning.specs.Prelude.{Bor, Value}
 use Rattle.zf_meaning.specs.declared.env.Env.{Env}
 use Rattle.zf_meaning.specs.Environments.{Context}
 use Rattle.zf_meaning.specs.Envs.{environment_of}

@@ -1,7 +1,6 @@
 -- The sizes of given sets and free types: which stated sizes are accepted, what is refused first, and what the sizes then are.
 use Rattle.std.specs.Prelude.{◌≡◌, ℕ, ◌<◌, ◌≤◌, List, [], ◌∷◌, ◌++◌, length, map, All, Contains}
-use Rattle.zf_term.specs.{Defined, Definition, free_type, given_set}
-use Rattle.zf_value.specs.declared.TheConstants.{SET_MAX}
+use Rattle.zf_meaning.specs.Prelude.{Defined, Definition, free_type, given_set, SET_MAX}
 use Rattle.zf_meaning.specs.declared.sizes.Size.{Size}
 use Rattle.zf_meaning.specs.declared.sizes.SizeFault.{SizeFault}
 use Rattle.zf_meaning.specs.declared.sizes.SizeFault.TheVariants.{NoSize, NotGiven, SizeTwice, SizeTooLarge, OutOfMemory}

@@ -1,9 +1,7 @@
 //! Carriers of types.
 ghost use Rattle.std.specs.Prelude.{◌≡◌, IfOk, map};
-ghost use Rattle.zf_term.specs.{definition_of, first_named, globals_of, type_of, types};
-ghost use Rattle.zf_value.specs.{IsPower, members};
+ghost use Rattle.zf_meaning.specs.Prelude.{definition_of, first_named, globals_of, type_of, types, IsPower, members, OnOne, several_of};
 ghost use Rattle.zf_meaning.specs.{AreCarriers, definition_number, environment_of, found_number, IsCarrier, IsTypeSetIf, type_number};
-ghost use Rattle.zf_outcome.specs.{OnOne, several_of};
 
 use crate::env::Env;
 use crate::global_outcome::type_set;

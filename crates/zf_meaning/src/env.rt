@@ -1,6 +1,6 @@
 //! Environments: the globals, with the sizes of given sets and free types, which numbers there are, and the outcome of each.
 ghost use Rattle.std.specs.Prelude.{◌≡◌, [], ◌∷◌, None, Some, IfOk, IfErr, MatchOption, OnOk, length, slice_get};
-ghost use Rattle.zf_term.specs.{globals_of};
+ghost use Rattle.zf_meaning.specs.Prelude.{globals_of};
 ghost use Rattle.zf_meaning.specs.{AreComplete, AreWorkedOut, environment_of, given_sets, IsEnvironment, IsRefusal, longer};
 
 use crate::global_outcome::outcome_at;

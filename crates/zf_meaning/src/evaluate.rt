@@ -1,10 +1,8 @@
 //! The evaluator: the outcome of an expression, and the truth of a predicate.
 ghost use Rattle.std.specs.Prelude.{◌≡◌, IfOk, pos, slice_get};
-ghost use Rattle.zf_term.specs.{resolved_of};
-ghost use Rattle.zf_value.specs.{IsEmptySet, IsNumber};
+ghost use Rattle.zf_meaning.specs.Prelude.{resolved_of, IsEmptySet, IsNumber, found_of, found_outcome};
 ghost use Rattle.zf_meaning.specs.Environments as spec;
 ghost use Rattle.zf_meaning.specs.{environment_of, HasOutcome, IsConstantOutcome, IsNumberSet, IsTruth, outcome_or, scope_of, seen, value_or};
-ghost use Rattle.zf_outcome.specs.{found_of, found_outcome};
 ghost use Rattle.zf_meaning.specs.Meaning as meaning;
 
 mod binders;

@@ -1,6 +1,6 @@
 //! The outcomes of globals, each by those before it.
 ghost use Rattle.std.specs.Prelude.{◌≡◌, Some, IfOk, slice_get};
-ghost use Rattle.zf_term.specs.{Defined, definition_of};
+ghost use Rattle.zf_meaning.specs.Prelude.{Defined, definition_of};
 ghost use Rattle.zf_meaning.specs.Environments as spec;
 ghost use Rattle.zf_meaning.specs.{AreElementsIf, environment_of, IsOutcomeOf, IsTypeSet};
 

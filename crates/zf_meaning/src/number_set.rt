@@ -1,7 +1,6 @@
 //! The sets of numbers, where numbers end or have no end.
 ghost use Rattle.std.specs.Prelude.{◌≡◌, IfOk, Some};
-ghost use Rattle.zf_term.specs.{resolved_of};
-ghost use Rattle.zf_outcome.specs.{Describes};
+ghost use Rattle.zf_meaning.specs.Prelude.{resolved_of, Describes};
 ghost use Rattle.zf_meaning.specs.{environment_of, IsNumberSet};
 ghost use Rattle.zf_meaning.specs.NumberSets as spec;
 

@@ -1,6 +1,6 @@
 //! The rows of ranges, one after another.
 ghost use Rattle.std.specs.Prelude.{◌≡◌, ◌⊎◌, ◌==◌, ◌+◌, ◌<◌, ◌≤◌, [], ◌∷◌, ◌++◌, IfOk, OnOk, MatchOption, List, length, take, slice_index_or};
-ghost use Rattle.std.specs.List.{list_any};
+ghost use Rattle.zf_meaning.specs.Prelude.{list_any};
 ghost use Rattle.zf_value.specs.declared.plain.Value as value;
 ghost use Rattle.zf_meaning.specs.{ahead, all_rows, AreOthers, ArePlaces, IsAt, IsFirst, IsNext, picked, row_of, rows_after, seen, Skips};
 ghost use Rattle.zf_meaning.specs.declared.rows.Passing.TheVariants as passing;

@@ -1,6 +1,6 @@
 //! The sizes of the given sets.
 ghost use Rattle.std.specs.Prelude.{◌≡◌, [], ◌∷◌, ◌++◌, ◌↔◌, ℕ, Option, option_to_list, Contains, IsTrue, IfOk, IfErr, OnOk, MatchOption};
-ghost use Rattle.zf_term.specs.{globals_of};
+ghost use Rattle.zf_meaning.specs.Prelude.{globals_of};
 ghost use Rattle.zf_meaning.specs.{AreAccepted, AreComplete, AreSizes, CountsAt, given_at, given_sets, IsAccepted, IsRefusal, IsSizeFault, IsStated, names};
 
 use std::alloc::{AllocError, AllocFailed, Global};

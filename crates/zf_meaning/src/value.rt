@@ -1,7 +1,6 @@
 //! What terms mean in a row.
 ghost use Rattle.std.specs.Prelude.{◌≡◌, [], IfOk, IfSome, length};
-ghost use Rattle.zf_term.specs.{resolved_of};
-ghost use Rattle.zf_outcome.specs.{Describes};
+ghost use Rattle.zf_meaning.specs.Prelude.{resolved_of, Describes};
 ghost use Rattle.zf_meaning.specs.{environment_of, HasOutcome, in_row, IsBehind, IsTruth, need};
 
 use crate::env::Env;

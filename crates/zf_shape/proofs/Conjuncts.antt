@@ -1,9 +1,6 @@
 -- The nodes and the height of each form of conjunct.
-use Rattle.zf_shape.proofs.Prelude.{◌+◌, ◌-◌, ◌<◌, ◌↔◌, ◌∙◌, ◌≡◌, ◌≤◌, [], ◌∷◌, ap, arith, Bool, false, IsTrue, length, List, MatchOption, max, None, Option, refl, Some, sym, true, true≢false, ℕ, Batch, conjunct_of, Conjunct, is_member, joined, one_holds, resolved_of, ResolvedTree, height, nodes, numbering, Resolved}
-use Rattle.zf_term.proofs.ConjunctsSeen.{of-Either, of-Member, of-Term}
-use Rattle.zf_term.proofs.Renumbered.{same_height, same_nodes}
+use Rattle.zf_shape.proofs.Prelude.{◌+◌, ◌-◌, ◌<◌, ◌↔◌, ◌∙◌, ◌≡◌, ◌≤◌, [], ◌∷◌, ap, arith, Bool, false, IsTrue, length, List, MatchOption, max, None, Option, refl, Some, sym, true, true≢false, ℕ, Batch, conjunct_of, Conjunct, is_member, joined, one_holds, resolved_of, ResolvedTree, height, nodes, numbering, Resolved, of-Either, of-Member, of-Term, same_height, same_nodes, AreLow}
 use Rattle.zf_term.specs.declared.conjunct.Conjunct.TheVariants as v
-use Rattle.zf_shape.specs.{AreLow}
 use Rattle.zf_shape.proofs.Heights.{below_nodes, some_height}
 use Rattle.zf_shape.proofs.Joined.{all_in, as_high, low_joined}
 

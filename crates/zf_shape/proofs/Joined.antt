@@ -1,9 +1,7 @@
 -- The nodes and the height of terms that are joined to the left.
-use Rattle.zf_shape.proofs.Prelude.{◌++◌, ◌+◌, ◌-◌, ◌<◌, ◌↔◌, ◌∙◌, ◌∷◌, ◌≡◌, ◌≤◌, [], ap, arith, length, length-append, List, map, min, refl, suc, sym, zero, ℕ, all_joined, all_of, batch_of, Batch, both_hold, conjunct_of, Conjunct, height, joined, moved, nodes, numbering, ResolvedTree, terms, all_nodes, take, get_or, add-one, append-nil, append_assoc, batch-seen, length-map, subst}
-use Rattle.zf_term.proofs.Renumbered.{same_height, same_nodes}
+use Rattle.zf_shape.proofs.Prelude.{◌++◌, ◌+◌, ◌-◌, ◌<◌, ◌↔◌, ◌∙◌, ◌∷◌, ◌≡◌, ◌≤◌, [], ap, arith, length, length-append, List, map, min, refl, suc, sym, zero, ℕ, all_joined, all_of, batch_of, Batch, both_hold, conjunct_of, Conjunct, height, joined, moved, nodes, numbering, ResolvedTree, terms, all_nodes, take, get_or, add-one, append-nil, append_assoc, batch-seen, length-map, subst, same_height, same_nodes, AreLow}
 use Rattle.zf_shape.proofs.FirstOf.{before, IsCounted, IsMore, more}
 use Rattle.zf_shape.proofs.Heights.{some_height}
-use Rattle.zf_shape.specs.{AreLow}
 
 -- ---- nodes
 

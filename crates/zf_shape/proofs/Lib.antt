@@ -5,3 +5,4 @@ pub mod Heights
 pub mod SetsCounted
 pub mod Joined
 pub mod Conjuncts
+pub mod Greatest

@@ -1,6 +1,5 @@
 -- The nodes of terms, and of the first of several.
-use Rattle.zf_shape.proofs.Prelude.{◌+◌, ◌<◌, ◌∙◌, ◌≡◌, ◌≤◌, ap, arith, get_or, length, List, map, None, Option, Some, sym, take, ℕ, Quantifier, link-seen, of-Comprehension, of-Quantified, range-seen, links, part_of, range_of, ranges, resolved_link_of, resolved_of, ResolvedTree, terms, all_nodes, link_nodes, nodes, part_nodes, range_nodes, Range, Resolved, ResolvedLink}
-use Rattle.std.specs.Prelude.{MatchOption}
+use Rattle.zf_shape.proofs.Prelude.{◌+◌, ◌<◌, ◌∙◌, ◌≡◌, ◌≤◌, ap, arith, get_or, length, List, map, None, Option, Some, sym, take, ℕ, Quantifier, link-seen, of-Comprehension, of-Quantified, range-seen, links, part_of, range_of, ranges, resolved_link_of, resolved_of, ResolvedTree, terms, all_nodes, link_nodes, nodes, part_nodes, range_nodes, Range, Resolved, ResolvedLink, MatchOption}
 use Rattle.zf_shape.proofs.FirstOf.{before, IsCounted, IsMore, more}
 use Rattle.zf_shape.proofs.Heights.{below_nodes, some_height}
 use Rattle.zf_term.specs.declared.resolved.Resolved.TheVariants as v

@@ -1,17 +1,10 @@
 -- What is made of a predicate's parts says what the predicate says, as the program's terms.
-use Rattle.zf_unfold.proofs.Prelude.{◌+◌, ◌<◌, ◌∙◌, ◌∷◌, ◌≡◌, ◌≤◌, ap, arith, List, map, None, Option, refl, subst, suc, sym, zero, ℕ, binary, part_of, quantified, range, Ranges, range_of, ranges, resolved_of, ResolvedTree, unary, Environment, IsBase, IsUnfolded, named, renamed}
+use Rattle.zf_unfold.proofs.Prelude.{◌+◌, ◌<◌, ◌∙◌, ◌∷◌, ◌≡◌, ◌≤◌, ap, arith, List, map, None, Option, refl, subst, suc, sym, zero, ℕ, binary, part_of, quantified, range, Ranges, range_of, ranges, resolved_of, ResolvedTree, unary, Environment, IsBase, IsUnfolded, named, renamed, Connective, Not, ForAll, of-Binary, of-Bracket, of-Quantified, of-Unary, range-seen, Range, Resolved, fewer}
 use Rattle.zf_tree.specs.declared.operator.Operator.{Operator}
-use Rattle.zf_tree.specs.declared.operator.Operator.TheVariants.{Connective}
 use Rattle.zf_tree.specs.declared.operator.Unary.{Unary}
-use Rattle.zf_tree.specs.declared.operator.Unary.TheVariants.{Not}
 use Rattle.zf_tree.specs.declared.symbol.Connective as connective
 use Rattle.zf_tree.specs.declared.symbol.Quantifier.{Quantifier}
-use Rattle.zf_tree.specs.declared.symbol.Quantifier.TheVariants.{ForAll}
-use Rattle.zf_term.proofs.ResolvedSeen.{of-Binary, of-Bracket, of-Quantified, of-Unary, range-seen}
-use Rattle.zf_term.specs.declared.resolved.Range.{Range}
-use Rattle.zf_term.specs.declared.resolved.Resolved.{Resolved}
 use Rattle.zf_term.specs.declared.resolved.Resolved.TheVariants as v
-use Rattle.zf_unfold.specs.{fewer}
 use Rattle.zf_unfold.proofs.WrittenOut.{unfold_bracket, unfold_connected, unfold_not, unfold_outside}
 
 across : (f e : Environment) (t t' u u' : ResolvedTree) → t' ≡ t → u' ≡ u → IsUnfolded f e t u → IsUnfolded f e t' u'

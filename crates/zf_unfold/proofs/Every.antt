@@ -1,13 +1,6 @@
 -- What holds of every value of a list, in three truths; so of every row of sets, by its first value.
-use Rattle.zf_unfold.proofs.Prelude.{◌++◌, ◌↔◌, ◌∷◌, ◌≡◌, ◌⊎◌, [], inl, inr, List, refl, replicate, subst, suc, sym, ℕ, ⊎_elim, Truth, Value, IsConjunction, IsForAll, IsQuantified, one_out, one_undefined, Several, values}
-use Rattle.zf_tree.specs.declared.symbol.Quantifier.TheVariants.{ForAll}
-use Rattle.zf_value.specs.declared.value.Outcome.TheVariants.{Is}
-use Rattle.zf_value.specs.declared.value.Truth.TheVariants.{True, False, Out}
-use Rattle.zf_value.specs.{AreFrom, IsMember, members}
-use Rattle.zf_outcome.specs.{repeated}
-use Rattle.zf_meaning.specs.{all_rows, IsAmong}
+use Rattle.zf_unfold.proofs.Prelude.{◌++◌, ◌↔◌, ◌∷◌, ◌≡◌, ◌⊎◌, [], inl, inr, List, refl, replicate, subst, suc, sym, ℕ, ⊎_elim, Truth, Value, IsConjunction, IsForAll, IsQuantified, one_out, one_undefined, Several, values, ForAll, Is, True, False, Out, AreFrom, IsMember, members, repeated, all_rows, IsAmong, map}
 use Rattle.zf_meaning.proofs.AllRows.{row-among, among-row}
-use Rattle.std.specs.Prelude.{map}
 
 -- as a universal quantifier has it
 abbrev pub IsEvery : List Value → (Value → Truth → Type 0) → Truth → Type 0

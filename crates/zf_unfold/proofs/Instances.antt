@@ -1,13 +1,7 @@
 -- What a universal quantifier says of a member is what its instance says.
-use Rattle.zf_unfold.proofs.Prelude.{◌↔◌, Reference, ◌∙◌, ◌∷◌, ◌≡◌, ◌≤◌, [], ap, inr, List, None, refl, Some, subst, suc, sym, zero, ℕ, ⊎_elim, slice_get, Truth, Value, absent, no_ranges, present, quantified, range, Ranges, ResolvedPart, ResolvedTree, Context, Environment, within, HasOutcome, HaveRanges, IsConstraint, IsTruth, one_out, one_undefined, repeated, Several, values, IsForAll, IsQuantified, IsTold, at, AreSameRanges, IsSame, IsSamePart, IsBase, named, part_renamed, ranges_renamed, renamed}
-use Rattle.zf_tree.specs.declared.symbol.Quantifier.TheVariants.{ForAll}
-use Rattle.zf_value.specs.declared.value.Outcome.TheVariants.{Is}
-use Rattle.zf_value.specs.declared.value.Truth.TheVariants.{True, False, Out}
-use Rattle.zf_value.specs.{AreFrom}
-use Rattle.zf_outcome.specs.{IsDisjunction, opposite}
+use Rattle.zf_unfold.proofs.Prelude.{◌↔◌, Reference, ◌∙◌, ◌∷◌, ◌≡◌, ◌≤◌, [], ap, inr, List, None, refl, Some, subst, suc, sym, zero, ℕ, ⊎_elim, slice_get, Truth, Value, absent, no_ranges, present, quantified, range, Ranges, ResolvedPart, ResolvedTree, Context, Environment, within, HasOutcome, HaveRanges, IsConstraint, IsTruth, one_out, one_undefined, repeated, Several, values, IsForAll, IsQuantified, IsTold, at, AreSameRanges, IsSame, IsSamePart, IsBase, named, part_renamed, ranges_renamed, renamed, ForAll, Is, True, False, Out, AreFrom, IsDisjunction, opposite, implied, instance, others, over}
 use Rattle.zf_meaning.proofs.Unique.{one_outcome}
 use Rattle.zf_lift.proofs.Mapped as mapped
-use Rattle.zf_unfold.specs.{implied, instance, others, over}
 use Rattle.zf_unfold.proofs.Agreeing.{part_same, ranges_same, same_renamed}
 use Rattle.zf_unfold.proofs.Names.{agree_inside, agree_outside}
 use Rattle.zf_unfold.proofs.Every.{behind, says_behind}

@@ -1,8 +1,6 @@
 -- Names that mean in a longer environment what others mean after the values of bound variables.
-use Rattle.zf_unfold.proofs.Prelude.{◌<◌, ◌∙◌, ◌∷◌, ◌≡◌, ◌≤◌, ◌⊎◌, [], ap, arith, inl, inr, length, List, min, None, Option, refl, Some, subst, suc, sym, zero, ℕ, ⊎_elim, slice_get, Reference, Component, Global, Local, Outcome, Value, reference, Defined, Context, Environment, outcome_in, outcome_or, IsLonger, at, IsSame, IsBase, named}
+use Rattle.zf_unfold.proofs.Prelude.{◌<◌, ◌∙◌, ◌∷◌, ◌≡◌, ◌≤◌, ◌⊎◌, [], ap, arith, inl, inr, length, List, min, None, Option, refl, Some, subst, suc, sym, zero, ℕ, ⊎_elim, slice_get, Reference, Component, Global, Local, Outcome, Value, reference, Defined, Context, Environment, outcome_in, outcome_or, IsLonger, at, IsSame, IsBase, named, Is, Undefined, infinite_in, unended}
 use Rattle.zf_extent.specs.{extent_found, extent_set}
-use Rattle.zf_value.specs.declared.value.Outcome.TheVariants.{Is, Undefined}
-use Rattle.zf_meaning.specs.{infinite_in, unended}
 use Rattle.zf_lift.proofs.Longer as longer_ones
 use Rattle.zf_unfold.proofs.Agreeing.{Agrees}
 

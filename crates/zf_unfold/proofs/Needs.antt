@@ -1,7 +1,5 @@
 -- A term with other names needs no more components, nor does what a quantifier says of its members.
-use Rattle.zf_unfold.proofs.Prelude.{◌≤◌, arith, max, None, Option, Some, suc, zero, ℕ, Reference, Component, Global, Local, absent, binary, bracket, comprehension, chain, constant, empty_set, link, listed, no_links, no_ranges, no_terms, number, present, quantified, range, Ranges, reference, ResolvedLinks, ResolvedPart, ResolvedTree, ResolvedTrees, term, unary, all_need, links_need, need, part_need, place, ranges_need, named, renamed, all_renamed, links_renamed, ranges_renamed, part_renamed}
-use Rattle.zf_tree.specs.declared.symbol.Quantifier.TheVariants.{ForAll}
-use Rattle.zf_unfold.specs.{implied, inside, instance, instances, others, over}
+use Rattle.zf_unfold.proofs.Prelude.{◌≤◌, arith, max, None, Option, Some, suc, zero, ℕ, Reference, Component, Global, Local, absent, binary, bracket, comprehension, chain, constant, empty_set, link, listed, no_links, no_ranges, no_terms, number, present, quantified, range, Ranges, reference, ResolvedLinks, ResolvedPart, ResolvedTree, ResolvedTrees, term, unary, all_need, links_need, need, part_need, place, ranges_need, named, renamed, all_renamed, links_renamed, ranges_renamed, part_renamed, ForAll, implied, inside, instance, instances, others, over}
 
 module _ (f : Reference → Reference) (h : (r : Reference) → place (f r) ≤ place r) where
   mutual

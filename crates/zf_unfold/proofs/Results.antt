@@ -1,15 +1,6 @@
 -- What is made of a predicate, where memory may be refused.
-use Rattle.zf_unfold.proofs.Prelude.{◌+◌, ◌<◌, ◌∙◌, ◌≡◌, ap, arith, length, List, map, None, Option, Some, subst, suc, sym, ℕ, resolved_of, ResolvedTree, Environment, environment_of, longer, AreLifted, IsLonger, IsBase, IsSetNamed, IsUnfolded, named, part_of, range_of, ranges, renamed, Value}
-use Rattle.std.proofs.Common.{Err, IfOk, Ok, OnOk, Result}
-use Rattle.std.specs.Prelude.{IfSome}
-use Rattle.std.proofs.lemmas.Result.{IfOk-weaker}
-use Rattle.zf_term.specs.declared.resolved.Resolved.{Resolved}
-use Rattle.zf_value.specs.declared.value.Outcome.TheVariants.{Is}
-use Rattle.zf_value.specs.{members}
-use Rattle.zf_lift.specs.declared.lifted.Lifted.{Lifted}
-use Rattle.zf_lift.proofs.Longer.{itself}
+use Rattle.zf_unfold.proofs.Prelude.{◌+◌, ◌<◌, ◌∙◌, ◌≡◌, ap, arith, length, List, map, None, Option, Some, subst, suc, sym, ℕ, resolved_of, ResolvedTree, Environment, environment_of, longer, AreLifted, IsLonger, IsBase, IsSetNamed, IsUnfolded, named, part_of, range_of, ranges, renamed, Value, Err, IfOk, Ok, OnOk, Result, IfSome, IfOk-weaker, Resolved, Is, members, Lifted, itself, instances_of, universal_of}
 use Rattle.zf_unfold.specs.declared.instance.Universal.{Universal}
-use Rattle.zf_unfold.specs.{instances_of, universal_of}
 use Rattle.zf_unfold.proofs.Arms.{plain}
 use Rattle.zf_unfold.proofs.Steps.{all_further, unfold_members}
 

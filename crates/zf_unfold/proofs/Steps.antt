@@ -1,15 +1,7 @@
 -- What steps of writing out come to.
-use Rattle.zf_unfold.proofs.Prelude.{◌++◌, ◌+◌, ◌<◌, ◌∙◌, ◌∷◌, ◌≡◌, ◌≤◌, [], add-one, ap, arith, get_or, length, List, map, refl, Some, subst, suc, sym, take, zero, ℕ, slice_get, Reference, Global, Outcome, Value, quantified, range, Ranges, reference, resolved_of, ResolvedPart, ResolvedTree, Environment, longer, outcome_or, in_row, HasOutcome, AreEach, AreLifted, IsLifted, IsLonger, AreNamed, IsBase, IsSetNamed, IsUnfolded}
-use Rattle.std.proofs.lemmas.List.{append_assoc, length-append}
-use Rattle.zf_term.proofs.ResolvedSeen.{of-Name}
-use Rattle.zf_term.specs.declared.resolved.Resolved.{Resolved}
+use Rattle.zf_unfold.proofs.Prelude.{◌++◌, ◌+◌, ◌<◌, ◌∙◌, ◌∷◌, ◌≡◌, ◌≤◌, [], add-one, ap, arith, get_or, length, List, map, refl, Some, subst, suc, sym, take, zero, ℕ, slice_get, Reference, Global, Outcome, Value, quantified, range, Ranges, reference, resolved_of, ResolvedPart, ResolvedTree, Environment, longer, outcome_or, in_row, HasOutcome, AreEach, AreLifted, IsLifted, IsLonger, AreNamed, IsBase, IsSetNamed, IsUnfolded, append_assoc, length-append, of-Name, Resolved, ForAll, Is, Undefined, each_also, whole, members, instances}
 use Rattle.zf_term.specs.declared.resolved.Resolved.TheVariants as v
-use Rattle.zf_tree.specs.declared.symbol.Quantifier.TheVariants.{ForAll}
-use Rattle.zf_value.specs.declared.value.Outcome.TheVariants.{Is, Undefined}
-use Rattle.zf_lift.proofs.Each.{each_also, whole}
-use Rattle.zf_value.specs.{members}
 use Rattle.zf_lift.proofs.Longer as longer_ones
-use Rattle.zf_unfold.specs.{instances}
 use Rattle.zf_unfold.proofs.Names.{base_later}
 use Rattle.zf_unfold.proofs.WrittenOut.{is_unfolded, unfold_quantified}
 

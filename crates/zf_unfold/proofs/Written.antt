@@ -1,14 +1,6 @@
 -- What a universal quantifier says of members, as the program's terms.
-use Rattle.zf_unfold.proofs.Prelude.{◌++◌, ◌+◌, ◌<◌, ◌∙◌, ◌∷◌, ◌≡◌, ◌≤◌, [], add-one, ap, arith, length, List, map, Option, refl, Some, subst, suc, sym, zero, ℕ, binary, part_of, part_renamed, quantified, range, Ranges, range_of, ranges, ranges_renamed, range_renamed, Reference, renamed, resolved_of, ResolvedPart, ResolvedTree}
-use Rattle.std.specs.Prelude.{◌==◌, false}
-use Rattle.zf_tree.specs.declared.operator.Operator.TheVariants.{Connective}
-use Rattle.zf_tree.specs.declared.symbol.Connective.TheVariants.{And, Implies}
-use Rattle.zf_tree.specs.declared.symbol.Quantifier.TheVariants.{ForAll}
-use Rattle.zf_term.proofs.ResolvedSeen.{of-Binary, of-Quantified, range-seen}
-use Rattle.zf_term.specs.declared.resolved.Range.{Range}
-use Rattle.zf_term.specs.declared.resolved.Resolved.{Resolved}
+use Rattle.zf_unfold.proofs.Prelude.{◌++◌, ◌+◌, ◌<◌, ◌∙◌, ◌∷◌, ◌≡◌, ◌≤◌, [], add-one, ap, arith, length, List, map, Option, refl, Some, subst, suc, sym, zero, ℕ, binary, part_of, part_renamed, quantified, range, Ranges, range_of, ranges, ranges_renamed, range_renamed, Reference, renamed, resolved_of, ResolvedPart, ResolvedTree, ◌==◌, false, Connective, And, Implies, ForAll, of-Binary, of-Quantified, range-seen, Range, Resolved, fewer, implied, instance, instances, over}
 use Rattle.zf_term.specs.declared.resolved.Resolved.TheVariants as v
-use Rattle.zf_unfold.specs.{fewer, implied, instance, instances, over}
 use Rattle.zf_unfold.proofs.Arms.{left_none, left_some}
 use Rattle.zf_resolved.proofs.Renamings.{all-ranges}
 

@@ -1,18 +1,10 @@
 -- What is written out says what the predicate says, form by form.
-use Rattle.zf_unfold.proofs.Prelude.{◌↔◌, ◌∷◌, ◌≡◌, ◌≤◌, [], arith, inl, length, List, None, refl, subst, suc, sym, ℕ, Truth, Value, binary, bracket, quantified, range, Ranges, ResolvedPart, ResolvedTree, unary, Environment, in_row, HasOutcome, HaveRanges, IsTruth, repeated, Several, IsQuantified, IsLifted, IsLonger, at, IsBase, IsUnfolded, named, renamed}
-use Rattle.zf_tree.specs.declared.operator.Operator.TheVariants.{Connective}
-use Rattle.zf_tree.specs.declared.operator.Unary.TheVariants.{Not}
+use Rattle.zf_unfold.proofs.Prelude.{◌↔◌, ◌∷◌, ◌≡◌, ◌≤◌, [], arith, inl, length, List, None, refl, subst, suc, sym, ℕ, Truth, Value, binary, bracket, quantified, range, Ranges, ResolvedPart, ResolvedTree, unary, Environment, in_row, HasOutcome, HaveRanges, IsTruth, repeated, Several, IsQuantified, IsLifted, IsLonger, at, IsBase, IsUnfolded, named, renamed, Connective, Not, And, ForAll, Is, IsMember, members, opposite, AreNamed, instance, instances}
 use Rattle.zf_tree.specs.declared.symbol.Connective as connective
-use Rattle.zf_tree.specs.declared.symbol.Connective.TheVariants.{And}
-use Rattle.zf_tree.specs.declared.symbol.Quantifier.TheVariants.{ForAll}
-use Rattle.zf_value.specs.declared.value.Outcome.TheVariants.{Is}
-use Rattle.zf_value.specs.{IsMember, members}
-use Rattle.zf_outcome.specs.{opposite}
 use Rattle.zf_lift.proofs.Longer as longer_ones
 use Rattle.zf_lift.proofs.Mapped as mapped
 use Rattle.zf_lift.proofs.Needs.{uses_no_more}
 use Rattle.law_total.proofs.Terms.{some_truth}
-use Rattle.zf_unfold.specs.{AreNamed, instance, instances}
 use Rattle.zf_unfold.proofs.Agreeing.{same_renamed}
 use Rattle.zf_unfold.proofs.Every.{every_both, every_one, IsEvery, quantified_first, says_behind}
 use Rattle.zf_unfold.proofs.Instances.{instance_same, one_ranges, Told}

@@ -1,13 +1,7 @@
 -- Where a search over some predicates can begin, so can one over some of them.
-use Rattle.zf_why.proofs.Prelude.{◌++◌, ◌<◌, ◌∷◌, ◌≡◌, ◌≤◌, [], arith, Bool, length, List, Some, subst, suc, sym, zero, ℕ, AllByRecursion, slice_get, Comp, sets_of, ResolvedTree, Environment, property, IsNoneOut, chosen_of, CanAsk, CanBegin, schema_with}
-use Rattle.zf_extent.specs.{offending, unless}
+use Rattle.zf_why.proofs.Prelude.{◌++◌, ◌<◌, ◌∷◌, ◌≡◌, ◌≤◌, [], arith, Bool, length, List, Some, subst, suc, sym, zero, ℕ, AllByRecursion, slice_get, Comp, sets_of, ResolvedTree, Environment, property, IsNoneOut, chosen_of, CanAsk, CanBegin, schema_with, offending, unless, AreDueWithin, due_of, IsOneOut, IsOutAt, IsTrue, all_chosen_of}
 use Rattle.zf_finite.specs.{all_set_offenders, IsFinite, one_bounds}
-use Rattle.zf_walk.specs.{AreDueWithin}
-use Rattle.zf_enum.specs.{due_of}
-use Rattle.zf_ranges.specs.{IsOneOut, IsOutAt}
-use Rattle.std.specs.Prelude.{IsTrue}
 use Rattle.zf_why.proofs.Lists.{all_at}
-use Rattle.zf_cores.proofs.Choosing.{all_chosen_of}
 
 module _ (e : Environment) (cs : List Comp) where
   finite_each : (ps : List ResolvedTree) → AllByRecursion (CanAsk e (length cs)) ps → AllByRecursion (λ t. unless e.numbers (offending e.globals t) ≡ []) ps

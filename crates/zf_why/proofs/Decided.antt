@@ -1,9 +1,7 @@
 -- A search finds an event exactly where some row makes all predicates other than False.
-use Rattle.zf_why.proofs.Prelude.{◌<◌, ◌∷◌, ◌⊎◌, refl, [], arith, inl, inr, length, List, None, Option, subst, suc, sym, zero, ℕ, AllByRecursion, slice_get, IsTruthOf, Event, IsEvent, Advances, Stage, False, Out, True, Breaks, End, Holds, Schema, ResolvedTree, value_order, Value, Environment, AreRanges, portion, HasTruth, property, told, conjuncts_of, Goal, Begins, HasRow, IsAllowed, RuleOut, Decides, Bool, Result, Ok, Err}
-use Rattle.std.specs.Prelude.{IfOk, ◌≢◌}
+use Rattle.zf_why.proofs.Prelude.{◌<◌, ◌∷◌, ◌⊎◌, refl, [], arith, inl, inr, length, List, None, Option, subst, suc, sym, zero, ℕ, AllByRecursion, slice_get, IsTruthOf, Event, IsEvent, Advances, Stage, False, Out, True, Breaks, End, Holds, Schema, ResolvedTree, value_order, Value, Environment, AreRanges, portion, HasTruth, property, told, conjuncts_of, Goal, Begins, HasRow, IsAllowed, RuleOut, Decides, Bool, Result, Ok, Err, IfOk, ◌≢◌, Conjuncts}
 use Rattle.zf_walk.specs.declared.judge.Truth.{Truth}
 use Rattle.zf_plan.proofs.Alike.{advances}
-use Rattle.zf_walk.specs.Conjuncts.{Conjuncts}
 use Rattle.zf_why.proofs.Rows.{row_of, row_in}
 
 module _ (e : Environment) (row : List Value) where

@@ -1,24 +1,15 @@
 -- The sides of a disjunction of schemas: what holds of its sides holds of it, and a search over them can begin.
-use Rattle.zf_why.proofs.Prelude.{◌++◌, ◌≡◌, ◌∙◌, ◌∷◌, [], ap, arith, inl, inr, length, List, map, None, Option, refl, Some, subst, sym, ℕ, AllByRecursion, Comp, conjunct_of, ResolvedTree, Value, Environment, CanAsk, CanBegin, IsAllowed, RuleOut}
-use Rattle.zf_data.specs.{all_of}
+use Rattle.zf_why.proofs.Prelude.{◌++◌, ◌≡◌, ◌∙◌, ◌∷◌, [], ap, arith, inl, inr, length, List, map, None, Option, refl, Some, subst, sym, ℕ, AllByRecursion, Comp, conjunct_of, ResolvedTree, Value, Environment, CanAsk, CanBegin, IsAllowed, RuleOut, all_of, Batch, Conjunct, all_joined, batch_of, binary, both_hold, joined, moved, numbering, one_holds, term_line, of-Either, offending, unless, in_row, IsTruth, due, beside}
 use Rattle.zf_tree.specs.declared.operator.Operator.{Operator}
 use Rattle.zf_tree.specs.declared.operator.Operator.TheVariants.{Connective}
 use Rattle.zf_tree.specs.declared.symbol.Connective.TheVariants.{And, Or}
-use Rattle.zf_term.specs.declared.conjunct.Batch.{Batch}
-use Rattle.zf_term.specs.declared.conjunct.Conjunct.{Conjunct}
 use Rattle.zf_term.specs.declared.conjunct.Conjunct.TheVariants as conjunct
-use Rattle.zf_term.specs.{all_joined, batch_of, binary, both_hold, joined, moved, numbering, one_holds, term_line}
-use Rattle.zf_term.proofs.ConjunctsSeen.{of-Either}
 use Rattle.zf_term.proofs.Renumbered.{same_line}
 use Rattle.zf_extent.specs.declared.offender.Offender.{Offender}
-use Rattle.zf_extent.specs.{offending, unless}
 use Rattle.zf_value.specs.declared.value.Truth.{Truth}
 use Rattle.zf_value.specs.declared.value.Truth.TheVariants as truth
-use Rattle.zf_meaning.specs.{in_row, IsTruth}
 use Rattle.law_total.proofs.Terms.{some_truth}
-use Rattle.zf_enum.specs.{due}
 use Rattle.zf_enum.proofs.Planted.{due_binary}
-use Rattle.zf_cores.proofs.Choosing.{beside}
 
 -- ---- what a conjunct is, by its sides
 

@@ -1,6 +1,5 @@
 -- From what is picked of components and conjuncts to why there is no binding.
-use Rattle.zf_why.proofs.Prelude.{◌∷◌, ◌≡◌, [], drop, List, Option, refl, Some, subst, suc, sym, zero, ℕ, slice_get, Comp, Value, Environment, first_held, later_held, HasRow, HasNoValue, HasValue, IsInHeldRange, IsHeldRow, RuleOut, Decides, OneOf, Bool, true, false, Result, Ok, Err}
-use Rattle.std.specs.Prelude.{IfOk, IfSome}
+use Rattle.zf_why.proofs.Prelude.{◌∷◌, ◌≡◌, [], drop, List, Option, refl, Some, subst, suc, sym, zero, ℕ, slice_get, Comp, Value, Environment, first_held, later_held, HasRow, HasNoValue, HasValue, IsInHeldRange, IsHeldRow, RuleOut, Decides, OneOf, Bool, true, false, Result, Ok, Err, IfOk, IfSome}
 
 pub held_later : (i : ℕ) (held : List (Option Value)) → first_held (drop (suc i) held) ≡ first_held (drop i (later_held held))
 held_later zero [] = refl

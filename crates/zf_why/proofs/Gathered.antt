@@ -1,15 +1,6 @@
 -- The conjuncts of a side, gathered batch after batch, and their lines.
-use Rattle.zf_why.proofs.Prelude.{◌++◌, ◌+◌, ◌<◌, ◌≤◌, ◌∙◌, ◌∷◌, ◌≡◌, [], ap, append-nil, append_assoc, Bool, drop, get_or, length, List, map, Option, Some, suc, sym, zero, ℕ, slice_get, Comp, conjunct_of, ResolvedTree, Value, Environment, chosen_of, IsCore}
-use Rattle.std.proofs.Common.{Global, Vec}
-use Rattle.std.proofs.lemmas.List.{drop_all, map-append}
-use Rattle.std.specs.Prelude.{IfOk, Err, Ok, Result}
-use Rattle.zf_data.specs.{all_of}
-use Rattle.zf_term.specs.declared.conjunct.Batch.{Batch}
-use Rattle.zf_term.specs.declared.conjunct.Conjunct.{Conjunct}
-use Rattle.zf_term.specs.{batch_of, moved, term_line}
+use Rattle.zf_why.proofs.Prelude.{◌++◌, ◌+◌, ◌<◌, ◌≤◌, ◌∙◌, ◌∷◌, ◌≡◌, [], ap, append-nil, append_assoc, Bool, drop, get_or, length, List, map, Option, Some, suc, sym, zero, ℕ, slice_get, Comp, conjunct_of, ResolvedTree, Value, Environment, chosen_of, IsCore, Global, Vec, drop_all, map-append, IfOk, Err, Ok, Result, all_of, Batch, Conjunct, batch_of, moved, term_line, seen_chosen, AreBlamed}
 use Rattle.zf_term.proofs.Walk.{dropped}
-use Rattle.zf_cores.proofs.Choosing.{seen_chosen}
-use Rattle.zf_why.specs.{AreBlamed}
 
 module _ (f : ℕ → ℕ) where
   -- the conjuncts of batches

@@ -1,17 +1,10 @@
 -- What expressions whose names are held come to, whatever the values of the other components.
-use Rattle.zf_why.proofs.Prelude.{◌∙◌, ◌∷◌, ◌≡◌, [], ap, arith, Bool, Err, false, get_or, length, List, map, None, Ok, Option, refl, Result, Some, subst, suc, sym, true, zero, ℕ, slice_get, Environment, ResolvedTree, Value}
-use Rattle.std.specs.Prelude.{◌≢◌, cond, IfOk, unwrap_or}
-use Rattle.zf_reference.specs.declared.reference.Reference.{Reference}
+use Rattle.zf_why.proofs.Prelude.{◌∙◌, ◌∷◌, ◌≡◌, [], ap, arith, Bool, Err, false, get_or, length, List, map, None, Ok, Option, refl, Result, Some, subst, suc, sym, true, zero, ℕ, slice_get, Environment, ResolvedTree, Value, ◌≢◌, cond, IfOk, unwrap_or, Reference, link-seen, binary, bracket, comprehension, chain, constant, empty_set, link, links, listed, no_links, number, onto, quantified, reference, references, resolved_link_of, resolved_of, unary, ResolvedLink, HasOutcome, in_row, are_held, AreOperands, AreOperandsOf, AreOutcomes, AreOutcomesIn, filled, HasHeld, HasHeldOutcome, is_held, is_value, only_link, operands_of, with_first}
 use Rattle.zf_reference.specs.declared.reference.Reference.TheVariants.{Component, Local, Global}
 use Rattle.zf_tree.specs.declared.symbol.Relation.{Relation}
-use Rattle.zf_term.proofs.ResolvedSeen.{link-seen}
-use Rattle.zf_term.specs.{binary, bracket, comprehension, chain, constant, empty_set, link, links, listed, no_links, number, onto, quantified, reference, references, resolved_link_of, resolved_of, unary}
-use Rattle.zf_term.specs.declared.resolved.ResolvedLink.{ResolvedLink}
 use Rattle.zf_value.specs.declared.value.Outcome.{Outcome}
-use Rattle.zf_meaning.specs.{HasOutcome, in_row}
 use Rattle.zf_meaning.proofs.SameRows.{Agree, AgreeAt, same_outcome}
 use Rattle.zf_why.specs.declared.told.Operands.{Operands}
-use Rattle.zf_why.specs.{are_held, AreOperands, AreOperandsOf, AreOutcomes, AreOutcomesIn, filled, HasHeld, HasHeldOutcome, is_held, is_value, only_link, operands_of, with_first}
 use Rattle.zf_why.proofs.NamesHeld.{held_before}
 
 -- ---- rows with the values that are held

@@ -1,8 +1,5 @@
 -- Lists by their places.
-use Rattle.zf_why.proofs.Prelude.{◌++◌, ◌+◌, ◌<◌, ◌≤◌, ◌∙◌, ◌∷◌, ◌≡◌, [], ap, arith, Bool, drop, false, get_or, length, List, map, refl, Some, subst, suc, sym, take, true, zero, ℕ, AllByRecursion, slice_get, chosen_of}
-use Rattle.std.proofs.lemmas.List.{take_all, take_more}
-use Rattle.std.specs.Prelude.{replicate}
-use Rattle.zf_cores.proofs.Choosing.{seen_chosen, stays_out}
+use Rattle.zf_why.proofs.Prelude.{◌++◌, ◌+◌, ◌<◌, ◌≤◌, ◌∙◌, ◌∷◌, ◌≡◌, [], ap, arith, Bool, drop, false, get_or, length, List, map, refl, Some, subst, suc, sym, take, true, zero, ℕ, AllByRecursion, slice_get, chosen_of, take_all, take_more, replicate, seen_chosen, stays_out}
 
 -- what stands at a place, seen through a function
 pub seen_at : {A B : Type 0} (f : A → B) (xs : List A) (i : ℕ) (x : A) → x ≡ get_or xs i x → i < length xs → slice_get (map f xs) i ≡ Some (f x)

@@ -1,7 +1,5 @@
 -- What is picked one after another.
-use Rattle.zf_why.proofs.Prelude.{◌++◌, ◌+◌, ◌<◌, ◌∷◌, ◌≡◌, ◌⊎◌, [], ◌≤◌, add-one, ap, arith, Bool, true, false, inl, inr, length, List, not, refl, Some, subst, suc, take, zero, ℕ, slice_get, ArePicked, IsChosen, IsLeft, HasChosen, OneOf}
-use Rattle.std.proofs.lemmas.List.{take_all}
-use Rattle.std.specs.Prelude.{IfSome}
+use Rattle.zf_why.proofs.Prelude.{◌++◌, ◌+◌, ◌<◌, ◌∷◌, ◌≡◌, ◌⊎◌, [], ◌≤◌, add-one, ap, arith, Bool, true, false, inl, inr, length, List, not, refl, Some, subst, suc, take, zero, ℕ, slice_get, ArePicked, IsChosen, IsLeft, HasChosen, OneOf, take_all, IfSome}
 use Rattle.zf_why.proofs.Lists.{some_at}
 
 one_of : (P Q : Type 0) (b : Bool) → OneOf P Q b → ((Some b ≡ Some true) × P) ⊎ ((Some b ≡ Some false) × Q)

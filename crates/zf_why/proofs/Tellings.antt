@@ -1,14 +1,9 @@
 -- What is reported of chosen conjuncts, one after another.
-use Rattle.zf_why.proofs.Prelude.{◌++◌, ◌+◌, ◌≤◌, ◌∙◌, ◌∷◌, ◌≡◌, [], add-one, ap, append-nil, append_assoc, Bool, drop, false, inl, inr, length, List, map, None, Option, refl, Some, subst, suc, sym, true, zero, ℕ, AllByRecursion, slice_get, slice_set, Comp, conjunct_of, ResolvedTree, Value, Environment, CanAsk, CanBegin, IsAllowed, RuleOut, chosen_of, IsChosen, AreAlone}
-use Rattle.std.proofs.lemmas.List.{drop_all}
-use Rattle.zf_term.specs.declared.conjunct.Batch.{Batch}
-use Rattle.zf_term.specs.declared.conjunct.Conjunct.{Conjunct}
+use Rattle.zf_why.proofs.Prelude.{◌++◌, ◌+◌, ◌≤◌, ◌∙◌, ◌∷◌, ◌≡◌, [], add-one, ap, append-nil, append_assoc, Bool, drop, false, inl, inr, length, List, map, None, Option, refl, Some, subst, suc, sym, true, zero, ℕ, AllByRecursion, slice_get, slice_set, Comp, conjunct_of, ResolvedTree, Value, Environment, CanAsk, CanBegin, IsAllowed, RuleOut, chosen_of, IsChosen, AreAlone, drop_all, Batch, Conjunct, seen_chosen, Told}
 use Rattle.zf_term.specs.declared.conjunct.Conjunct.TheVariants as conjunct
 use Rattle.zf_term.specs.declared.resolved.Resolved.{Resolved}
-use Rattle.zf_cores.proofs.Choosing.{seen_chosen}
 use Rattle.zf_why.specs.{AreSidesOf, AreTellings, disjunction_at, has_sides, HasSides, is_disjunction, is_one, IsTelling}
 use Rattle.zf_why.specs.declared.told.Sides.{Sides}
-use Rattle.zf_why.specs.declared.told.Told.{Told}
 use Rattle.zf_why.proofs.Beginning.{each_begins}
 use Rattle.zf_why.proofs.Lists.{all_at}
 

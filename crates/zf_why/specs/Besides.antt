@@ -1,10 +1,7 @@
 -- That what is possible beside some predicates with more others is possible with fewer. No public clause rests on this.
 use Rattle.std.specs.Prelude.{Bool, List, ◌++◌, Option}
+use Rattle.zf_why.specs.Prelude.{chosen_of, IsFewer, Comp, ResolvedTree, Value, Environment}
 use Rattle.zf_cores.proofs.Choosing.{all_fewer}
-use Rattle.zf_cores.specs.{chosen_of, IsFewer}
-use Rattle.zf_term.specs.{Comp, ResolvedTree}
-use Rattle.zf_value.specs.declared.plain.Value.{Value}
-use Rattle.zf_meaning.specs.{Environment}
 use Rattle.zf_why.specs.Rows.{HasRow, IsAllowed}
 
 pub has_fewer : (e : Environment) (cs : List Comp) (held : List (Option Value)) (given ps : List ResolvedTree) (small large : List Bool)

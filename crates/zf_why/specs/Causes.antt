@@ -1,10 +1,7 @@
 -- Why a schema has no binding.
 use Rattle.std.specs.Prelude.{◌≡◌, ℕ, Bool, List, [], ◌∷◌, Option, Some, slice_get}
-use Rattle.zf_term.specs.{ResolvedTree, Schema}
-use Rattle.zf_value.specs.declared.plain.Value.{Value}
-use Rattle.zf_meaning.specs.{Environment}
+use Rattle.zf_why.specs.Prelude.{ResolvedTree, Schema, Value, Environment, HasChosen}
 use Rattle.zf_why.specs.Rows.{HasRow}
-use Rattle.zf_cores.specs.{HasChosen}
 use Rattle.zf_why.specs.Cores.{IsCore, AreAlone, AreEmpty}
 
 -- some ranges are empty, and these are they

@@ -1,10 +1,6 @@
 -- Minimal sets of predicates that can't hold together, those that rule out everything alone, and components without a value.
 use Rattle.std.specs.Prelude.{◌≡◌, ◌⊎◌, ℕ, Bool, List, [], ◌∷◌, ◌++◌, length, drop, slice_get, Option, Some}
-use Rattle.zf_cores.specs.{chosen_of, IsChosen, IsLeft, IsMinimal}
-use Rattle.zf_term.specs.{Comp, ResolvedTree}
-use Rattle.zf_value.specs.declared.plain.Value.{Value}
-use Rattle.zf_meaning.specs.{Environment}
-use Rattle.zf_ranges.specs.{first_held}
+use Rattle.zf_why.specs.Prelude.{chosen_of, IsChosen, IsLeft, IsMinimal, Comp, ResolvedTree, Value, Environment, first_held}
 use Rattle.zf_why.specs.Rows.{IsInHeldRange, HasRow, RuleOut}
 
 -- P holds of what is chosen, and Q of what is left

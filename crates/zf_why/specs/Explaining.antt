@@ -1,8 +1,6 @@
 -- What a cause, as the program has it, says. No answer rests on this file.
 use Rattle.std.specs.Prelude.{ℕ, Bool, List, Option}
-use Rattle.zf_term.specs.{Schema}
-use Rattle.zf_value.specs.declared.plain.Value.{Value}
-use Rattle.zf_meaning.specs.{Environment}
+use Rattle.zf_why.specs.Prelude.{Schema, Value, Environment}
 use Rattle.zf_why.specs.declared.cause.Cause.{Cause}
 use Rattle.zf_why.specs.declared.cause.Cause.TheVariants.{Empty, Alone, Together}
 use Rattle.zf_why.specs.Told.{AreTold, nothing_beside, others_beside}

@@ -1,8 +1,6 @@
 -- Held values as a row, and the outcomes of operands in a row. No public clause rests on this.
 use Rattle.std.specs.Prelude.{◌≡◌, List, Option, Some, None, map, unwrap_or}
-use Rattle.zf_term.specs.{ResolvedTree}
-use Rattle.zf_value.specs.declared.plain.Value.{Value}
-use Rattle.zf_meaning.specs.{Context, HasOutcome}
+use Rattle.zf_why.specs.Prelude.{ResolvedTree, Value, Context, HasOutcome}
 use Rattle.zf_why.specs.declared.told.Operands.{Operands}
 
 -- with another value in the place of those that are not held

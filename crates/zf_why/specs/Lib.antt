@@ -1,3 +1,4 @@
+pub mod Prelude
 pub mod Rows
 pub mod Cores
 pub mod Disjunctions
@@ -19,5 +20,5 @@ pub use Rattle.zf_why.specs.Causes.{EmptiedBy, RefutedBy, RefutedTogetherBy}
 pub use Rattle.zf_why.specs.Explaining.{Explains}
 pub use Rattle.zf_why.specs.Searching.{CanAsk, CanBegin, Decides, HaveRanges, schema_with}
 pub use Rattle.zf_why.specs.Besides.{has_fewer}
-pub use Rattle.zf_why.specs.Unheld.{all_lack, flag, lacks, links_lack, name_lacks, part_lacks, ranges_lack}
+pub use Rattle.zf_why.specs.Unheld.{flag, lacks, name_lacks}
 pub use Rattle.zf_why.specs.HeldRows.{AreOutcomesIn, filled}

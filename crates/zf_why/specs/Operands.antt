@@ -1,11 +1,8 @@
 -- What is reported of a relation that names held components alone: the outcomes of its operands.
 use Rattle.std.specs.Prelude.{◌≡◌, ℕ, Bool, true, false, cond, List, [], ◌∷◌, Option, Some, None, slice_get}
-use Rattle.zf_reference.specs.declared.reference.Reference.{Reference}
+use Rattle.zf_why.specs.Prelude.{Reference, bracket, chain, link, no_links, references, ResolvedLinks, ResolvedTree, Value, Environment, HasOutcome, in_row}
 use Rattle.zf_reference.specs.declared.reference.Reference.TheVariants.{Component, Local, Global}
-use Rattle.zf_term.specs.{bracket, chain, link, no_links, references, ResolvedLinks, ResolvedTree}
-use Rattle.zf_value.specs.declared.plain.Value.{Value}
 use Rattle.zf_value.specs.declared.value.Outcome.{Outcome}
-use Rattle.zf_meaning.specs.{Environment, HasOutcome, in_row}
 use Rattle.zf_why.specs.declared.told.Operands.{Operands}
 
 -- ---- relations

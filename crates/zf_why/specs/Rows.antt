@@ -1,11 +1,7 @@
 -- Which predicates some row of a schema's components makes other than False.
 use Rattle.std.specs.Prelude.{◌⊎◌, List, [], ◌∷◌, Option}
-use Rattle.std.specs.List.{AllByRecursion}
-use Rattle.zf_term.specs.{Comp, ResolvedTree, sets_of}
-use Rattle.zf_value.specs.declared.plain.Value.{Value}
+use Rattle.zf_why.specs.Prelude.{AllByRecursion, Comp, ResolvedTree, sets_of, Value, Environment, in_row, IsTruth, first_held, IsHeld, IsInSets, later_held}
 use Rattle.zf_value.specs.declared.value.Truth.TheVariants.{True, Out}
-use Rattle.zf_meaning.specs.{Environment, in_row, IsTruth}
-use Rattle.zf_ranges.specs.{first_held, IsHeld, IsInSets, later_held}
 
 -- the value is in the component's range: it is a member of all its declared sets, and the one that is held, if one is
 abbrev pub IsInHeldRange : Environment → Comp → (held : Option Value) → Value → Type 0

@@ -1,14 +1,7 @@
 -- What the search for a row needs and answers. No public clause rests on this file.
 use Rattle.std.specs.Prelude.{◌≡◌, ◌≤◌, Bool, List, [], length, IsTrue, Option, ℕ}
-use Rattle.std.specs.List.{AllByRecursion}
-use Rattle.zf_term.specs.{Comp, ResolvedTree, Schema, sets_of}
+use Rattle.zf_why.specs.Prelude.{AllByRecursion, Comp, ResolvedTree, Schema, sets_of, all_set_offenders, one_bounds, Value, Environment, due, IsNoneOut, OneOf}
 use Rattle.zf_extent.specs.{offending, unless}
-use Rattle.zf_finite.specs.{all_set_offenders, one_bounds}
-use Rattle.zf_value.specs.declared.plain.Value.{Value}
-use Rattle.zf_meaning.specs.{Environment}
-use Rattle.zf_enum.specs.{due}
-use Rattle.zf_ranges.specs.{IsNoneOut}
-use Rattle.zf_cores.specs.{OneOf}
 use Rattle.zf_why.specs.Rows.{HasRow, RuleOut}
 
 abbrev pub schema_with : List Comp → List ResolvedTree → Schema

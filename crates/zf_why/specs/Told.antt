@@ -1,9 +1,6 @@
 -- What is reported of conjuncts that are to blame: their lines, of a disjunction of schemas those of both sides, and with details the outcomes of operands.
 use Rattle.std.specs.Prelude.{◌≡◌, ℕ, suc, Bool, true, false, List, [], ◌∷◌, map, slice_set, Option, Some, None}
-use Rattle.zf_term.specs.{Comp, one_holds, ResolvedTree, term_line}
-use Rattle.zf_value.specs.declared.plain.Value.{Value}
-use Rattle.zf_meaning.specs.{Environment}
-use Rattle.zf_cores.specs.{chosen_of}
+use Rattle.zf_why.specs.Prelude.{Comp, one_holds, ResolvedTree, term_line, Value, Environment, chosen_of}
 use Rattle.zf_why.specs.declared.told.Sides.{Sides}
 use Rattle.zf_why.specs.declared.told.Told.{Told}
 use Rattle.zf_why.specs.Cores.{IsCore}

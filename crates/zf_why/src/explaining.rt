@@ -1,12 +1,7 @@
 //! Why a schema has no binding.
 ghost use Rattle.std.specs.Prelude.{◌++◌, [], IfOk, length, map};
-ghost use Rattle.zf_term.specs.{comp_of, conjunct_of, schema_of};
-ghost use Rattle.zf_finite.specs.{IsFinite};
+ghost use Rattle.zf_why.specs.Prelude.{comp_of, conjunct_of, schema_of, IsFinite, environment_of, property, IsNoneOut, HasChosen, OneOf};
 ghost use Rattle.zf_walk.specs.{AreDueWithin};
-ghost use Rattle.zf_meaning.specs.{environment_of};
-ghost use Rattle.zf_enum.specs.{property};
-ghost use Rattle.zf_ranges.specs.{IsNoneOut};
-ghost use Rattle.zf_cores.specs.{HasChosen, OneOf};
 ghost use Rattle.zf_why.specs.{AreAlone, AreEmpty, CanBegin, disjunction_at, Explains, IsCore, RuleOut};
 
 use crate::beside::Beside;

@@ -1,7 +1,6 @@
 //! The outcomes of the operands of a relation.
 ghost use Rattle.std.specs.Prelude.{IfOk, Some, map};
-ghost use Rattle.zf_term.specs.{links, resolved_link_of, resolved_of};
-ghost use Rattle.zf_meaning.specs.{environment_of, in_row};
+ghost use Rattle.zf_why.specs.Prelude.{links, resolved_link_of, resolved_of, environment_of, in_row};
 ghost use Rattle.zf_why.specs.{AreOperandsOf, AreOutcomesIn};
 ghost use Rattle.zf_why.specs.Operands as spec;
 

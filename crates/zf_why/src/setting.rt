@@ -1,11 +1,7 @@
 //! Whether some row makes some predicates other than False.
 ghost use Rattle.std.specs.Prelude.{◌≡◌, ◌<◌, ◌++◌, ◌∷◌, [], IfOk, IfSome, List, OnOk, Option, drop, length, map, slice_get};
-ghost use Rattle.zf_term.specs.{Comp, comp_of, conjunct_of, Schema, schema_of};
+ghost use Rattle.zf_why.specs.Prelude.{Comp, comp_of, conjunct_of, Schema, schema_of, Environment, environment_of, Begins, portion, IsNoneOut, RefusesStart, chosen_of, OneOf};
 ghost use Rattle.zf_value.specs.declared.plain.Value as value;
-ghost use Rattle.zf_meaning.specs.{Environment, environment_of};
-ghost use Rattle.zf_enum.specs.{Begins, portion};
-ghost use Rattle.zf_ranges.specs.{IsNoneOut, RefusesStart};
-ghost use Rattle.zf_cores.specs.{chosen_of, OneOf};
 ghost use Rattle.zf_why.specs.{CanBegin, Decides, HasNoValue, HasValue};
 
 use bumpalo::Bump;

@@ -1,7 +1,7 @@
 //! The conjuncts of one side of a disjunction of schemas.
 ghost use Rattle.std.specs.Prelude.{◌≡◌, ◌++◌, IfOk, OnOk, map};
+ghost use Rattle.zf_why.specs.Prelude.{batch_of, conjunct_of, moved, numbering};
 ghost use Rattle.zf_data.specs.{all_of};
-ghost use Rattle.zf_term.specs.{batch_of, conjunct_of, moved, numbering};
 
 use bumpalo::Bump;
 use std::alloc::AllocError;

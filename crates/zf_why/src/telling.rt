@@ -1,8 +1,6 @@
 //! What is reported of conjuncts that are to blame.
 ghost use Rattle.std.specs.Prelude.{◌≡◌, ◌<◌, ◌++◌, ◌∷◌, [], IfOk, Some, false, length, map, slice_set};
-ghost use Rattle.zf_term.specs.{comp_of, conjunct_of, term_line};
-ghost use Rattle.zf_meaning.specs.{environment_of};
-ghost use Rattle.zf_cores.specs.{chosen_of};
+ghost use Rattle.zf_why.specs.Prelude.{comp_of, conjunct_of, term_line, environment_of, chosen_of};
 ghost use Rattle.zf_why.specs.{AreAlone, AreBlamed, AreOperands, AreSidesOf, AreTold, CanBegin, disjunction_at, is_disjunction, IsCore, IsTelling, nothing_beside, others_beside, RuleOut};
 
 use crate::explaining::core;

@@ -1,16 +1,11 @@
 //! What binds variables: quantified predicates and comprehensions.
 ghost use Rattle.std.specs.Prelude.{◌≡◌, ◌≤◌, ℕ, List, Option, IfOk, length, drop};
-ghost use Rattle.std.specs.List.{All};
-ghost use Rattle.std.specs.Option.{is_some};
-ghost use Rattle.zf_tree.specs.declared.symbol.Quantifier.{Quantifier};
+ghost use Rattle.zf_meaning.specs.Prelude.{All, is_some, Quantifier, part_of, resolved_of, AreFrom, found_outcome, IsOver, IsTold};
 ghost use Rattle.zf_term.specs.declared.resolved.Range as range;
 ghost use Rattle.zf_term.specs.declared.resolved.Resolved as resolved;
 ghost use Rattle.zf_term.specs.declared.resolved.Resolved.TheVariants as form;
-ghost use Rattle.zf_term.specs.{part_of, resolved_of};
 ghost use Rattle.zf_value.specs.declared.plain.Value as value;
-ghost use Rattle.zf_value.specs.{AreFrom};
 ghost use Rattle.zf_meaning.specs.{AddsRow, AddsValue, AreNeutralIf, ArePassed, ArePassedIf, Builds, Context, HasOutcome, IsBound, IsComprehension, IsBuiltOver, IsConstraint, IsPiece, IsQuantified, IsTruth, NeedsFront, row_value, scope_of, seen, spread, within};
-ghost use Rattle.zf_outcome.specs.{found_outcome, IsOver, IsTold};
 
 use super::chains::is_false;
 use super::early::{Piece, Span, front_of, neutral, passing_after, passing_by, pieces_of, span_of};

@@ -1,11 +1,9 @@
 //! Chains of relations.
 ghost use Rattle.std.specs.Prelude.{◌≡◌, ◌↔◌, IfOk, IsTrue, List, None, map};
+ghost use Rattle.zf_meaning.specs.Prelude.{resolved_link_of, resolved_of, is_membership, found_outcome};
 ghost use Rattle.zf_term.specs.ResolvedViews as tree;
-ghost use Rattle.zf_term.specs.{resolved_link_of, resolved_of};
 ghost use Rattle.zf_value.specs.declared.plain.Value as value;
-ghost use Rattle.zf_extent.specs.{is_membership};
 ghost use Rattle.zf_meaning.specs.{AreLinked, environment_of, IsChain, IsLastLink, IsTruth, scope_of};
-ghost use Rattle.zf_outcome.specs.{found_outcome};
 ghost use Rattle.zf_meaning.specs.Meaning as spec;
 
 use super::memberships::described;

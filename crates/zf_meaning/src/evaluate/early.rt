@@ -1,20 +1,17 @@
 //! What of a binder tells that rows do not count before all its variables are bound: parts of what has to hold, each with the variables that it needs.
 ghost use Rattle.std.specs.Prelude.{◌≡◌, ◌↔◌, ◌⊎◌, ◌+◌, ◌<◌, ◌≤◌, [], ◌∷◌, ℕ, IfOk, IfSome, IsTrue, OnOk, Some, length, slice_get};
-ghost use Rattle.std.specs.List.{All};
+ghost use Rattle.zf_meaning.specs.Prelude.{All, size-Resolved, part_of, resolved_of, found_outcome};
 ghost use Rattle.zf_reference.specs.declared.reference.Reference.TheVariants as references;
 ghost use Rattle.zf_tree.specs.declared.symbol.Connective.TheVariants.{And};
 ghost use Rattle.zf_tree.specs.declared.operator.Operator.TheVariants as symbol;
 ghost use Rattle.zf_tree.specs.declared.symbol.Relation.TheVariants as relations;
 ghost use Rattle.zf_term.specs.declared.resolved.Resolved as resolved;
 ghost use Rattle.zf_term.specs.declared.resolved.ResolvedLink as link;
-ghost use Rattle.zf_term.specs.declared.resolved.Resolved.{size-Resolved};
-ghost use Rattle.zf_term.specs.{part_of, resolved_of};
 ghost use Rattle.zf_meaning.specs.Early as spec;
 ghost use Rattle.zf_meaning.specs.{Falsifies, IsEarlier, IsEquation, IsOther, IsPart, IsPiece, IsVariable, IsWanted, NeedsFront, PassesBy, Refutes, seen};
 ghost use Rattle.zf_meaning.specs.declared.rows.Passing.TheVariants as passing;
-ghost use Rattle.zf_outcome.specs.{found_outcome};
 
-use crate::needs::{last_local, last_of_part};
+use crate::needs::{last_local, last_of_both};
 use crate::rows::{Passing, Rows};
 use std::alloc::{AllocError, Global};
 use zf_outcome::Found;
@@ -69,7 +66,7 @@ pub(super) fn front_of(
     if !rows.are_many() && !is_quantified(body) {
         return span.whole;
     }
-    let last = last_of_part(constraint, span.whole, last_local(body, span.whole));
+    let last = last_of_both(constraint, body, span.whole);
     last.saturating_sub(span.outside)
 }
 

@@ -1,15 +1,13 @@
 //! Sets on the right of a membership, which need not be built.
 ghost use Rattle.std.specs.Prelude.{◌≡◌, ◌⊎◌, ℕ, IfOk, IfSome, IsTrue, map};
+ghost use Rattle.zf_meaning.specs.Prelude.{Is, Describes, found_outcome, resolved_of};
 ghost use Rattle.zf_tree.specs.declared.symbol.Infix.TheVariants as infixes;
 ghost use Rattle.zf_tree.specs.declared.symbol.Prefix.TheVariants as prefixes;
 ghost use Rattle.zf_tree.specs.declared.operator.Sign.TheVariants as sign;
 ghost use Rattle.zf_tree.specs.declared.operator.Operator.TheVariants as operator;
 ghost use Rattle.zf_tree.specs.declared.operator.Unary.TheVariants as unaries;
-ghost use Rattle.zf_value.specs.declared.value.Outcome.TheVariants.{Is};
-ghost use Rattle.zf_outcome.specs.{Describes, found_outcome};
 ghost use Rattle.zf_term.specs.ResolvedTrees as tree;
 ghost use Rattle.zf_term.specs.ResolvedViews as tree_views;
-ghost use Rattle.zf_term.specs.{resolved_of};
 ghost use Rattle.zf_meaning.specs.{environment_of, HasOutcome, IsBinary, IsConstantOutcome, scope_of};
 
 use super::operands::gather;

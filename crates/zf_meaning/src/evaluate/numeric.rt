@@ -1,16 +1,10 @@
 //! Comparisons of numbers, decided without values round the numbers.
 ghost use Rattle.std.specs.Prelude.{◌≡◌, ℕ, pos, IfSome, IsTrue, false, map, slice_get};
-ghost use Rattle.zf_tree.specs.declared.operator.Operator.TheVariants.{Application};
-ghost use Rattle.zf_extent.specs.{is_membership};
+ghost use Rattle.zf_meaning.specs.Prelude.{Application, is_membership, resolved_link_of, resolved_of, Is, Int, IsNumber, InfixOutcome};
 ghost use Rattle.zf_term.specs.ResolvedTrees as tree;
 ghost use Rattle.zf_term.specs.ResolvedViews as tree_views;
-ghost use Rattle.zf_term.specs.{resolved_link_of, resolved_of};
-ghost use Rattle.zf_value.specs.declared.value.Outcome.TheVariants.{Is};
-ghost use Rattle.zf_value.specs.declared.plain.Value.{Int};
-ghost use Rattle.zf_value.specs.{IsNumber};
 ghost use Rattle.zf_meaning.specs.Environments as spec;
 ghost use Rattle.zf_meaning.specs.{environment_of, HasOutcome, in_row, IsTruth, outcome_or};
-ghost use Rattle.zf_outcome.specs.{InfixOutcome};
 
 use super::component;
 use crate::env::Env;

@@ -1,9 +1,8 @@
 //! Symbols with their operands.
 ghost use Rattle.std.specs.Prelude.{ℕ, IfOk, map};
+ghost use Rattle.zf_meaning.specs.Prelude.{resolved_of, found_outcome, several_of};
 ghost use Rattle.zf_term.specs.ResolvedTrees as tree;
 ghost use Rattle.zf_term.specs.ResolvedViews as tree_views;
-ghost use Rattle.zf_term.specs.{resolved_of};
-ghost use Rattle.zf_outcome.specs.{found_outcome, several_of};
 ghost use Rattle.zf_meaning.specs.{HasOutcome, HaveOutcomes, IsBinary, IsTruth, scope_of};
 
 use super::{outcome, truth};

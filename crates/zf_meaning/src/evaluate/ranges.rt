@@ -1,12 +1,9 @@
 //! The declared sets of bound variables.
 ghost use Rattle.std.specs.Prelude.{◌≡◌, ◌++◌, [], IfOk, OnOk, map, replicate};
+ghost use Rattle.zf_meaning.specs.Prelude.{range_of, IsAscending, members, AllByRecursion, found_outcome};
 ghost use Rattle.zf_term.specs.ResolvedViews as tree;
-ghost use Rattle.zf_term.specs.{range_of};
-ghost use Rattle.zf_value.specs.{IsAscending, members};
-ghost use Rattle.std.specs.List.{AllByRecursion};
 ghost use Rattle.zf_meaning.specs.RangeSets as spec;
 ghost use Rattle.zf_meaning.specs.{declared_of, HaveRanges, scope_of, seen, spread};
-ghost use Rattle.zf_outcome.specs.{found_outcome};
 
 use super::outcome;
 use crate::env::Env;

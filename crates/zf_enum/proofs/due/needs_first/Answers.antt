@@ -1,5 +1,4 @@
-use Rattle.zf_enum.proofs.Prelude.{◌<◌, arith, resolved_of}
-use Rattle.std.proofs.lemmas.Bool.{ltb-true}
+use Rattle.zf_enum.proofs.Prelude.{◌<◌, arith, resolved_of, ltb-true}
 use Rattle.zf_enum.proofs.Dues.{used_up_to}
 use Rattle.zf_enum.proofs.due.needs_first.Goals as goal
 

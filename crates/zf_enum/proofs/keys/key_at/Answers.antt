@@ -1,5 +1,4 @@
-use Rattle.zf_enum.proofs.Prelude.{◌≡◌, ◌∙◌, [], arith, environment_of, get_or, range-is, resolved_of, slice_get, Some, subst, sym}
-use Rattle.std.proofs.lemmas.Option.{get_or_from_slice_get}
+use Rattle.zf_enum.proofs.Prelude.{◌≡◌, ◌∙◌, [], arith, environment_of, get_or, range-is, resolved_of, slice_get, Some, subst, sym, get_or_from_slice_get}
 use Rattle.zf_enum.proofs.Equations.{some_weaker}
 use Rattle.zf_enum.proofs.Keying.{key-alone}
 use Rattle.zf_enum.proofs.keys.key_at.Goals as goal

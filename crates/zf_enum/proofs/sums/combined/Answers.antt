@@ -1,5 +1,4 @@
-use Rattle.zf_enum.proofs.Prelude.{subst, sym, Is, ℤ, ◌+ℤ◌, ◌-ℤ◌, ◌*ℤ◌, IfOk-weaker, Int, InfixOutcome}
-use Rattle.zf_tree.specs.declared.symbol.Infix.{Infix}
+use Rattle.zf_enum.proofs.Prelude.{subst, sym, Is, ℤ, ◌+ℤ◌, ◌-ℤ◌, ◌*ℤ◌, IfOk-weaker, Int, InfixOutcome, Infix}
 use Rattle.zf_enum.proofs.Spanning.{spans_fit}
 use Rattle.zf_enum.proofs.Balanced.{sum_outcome, difference_outcome, product_outcome}
 use Rattle.zf_enum.proofs.sums.combined.Goals as goal

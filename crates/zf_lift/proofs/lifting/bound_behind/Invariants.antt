@@ -1,5 +1,4 @@
-use Rattle.zf_lift.proofs.Prelude.{◌+◌, ◌≡◌, map, take, range_of, ranges}
-use Rattle.zf_lift.specs.{variables_of}
+use Rattle.zf_lift.proofs.Prelude.{◌+◌, ◌≡◌, map, take, range_of, ranges, variables_of}
 use Rattle.zf_lift.proofs.lifting.bound_behind.Given as goal
 
 abbrev pub invariant-loop-range : goal.invariant-loop-range

@@ -1,5 +1,4 @@
-use Rattle.zf_lift.proofs.Prelude.{subst, sym, Global, of-Name, reference, resolved_of, environment_of, IsLift, IsNamed}
-use Rattle.std.specs.Prelude.{IfSome}
+use Rattle.zf_lift.proofs.Prelude.{subst, sym, Global, of-Name, reference, resolved_of, environment_of, IsLift, IsNamed, IfSome}
 use Rattle.zf_lift.proofs.Wherever.{named_lift}
 use Rattle.zf_lift.proofs.lifting.named.Goals as goal
 

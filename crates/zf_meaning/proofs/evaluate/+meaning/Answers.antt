@@ -1,4 +1,4 @@
-use Rattle.zf_meaning.proofs.Prelude.{◌+◌, ◌<◌, ◌∙◌, ◌∷◌, ◌≡◌, ◌≤◌, [], ap, arith, drop, false, inl, length, List, map, Option, refl, rules, subst, sym, true, ℕ, IfOk-weaker, All, IfOk, IfSome, out_told, AreFrom, IsEmptySet, IsDisplay, of-Chain, of-Constant, of-Listed, of-Unary, part_of, resolved_of, Quantifier, Range, Resolved, size-Resolved, Describes, AreNeutral, AreNeutralIf, IsPart, IsPiece, IsWanted, neutral, NeedsFront, within, found_outcome, several_by, several_of, Builds, HasOutcome, IsBuilt, IsBuiltOver, IsConstraint, IsLink, IsTruth, row_value, seen, declared_of, spread, row_of, scope_of, is_settled, truth_by, IsConnected, IsOver, IsQuantified, IsTold, Arrows, Nothing}
+use Rattle.zf_meaning.proofs.Prelude.{◌+◌, ◌<◌, ◌∙◌, ◌∷◌, ◌≡◌, ◌≤◌, [], ap, arith, drop, false, inl, length, List, map, Option, refl, rules, subst, sym, true, ℕ, IfOk-weaker, All, IfOk, IfSome, out_told, AreFrom, IsEmptySet, IsDisplay, of-Chain, of-Constant, of-Listed, of-Unary, part_of, resolved_of, Quantifier, Range, Resolved, size-Resolved, Describes, AreNeutral, AreNeutralIf, IsPart, IsPiece, IsWanted, neutral, NeedsFront, within, found_outcome, several_by, several_of, Builds, HasOutcome, IsBuilt, IsBuiltOver, IsConstraint, IsLink, IsTruth, row_value, seen, declared_of, spread, row_of, scope_of, is_settled, truth_by, IsConnected, IsOver, IsQuantified, IsTold, Arrows, Nothing, plain-describes}
 use Rattle.zf_term.specs.ResolvedTrees as tree
 use Rattle.zf_term.specs.ResolvedViews as tree_views
 use Rattle.zf_value.specs.declared.value.Outcome.TheVariants as outcome
@@ -12,7 +12,6 @@ use Rattle.zf_meaning.proofs.Told.{IsTallied, none-tallied, one-more, settled-tr
 use Rattle.zf_meaning.proofs.Turns.{fewer, adds-here, told-here, one-told, one-filter, one-term, span-bound, row-bound, next-turn, told-ended, built-ended}
 use Rattle.zf_meaning.proofs.Walking.{walk-begun, walk-row, walk-done, walk-new, no-row, none-from, bound-row, outside-bound, FilterIn, TermIn, ToldIn, NeutralIn}
 use Rattle.zf_meaning.proofs.Gathering.{gather-begun, gather-more, gather-all, ranges-begun, ranges-more, ranges-all, drop-past}
-use Rattle.zf_outcome.proofs.Tests.{plain-describes}
 use Rattle.zf_meaning.proofs.Operands.{power-told, both-seen, both-told, arrows-told, interval-told, product-told}
 use Rattle.zf_meaning.proofs.Linking.{link-more, link-false, link-all, link-last, last-described, last-worked, chain-told}
 use Rattle.zf_meaning.proofs.RowValues.{seen-rest}

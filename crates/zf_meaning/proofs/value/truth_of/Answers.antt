@@ -1,5 +1,4 @@
-use Rattle.zf_meaning.proofs.Prelude.{resolved_of, environment_of, IsTruth}
-use Rattle.zf_meaning.specs.{in_row}
+use Rattle.zf_meaning.proofs.Prelude.{resolved_of, environment_of, IsTruth, in_row}
 use Rattle.zf_meaning.proofs.InRow.{truth-in-row}
 use Rattle.zf_meaning.proofs.Numeric.{at-some}
 use Rattle.zf_meaning.proofs.value.truth_of.Goals as goal

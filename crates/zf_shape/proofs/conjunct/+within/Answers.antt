@@ -1,5 +1,4 @@
-use Rattle.zf_shape.proofs.Prelude.{◌+◌, ◌-◌, ◌∙◌, ap, arith, conjunct_of, height, length, List, map, refl, resolved_of, subst, sym, true≢false, Batch, Conjunct}
-use Rattle.zf_shape.specs.{AreLow}
+use Rattle.zf_shape.proofs.Prelude.{◌+◌, ◌-◌, ◌∙◌, ap, arith, conjunct_of, height, length, List, map, refl, resolved_of, subst, sym, true≢false, Batch, Conjunct, AreLow}
 use Rattle.zf_shape.proofs.Conjuncts.{first_told, height_member, height_sides, height_term, joined_told, lower_told, none_low_enough, same_height_told, second_told}
 use Rattle.zf_shape.proofs.Heights.{some_height}
 use Rattle.zf_shape.proofs.Joined.{all_in, as_high, batch_low_at, batch_low_more, count_more, low_at, low_more}

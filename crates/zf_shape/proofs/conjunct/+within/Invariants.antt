@@ -1,5 +1,4 @@
-use Rattle.zf_shape.proofs.Prelude.{◌-◌, ◌≡◌, length, map, take, conjunct_of}
-use Rattle.zf_shape.specs.{AreLow}
+use Rattle.zf_shape.proofs.Prelude.{◌-◌, ◌≡◌, length, map, take, conjunct_of, AreLow}
 use Rattle.zf_shape.proofs.Joined.{all_in}
 use Rattle.zf_shape.proofs.conjunct.+within.Given as goal
 

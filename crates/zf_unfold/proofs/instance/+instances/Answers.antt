@@ -1,5 +1,4 @@
-use Rattle.zf_unfold.proofs.Prelude.{arith, part_of, resolved_of}
-use Rattle.zf_unfold.specs.{ranges_of}
+use Rattle.zf_unfold.proofs.Prelude.{arith, part_of, resolved_of, ranges_of}
 use Rattle.zf_unfold.proofs.Written.{instances_seen}
 use Rattle.zf_unfold.proofs.instance.+instances.Goals as goal
 

@@ -1,5 +1,4 @@
-use Rattle.zf_unfold.proofs.Prelude.{◌∙◌, None, Some, named, part_of, part_renamed, ranges_renamed, renamed, resolved_of, sym}
-use Rattle.zf_unfold.specs.{others, ranges_of}
+use Rattle.zf_unfold.proofs.Prelude.{◌∙◌, None, Some, named, part_of, part_renamed, ranges_renamed, renamed, resolved_of, sym, others, ranges_of}
 use Rattle.zf_unfold.proofs.Written.{instance_seen, some_there}
 use Rattle.zf_unfold.proofs.instance.instance.Goals as goal
 

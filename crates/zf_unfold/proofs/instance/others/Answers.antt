@@ -1,6 +1,4 @@
-use Rattle.zf_unfold.proofs.Prelude.{◌++◌, ◌+◌, ◌∙◌, ◌∷◌, [], ap, arith, List, None, named, renamed, resolved_of}
-use Rattle.std.proofs.Common.{◌-◌}
-use Rattle.zf_term.specs.declared.resolved.Range.{Range}
+use Rattle.zf_unfold.proofs.Prelude.{◌++◌, ◌+◌, ◌∙◌, ◌∷◌, [], ap, arith, List, None, named, renamed, resolved_of, ◌-◌, Range}
 use Rattle.zf_unfold.proofs.Written.{others_none, others_some}
 use Rattle.zf_unfold.proofs.instance.others.Goals.{then-of-gt1+in_ok-set+in_ok-push, else-of-gt1}
 use Rattle.zf_unfold.proofs.instance.others.Goals as goal

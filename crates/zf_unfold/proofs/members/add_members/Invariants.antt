@@ -1,5 +1,4 @@
-use Rattle.zf_unfold.proofs.Prelude.{◌≡◌, map, take, environment_of, longer}
-use Rattle.zf_value.specs.declared.value.Outcome.TheVariants.{Is}
+use Rattle.zf_unfold.proofs.Prelude.{◌≡◌, map, take, environment_of, longer, Is}
 use Rattle.zf_unfold.proofs.members.add_members.Given as goal
 
 abbrev pub invariant-loop-member : goal.invariant-loop-member

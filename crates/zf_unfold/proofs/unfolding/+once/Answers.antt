@@ -1,5 +1,4 @@
-use Rattle.zf_unfold.proofs.Prelude.{environment_of}
-use Rattle.std.proofs.lemmas.Result.{IfOk-weaker}
+use Rattle.zf_unfold.proofs.Prelude.{environment_of, IfOk-weaker}
 use Rattle.zf_unfold.proofs.Arms.{bare, joined, opposed}
 use Rattle.zf_unfold.proofs.Names.{base_later}
 use Rattle.zf_unfold.proofs.Results.{nothing_new, plain_made}

@@ -1,7 +1,4 @@
-use Rattle.zf_unfold.proofs.Prelude.{[], ◌∷◌, environment_of}
-use Rattle.zf_value.specs.declared.value.Outcome.TheVariants.{Undefined}
-use Rattle.std.proofs.lemmas.Result.{on_ok_weaker}
-use Rattle.zf_lift.proofs.Longer.{further}
+use Rattle.zf_unfold.proofs.Prelude.{[], ◌∷◌, environment_of, Undefined, on_ok_weaker, further}
 use Rattle.zf_unfold.proofs.Steps.{base_added}
 use Rattle.zf_unfold.proofs.unfolding.again.Goals as goal
 

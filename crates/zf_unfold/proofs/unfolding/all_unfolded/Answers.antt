@@ -1,6 +1,4 @@
-use Rattle.zf_unfold.proofs.Prelude.{resolved_of, environment_of, IsUnfolded}
-use Rattle.zf_lift.proofs.Longer.{itself, further}
-use Rattle.zf_lift.proofs.Each.{each_done}
+use Rattle.zf_unfold.proofs.Prelude.{resolved_of, environment_of, IsUnfolded, itself, further, each_done}
 use Rattle.zf_lift.proofs.Arms.{none_yet, one_more}
 use Rattle.zf_unfold.proofs.Names.{base_later}
 use Rattle.zf_unfold.proofs.WrittenOut.{unfold_later}

@@ -1,5 +1,4 @@
-use Rattle.zf_unfold.proofs.Prelude.{◌∙◌, ◌≡◌, ap, arith, environment_of, length, resolved_of, subst, sym, IsSetNamed, Option, Value}
-use Rattle.std.specs.Prelude.{IfSome}
+use Rattle.zf_unfold.proofs.Prelude.{◌∙◌, ◌≡◌, ap, arith, environment_of, length, resolved_of, subst, sym, IsSetNamed, Option, Value, IfSome}
 use Rattle.zf_unfold.proofs.Results.{members_made, plain_made}
 use Rattle.zf_unfold.proofs.unfolding.quantified.Goals as goal
 

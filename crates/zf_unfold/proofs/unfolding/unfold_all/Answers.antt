@@ -1,6 +1,4 @@
-use Rattle.zf_unfold.proofs.Prelude.{◌∙◌, ◌∷◌, ◌≡◌, [], ap, arith, length, map, resolved_of, subst, sym, Environment, environment_of, longer, AreLifted}
-use Rattle.zf_value.specs.declared.value.Outcome.TheVariants.{Undefined}
-use Rattle.zf_lift.proofs.Longer.{further}
+use Rattle.zf_unfold.proofs.Prelude.{◌∙◌, ◌∷◌, ◌≡◌, [], ap, arith, length, map, resolved_of, subst, sym, Environment, environment_of, longer, AreLifted, Undefined, further}
 use Rattle.zf_unfold.proofs.Steps.{are_unfolded, base_added}
 use Rattle.zf_unfold.proofs.unfolding.unfold_all.Goals as goal
 

@@ -1,7 +1,4 @@
-use Rattle.zf_unfold.proofs.Prelude.{List, map, Option, resolved_of, subst, sym, environment_of, AreLifted}
-use Rattle.std.specs.Prelude.{IfSome}
-use Rattle.zf_lift.specs.declared.lifted.Lifted.{Lifted}
-use Rattle.zf_term.specs.declared.resolved.Resolved.{Resolved}
+use Rattle.zf_unfold.proofs.Prelude.{List, map, Option, resolved_of, subst, sym, environment_of, AreLifted, IfSome, Lifted, Resolved}
 use Rattle.zf_unfold.proofs.Results.{still_lifted}
 use Rattle.zf_unfold.proofs.unfolding.unfold_named.Goals as goal
 

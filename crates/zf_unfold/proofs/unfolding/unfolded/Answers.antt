@@ -1,5 +1,4 @@
-use Rattle.zf_unfold.proofs.Prelude.{environment_of}
-use Rattle.zf_lift.proofs.Longer.{further}
+use Rattle.zf_unfold.proofs.Prelude.{environment_of, further}
 use Rattle.zf_unfold.proofs.Names.{base_later}
 use Rattle.zf_unfold.proofs.Steps.{enough_based}
 use Rattle.zf_unfold.proofs.WrittenOut.{unfold_further}

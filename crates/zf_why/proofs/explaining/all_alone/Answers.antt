@@ -1,5 +1,4 @@
-use Rattle.zf_why.proofs.Prelude.{arith, map, not, subst, sym, Bool, List, take, ◌+◌, comp_of, conjunct_of, environment_of, AreAlone, HasRow, RuleOut, ◌∷◌, []}
-use Rattle.std.proofs.lemmas.List.{length-map}
+use Rattle.zf_why.proofs.Prelude.{arith, map, not, subst, sym, Bool, List, take, ◌+◌, comp_of, conjunct_of, environment_of, AreAlone, HasRow, RuleOut, ◌∷◌, [], length-map}
 use Rattle.zf_why.proofs.Beginning.{one_begins}
 use Rattle.zf_why.proofs.Lists.{seen_at}
 use Rattle.zf_why.proofs.Picking.{none_picked, one_picked, picked_all, turned}

@@ -1,6 +1,4 @@
-use Rattle.zf_why.proofs.Prelude.{◌++◌, Bool, List, map, subst, sym, comp_of, conjunct_of, environment_of, HasRow, IsMinimal, ResolvedTree, chosen_of}
-use Rattle.std.specs.Prelude.{IfOk}
-use Rattle.std.proofs.lemmas.List.{length-map}
+use Rattle.zf_why.proofs.Prelude.{◌++◌, Bool, List, map, subst, sym, comp_of, conjunct_of, environment_of, HasRow, IsMinimal, ResolvedTree, chosen_of, IfOk, length-map}
 use Rattle.zf_why.proofs.Lists.{all_seen}
 use Rattle.zf_why.proofs.explaining.core.Goals as goal
 

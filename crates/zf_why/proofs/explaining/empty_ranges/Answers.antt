@@ -1,5 +1,4 @@
-use Rattle.zf_why.proofs.Prelude.{arith, map, subst, sym, Bool, List, take, ◌+◌, comp_of, environment_of, ArePicked, HasNoValue, HasValue}
-use Rattle.std.proofs.lemmas.List.{length-map}
+use Rattle.zf_why.proofs.Prelude.{arith, map, subst, sym, Bool, List, take, ◌+◌, comp_of, environment_of, ArePicked, HasNoValue, HasValue, length-map}
 use Rattle.zf_why.proofs.Picking.{next_picked, none_picked, picked_all}
 use Rattle.zf_why.proofs.explaining.empty_ranges.Goals as goal
 

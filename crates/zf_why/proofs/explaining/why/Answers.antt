@@ -1,7 +1,4 @@
-use Rattle.zf_why.proofs.Prelude.{◌∙◌, ◌∷◌, ◌≡◌, [], ap, Bool, List, map, Option, refl, subst, sym, ℕ, Comp, Environment, ResolvedTree, Value, comp_of, conjunct_of, environment_of, AreAlone, AreEmpty, CanBegin, HasChosen, HasNoValue, HasRow, HasValue, IsCore, RuleOut}
-use Rattle.zf_term.specs.declared.conjunct.Conjunct.{Conjunct}
-use Rattle.zf_why.specs.declared.told.Told.{Told}
-use Rattle.zf_why.specs.{AreTold, disjunction_at, nothing_beside, others_beside}
+use Rattle.zf_why.proofs.Prelude.{◌∙◌, ◌∷◌, ◌≡◌, [], ap, Bool, List, map, Option, refl, subst, sym, ℕ, Comp, Environment, ResolvedTree, Value, comp_of, conjunct_of, environment_of, AreAlone, AreEmpty, CanBegin, HasChosen, HasNoValue, HasRow, HasValue, IsCore, RuleOut, Conjunct, Told, AreTold, disjunction_at, nothing_beside, others_beside}
 use Rattle.zf_why.proofs.Beginning.{can_begin, over_none}
 use Rattle.zf_why.proofs.Explained.{some_row}
 use Rattle.zf_why.proofs.Lists.{of_equal}

@@ -1,8 +1,4 @@
-use Rattle.zf_why.proofs.Prelude.{None, Option, refl, subst, sym, environment_of, ResolvedTree}
-use Rattle.std.specs.Prelude.{IfOk}
-use Rattle.zf_term.specs.{resolved_of}
-use Rattle.zf_meaning.specs.{in_row}
-use Rattle.zf_why.specs.{AreOutcomesIn}
+use Rattle.zf_why.proofs.Prelude.{None, Option, refl, subst, sym, environment_of, ResolvedTree, IfOk, resolved_of, in_row, AreOutcomesIn}
 use Rattle.zf_why.proofs.HeldOutcomes.{no_pair, the_pair}
 use Rattle.zf_why.proofs.operands.chain_in.Goals as goal
 

@@ -1,7 +1,4 @@
-use Rattle.zf_why.proofs.Prelude.{◌∙◌, sym, environment_of}
-use Rattle.std.specs.Prelude.{pos}
-use Rattle.zf_term.specs.{resolved_of}
-use Rattle.zf_value.specs.declared.plain.Value.{Int}
+use Rattle.zf_why.proofs.Prelude.{◌∙◌, sym, environment_of, pos, resolved_of, Int}
 use Rattle.zf_why.proofs.HeldOutcomes.{held_told}
 use Rattle.zf_why.proofs.operands.operands_told.Goals as goal
 

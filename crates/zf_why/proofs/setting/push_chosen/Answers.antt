@@ -1,6 +1,4 @@
-use Rattle.zf_why.proofs.Prelude.{◌++◌, ◌+◌, ◌∙◌, ◌≡◌, arith, drop, List, Some, subst, sym, slice_get, chosen_of}
-use Rattle.zf_term.specs.declared.conjunct.Conjunct.{Conjunct}
-use Rattle.zf_cores.proofs.Choosing.{goes_in}
+use Rattle.zf_why.proofs.Prelude.{◌++◌, ◌+◌, ◌∙◌, ◌≡◌, arith, drop, List, Some, subst, sym, slice_get, chosen_of, Conjunct, goes_in}
 use Rattle.zf_why.proofs.Lists.{read_at, stays_out_at}
 use Rattle.zf_why.proofs.setting.push_chosen.Goals.{then-chosen-place+in_ok-share+in_ok-push, else-chosen-place}
 use Rattle.zf_why.proofs.setting.push_chosen.Goals as goal

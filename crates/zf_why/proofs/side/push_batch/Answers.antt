@@ -1,7 +1,4 @@
-use Rattle.zf_why.proofs.Prelude.{◌++◌, ◌∙◌, ap, arith, List, map, sym, conjunct_of, ResolvedTree}
-use Rattle.zf_term.specs.declared.conjunct.Conjunct.{Conjunct}
-use Rattle.zf_term.specs.{moved, numbering}
-use Rattle.zf_term.proofs.ConjunctsSeen.{batch-seen}
+use Rattle.zf_why.proofs.Prelude.{◌++◌, ◌∙◌, ap, arith, List, map, sym, conjunct_of, ResolvedTree, Conjunct, moved, numbering, batch-seen}
 use Rattle.zf_why.proofs.Gathered.{none_placed, one_placed}
 use Rattle.zf_why.proofs.side.push_batch.Goals as goal
 

@@ -1,5 +1,4 @@
-use Rattle.zf_why.proofs.Prelude.{◌++◌, ◌≡◌, drop, map, conjunct_of}
-use Rattle.zf_term.specs.{batch_of, moved, numbering}
+use Rattle.zf_why.proofs.Prelude.{◌++◌, ◌≡◌, drop, map, conjunct_of, batch_of, moved, numbering}
 use Rattle.zf_why.proofs.Gathered.{all_placed}
 use Rattle.zf_why.proofs.side.push_batch.Given as goal
 

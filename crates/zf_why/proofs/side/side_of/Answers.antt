@@ -1,6 +1,4 @@
-use Rattle.zf_why.proofs.Prelude.{◌++◌, ◌∙◌, ap, arith, drop, List, map, conjunct_of}
-use Rattle.zf_term.specs.declared.conjunct.Conjunct.{Conjunct}
-use Rattle.zf_term.specs.{numbering}
+use Rattle.zf_why.proofs.Prelude.{◌++◌, ◌∙◌, ap, arith, drop, List, map, conjunct_of, Conjunct, numbering}
 use Rattle.zf_why.proofs.Gathered.{all_in, no_batch, one_batch}
 use Rattle.zf_why.proofs.side.side_of.Goals as goal
 

@@ -1,5 +1,4 @@
-use Rattle.zf_why.proofs.Prelude.{◌++◌, ◌≡◌, drop, map, conjunct_of}
-use Rattle.zf_term.specs.{numbering}
+use Rattle.zf_why.proofs.Prelude.{◌++◌, ◌≡◌, drop, map, conjunct_of, numbering}
 use Rattle.zf_why.proofs.Gathered.{all_in}
 use Rattle.zf_why.proofs.side.side_of.Given as goal
 

@@ -1,5 +1,4 @@
-use Rattle.zf_why.proofs.Prelude.{◌∙◌, ap, length, map, comp_of, conjunct_of, environment_of}
-use Rattle.std.proofs.lemmas.List.{length-map}
+use Rattle.zf_why.proofs.Prelude.{◌∙◌, ap, length, map, comp_of, conjunct_of, environment_of, length-map}
 use Rattle.zf_why.proofs.Gathered.{blamed_by}
 use Rattle.zf_why.proofs.telling.blamed.Goals as goal
 

@@ -1,8 +1,4 @@
-use Rattle.zf_why.proofs.Prelude.{◌++◌, ◌+◌, ◌∙◌, ◌∷◌, ◌≡◌, [], ap, arith, drop, List, map, Some, subst, sym, ℕ, slice_get, conjunct_of, chosen_of}
-use Rattle.std.proofs.Common.{Global, Vec}
-use Rattle.std.proofs.lemmas.List.{length-map}
-use Rattle.zf_term.specs.{term_line}
-use Rattle.zf_cores.proofs.Choosing.{goes_in, none_further, stays_out}
+use Rattle.zf_why.proofs.Prelude.{◌++◌, ◌+◌, ◌∙◌, ◌∷◌, ◌≡◌, [], ap, arith, drop, List, map, Some, subst, sym, ℕ, slice_get, conjunct_of, chosen_of, Global, Vec, length-map, term_line, goes_in, none_further, stays_out}
 use Rattle.zf_why.proofs.Lists.{read_at, some_at}
 use Rattle.zf_why.proofs.Gathered.{line_at, lines_chosen, lines_of}
 use Rattle.zf_why.proofs.telling.chosen_lines.Goals.{then-chosen-place+in_ok-push, else-chosen-place}

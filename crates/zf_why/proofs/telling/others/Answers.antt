@@ -1,7 +1,4 @@
-use Rattle.zf_why.proofs.Prelude.{◌++◌, ◌∙◌, ◌≡◌, ap, Bool, false, List, length, subst, slice_set, chosen_of}
-use Rattle.std.proofs.lemmas.List.{length-set}
-use Rattle.std.specs.Prelude.{IfOk}
-use Rattle.zf_term.specs.declared.conjunct.Conjunct.{Conjunct}
+use Rattle.zf_why.proofs.Prelude.{◌++◌, ◌∙◌, ◌≡◌, ap, Bool, false, List, length, subst, slice_set, chosen_of, length-set, IfOk, Conjunct}
 use Rattle.zf_why.proofs.telling.others.Goals as goal
 
 pub push_chosen-requires : goal.push_chosen-requires

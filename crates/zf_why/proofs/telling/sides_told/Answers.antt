@@ -1,7 +1,4 @@
-use Rattle.zf_why.proofs.Prelude.{◌∙◌, ap, List, map, comp_of, conjunct_of, environment_of}
-use Rattle.zf_data.specs.{all_of}
-use Rattle.zf_term.specs.declared.conjunct.Batch.{Batch}
-use Rattle.zf_term.specs.{batch_of, moved, numbering}
+use Rattle.zf_why.proofs.Prelude.{◌∙◌, ap, List, map, comp_of, conjunct_of, environment_of, all_of, Batch, batch_of, moved, numbering}
 use Rattle.zf_why.proofs.Disjoined.{either_seen, left_needs, right_needs}
 use Rattle.zf_why.proofs.Tellings.{either_told, member_told, term_told}
 use Rattle.zf_why.proofs.telling.sides_told.Goals as goal

@@ -1,8 +1,4 @@
-use Rattle.zf_why.proofs.Prelude.{◌+◌, ◌∙◌, ◌≡◌, ap, arith, List, map, refl, Some, subst, sym, ℕ, slice_get, comp_of, conjunct_of, environment_of, ResolvedTree}
-use Rattle.std.proofs.Common.{Global, Vec}
-use Rattle.std.proofs.lemmas.List.{length-map}
-use Rattle.zf_why.specs.{disjunction_at, IsTelling, nothing_beside}
-use Rattle.zf_why.specs.declared.told.Told.{Told}
+use Rattle.zf_why.proofs.Prelude.{◌+◌, ◌∙◌, ◌≡◌, ap, arith, List, map, refl, Some, subst, sym, ℕ, slice_get, comp_of, conjunct_of, environment_of, ResolvedTree, Global, Vec, length-map, disjunction_at, IsTelling, nothing_beside, Told}
 use Rattle.zf_why.proofs.Beginning.{one_begins}
 use Rattle.zf_why.proofs.Gathered.{read_mapped}
 use Rattle.zf_why.proofs.Lists.{read_at, seen_at, some_at}

@@ -1,6 +1,4 @@
-use Rattle.zf_why.proofs.Prelude.{map, comp_of, conjunct_of, environment_of, ResolvedTree, ℕ}
-use Rattle.zf_why.specs.{disjunction_at, IsTelling, nothing_beside}
-use Rattle.zf_why.specs.declared.told.Told.{Told}
+use Rattle.zf_why.proofs.Prelude.{map, comp_of, conjunct_of, environment_of, ResolvedTree, ℕ, disjunction_at, IsTelling, nothing_beside, Told}
 use Rattle.zf_why.proofs.Tellings.{AreToldUpTo}
 use Rattle.zf_why.proofs.telling.told_alone.Given as goal
 

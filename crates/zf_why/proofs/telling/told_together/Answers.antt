@@ -1,8 +1,4 @@
-use Rattle.zf_why.proofs.Prelude.{◌++◌, ◌+◌, ◌∙◌, ◌∷◌, ◌≡◌, [], ap, arith, false, List, map, Some, subst, sym, ℕ, slice_get, slice_set, CanBegin, RuleOut, comp_of, conjunct_of, environment_of, ResolvedTree}
-use Rattle.std.proofs.Common.{Global, Vec}
-use Rattle.std.proofs.lemmas.List.{length-map}
-use Rattle.zf_why.specs.{disjunction_at, IsTelling, others_beside}
-use Rattle.zf_why.specs.declared.told.Told.{Told}
+use Rattle.zf_why.proofs.Prelude.{◌++◌, ◌+◌, ◌∙◌, ◌∷◌, ◌≡◌, [], ap, arith, false, List, map, Some, subst, sym, ℕ, slice_get, slice_set, CanBegin, RuleOut, comp_of, conjunct_of, environment_of, ResolvedTree, Global, Vec, length-map, disjunction_at, IsTelling, others_beside, Told}
 use Rattle.zf_why.proofs.Gathered.{read_mapped}
 use Rattle.zf_why.proofs.Lists.{read_at, seen_at, some_at}
 use Rattle.zf_why.proofs.Tellings.{all_told, AreToldUpTo, begins_beside, none_told, one_left, one_told, others_seen, ruled_out_beside, told_at}

@@ -1,7 +1,6 @@
 -- The search begins before all events that have these values.
-use Rattle.zf_enum.proofs.Prelude.{◌∙◌, ap, List, map, None, subst, sym, AreAllAhead, all_ahead, SayTheSame, Grove, trees_of, planted, value_order, Value, comp_of, schema_of, environment_of, property, AreRanges, judged, with_first, Property, exchanged, AreHeldRanges}
+use Rattle.zf_enum.proofs.Prelude.{◌∙◌, ap, List, map, None, subst, sym, AreAllAhead, all_ahead, SayTheSame, Grove, trees_of, planted, value_order, Value, comp_of, schema_of, environment_of, property, AreRanges, judged, with_first, Property, exchanged, AreHeldRanges, IsNoneOut}
 use Rattle.zf_term.specs.declared.schema.Component.{Component}
-use Rattle.zf_ranges.specs.{IsNoneOut}
 use Rattle.zf_enum.proofs.Held.{as_many_held, exchange_held}
 use Rattle.zf_enum.proofs.Started.{ranges_ascend}
 use Rattle.zf_enum.proofs.instances.Instances.holding.Goals as goal

@@ -1,7 +1,5 @@
-use Rattle.zf_meaning.proofs.Prelude.{refl, subst, sym, Undefined, environment_of}
+use Rattle.zf_meaning.proofs.Prelude.{refl, subst, sym, Undefined, environment_of, IsConstantOutcome, plain-describes}
 use Rattle.zf_outcome.specs.declared.found.Found.TheVariants as found
-use Rattle.zf_meaning.specs.{IsConstantOutcome}
-use Rattle.zf_outcome.proofs.Tests.{plain-describes}
 use Rattle.zf_meaning.proofs.evaluate.memberships.described_constant.Goals as goal
 
 pub returns-in-True : goal.returns-in-True

@@ -1,8 +1,6 @@
-use Rattle.zf_meaning.proofs.Prelude.{rules, subst, sym, w64, IfSome, FitsSigned, Is, Int, binary, resolved_of, environment_of, HasOutcome, InfixOutcome}
-use Rattle.zf_meaning.specs.{in_row}
+use Rattle.zf_meaning.proofs.Prelude.{rules, subst, sym, w64, IfSome, FitsSigned, Is, Int, binary, resolved_of, environment_of, HasOutcome, InfixOutcome, in_row, written-both}
 use Rattle.zf_meaning.proofs.Numeric.{both-numbers}
 use Rattle.zf_meaning.proofs.Operands.{both-seen}
-use Rattle.zf_outcome.proofs.Comparisons.{written-both}
 use Rattle.zf_meaning.proofs.evaluate.numeric.+numbers.Goals as goal
 
 pub number_within-returns-in-Some-number_at : goal.number_within-returns-in-Some-number_at

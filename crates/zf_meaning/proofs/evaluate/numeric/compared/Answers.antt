@@ -1,7 +1,5 @@
-use Rattle.zf_meaning.proofs.Prelude.{arith, map, rules, subst, sym, w64, FitsSigned, Is, Int, chain, links, resolved_link_of, resolved_of, environment_of, IsTruth, Holds, IsAtom}
-use Rattle.zf_meaning.specs.{in_row}
+use Rattle.zf_meaning.proofs.Prelude.{arith, map, rules, subst, sym, w64, FitsSigned, Is, Int, chain, links, resolved_link_of, resolved_of, environment_of, IsTruth, Holds, IsAtom, in_row, written-both}
 use Rattle.zf_meaning.proofs.Numeric.{compared-told, one-link}
-use Rattle.zf_outcome.proofs.Comparisons.{written-both}
 use Rattle.zf_meaning.proofs.evaluate.numeric.compared.Goals as goal
 
 pub returns : goal.returns

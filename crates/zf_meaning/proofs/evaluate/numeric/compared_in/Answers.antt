@@ -1,5 +1,4 @@
-use Rattle.zf_meaning.proofs.Prelude.{◌∙◌, ap, of-Chain, resolved_of, environment_of}
-use Rattle.zf_meaning.specs.{in_row}
+use Rattle.zf_meaning.proofs.Prelude.{◌∙◌, ap, of-Chain, resolved_of, environment_of, in_row}
 use Rattle.zf_meaning.proofs.Numeric.{chain-compared}
 use Rattle.zf_meaning.proofs.evaluate.numeric.compared_in.Goals as goal
 

@@ -1,5 +1,4 @@
-use Rattle.zf_meaning.proofs.Prelude.{resolved_of, environment_of}
-use Rattle.zf_meaning.specs.{in_row}
+use Rattle.zf_meaning.proofs.Prelude.{resolved_of, environment_of, in_row}
 use Rattle.zf_meaning.proofs.Numeric.{number-applied}
 use Rattle.zf_meaning.proofs.evaluate.numeric.number_applied.Goals as goal
 

@@ -1,6 +1,5 @@
-use Rattle.zf_meaning.proofs.Prelude.{subst, sym, IfSome, IsDifference, IsModulus, IsProduct, IsSum, IsQuotient, Is, Int, InfixOutcome}
+use Rattle.zf_meaning.proofs.Prelude.{subst, sym, IfSome, IsDifference, IsModulus, IsProduct, IsSum, IsQuotient, Is, Int, InfixOutcome, written-both}
 use Rattle.zf_meaning.proofs.Numeric.{on-numbers}
-use Rattle.zf_outcome.proofs.Comparisons.{written-both}
 use Rattle.zf_meaning.proofs.evaluate.numeric.of_numbers.Goals as goal
 
 pub returns-in-Plus : goal.returns-in-Plus

@@ -1,5 +1,4 @@
-use Rattle.zf_meaning.proofs.Prelude.{◌∙◌, ap, sym, environment_of, outcome_in}
-use Rattle.zf_meaning.specs.{in_row}
+use Rattle.zf_meaning.proofs.Prelude.{◌∙◌, ap, sym, environment_of, outcome_in, in_row}
 use Rattle.zf_meaning.proofs.Numeric.{found-is}
 use Rattle.zf_meaning.proofs.evaluate.numeric.value_named.Goals as goal
 

@@ -1,6 +1,4 @@
-use Rattle.zf_why.proofs.Prelude.{◌++◌, ◌∙◌, ap, List, map, subst, sym, comp_of, conjunct_of, environment_of, ResolvedTree, CanBegin, Decides, chosen_of}
-use Rattle.std.specs.Prelude.{IfOk}
-use Rattle.zf_term.specs.declared.conjunct.Conjunct.{Conjunct}
+use Rattle.zf_why.proofs.Prelude.{◌++◌, ◌∙◌, ap, List, map, subst, sym, comp_of, conjunct_of, environment_of, ResolvedTree, CanBegin, Decides, chosen_of, IfOk, Conjunct}
 use Rattle.zf_why.proofs.Beginning.{each_begins}
 use Rattle.zf_why.proofs.Lists.{seen_both}
 use Rattle.zf_why.proofs.setting.Setting.allows.Goals as goal

@@ -1,6 +1,4 @@
-use Rattle.zf_why.proofs.Prelude.{◌∙◌, ◌∷◌, ◌≡◌, [], ap, List, map, subst, sym, comp_of, conjunct_of, environment_of, CanBegin, Decides}
-use Rattle.std.specs.Prelude.{IfOk}
-use Rattle.zf_term.specs.declared.conjunct.Conjunct.{Conjunct}
+use Rattle.zf_why.proofs.Prelude.{◌∙◌, ◌∷◌, ◌≡◌, [], ap, List, map, subst, sym, comp_of, conjunct_of, environment_of, CanBegin, Decides, IfOk, Conjunct}
 use Rattle.zf_term.specs.declared.schema.Component.{Component}
 use Rattle.zf_why.proofs.Beginning.{one_component}
 use Rattle.zf_why.proofs.Explained.{value_decided}
