@@ -1,5 +1,5 @@
 -- Schema references, declarations and predicates: what is read is spelled, and what is spelled is read.
-use Rattle.zf_grammar.proofs.Prelude.{◌+◌, ◌∙◌, ◌∷◌, ◌≡◌, ◌≤◌, [], ap, arith, Bool, Err, false, inr, length, List, map, Ok, refl, subst, sym, true, ℕ, leb-false, leb-true, AllByRecursion, if◌then◌else◌, ◌||◌, nat_le, decl_of, DeclTree, include, Tree, vars, tree_of, Name, RefMark, Delta, Plain, Xi, Term, is_mark, next_of, separator, Symbol, symbol, Mark, Kind, decl_height, tree_height, most, atom_level, DeclIsLevelled, expression_level, IsAt, IsLevelled, quantifier_level, first, read_name, rest, parted, Next, PartedBy, Spells, SpellsDecl, SpellsMarked, SpellsName, SpellsNames, SpellsPredicates, SpellsRef, binds, expect, lift, Outcome, read_names, Refused, tall, TooDeep, read_term, Tall}
+use Rattle.zf_grammar.proofs.Prelude.{◌+◌, ◌∙◌, ◌∷◌, ◌≡◌, ◌≤◌, [], ap, arith, Bool, Err, false, inr, length, List, map, Ok, refl, subst, sym, true, ℕ, leb-false, leb-true, AllByRecursion, if◌then◌else◌, ◌||◌, nat_le, decl_of, DeclTree, include, Tree, vars, tree_of, Name, RefMark, Delta, Plain, Xi, Term, is_mark, next_of, separator, Symbol, symbol, Mark, Kind, decl_height, tree_height, most, atom_level, DeclIsLevelled, expression_level, IsAt, IsLevelled, quantifier_level, first, read_name, rest, parted, Next, PartedBy, Spells, SpellsDecl, SpellsMarked, SpellsName, SpellsNames, SpellsPredicates, SpellsRef, binds, expect, Outcome, read_names, Refused, tall, TooDeep, read_term, Tall}
 use Rattle.zf_scan.specs.declared.next.Mark.TheVariants as mark
 use Rattle.zf_scan.specs.declared.next.Next as code
 use Rattle.zf_scan.specs.declared.token.Kind.TheVariants as k
@@ -9,13 +9,13 @@ use Rattle.zf_tree.specs.declared.tree.SchemaRef.{SchemaRef}
 use Rattle.zf_grammar.specs.{inclusion, is_declared, items, marked, new_ref, predicates, read_decls, read_ref, ref_by, variables}
 use Rattle.zf_grammar.specs.BoxReading.{read_decl}
 use Rattle.zf_grammar.proofs.Marks as marks
-use Rattle.zf_grammar.proofs.Marks.{kind_of, seen, passed, next_shorter}
-use Rattle.zf_grammar.proofs.NamesRead.{name_shorter, names_shorter}
+use Rattle.zf_grammar.proofs.Marks.{kind_of, seen, passed, next_shorter, expect_ok, ok_expect}
+use Rattle.zf_grammar.proofs.NamesRead.{name_shorter, names_shorter, name_ok, names_ok, ok_names}
 use Rattle.zf_grammar.proofs.Parted.{parted_shorter}
 use Rattle.zf_grammar.proofs.TermAnswers.{term_read}
 use Rattle.zf_grammar.proofs.TermFirsts.{term_shorter}
 use Rattle.zf_grammar.proofs.TermSound.{term_sound}
-use Rattle.zf_grammar.proofs.TermSteps.{ok_pair, bind_ok, if_ok, if_cases, expect_ok, name_ok, names_ok, ok_expect, ok_names}
+use Rattle.zf_grammar.proofs.TermSteps.{ok_pair, bind_ok, if_ok, if_cases}
 use Rattle.zf_grammar.proofs.BoxItems.{IsThere, Answers, Seen, and_answers, then_answers, if_true, if_false, done, items_sound, items_answers}
 
 -- ---- terms
@@ -39,7 +39,7 @@ not_at m kind ts us h not = ap (λ ts. is_mark m (first ts)) h.1 ∙ not
 marked_sound : (m : RefMark) (ts us : List Symbol) (r : SchemaRef) → marked m ts ≡ Ok (r, us) → (n : Name) × (new_ref m n ≡ r) × SpellsName n ts us
 unfolding marked
 marked_sound m ts us r e =
-    let n = bind_ok (lift (read_name ts)) _ (r, us) e in
+    let n = bind_ok (read_name ts) _ (r, us) e in
     let p = ok_pair (new_ref m n.0, n.1) (r, us) n.3 in
     (n.0, ap (λ p. p.0) p, subst (SpellsName n.0 ts) (ap (λ p. p.1) p) (name_ok ts n.1 n.0 n.2))
 

@@ -1,5 +1,5 @@
 -- Outcomes that follow a tree, and items with their heights, parted by a symbol: what is read is spelled, and what is spelled is read.
-use Rattle.zf_grammar.proofs.Prelude.{◌++◌, ◌<◌, ◌∙◌, ◌∷◌, ◌≡◌, ◌≤◌, [], ap, append_assoc, arith, Bool, Err, false, inl, inr, length, List, map, max, Ok, refl, subst, suc, sym, true, zero, ℕ, append-nil, map-append, AllByRecursion, if◌then◌else◌, ◌⊎◌, is_mark, next_of, Symbol, Mark, with_item, items, items_from, most, first, rest, Next, PartedBy, and_then, Outcome, Parser, tall, TooDeep, Tall}
+use Rattle.zf_grammar.proofs.Prelude.{◌++◌, ◌<◌, ◌∙◌, ◌∷◌, ◌≡◌, ◌≤◌, [], ap, append_assoc, arith, Bool, Err, false, inl, inr, length, List, map, max, Ok, refl, subst, suc, sym, true, zero, ℕ, append-nil, map-append, AllByRecursion, if◌then◌else◌, ◌⊎◌, is_mark, next_of, Symbol, Mark, with_item, items, items_from, most, first, rest, Next, PartedBy, and_then, Outcome, Parser, Refused, tall, TooDeep, Tall}
 use Rattle.zf_scan.specs.declared.next.Next as code
 use Rattle.zf_grammar.proofs.Marks.{kind_of, marked, seen, passed, next_shorter}
 use Rattle.zf_grammar.proofs.Parted.{first_of_all, Further, more}
@@ -55,13 +55,22 @@ if_false Is n h b o p us is go = rw is go
 pub done : {B : Type 0} (Is : B → Type 0) (n h : ℕ) (x : B) (us : List Symbol) → Is x → h ≤ n → Answers Is n h (Ok (x, us)) us
 done Is n h x us is low = inl (record { value = x; is = is; low = low; read = refl })
 
+-- what is there is never refused, and only what is higher than allowed is too high
+pub never_refused : {B : Type 0} {Is : B → Type 0} {n h : ℕ} {o : Outcome B} {us : List Symbol} → Answers Is n h o us → o ≡ Err Refused → ⊥
+never_refused (inl a) e = let read = a.read in cc
+never_refused (inr d) e = let refused = d.refused in cc
+
+pub above_limit : {B : Type 0} {Is : B → Type 0} {n h : ℕ} {o : Outcome B} {us : List Symbol} → Answers Is n h o us → o ≡ Err TooDeep → n < h
+above_limit (inl a) e = let read = a.read in absurd (cc)
+above_limit (inr d) e = d.above
+
 -- ---- lists of items
 
 pub most_append : {A : Type 0} (f : A → ℕ) (xs ys : List A) → most f (xs ++ ys) ≡ max (most f xs) (most f ys)
 most_append f [] ys = omega arith
 most_append f (x ∷ xs) ys = omega (arith, most_append f xs ys)
 
-all_append : {A : Type 0} (P : A → Type 0) (xs : List A) (x : A) → AllByRecursion P xs → P x → AllByRecursion P (xs ++ x ∷ [])
+pub all_append : {A : Type 0} (P : A → Type 0) (xs : List A) (x : A) → AllByRecursion P xs → P x → AllByRecursion P (xs ++ x ∷ [])
 all_append P [] x h p = (p, tt)
 all_append P (y ∷ ys) x h p = (h.0, all_append P ys x h.1 p)
 

@@ -1,12 +1,12 @@
 -- Boxes and whole texts: what is read is spelled, and what is spelled is read.
-use Rattle.zf_grammar.proofs.Prelude.{◌++◌, ◌+◌, ◌∙◌, ◌∷◌, ◌≡◌, ◌≤◌, [], ap, append_assoc, arith, false, length, List, map, max, Ok, refl, subst, suc, sym, true, zero, ℕ, append-nil, map-append, AllByRecursion, box_of, BoxTree, decl_of, DeclTree, paragraph_of, ParagraphTree, schema_box, Tree, zed, tree_of, Name, ZBox, is_mark, next_of, separator, Symbol, symbol, Kind, SpellsUpTo, box_by, predicates, read_decls, read_paragraph, boxes_from, items, read_all, read_box, read_boxes, read_schema_box, read_zed, box_height, decl_height, tree_height, highest, most, paragraph_height, BoxIsLevelled, ParagraphIsLevelled, quantifier_level, first, is_end, read_opening, Next, PartedBy, SpellsBox, SpellsBoxes, SpellsParagraph, binds, expect, lift, Outcome}
+use Rattle.zf_grammar.proofs.Prelude.{◌++◌, ◌+◌, ◌∙◌, ◌∷◌, ◌≡◌, ◌≤◌, [], ap, append_assoc, arith, false, length, List, map, max, Ok, refl, subst, suc, sym, true, zero, ℕ, append-nil, map-append, AllByRecursion, box_of, BoxTree, decl_of, DeclTree, paragraph_of, ParagraphTree, schema_box, Tree, zed, tree_of, Name, ZBox, is_mark, next_of, separator, Symbol, symbol, Kind, SpellsUpTo, box_by, predicates, read_decls, read_paragraph, boxes_from, items, read_all, read_box, read_boxes, read_schema_box, read_zed, box_height, decl_height, tree_height, highest, most, paragraph_height, BoxIsLevelled, ParagraphIsLevelled, quantifier_level, first, is_end, read_opening, Next, PartedBy, SpellsBox, SpellsBoxes, SpellsParagraph, binds, expect, Outcome}
 use Rattle.zf_scan.specs.declared.next.Mark.TheVariants as mark
 use Rattle.zf_scan.specs.declared.token.Kind.TheVariants as k
 use Rattle.zf_tree.specs.declared.tree.ZBox.TheVariants as zbox
-use Rattle.zf_grammar.proofs.Marks.{next_shorter}
+use Rattle.zf_grammar.proofs.Marks.{next_shorter, expect_ok, ok_expect}
 use Rattle.zf_grammar.proofs.NamesRead.{opening_ok}
 use Rattle.zf_grammar.proofs.Parted.{parted_shorter}
-use Rattle.zf_grammar.proofs.TermSteps.{ok_pair, bind_ok, if_ok, if_cases, expect_ok, ok_expect}
+use Rattle.zf_grammar.proofs.TermSteps.{ok_pair, bind_ok, if_ok, if_cases}
 use Rattle.zf_grammar.proofs.BoxItems.{Answers, Seen, and_answers, then_answers, if_true, if_false, done, most_append, items_sound, items_answers}
 use Rattle.zf_grammar.proofs.BoxDecls.{Stops, not_at, decls_sound, decls_answers, decls_shorter, predicates_sound, predicates_answers, predicates_shorter}
 use Rattle.zf_grammar.proofs.SchemaExps.{begins}
@@ -31,7 +31,7 @@ zed_sound n begin ts us b opened e =
 schema_box_sound : (n : ℕ) (ts us : List Symbol) (b : ZBox) → read_schema_box n ts ≡ Ok (b, us) → BoxIsThere n b ts us
 unfolding read_schema_box
 schema_box_sound n ts us b e =
-    let name = bind_ok (lift (read_opening ts)) _ (b, us) e in
+    let name = bind_ok (read_opening ts) _ (b, us) e in
     let ds = bind_ok (read_decls n name.1) _ (b, us) name.3 in
     let ps = bind_ok (predicates n mark.Where ds.1) _ (b, us) ds.3 in
     let end = bind_ok (expect mark.EndBox ps.1) _ (b, us) ps.3 in
@@ -84,13 +84,13 @@ schema_box_answers n name ds ps ts us lev h =
     let Is = λ (b : ZBox). box_of b ≡ schema_box name ds ps in
     let m : Name = record { base = name.base; strokes = []; line = name.line } in
     let m_is : m ≡ name = ap (λ s. record { base = name.base; strokes = s; line = name.line }) (sym bare) in
-    let opened : lift (read_opening ts) ≡ Ok (m, a) = ap (λ ts. lift (read_opening ts)) begin in
+    let opened : read_opening ts ≡ Ok (m, a) = ap read_opening begin in
     let h = box_height (schema_box name ds ps) in
     let last : is_mark mark.Separator (first b) ≡ false = begins (λ x. is_mark mark.Separator x ≡ false) k.Where k.EndBox ps b c us under end refl refl in
     let stop : Stops (first b) = begins Stops k.Where k.EndBox ps b c us under end (record { loose = omega arith; no_comma = refl; no_colon = refl })
     (record { loose = omega arith; no_comma = refl; no_colon = refl }) in
     let loose : binds (first c) ≤ quantifier_level = subst (λ c. binds (first c) ≤ quantifier_level) (sym end.1) (omega arith) in
-    then_answers Is n h (lift (read_opening ts)) _ m a us opened
+    then_answers Is n h (read_opening ts) _ m a us opened
     (and_answers (Seen (map decl_of) ds (most decl_height ds)) Is n (most decl_height ds) n h (read_decls n a) _ b us (λ above. omega arith) (decls_answers n ds a b last stop lev.0 decls)
     (λ xs sx low_x.
     and_answers (Seen (map tree_of) ps (most tree_height ps)) Is n (most tree_height ps) n h (predicates n mark.Where b) _ c us (λ above. omega arith)

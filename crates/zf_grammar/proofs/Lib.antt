@@ -16,11 +16,9 @@ pub mod TermPartsRead
 pub mod TermBeginsRead
 pub mod TermComplete
 pub mod TermAnswers
-pub mod TermTurns
 pub mod TermsApart
 pub mod BoxItems
 pub mod BoxDecls
-pub mod SchemaTurns
 pub mod SchemaExps
 pub mod ParagraphsRead
 pub mod BoxesRead

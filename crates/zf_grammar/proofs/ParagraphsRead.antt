@@ -1,5 +1,5 @@
 -- Paragraphs: what is read is spelled, and what is spelled is read.
-use Rattle.zf_grammar.proofs.Prelude.{◌∙◌, ◌∷◌, ◌≡◌, ◌≤◌, [], ap, arith, false, length, List, Ok, refl, subst, sym, true, ℕ, is_bare, paragraph_of, ParagraphTree, schema_tree_of, SchemaTree, Tree, tree_of, Name, is_mark, next_of, Symbol, symbol, Kind, tree_height, paragraph_height, schema_height, expression_level, IsAt, ParagraphIsLevelled, SchemaIsLevelled, first, read_name, rest, parted, Next, PartedBy, Spells, SpellsName, SpellsNames, SpellsParagraph, SpellsSchema, binds, expect, lift, Outcome, read_names, tall, read_term, Tall}
+use Rattle.zf_grammar.proofs.Prelude.{◌∙◌, ◌∷◌, ◌≡◌, ◌≤◌, [], ap, arith, false, length, List, Ok, refl, subst, sym, true, ℕ, is_bare, paragraph_of, ParagraphTree, schema_tree_of, SchemaTree, Tree, tree_of, Name, is_mark, next_of, Symbol, symbol, Kind, tree_height, paragraph_height, schema_height, expression_level, IsAt, ParagraphIsLevelled, SchemaIsLevelled, first, read_name, rest, parted, Next, PartedBy, Spells, SpellsName, SpellsNames, SpellsParagraph, SpellsSchema, binds, expect, Outcome, read_names, tall, read_term, Tall}
 use Rattle.zf_scan.specs.declared.next.Mark.TheVariants as mark
 use Rattle.zf_scan.specs.declared.next.Next as code
 use Rattle.zf_scan.specs.declared.token.Kind.TheVariants as k
@@ -7,10 +7,10 @@ use Rattle.zf_tree.specs.declared.tree.Paragraph.{Paragraph}
 use Rattle.zf_tree.specs.declared.tree.Paragraph.TheVariants as paragraph
 use Rattle.zf_grammar.specs.{abbreviation, definition, free_type, given, named, named_by, read_paragraph, read_schema}
 use Rattle.zf_tree.specs.Trees as shape
-use Rattle.zf_grammar.proofs.Marks.{marked, seen, passed, next_shorter}
-use Rattle.zf_grammar.proofs.NamesRead.{name_shorter, names_shorter, parted_names_shorter, parted_names_ok, ok_name, ok_parted_names}
+use Rattle.zf_grammar.proofs.Marks.{marked, seen, passed, next_shorter, expect_ok, ok_expect}
+use Rattle.zf_grammar.proofs.NamesRead.{name_shorter, names_shorter, parted_names_shorter, parted_names_ok, ok_name, ok_parted_names, name_ok, names_ok, ok_names}
 use Rattle.zf_grammar.proofs.TermFirsts.{term_shorter}
-use Rattle.zf_grammar.proofs.TermSteps.{ok_pair, bind_ok, if_ok, if_cases, expect_ok, name_ok, names_ok, ok_expect, ok_names}
+use Rattle.zf_grammar.proofs.TermSteps.{ok_pair, bind_ok, if_ok, if_cases}
 use Rattle.zf_grammar.proofs.BoxItems.{IsThere, Answers, Seen, and_answers, then_answers, if_true, if_false, done}
 use Rattle.zf_grammar.proofs.BoxDecls.{term_there, not_at}
 use Rattle.zf_grammar.proofs.TermAnswers.{term_read}
@@ -32,7 +32,7 @@ given_sound n begin ts us x opened e =
 free_sound : (n : ℕ) (name : Name) (begin a ts us : List Symbol) (x : Tall Paragraph) → SpellsName name begin a → Next k.FreeType a ts → free_type name ts ≡ Ok (x, us) → ParagraphIsThere n x begin us
 unfolding free_type
 free_sound n name begin a ts us x left is e =
-    let ns = bind_ok (lift (parted mark.Bar read_name ts)) _ (x, us) e in
+    let ns = bind_ok (parted mark.Bar read_name ts) _ (x, us) e in
     subst (λ p. ParagraphIsThere n p.0 begin p.1) (ok_pair (tall (paragraph.Free name ns.0) 0, ns.1) (x, us) ns.3)
     (record { fits = tt; high_is = refl; low = omega arith; spelled = (a, ts, left, is, parted_names_ok mark.Bar ts ns.1 ns.0 ns.2) })
 
@@ -70,7 +70,7 @@ named_at n name begin _ line ts us x left e = absurd (cc)
 named_sound : (n : ℕ) (ts us : List Symbol) (x : Tall Paragraph) → named n ts ≡ Ok (x, us) → ParagraphIsThere n x ts us
 unfolding named
 named_sound n ts us x e =
-    let name = bind_ok (lift (read_name ts)) _ (x, us) e in
+    let name = bind_ok (read_name ts) _ (x, us) e in
     after name.0 name.1 (name_ok ts name.1 name.0 name.2) name.3
   where
     after : (name : Name) (a : List Symbol) → SpellsName name ts a → named_by n name (first a) a ≡ Ok (x, us) → ParagraphIsThere n x ts us
@@ -107,7 +107,7 @@ free_answers : (n : ℕ) (name : Name) (ns : List Name) (ts us : List Symbol) �
 unfolding free_type
 free_answers n name ns ts us h stop =
     let Is = Seen paragraph_of (shape.free name ns) 0 in
-    then_answers Is n 0 (lift (parted mark.Bar read_name ts)) _ ns us us (ok_parted_names mark.Bar ns ts us stop h)
+    then_answers Is n 0 (parted mark.Bar read_name ts) _ ns us us (ok_parted_names mark.Bar ns ts us stop h)
     (done Is n 0 (tall (paragraph.Free name ns) 0) us (record { is = refl; high = refl }) (omega arith))
 
 abbreviation_answers : (n : ℕ) (name : Name) (t : Tree) (ts us : List Symbol) → IsAt expression_level t → Spells t ts us → binds (first us) ≤ expression_level
@@ -137,7 +137,7 @@ behind n p name ts a us left kind b next o is answers =
     let Is = Seen paragraph_of p (paragraph_height p) in
     let same : named_by n name (first a) a ≡ o = ap (λ a. named_by n name (first a) a) next.1 ∙ is next.0 in
     if_false Is n (paragraph_height p) (is_mark mark.OpenSquare (first ts)) _ _ us (ap (λ ts. is_mark mark.OpenSquare (first ts)) left)
-    (then_answers Is n (paragraph_height p) (lift (read_name ts)) (λ n' us. named_by n n' (first us) us) name a us (ok_name name ts a left) (subst (λ o. ParagraphIsRead n p o us) (sym same) answers))
+    (then_answers Is n (paragraph_height p) (read_name ts) (λ n' us. named_by n n' (first us) us) name a us (ok_name name ts a left) (subst (λ o. ParagraphIsRead n p o us) (sym same) answers))
 
 pub paragraph_answers : (n : ℕ) (p : ParagraphTree) (ts us : List Symbol) → ParagraphIsLevelled p → SpellsParagraph p ts us → EndsParagraph (first us) → ParagraphIsRead n p (read_paragraph n ts) us
 unfolding read_paragraph

@@ -6,8 +6,8 @@ use Rattle.zf_scan.specs.declared.next.Next.TheVariants as next
 use Rattle.zf_scan.specs.declared.token.Kind.TheVariants as k
 use Rattle.zf_tree.specs.declared.tree.SchemaExp.TheVariants as schema
 use Rattle.zf_tree.specs.Trees as shape
-use Rattle.zf_grammar.proofs.Marks.{passed, next_shorter}
-use Rattle.zf_grammar.proofs.TermSteps.{ok_pair, bind_ok, if_ok, if_cases, expect_ok, ok_expect}
+use Rattle.zf_grammar.proofs.Marks.{passed, next_shorter, expect_ok, ok_expect}
+use Rattle.zf_grammar.proofs.TermSteps.{ok_pair, bind_ok, if_ok, if_cases}
 use Rattle.zf_grammar.proofs.BoxItems.{IsThere, IsTooHigh, Answers, Seen, and_answers, then_answers, done}
 use Rattle.zf_grammar.proofs.BoxDecls.{Stops, not_at, ref_sound, ref_read, ref_shorter, decls_sound, decls_answers, decls_shorter, predicates_sound, predicates_answers, predicates_shorter}
 use Rattle.zf_tree.proofs.SchemaSeen as of
@@ -351,9 +351,7 @@ module _ (n : ℕ) (below : Parser (Tall SchemaExp)) (ok : SchemaIsComplete n be
       (ap (λ ts. is_and (first ts)) next.1) (passed mid c next) (next_shorter mid c next) (omega (arith, schema_shorter b c us right)) refl
       (λ x y is_x is_y. of.of-Both x y ∙ ap (λ a. both a (schema_tree_of y)) is_x ∙ ap (both a) is_y) runs after
   and_runs (either l a b) ts us at h = absurd (omega (arith, at.0))
-  and_runs (shape.schema_text ds ps) ts us at h = and_begun (shape.schema_text ds ps) ts us (omega arith, at.1) h
-  and_runs (schema_reference r) ts us at h = and_begun (schema_reference r) ts us (omega arith, at.1) h
-  and_runs (shape.schema_bracket t) ts us at h = and_begun (shape.schema_bracket t) ts us (omega arith, at.1) h
+  and_runs t ts us at h = and_begun t ts us (omega arith, at.1) h
 
   conjunction_answers : (t : SchemaTree) (ts us : List Symbol) → SchemaIsAt 1 t → SpellsSchema t ts us → is_and (first us) ≡ false → SchemaIsRead (n + 1) t (conjunction n below ts) us
   unfolding conjunction
@@ -375,10 +373,7 @@ module _ (n : ℕ) (below : Parser (Tall SchemaExp)) (ok : SchemaIsComplete n be
       (ap (λ ts. is_or (first ts)) next.1) (passed mid c next) (next_shorter mid c next) (omega (arith, schema_shorter b c us right)) refl
       (λ x y is_x is_y. of.of-Or (here ts) x y ∙ ap (λ l. either l (schema_tree_of x) (schema_tree_of y)) (here_is l ts on)
       ∙ ap (λ a. either l a (schema_tree_of y)) is_x ∙ ap (either l a) is_y) runs after
-  or_runs (both a b) ts us lev h none = or_begun (both a b) ts us (omega arith, lev) h none
-  or_runs (shape.schema_text ds ps) ts us lev h none = or_begun (shape.schema_text ds ps) ts us (omega arith, lev) h none
-  or_runs (schema_reference r) ts us lev h none = or_begun (schema_reference r) ts us (omega arith, lev) h none
-  or_runs (shape.schema_bracket t) ts us lev h none = or_begun (shape.schema_bracket t) ts us (omega arith, lev) h none
+  or_runs t ts us lev h none = or_begun t ts us (omega arith, lev) h none
 
   disjunction_answers : (t : SchemaTree) (ts us : List Symbol) → SchemaIsLevelled t → SpellsSchema t ts us → Closes (first us) → SchemaIsRead (n + 1) t (disjunction n below ts) us
   unfolding disjunction

@@ -1,5 +1,5 @@
 -- What begins a term: what is read there is levelled, of the stated height, and spells the symbols.
-use Rattle.zf_grammar.proofs.Prelude.{◌+◌, ◌<◌, ◌∙◌, ◌∷◌, ◌≡◌, ◌≤◌, [], ap, arith, length, List, max, Ok, refl, subst, sym, true, ℕ, leb-true, nat_le, ident_of, bracket, constant, line_of, named, numeral, part_of, Tree, Trees, tree_of, Listed, Unary, Minus, Quantifier, Name, Term, is_mark, next_of, Symbol, symbol, Mark, Kind, trees_height, AreAt, AreEnough, AreTwo, atom_level, expression_level, level, listed_level, member_place, quantifier_level, unary_level, first, After, Before, Closes, IsFirstLine, Opens, parting, SpellsItems, Tall}
+use Rattle.zf_grammar.proofs.Prelude.{◌+◌, ◌<◌, ◌∙◌, ◌∷◌, ◌≡◌, ◌≤◌, [], ap, arith, length, List, max, Ok, refl, subst, sym, true, ℕ, leb-true, nat_le, ident_of, bracket, constant, line_of, named, numeral, part_of, Tree, Trees, tree_of, Listed, Unary, Minus, Quantifier, Name, Term, is_mark, next_of, Symbol, symbol, Mark, Kind, trees_height, AreAt, AreEnough, AreTwo, atom_level, expression_level, level, listed_level, member_place, quantifier_level, unary_level, first, After, Before, Closes, IsFirstLine, Opens, parting, SpellsItems, Tall, expect}
 use Rattle.zf_scan.specs.declared.next.Mark.TheVariants as mark
 use Rattle.zf_scan.specs.declared.token.Kind.TheVariants as k
 use Rattle.zf_tree.specs.declared.operator.Listed.TheVariants as list
@@ -7,11 +7,10 @@ use Rattle.zf_tree.specs.declared.operator.Sign.TheVariants as sign
 use Rattle.zf_tree.specs.declared.operator.Unary.TheVariants as one
 use Rattle.zf_tree.specs.declared.tree.Term.TheVariants as term
 use Rattle.zf_grammar.specs.{beginning, beginning_by, begins_decl, braced, comprehension, closed_by, decls, display, empty_set, further, listed, part, parted_by, prefixed, quantified, round, round_by, tall}
-use Rattle.zf_grammar.specs.TermReading.{expect}
 use Rattle.zf_tree.specs.Trees as shape
-use Rattle.zf_grammar.proofs.Marks.{kind_of}
+use Rattle.zf_grammar.proofs.Marks.{kind_of, expect_ok}
 use Rattle.zf_tree.proofs.TermSeen as of
-use Rattle.zf_grammar.proofs.TermSteps.{ok_value, ok_rest, bind_ok, if_ok, if_cases, expect_ok}
+use Rattle.zf_grammar.proofs.TermSteps.{ok_value, ok_rest, bind_ok, if_ok, if_cases}
 use Rattle.zf_grammar.proofs.TermParts.{trees_of, decls_of, Sound, AreSome, Reader, IsSound, made, further_sound, decls_sound, part_sound}
 use Rattle.zf_grammar.proofs.TermTables.{unary_level_le, member_place_le}
 

@@ -1,22 +1,18 @@
 -- What begins a term: what a levelled tree spells there is read.
-use Rattle.zf_grammar.proofs.Prelude.{◌+◌, ◌∙◌, ◌∷◌, ◌≡◌, ◌≤◌, ap, arith, false, List, Ok, refl, subst, sym, true, ℕ, le-leb, ident_of, Listed, Sign, Unary, Minus, Quantifier, Name, Term, is_mark, next_of, Symbol, symbol, tree_height, trees_height, AreAt, expression_level, IsLevelled, level, member_place, negation_level, quantifier_level, sign_level, unary_level, first, parting, Spells, SpellsFurther, Tall, Kind, Next}
+use Rattle.zf_grammar.proofs.Prelude.{◌+◌, ◌∙◌, ◌∷◌, ◌≡◌, ◌≤◌, ap, arith, false, List, Ok, refl, subst, sym, true, ℕ, le-leb, ident_of, Listed, Sign, Unary, Minus, Quantifier, Name, Term, is_mark, next_of, Symbol, symbol, tree_height, trees_height, AreAt, expression_level, IsLevelled, level, member_place, negation_level, quantifier_level, sign_level, unary_level, first, parting, Spells, SpellsFurther, Tall, Kind, Next, Outcome, bracket, constant, named, numeral, part_of, Perhaps, Tree, tree, tree_of, VarDecls, Trees}
 use Rattle.zf_scan.specs.declared.next.Mark.TheVariants as mark
 use Rattle.zf_tree.specs.declared.symbol.Constant.{Constant}
 use Rattle.zf_scan.specs.declared.token.Kind.TheVariants as k
 use Rattle.zf_tree.specs.declared.operator.Listed.TheVariants as list
 use Rattle.zf_tree.specs.declared.operator.Sign.TheVariants as sign
 use Rattle.zf_tree.specs.declared.operator.Unary.TheVariants as one
-use Rattle.zf_grammar.specs.Reading as basic
+use Rattle.zf_grammar.specs.Reading as reading
 use Rattle.zf_tree.specs.declared.tree.Term.TheVariants as term
 use Rattle.zf_grammar.specs.{beginning, begins_decl, binds, braced, comprehension, closed_by, display, empty_set, listed, parted_by, prefixed, quantified, round, tall}
-use Rattle.zf_grammar.specs.TermReading.{Outcome}
-use Rattle.zf_tree.specs.{bracket, constant, named, numeral, part_of, Perhaps, Tree, tree, tree_of, VarDecls}
-use Rattle.zf_tree.specs.Trees.{Trees}
 use Rattle.zf_tree.specs.Trees as shape
-use Rattle.zf_grammar.proofs.Marks.{kind_of}
+use Rattle.zf_grammar.proofs.Marks.{kind_of, ok_expect}
 use Rattle.zf_grammar.proofs.TermFirsts.{not_closed}
 use Rattle.zf_tree.proofs.TermSeen as of
-use Rattle.zf_grammar.proofs.TermSteps.{ok_expect}
 use Rattle.zf_grammar.proofs.TermBegins.{same_parting}
 use Rattle.zf_grammar.proofs.TermParts.{decls_of}
 use Rattle.zf_grammar.proofs.TermPartsRead.{IsRead, Reader, IsComplete, first_is, part_first, from_false, decls_begin, items_do_not, further_stops, all_complete, decls_complete, part_complete}
@@ -162,7 +158,7 @@ module _ (below : Reader) (n : ℕ) (ok : IsComplete n below) where
       }
 
   prefixed_complete : (op : Unary) (least l : ℕ) (t : Tree) (ts a us : List Symbol) → least ≤ unary_level op → IsLevelled (shape.unary l op t)
-      → tree_height t ≤ n → basic.rest ts ≡ a → Spells t a us → binds (first us) ≤ unary_level op
+      → tree_height t ≤ n → reading.rest ts ≡ a → Spells t a us → binds (first us) ≤ unary_level op
       → IsRead (prefixed below least l op ts) (shape.unary l op t) us
   unfolding prefixed
   prefixed_complete op least l t ts a us fits lev low is h stop =

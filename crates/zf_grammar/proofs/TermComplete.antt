@@ -1,5 +1,5 @@
 -- A levelled tree that spells symbols is what is read of them.
-use Rattle.zf_grammar.proofs.Prelude.{◌+◌, ◌-◌, ◌<◌, ◌∙◌, ◌∷◌, ◌≡◌, ◌≤◌, [], ap, arith, false, length, List, max, Ok, refl, subst, suc, sym, zero, ℕ, le-leb, bracket, chain, constant, line_of, link, Links, named, no_links, no_trees, numeral, Tree, tree, tree_of, Operator, Relation, Term, is_mark, Symbol, symbol, tree_height, links_height, chain_level, expression_level, IsLevelled, left_place, level, LinksAreLevelled, operator_level, postfix_level, product_level, right_place, first, Behind, Spells, SpellsLinks, Role, Tall}
+use Rattle.zf_grammar.proofs.Prelude.{◌+◌, ◌-◌, ◌<◌, ◌∙◌, ◌∷◌, ◌≡◌, ◌≤◌, [], ap, arith, false, length, List, max, Ok, refl, subst, suc, sym, zero, ℕ, le-leb, lt-leb, bracket, chain, constant, line_of, link, Links, named, no_links, no_trees, numeral, Tree, tree, tree_of, Operator, Relation, Term, is_mark, Symbol, symbol, tree_height, links_height, chain_level, expression_level, IsLevelled, left_place, level, LinksAreLevelled, operator_level, postfix_level, product_level, right_place, first, Behind, Spells, SpellsLinks, Role, Tall, Outcome}
 use Rattle.zf_scan.specs.declared.next.Mark.TheVariants as mark
 use Rattle.zf_scan.specs.declared.next.Next as code
 use Rattle.zf_scan.specs.declared.next.Next.TheVariants as next
@@ -10,12 +10,10 @@ use Rattle.zf_tree.specs.declared.operator.Operator.TheVariants as operator
 use Rattle.zf_tree.specs.declared.operator.Unary.TheVariants as one
 use Rattle.zf_tree.specs.declared.tree.Term.TheVariants as term
 use Rattle.zf_grammar.specs.{beginning, binary, binds, bound_by, chain_links, chained, climb, ended_by, longer_by, place_before, read_term, role_of, tall, whole}
-use Rattle.zf_grammar.specs.TermReading.{Outcome}
 use Rattle.zf_tree.specs.Trees as shape
+use Rattle.zf_grammar.proofs.Marks.{ok_expect}
 use Rattle.zf_grammar.proofs.TermFirsts.{Joins, joined}
 use Rattle.zf_tree.proofs.TermSeen as of
-use Rattle.zf_grammar.proofs.TermSteps.{ok_expect}
-use Rattle.zf_grammar.proofs.TermTurns.{goes_on}
 use Rattle.zf_grammar.proofs.TermParts.{links_of}
 use Rattle.zf_grammar.proofs.TermBeginsRead.{Closing, name_begins, numeral_begins, constant_begins, empty_set_begins, bracket_begins, listed_complete, tuple_begins, display_begins, comprehension_begins, quantified_begins, sign_begins, not_begins}
 use Rattle.zf_grammar.proofs.TermPartsRead.{IsRead, Reader, IsComplete, first_is, some_height, split_links, links_complete}
@@ -40,6 +38,13 @@ closes_product : (ts us : List Symbol) → binds (first us) ≤ product_level �
 closes_product ts us stop h =
     let here : binds (first ts) ≤ product_level = omega (arith, ap (λ ts. binds (first ts)) h) in
     record { closed = ap (λ ts. Ok (tt, ts)) h; none = no_cross (first ts) here; stop = omega arith }
+
+-- one turn of going on with a term
+goes_on : (below : Reader) (highest least n : ℕ) (x : Tall Term) (ts : List Symbol) → least < binds (first ts) → place_before (role_of (first ts)) ≤ level (tree_of x.part)
+    → (y : Tall Term) (us : List Symbol) → longer_by below x (role_of (first ts)) ts ≡ Ok (y, us) → y.height ≤ highest
+    → climb below highest least (suc n) x ts ≡ climb below highest least n y us
+unfolding climb
+goes_on below highest least n x ts tight fits y us e low = rw (lt-leb (binds (first ts)) least tight, le-leb _ _ fits, e, le-leb y.height highest low) refl
 
 module _ (below : Reader) (n : ℕ) (ok : IsComplete n below) where
   abbrev reads : ℕ → List Symbol → Outcome (Tall Term)
@@ -113,13 +118,10 @@ module _ (below : Reader) (n : ℕ) (ok : IsComplete n below) where
   spine (constant l c) least ts us fits lev low h stop = begun least (constant l c) ts us (constant_begins below n ok least l c ts us h)
   spine (shape.empty_set l t) least ts us fits lev low h stop = begun least _ ts us (empty_set_begins below n ok least l t ts us lev low h)
   spine (bracket l t) least ts us fits lev low h stop = begun least _ ts us (bracket_begins below n ok least l t ts us lev (omega arith) h)
-  spine (shape.listed l list.Tuple no_trees) least ts us fits lev low h stop = absurd lev.0
-  spine (shape.listed l list.Tuple (tree t no_trees)) least ts us fits lev low h stop = absurd lev.0
   spine (shape.listed l list.Tuple (tree t (tree u vs))) least ts us fits lev low h stop = begun least _ ts us (tuple_begins below n ok least l t u vs ts us lev.1 (omega arith) h)
+  spine (shape.listed l list.Tuple _) least ts us fits lev low h stop = absurd lev.0
   spine (shape.listed l list.Display no_trees) least ts us fits lev low h stop = absurd h.3
   spine (shape.listed l list.Display (tree t vs)) least ts us fits lev low h stop = begun least _ ts us (display_begins below n ok least l t vs ts us lev.1 (omega arith) h)
-  spine (shape.listed l list.Product no_trees) least ts us fits lev low h stop = absurd lev.0
-  spine (shape.listed l list.Product (tree t no_trees)) least ts us fits lev low h stop = absurd lev.0
   spine (shape.listed l list.Product (tree t (tree u vs))) least ts us fits lev low h stop =
       let (a, b, (line, same), (c, s, (d, e, cross, s_u, further_u)), close) = h in
       let at : List Symbol = symbol k.Cross cross.0 ∷ d in
@@ -128,6 +130,7 @@ module _ (below : Reader) (n : ℕ) (ok : IsComplete n below) where
       turn least t _ ts at us role.Cross refl left (omega arith) low (omega arith) lev.1.0 (λ x is.
       subst (λ l. IsRead (longer_by below (tall x (tree_height t)) role.Cross at) (shape.listed l list.Product (tree t (tree u vs))) us) (ap line_of is ∙ sym line)
       (listed_complete below n ok list.Product (line_of (tree_of x)) x t (tree u vs) at b us is lev.1.2 (omega arith) (d, e, (cross.0, refl), s_u, further_u) (closes_product b us stop close)))
+  spine (shape.listed l list.Product _) least ts us fits lev low h stop = absurd lev.0
   spine (shape.comprehension l ds p t) least ts us fits lev low h stop = begun least _ ts us (comprehension_begins below n ok least l ds p t ts us lev low h)
   spine (shape.unary l (one.Sign s) t) least ts us fits lev low h stop = begun least _ ts us (sign_begins below n ok s least l t ts us fits lev (omega arith) h stop)
   spine (shape.unary l one.Not t) least ts us fits lev low h stop = begun least _ ts us (not_begins below n ok least l t ts us fits lev (omega arith) h stop)

@@ -76,11 +76,10 @@ only_name (empty_set l t) ts us lev h is = absurd (other true k.EmptySet ts h.0 
 only_name (bracket l t) ts us lev h is = absurd (other true k.OpenRound ts h.0 (λ line. refl) (l, h.2) is)
 only_name (listed l list.Tuple vs) ts us lev h is = absurd (other true k.OpenRound ts h.0 (λ line. refl) (l, h.2) is)
 only_name (listed l list.Display vs) ts us lev h is = absurd (other true k.OpenBrace ts h.0 (λ line. refl) (l, h.2) is)
-only_name (listed l list.Product no_trees) ts us lev h is = absurd lev.0
-only_name (listed l list.Product (tree t no_trees)) ts us lev h is = absurd lev.0
 only_name (listed l list.Product (tree t (tree u vs))) ts us lev h is =
     let more = only_name t h.0 h.3.0 lev.1.1 h.3.1 (sym (ap (begins_decl true) h.2.1) ∙ is) in
     absurd (other false k.Cross h.3.0 h.3.2.0 (λ line. refl) h.3.2.2 more)
+only_name (listed l list.Product _) ts us lev h is = absurd lev.0
 only_name (comprehension l ds p t) ts us lev h is = absurd (other true k.OpenBrace ts h.0 (λ line. refl) (l, h.4) is)
 only_name (unary l (one.Sign sign.Minus) t) ts us lev h is = absurd (other true (k.Infix _) ts h.0 (λ line. refl) (l, h.2) is)
 only_name (unary l (one.Sign (sign.Symbol s)) t) ts us lev h is = absurd (other true (k.Prefix s) ts h.0 (λ line. refl) (l, h.2) is)

@@ -1,5 +1,5 @@
 -- With more height allowed, an outcome other than TooDeep stays.
-use Rattle.zf_grammar.proofs.Prelude.{◌+◌, ◌∙◌, ◌∷◌, ◌≡◌, ◌≤◌, [], ap, arith, Bool, Err, false, inl, inr, length, List, Ok, refl, subst, suc, sym, true, zero, ℕ, ⊎_elim, le-leb, leb-true, if◌then◌else◌, ◌⊎◌, nat_le, tree_of, Listed, Operator, Unary, Minus, Quantifier, Link, Term, VarDecl, is_mark, Symbol, Mark, expression_level, level, member_place, quantifier_level, right_place, unary_level, first, rest, Role, Tall}
+use Rattle.zf_grammar.proofs.Prelude.{◌+◌, ◌∙◌, ◌∷◌, ◌≡◌, ◌≤◌, [], ap, arith, Bool, Err, false, inl, inr, length, List, Ok, refl, subst, suc, sym, true, zero, ℕ, ⊎_elim, le-leb, leb-true, if◌then◌else◌, ◌⊎◌, nat_le, tree_of, Listed, Operator, Unary, Minus, new_link, Quantifier, Link, Term, is_mark, Symbol, Mark, expression_level, level, member_place, quantifier_level, right_place, unary_level, first, rest, Role, Tall, Outcome, Parser, and_then, expect, read_decl}
 use Rattle.zf_scan.specs.declared.next.Mark.TheVariants as mark
 use Rattle.zf_scan.specs.declared.next.Next.{Next}
 use Rattle.zf_scan.specs.declared.next.Next.TheVariants as next
@@ -7,8 +7,7 @@ use Rattle.zf_grammar.specs.declared.role.Role.TheVariants as role
 use Rattle.zf_tree.specs.declared.operator.Listed.TheVariants as list
 use Rattle.zf_tree.specs.declared.operator.Sign.TheVariants as sign
 use Rattle.zf_tree.specs.declared.operator.Unary.TheVariants as one
-use Rattle.zf_grammar.specs.{beginning, beginning_by, begins_decl, beyond, binary, binds, braced, comprehension, chain_links, chained, climb, decls, decls_from, display, empty_set, further, further_from, here, links_by, links_from, listed, longer_by, part, parted_by, place_before, prefixed, quantified, read_names, read_term, Refused, role_of, round, round_by, tall, TooDeep, whole, with_decl, with_link, with_term}
-use Rattle.zf_grammar.specs.TermReading.{Outcome, Parser, and_then, expect, read_decl}
+use Rattle.zf_grammar.specs.{beginning, beginning_by, begins_decl, beyond, binary, binds, braced, comprehension, chain_links, chained, climb, decls, display, empty_set, further, here, items, items_from, links_by, links_from, listed, longer_by, part, parted_by, place_before, prefixed, quantified, read_names, read_term, Refused, role_of, round, round_by, tall, TooDeep, whole, with_item}
 
 abbrev pub Under : {A : Type 0} → Outcome A → Outcome A → Type 0
 Under r s = (r ≡ Err TooDeep) ⊎ (r ≡ s)
@@ -27,6 +26,13 @@ if_under : {A : Type 0} (b : Bool) (p q r s : Outcome A) → Under p q → Under
 if_under true p q r s x y = x
 if_under false p q r s x y = y
 
+module _ {A : Type 0} (m : Mark) (item more : Parser (Tall A)) (up : (ts : List Symbol) → Under (item ts) (more ts)) where
+  items_from_under : (j : ℕ) (xs : Tall (List A)) (ts : List Symbol) → Under (items_from m item j xs ts) (items_from m more j xs ts)
+  unfolding items_from
+  items_from_under zero xs ts = same _
+  items_from_under (suc j) xs ts =
+      if_under (is_mark m (first ts)) _ _ _ _ (and_under _ _ _ _ (up (rest ts)) (λ x us. items_from_under j (with_item xs x) us)) (same _)
+
 abbrev Reader : Type 0
 Reader = ℕ → Parser (Tall Term)
 
@@ -34,19 +40,13 @@ abbrev pub IsUnder : Reader → Reader → Type 0
 IsUnder below above = (least : ℕ) (ts : List Symbol) → Under (below least ts) (above least ts)
 
 module _ (below above : Reader) (up : IsUnder below above) where
-  further_from_under : (m : Mark) (place j : ℕ) (xs : Tall (List Term)) (ts : List Symbol) → Under (further_from below m place j xs ts) (further_from above m place j xs ts)
-  unfolding further_from
-  further_from_under m place zero xs ts = same _
-  further_from_under m place (suc j) xs ts =
-      if_under (is_mark m (first ts)) _ _ _ _ (and_under _ _ _ _ (up place (rest ts)) (λ x us. further_from_under m place j (with_term xs x) us)) (same _)
-
   further_under : (m : Mark) (place : ℕ) (x : Tall Term) (ts : List Symbol) → Under (further below m place x ts) (further above m place x ts)
   unfolding further
-  further_under m place x ts = further_from_under m place (length ts) (tall (x.part ∷ []) x.height) ts
+  further_under m place x ts = items_from_under m (below place) (above place) (up place) (length ts) (tall (x.part ∷ []) x.height) ts
 
   links_at : (j : ℕ) → ((xs : Tall (List Link)) (ts : List Symbol) → Under (links_from below j xs ts) (links_from above j xs ts)) → (xs : Tall (List Link)) (after : Next) (ts : List Symbol)
       → Under (links_by below (links_from below j) xs after ts) (links_by above (links_from above j) xs after ts)
-  links_at j again xs (next.Relation r) ts = and_under _ _ _ _ (up expression_level _) (λ x us. again (with_link xs r x) us)
+  links_at j again xs (next.Relation r) ts = and_under _ _ _ _ (up expression_level _) (λ x us. again (with_item xs (tall (new_link r x.part) x.height)) us)
   links_at j again xs _ ts = same _
 
   links_under : (j : ℕ) (xs : Tall (List Link)) (ts : List Symbol) → Under (links_from below j xs ts) (links_from above j xs ts)
@@ -59,15 +59,10 @@ module _ (below above : Reader) (up : IsUnder below above) where
   decl_under ts =
       and_under _ _ _ _ (same (read_names ts)) (λ ns us. and_under _ _ _ _ (same (expect mark.Colon us)) (λ _ vs. and_under _ _ _ _ (up expression_level vs) (λ x ws. same _)))
 
-  decls_from_under : (j : ℕ) (xs : Tall (List VarDecl)) (ts : List Symbol) → Under (decls_from below j xs ts) (decls_from above j xs ts)
-  unfolding decls_from
-  decls_from_under zero xs ts = same _
-  decls_from_under (suc j) xs ts =
-      if_under (is_mark mark.Separator (first ts)) _ _ _ _ (and_under _ _ _ _ (decl_under (rest ts)) (λ x us. decls_from_under j (with_decl xs x) us)) (same _)
-
   decls_under : (ts : List Symbol) → Under (decls below ts) (decls above ts)
-  unfolding decls
-  decls_under ts = and_under _ _ _ _ (decl_under ts) (λ x us. decls_from_under (length us) (tall (x.part ∷ []) x.height) us)
+  unfolding items
+  decls_under ts =
+      and_under _ _ _ _ (decl_under ts) (λ x us. items_from_under mark.Separator (read_decl below) (read_decl above) decl_under (length us) (tall (x.part ∷ []) x.height) us)
 
   part_under : (m : Mark) (place : ℕ) (ts : List Symbol) → Under (part below m place ts) (part above m place ts)
   unfolding part

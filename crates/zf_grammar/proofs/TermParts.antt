@@ -1,12 +1,11 @@
 -- Lists of parts: what is read is levelled, of the stated height, and spells the symbols.
-use Rattle.zf_grammar.proofs.Prelude.{◌++◌, ◌<◌, ◌∙◌, ◌∷◌, ◌≡◌, ◌≤◌, [], ap, append_assoc, arith, length, List, map, max, None, Ok, Option, refl, Some, subst, suc, sym, true, zero, ℕ, append-nil, Relation, Link, Name, Term, VarDecl, is_mark, next_of, separator, Symbol, symbol, Mark, Kind, tree_height, perhaps_height, trees_height, links_height, decls_height, AreAt, atom_level, DeclsAreLevelled, expression_level, IsLevelled, level, LinksAreLevelled, PartIsAt, first, rest, Next, Spells, SpellsDecls, SpellsFurther, SpellsLinks, SpellsNames, SpellsPart, expect, links_by, Outcome, Parser, read_names, tall, with_decl, with_link, with_term, decls, decls_from, further_from, links_from, part, read_decl, Tall}
+use Rattle.zf_grammar.proofs.Prelude.{◌++◌, ◌<◌, ◌∙◌, ◌∷◌, ◌≡◌, ◌≤◌, [], ap, append_assoc, arith, length, List, map, max, None, Ok, Option, refl, Some, subst, suc, sym, true, zero, ℕ, append-nil, Relation, Link, Name, Term, VarDecl, is_mark, next_of, separator, Symbol, symbol, Mark, Kind, tree_height, perhaps_height, trees_height, links_height, decls_height, AreAt, atom_level, DeclsAreLevelled, expression_level, IsLevelled, level, LinksAreLevelled, PartIsAt, first, rest, Next, Spells, SpellsDecls, SpellsFurther, SpellsLinks, SpellsNames, SpellsPart, expect, links_by, Outcome, Parser, read_names, tall, with_item, decls, items, items_from, links_from, part, read_decl, Tall, link, link_of, Links, links, new_decl, new_link, no_decls, no_links, part_of, Tree, tree_of, trees, var_decl, var_decl_of, var_decls, VarDecls, Trees}
 use Rattle.zf_scan.specs.declared.next.Mark.TheVariants as mark
 use Rattle.zf_scan.specs.declared.token.Kind.TheVariants as k
-use Rattle.zf_tree.specs.{link, link_of, Links, links, new_decl, new_link, no_decls, no_links, part_of, Tree, tree_of, trees, var_decl, var_decl_of, var_decls, VarDecls}
-use Rattle.zf_tree.specs.Trees.{Trees}
-use Rattle.zf_grammar.proofs.Marks.{kind_of, marked}
+use Rattle.zf_grammar.proofs.NamesRead.{names_ok}
+use Rattle.zf_grammar.proofs.Marks.{kind_of, marked, expect_ok}
 use Rattle.zf_tree.proofs.TermSeen as of
-use Rattle.zf_grammar.proofs.TermSteps.{ok_pair, ok_value, ok_rest, bind_ok, if_cases, expect_ok, names_ok}
+use Rattle.zf_grammar.proofs.TermSteps.{ok_pair, ok_value, ok_rest, bind_ok, if_cases}
 
 -- lists of parts, as trees
 abbrev pub trees_of : List Term → Trees
@@ -18,16 +17,17 @@ links_of xs = links (map link_of xs)
 abbrev pub decls_of : List VarDecl → VarDecls
 decls_of xs = var_decls (map var_decl_of xs)
 
--- a tree of this height stands at its place and is spelled between two lists
-pub record IsThere (highest least : ℕ) (t : Tree) (h : ℕ) (ts us : List Symbol) : Type 0 where
+-- a tree of this height stands at its place, and it is spelled so
+pub record IsThere (highest least : ℕ) (t : Tree) (h : ℕ) (Spelled : Type 0) : Type 0 where
   pub fits : least ≤ level t
   pub levelled : IsLevelled t
   pub high : h ≡ tree_height t
   pub low : h ≤ highest
-  pub spelled : Spells t ts us
+  pub spelled : Spelled
 
+-- between two lists
 abbrev pub Sound : ℕ → ℕ → Tall Term → List Symbol → List Symbol → Type 0
-Sound highest least x ts us = IsThere highest least (tree_of x.part) x.height ts us
+Sound highest least x ts us = IsThere highest least (tree_of x.part) x.height (Spells (tree_of x.part) ts us)
 
 abbrev pub AreSome : {A : Type 0} → List A → Type 0
 AreSome [] = ⊥
@@ -50,12 +50,8 @@ SoundTerms highest place turns m xs ys ts us =
     (λ xs ts us. SpellsFurther (kind_of m) (trees_of xs) ts us × (is_mark m (first ts) ≡ true → 0 < turns → AreSome xs)) highest xs ys ts us
 
 -- a link
-pub record IsLink (highest : ℕ) (p : Relation × Tree) (h : ℕ) (ts us : List Symbol) : Type 0 where
-  pub fits : expression_level ≤ level p.1
-  pub levelled : IsLevelled p.1
-  pub high : h ≡ tree_height p.1
-  pub low : h ≤ highest
-  pub spelled : (a : List Symbol) × Next (k.Relation p.0) ts a × Spells p.1 a us
+abbrev pub IsLink : (highest : ℕ) → Relation × Tree → (h : ℕ) → (ts us : List Symbol) → Type 0
+IsLink highest p h ts us = IsThere highest expression_level p.1 h ((a : List Symbol) × Next (k.Relation p.0) ts a × Spells p.1 a us)
 
 -- links, of which there may be none
 abbrev pub SpellsSomeLinks : Links → List Symbol → List Symbol → Type 0
@@ -67,12 +63,8 @@ SoundLinks highest xs ys ts us =
     SoundList (λ xs. LinksAreLevelled (links_of xs)) (λ xs. links_height (links_of xs)) (λ xs ts us. SpellsSomeLinks (links_of xs) ts us) highest xs ys ts us
 
 -- a declaration
-pub record IsDecl (highest : ℕ) (p : List Name × Tree) (h : ℕ) (ts us : List Symbol) : Type 0 where
-  pub fits : expression_level ≤ level p.1
-  pub levelled : IsLevelled p.1
-  pub high : h ≡ tree_height p.1
-  pub low : h ≤ highest
-  pub spelled : (a b : List Symbol) × SpellsNames p.0 ts a × Next k.Colon a b × Spells p.1 b us
+abbrev pub IsDecl : (highest : ℕ) → List Name × Tree → (h : ℕ) → (ts us : List Symbol) → Type 0
+IsDecl highest p h ts us = IsThere highest expression_level p.1 h ((a b : List Symbol) × SpellsNames p.0 ts a × Next k.Colon a b × Spells p.1 b us)
 
 -- further declarations, of which there may be none
 abbrev pub SpellsFurtherDecls : VarDecls → List Symbol → List Symbol → Type 0
@@ -105,9 +97,9 @@ IsSound n below = (least : ℕ) (ts us : List Symbol) (x : Tall Term) → least 
 
 -- a term that was made is seen as a tree that is there
 pub made : (highest least : ℕ) (t : Tree) (x : Term) (h : ℕ) (ts us vs : List Symbol) (y : Tall Term) → tree_of x ≡ t → ◌≡◌ {A = Outcome (Tall Term)} (Ok (tall x h, us)) (Ok (y, vs))
-    → IsThere highest least t h ts us → Sound highest least y ts vs
+    → IsThere highest least t h (Spells t ts us) → Sound highest least y ts vs
 made highest least t x h ts us vs y is e there =
-    subst (λ p. Sound highest least p.0 ts p.1) (ok_pair (tall x h, us) (y, vs) e) (subst (λ t. IsThere highest least t h ts us) (sym is) there)
+    subst (λ p. Sound highest least p.0 ts p.1) (ok_pair (tall x h, us) (y, vs) e) (subst (λ t. IsThere highest least t h (Spells t ts us)) (sym is) there)
 
 -- ---- lists of parts
 
@@ -158,15 +150,15 @@ module _ (below : Reader) (n : ℕ) (ok : IsSound n below) where
   -- ---- further terms
 
   pub further_sound : (place : ℕ) → place ≤ atom_level → (turns : ℕ) (m : Mark) (xs ys : Tall (List Term)) (ts us : List Symbol)
-      → further_from below m place turns xs ts ≡ Ok (ys, us) → SoundTerms n place turns m xs ys ts us
-  unfolding further_from
+      → items_from m (below place) turns xs ts ≡ Ok (ys, us) → SoundTerms n place turns m xs ys ts us
+  unfolding items_from
   further_sound place fits zero m xs ys ts us e = list_end tt refl (λ same. (same, λ is p. omega arith)) e
   further_sound place fits (suc j) m xs ys ts us e =
       if_cases (is_mark m (first ts)) _ _ (ys, us) e
       (λ is e.
       let x = bind_ok (below place (rest ts)) _ (ys, us) e in
       let s = ok place (rest ts) x.1 x.0 fits x.2 in
-      let more = further_sound place fits j m (with_term xs x.0) ys x.1 us x.3 in
+      let more = further_sound place fits j m (with_item xs x.0) ys x.1 us x.3 in
       list_more x.0.part x.0.height s.low more (s.fits, s.levelled, more.levelled) (omega (arith, s.high))
       ((rest ts, x.1, marked m ts is, s.spelled, more.spelled.0), λ _ _. tt))
       (λ is e. list_end tt refl (λ same. (same, λ e _. cc)) e)
@@ -174,7 +166,7 @@ module _ (below : Reader) (n : ℕ) (ok : IsSound n below) where
   -- ---- links
 
   links_more : (xs ys : Tall (List Link)) (ts a us : List Symbol) (r : Relation) (x : Tall Term) → IsLink n (r, tree_of x.part) x.height ts a
-      → SoundLinks n (with_link xs r x) ys a us → SoundLinks n xs ys ts us
+      → SoundLinks n (with_item xs (tall (new_link r x.part) x.height)) ys a us → SoundLinks n xs ys ts us
   links_more xs ys ts a us r x one more =
       let s = subst (λ p. IsLink n p x.height ts a) (sym (of.of-link r x.part)) one in
       list_more (new_link r x.part) x.height s.low more (s.fits, s.levelled, more.levelled) (omega (arith, s.high))
@@ -192,7 +184,7 @@ module _ (below : Reader) (n : ℕ) (ok : IsSound n below) where
       → links_by below (links_from below j) xs (next_of kind) (symbol kind line ∷ ts) ≡ Ok (ys, us) → SoundLinks n xs ys (symbol kind line ∷ ts) us
   links_at j again xs ys (k.Relation r) line ts us e =
       let x = bind_ok (below expression_level ts) _ (ys, us) e in
-      links_more xs ys _ x.1 us r x.0 (one_link r line ts x.1 x.0 x.2) (again (with_link xs r x.0) ys x.1 us x.3)
+      links_more xs ys _ x.1 us r x.0 (one_link r line ts x.1 x.0 x.2) (again (with_item xs (tall (new_link r x.0.part) x.0.height)) ys x.1 us x.3)
   links_at j again xs ys _ line ts us e = list_end tt refl (λ same. same) e
 
   pub links_sound : (j : ℕ) → LinksSound j
@@ -227,22 +219,22 @@ module _ (below : Reader) (n : ℕ) (ok : IsSound n below) where
       subst (λ p. IsDecl n (var_decl_of p.0.part) p.0.height ts p.1) (ok_pair (tall (new_decl ns.0 y.0.part) y.0.height, y.1) (x, us) y.3)
       (subst (λ p. IsDecl n p y.0.height ts y.1) (sym (of.of-decl ns.0 y.0.part)) one)
 
-  decls_from_sound : (j : ℕ) (xs ys : Tall (List VarDecl)) (ts us : List Symbol) → decls_from below j xs ts ≡ Ok (ys, us) → SoundDecls n xs ys ts us
-  unfolding decls_from
+  decls_from_sound : (j : ℕ) (xs ys : Tall (List VarDecl)) (ts us : List Symbol) → items_from mark.Separator (read_decl below) j xs ts ≡ Ok (ys, us) → SoundDecls n xs ys ts us
+  unfolding items_from
   decls_from_sound zero xs ys ts us e = list_end tt refl (λ same. same) e
   decls_from_sound (suc j) xs ys ts us e =
       if_cases (is_mark mark.Separator (first ts)) _ _ (ys, us) e
       (λ is e.
       let x = bind_ok (read_decl below (rest ts)) _ (ys, us) e in
       let s = decl_sound (rest ts) x.1 x.0 x.2 in
-      let more = decls_from_sound j (with_decl xs x.0) ys x.1 us x.3 in
+      let more = decls_from_sound j (with_item xs x.0) ys x.1 us x.3 in
       let spelled = decl_first (var_decl_of x.0.part) (decls_of more.more)
       (rest ts) s.spelled.0 s.spelled.1 x.1 us s.spelled.2 s.spelled.3 s.spelled.4 more.spelled in
       list_more x.0.part x.0.height s.low more (s.fits, s.levelled, more.levelled) (omega (arith, s.high)) (rest ts, marked mark.Separator ts is, spelled))
       (λ is e. list_end tt refl (λ same. same) e)
 
   pub decls_sound : (ds : Tall (List VarDecl)) (ts us : List Symbol) → decls below ts ≡ Ok (ds, us) → AreDecls n ds ts us
-  unfolding decls
+  unfolding items
   decls_sound ds ts us e =
       let x = bind_ok (read_decl below ts) _ (ds, us) e in
       let s = decl_sound ts x.1 x.0 x.2 in

@@ -1,15 +1,12 @@
 -- Lists of parts: what levelled trees spell is read.
-use Rattle.zf_grammar.proofs.Prelude.{◌++◌, ◌<◌, ◌∙◌, ◌∷◌, ◌≡◌, ◌≤◌, [], ap, append_assoc, arith, Bool, false, length, List, max, None, Ok, Option, refl, Some, subst, suc, sym, true, zero, ℕ, append-nil, Relation, Link, Name, Term, VarDecl, is_mark, next_of, Symbol, Mark, Kind, tree_height, perhaps_height, trees_height, links_height, decls_height, AreAt, chain_level, DeclsAreLevelled, expression_level, IsLevelled, level, LinksAreLevelled, PartIsAt, first, rest, Next, Spells, SpellsDecls, SpellsFurther, SpellsLinks, SpellsNames, SpellsPart, begins_decl, binds, links_by, Outcome, Parser, tall, with_decl, with_link, with_term, decls, decls_from, further, further_from, links_from, part, read_decl, Tall}
+use Rattle.zf_grammar.proofs.Prelude.{◌++◌, ◌<◌, ◌∙◌, ◌∷◌, ◌≡◌, ◌≤◌, [], ap, append_assoc, arith, Bool, false, length, List, max, None, Ok, Option, refl, Some, subst, suc, sym, true, zero, ℕ, append-nil, Relation, Link, Name, Term, VarDecl, is_mark, next_of, Symbol, Mark, Kind, tree_height, perhaps_height, trees_height, links_height, decls_height, AreAt, chain_level, DeclsAreLevelled, expression_level, IsLevelled, level, LinksAreLevelled, PartIsAt, first, rest, Next, Spells, SpellsDecls, SpellsFurther, SpellsLinks, SpellsNames, SpellsPart, begins_decl, binds, links_by, Outcome, Parser, tall, with_item, decls, further, items, items_from, links_from, part, read_decl, Tall, absent, link, Links, named, new_decl, new_link, no_decls, no_links, no_trees, part_of, Perhaps, present, Tree, tree, tree_of, var_decl, VarDecls, Trees}
 use Rattle.zf_scan.specs.declared.next.Mark.TheVariants as mark
 use Rattle.zf_scan.specs.declared.next.Next as code
 use Rattle.zf_scan.specs.declared.token.Kind.TheVariants as k
-use Rattle.zf_tree.specs.{absent, link, Links, named, new_decl, new_link, no_decls, no_links, no_trees, part_of, Perhaps, present, Tree, tree, tree_of, var_decl, VarDecls}
-use Rattle.zf_tree.specs.Trees.{Trees}
-use Rattle.zf_grammar.proofs.Marks.{kind_of, seen, passed, next_shorter}
-use Rattle.zf_grammar.proofs.NamesRead.{names_shorter}
+use Rattle.zf_grammar.proofs.Marks.{kind_of, seen, passed, next_shorter, ok_expect}
+use Rattle.zf_grammar.proofs.NamesRead.{names_shorter, ok_names}
 use Rattle.zf_grammar.proofs.TermFirsts.{only_name, term_shorter}
 use Rattle.zf_tree.proofs.TermSeen as of
-use Rattle.zf_grammar.proofs.TermSteps.{ok_expect, ok_names}
 use Rattle.zf_grammar.proofs.TermParts.{trees_of, links_of, decls_of, SpellsSomeLinks, SpellsFurtherDecls}
 
 -- a term is read that is seen as this tree, with its height, and these symbols are left
@@ -110,8 +107,8 @@ module _ (below : Reader) (n : ℕ) (ok : IsComplete n below) where
 
   further_complete : (m : Mark) (place : ℕ) → Parts m place → (vs : Trees) (j : ℕ) (xs : Tall (List Term)) (ts us : List Symbol) → AreAt place vs
       → trees_height vs ≤ n → length ts ≤ j → is_mark m (first us) ≡ false → binds (first us) ≤ place
-      → SpellsFurther (kind_of m) vs ts us → ReadList trees_of vs (trees_height vs) xs (further_from below m place j xs ts) us
-  unfolding further_from
+      → SpellsFurther (kind_of m) vs ts us → ReadList trees_of vs (trees_height vs) xs (items_from m (below place) j xs ts) us
+  unfolding items_from
   further_complete m place parts no_trees zero xs ts us lev low fuel none stop h = record { more = []; are = refl; read = none_read xs ts us h }
   further_complete m place parts no_trees (suc j) xs ts us lev low fuel none stop h =
       let is : is_mark m (first ts) ≡ false = ap (λ ts. is_mark m (first ts)) h ∙ none in
@@ -120,7 +117,7 @@ module _ (below : Reader) (n : ℕ) (ok : IsComplete n below) where
   further_complete m place parts (tree t vs) (suc j) xs ts us lev low fuel none stop h =
       let x = ok place t h.0 h.1 lev.0 lev.1 (omega arith) h.3 (further_stops m place parts vs h.1 us stop h.4) in
       let small : length h.1 ≤ j = omega (arith, next_shorter ts h.0 h.2, term_shorter t h.0 h.1 h.3) in
-      let more = further_complete m place parts vs j (with_term xs (tall x.term (tree_height t))) h.1 us lev.2 (omega arith) small none stop h.4 in
+      let more = further_complete m place parts vs j (with_item xs (tall x.term (tree_height t))) h.1 us lev.2 (omega arith) small none stop h.4 in
       let is = seen m ts h.0 h.2 in
       let item : below place (rest ts) ≡ Ok (tall x.term (tree_height t), h.1) = ap (below place) (passed ts h.0 h.2) ∙ x.read in
       let is_t = x.is in
@@ -170,7 +167,7 @@ module _ (below : Reader) (n : ℕ) (ok : IsComplete n below) where
       let s = split_links r t ks ts us h in
       let x = ok expression_level t s.0 s.1 lev.0 lev.1 (omega arith) s.3 (links_stop ks s.1 us stop s.4) in
       let small : length s.1 ≤ j = omega (arith, next_shorter ts s.0 s.2, term_shorter t s.0 s.1 s.3) in
-      let more = links_complete ks j (with_link xs r (tall x.term (tree_height t))) s.1 us lev.2 (omega arith) small stop s.4 in
+      let more = links_complete ks j (with_item xs (tall (new_link r x.term) (tree_height t))) s.1 us lev.2 (omega arith) small stop s.4 in
       let one = of.of-link r x.term in
       record {
         more = new_link r x.term ∷ more.more;
@@ -203,8 +200,8 @@ module _ (below : Reader) (n : ℕ) (ok : IsComplete n below) where
 
   decls_from_complete : (ds : VarDecls) (j : ℕ) (xs : Tall (List VarDecl)) (ts us : List Symbol) → DeclsAreLevelled ds → decls_height ds ≤ n → length ts ≤ j
       → is_mark mark.Separator (first us) ≡ false → binds (first us) ≤ expression_level
-      → SpellsFurtherDecls ds ts us → ReadList decls_of ds (decls_height ds) xs (decls_from below j xs ts) us
-  unfolding decls_from
+      → SpellsFurtherDecls ds ts us → ReadList decls_of ds (decls_height ds) xs (items_from mark.Separator (read_decl below) j xs ts) us
+  unfolding items_from
   decls_from_complete no_decls zero xs ts us lev low fuel none stop h = record { more = []; are = refl; read = none_read xs ts us h }
   decls_from_complete no_decls (suc j) xs ts us lev low fuel none stop h =
       let is : is_mark mark.Separator (first ts) ≡ false = ap (λ ts. is_mark mark.Separator (first ts)) h ∙ none in
@@ -214,7 +211,7 @@ module _ (below : Reader) (n : ℕ) (ok : IsComplete n below) where
       let s = split_decls ns t ds h.0 us h.2 in
       let x = decl_complete ns t h.0 s.0 s.1 s.2 lev.0 lev.1 (omega arith) s.3 s.4 s.5 (decls_stop ds s.2 us stop s.6) in
       let small : length s.2 ≤ j = omega (arith, next_shorter ts h.0 h.1, names_shorter ns h.0 s.0 s.3, next_shorter s.0 s.1 s.4, term_shorter t s.1 s.2 s.5) in
-      let more = decls_from_complete ds j (with_decl xs (tall (new_decl ns x.term) (tree_height t))) s.2 us lev.2 (omega arith) small none stop s.6 in
+      let more = decls_from_complete ds j (with_item xs (tall (new_decl ns x.term) (tree_height t))) s.2 us lev.2 (omega arith) small none stop s.6 in
       let is = seen mark.Separator ts h.0 h.1 in
       let item : read_decl below (rest ts) ≡ Ok (tall (new_decl ns x.term) (tree_height t), s.2) = ap (read_decl below) (passed ts h.0 h.1) ∙ x.read in
       record {
@@ -230,7 +227,7 @@ module _ (below : Reader) (n : ℕ) (ok : IsComplete n below) where
 
   pub decls_complete : (ds : VarDecls) (ts us : List Symbol) → DeclsAreLevelled ds → decls_height ds ≤ n → is_mark mark.Separator (first us) ≡ false
       → binds (first us) ≤ expression_level → SpellsDecls ds ts us → ReadAllDecls ds ts us
-  unfolding decls
+  unfolding items
   decls_complete no_decls ts us lev low none stop h = absurd h
   decls_complete (var_decl ns t ds) ts us lev low none stop h =
       let s = split_decls ns t ds ts us h in

@@ -1,16 +1,16 @@
 -- What is read is a levelled tree of the stated height that spells the symbols.
-use Rattle.zf_grammar.proofs.Prelude.{◌+◌, ◌<◌, ◌∙◌, ◌∷◌, ◌≡◌, ◌≤◌, [], ap, arith, length, List, max, Ok, refl, subst, suc, sym, zero, ℕ, leb-false, leb-true, nat_le, chain, line_of, new_link, link_of, tree_of, Operator, Relation, Link, Term, next_of, Symbol, symbol, Kind, links_height, atom_level, chain_level, expression_level, left_place, level, LinksAreLevelled, operator_level, postfix_level, product_level, quantifier_level, right_place, first, Behind, Between, SpellsLinks, Tall}
+use Rattle.zf_grammar.proofs.Prelude.{◌+◌, ◌<◌, ◌∙◌, ◌∷◌, ◌≡◌, ◌≤◌, [], ap, arith, length, List, max, Ok, refl, subst, suc, sym, zero, ℕ, leb-false, leb-true, nat_le, chain, line_of, new_link, link_of, tree_of, Operator, Relation, Link, Term, next_of, Symbol, symbol, Kind, links_height, atom_level, chain_level, expression_level, left_place, level, LinksAreLevelled, operator_level, postfix_level, product_level, quantifier_level, right_place, first, Behind, Between, SpellsLinks, Tall, Outcome}
 use Rattle.zf_scan.specs.declared.next.Mark.TheVariants as mark
 use Rattle.zf_scan.specs.declared.token.Kind.TheVariants as k
 use Rattle.zf_tree.specs.declared.operator.Listed.TheVariants as list
 use Rattle.zf_tree.specs.declared.operator.Operator.TheVariants as operator
 use Rattle.zf_tree.specs.declared.operator.Unary.TheVariants as one
 use Rattle.zf_tree.specs.declared.tree.Term.TheVariants as term
-use Rattle.zf_grammar.specs.{beginning, beyond, binary, binds, chain_links, chained, climb, ended_by, links_from, listed, longer_by, over, over_both, place_before, read_term, role_of, tall, whole, with_link}
-use Rattle.zf_grammar.specs.TermReading.{Outcome}
+use Rattle.zf_grammar.specs.{beginning, beyond, binary, binds, chain_links, chained, climb, ended_by, links_from, listed, longer_by, over, over_both, place_before, read_term, role_of, tall, whole, with_item}
 use Rattle.zf_tree.specs.Trees as shape
 use Rattle.zf_tree.proofs.TermSeen as of
-use Rattle.zf_grammar.proofs.TermSteps.{ok_pair, ok_value, ok_rest, bind_ok, if_ok, if_cases, expect_ok}
+use Rattle.zf_grammar.proofs.Marks.{expect_ok}
+use Rattle.zf_grammar.proofs.TermSteps.{ok_pair, ok_value, ok_rest, bind_ok, if_ok, if_cases}
 use Rattle.zf_grammar.proofs.TermBegins.{listed_sound, beginning_sound}
 use Rattle.zf_grammar.proofs.TermParts.{links_of, Sound, IsLink, Reader, IsSound, made, link_first, links_sound, one_link}
 use Rattle.zf_grammar.proofs.TermTables.{stands}
@@ -79,7 +79,7 @@ module _ (below : Reader) (n : ℕ) (ok : IsSound n below) where
   some_links r o ks a us e =
       let x = bind_ok (below expression_level a) _ (ks, us) e in
       let one = subst (λ p. IsLink n p x.0.height (symbol (k.Relation r) o ∷ a) x.1) (sym (of.of-link r x.0.part)) (one_link below n ok r o a x.1 x.0 x.2) in
-      let more = links_sound below n ok (length a) (with_link (tall [] 0) r x.0) ks x.1 us x.3 in
+      let more = links_sound below n ok (length a) (with_item (tall [] 0) (tall (new_link r x.0.part) x.0.height)) ks x.1 us x.3 in
       let is : ks.part ≡ new_link r x.0.part ∷ more.more = more.items in
       let high_ks : ks.height ≡ links_height (links_of (new_link r x.0.part ∷ more.more)) = omega (arith, one.high, more.high) in
       let spelled = link_first (link_of (new_link r x.0.part)) (links_of more.more) _ one.spelled.0 x.1 us one.spelled.1 one.spelled.2 more.spelled in

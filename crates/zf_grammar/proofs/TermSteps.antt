@@ -1,9 +1,5 @@
 -- What an outcome of a reading says of its steps.
-use Rattle.zf_grammar.proofs.Prelude.{◌≡◌, ap, Bool, Err, false, List, Ok, refl, true, if◌then◌else◌, Name, is_mark, Symbol, Mark, first, read_name, Next, SpellsName, SpellsNames, and_then, expect, Fault, lift, Outcome, Parser, read_names}
-use Rattle.zf_scan.specs.declared.next.Mark.TheVariants as mark
-use Rattle.zf_grammar.specs.Reading as basic
-use Rattle.zf_grammar.proofs.Marks.{kind_of, expected, expects}
-use Rattle.zf_grammar.proofs.NamesRead.{lifted, name_sound, ok_parted_names, parted_names_ok}
+use Rattle.zf_grammar.proofs.Prelude.{◌≡◌, ap, Bool, Err, false, Fault, List, Ok, refl, true, if◌then◌else◌, Symbol, and_then, Outcome, Parser}
 
 pub ok_pair : {A : Type 0} (p q : A × List Symbol) → ◌≡◌ {A = Outcome A} (Ok p) (Ok q) → p ≡ q
 ok_pair p q e = cc
@@ -26,20 +22,3 @@ if_ok false o y f e = absurd (cc)
 pub if_cases : {A : Type 0} {C : Type 0} (b : Bool) (o p : Outcome A) (y : A × List Symbol) → (if b then o else p) ≡ Ok y → (b ≡ true → o ≡ Ok y → C) → (b ≡ false → p ≡ Ok y → C) → C
 if_cases true o p y e on off = on refl e
 if_cases false o p y e on off = off refl e
-
-pub expect_ok : (m : Mark) (ts us : List Symbol) (u : Unit {0}) → expect m ts ≡ Ok (u, us) → Next (kind_of m) ts us
-expect_ok m ts us u e = expected m ts us u (lifted (basic.expect m ts) (u, us) e)
-
-pub name_ok : (ts us : List Symbol) (n : Name) → lift (read_name ts) ≡ Ok (n, us) → SpellsName n ts us
-name_ok ts us n e = name_sound ts us n (lifted (read_name ts) (n, us) e)
-
-pub names_ok : (ts us : List Symbol) (ns : List Name) → read_names ts ≡ Ok (ns, us) → SpellsNames ns ts us
-names_ok = parted_names_ok mark.Comma
-
--- ---- and back
-
-pub ok_expect : (m : Mark) (ts us : List Symbol) → Next (kind_of m) ts us → expect m ts ≡ Ok (tt, us)
-ok_expect m ts us h = ap lift (expects m ts us h)
-
-pub ok_names : (ns : List Name) (ts us : List Symbol) → is_mark mark.Comma (first us) ≡ false → SpellsNames ns ts us → read_names ts ≡ Ok (ns, us)
-ok_names = ok_parted_names mark.Comma

@@ -1,7 +1,7 @@
 -- Bounds of the table of levels, and which symbols may stand after which terms.
-use Rattle.zf_grammar.proofs.Prelude.{◌+◌, ◌<◌, ◌≤◌, arith, ℕ, Listed, Operator, Sign, Unary, And, Iff, Implies, Or, Maplet, atom_level, chain_level, expression_level, infix_level, left_place, level, listed_level, member_place, operator_level, postfix_level, priority, product_level, quantifier_level, right_place, sign_level, unary_level}
+use Rattle.zf_grammar.proofs.Prelude.{◌+◌, ◌<◌, ◌≤◌, arith, ℕ, Listed, Operator, Sign, Unary, And, Implies, Maplet, atom_level, chain_level, expression_level, infix_level, left_place, level, listed_level, member_place, operator_level, postfix_level, priority, product_level, quantifier_level, right_place, sign_level, unary_level}
 use Rattle.zf_tree.specs.declared.symbol.Infix.{Infix}
-use Rattle.zf_tree.specs.declared.symbol.Prefix.TheVariants.{Power, Finset, Domain, Range, Size}
+use Rattle.zf_tree.specs.declared.symbol.Prefix.TheVariants.{Power, Finset}
 use Rattle.zf_tree.specs.declared.operator.Listed.TheVariants as list
 use Rattle.zf_tree.specs.declared.operator.Operator.TheVariants as operator
 use Rattle.zf_tree.specs.declared.operator.Sign.TheVariants as sign
@@ -21,10 +21,7 @@ priority_le _ = omega arith
 pub sign_level_le : (s : Sign) → sign_level s ≤ 17
 sign_level_le sign.Minus = omega arith
 sign_level_le (sign.Symbol Power) = omega arith
-sign_level_le (sign.Symbol Finset) = omega arith
-sign_level_le (sign.Symbol Domain) = omega arith
-sign_level_le (sign.Symbol Range) = omega arith
-sign_level_le (sign.Symbol Size) = omega arith
+sign_level_le (sign.Symbol _) = omega arith
 
 pub unary_level_le : (op : Unary) → unary_level op ≤ postfix_level
 unary_level_le (one.Sign s) = omega (arith, sign_level_le s)
@@ -125,22 +122,15 @@ stands (operator.Function op) =
     let some = priority_some op in
     let high = priority_le op in
     record { low = omega arith; right = omega arith; some = omega arith; left = omega arith; closes = omega arith }
-stands (operator.Generic a) = record { low = omega arith; right = omega arith; some = omega arith; left = omega arith; closes = omega arith }
 stands (operator.Connective And) = record { low = omega arith; right = omega arith; some = omega arith; left = omega arith; closes = omega arith }
-stands (operator.Connective Or) = record { low = omega arith; right = omega arith; some = omega arith; left = omega arith; closes = omega arith }
-stands (operator.Connective Implies) = record { low = omega arith; right = omega arith; some = omega arith; left = omega arith; closes = omega arith }
-stands (operator.Connective Iff) = record { low = omega arith; right = omega arith; some = omega arith; left = omega arith; closes = omega arith }
-stands operator.Application = record { low = omega arith; right = omega arith; some = omega arith; left = omega arith; closes = omega arith }
-stands operator.Image = record { low = omega arith; right = omega arith; some = omega arith; left = omega arith; closes = omega arith }
+stands _ = record { low = omega arith; right = omega arith; some = omega arith; left = omega arith; closes = omega arith }
 
 pub operator_gap : (op : Operator) → Gap (left_place op) (operator_level op + 1)
 operator_gap (operator.Function op) = infix_gap op
 operator_gap (operator.Generic a) =
     fixed_gap 8 8 (omega arith) (omega arith) (λ h. omega arith) (λ h. omega arith) (λ h. omega arith) (λ h. omega arith) (omega arith)
 operator_gap (operator.Connective And) = loose_gap _ _ (omega arith) (λ h. omega arith) (omega arith)
-operator_gap (operator.Connective Or) = loose_gap _ _ (omega arith) (λ h. omega arith) (omega arith)
-operator_gap (operator.Connective Implies) = loose_gap _ _ (omega arith) (λ h. omega arith) (omega arith)
-operator_gap (operator.Connective Iff) = loose_gap _ _ (omega arith) (λ h. omega arith) (omega arith)
+operator_gap (operator.Connective _) = loose_gap _ _ (omega arith) (λ h. omega arith) (omega arith)
 operator_gap operator.Application =
     fixed_gap 16 17 (omega arith) (omega arith) (λ h. omega arith) (λ h. omega arith) (λ h. omega arith) (λ h. omega arith) (omega arith)
 operator_gap operator.Image = postfix_gap
@@ -148,10 +138,8 @@ operator_gap operator.Image = postfix_gap
 operator_gaps : (op : Operator) (p b : ℕ) → Gap p b → p ≤ operator_level op → b ≤ operator_closing op
 operator_gaps (operator.Function op) p b g fits = omega (arith, g.near)
 operator_gaps (operator.Generic a) p b g fits = g.seven fits
-operator_gaps (operator.Connective And) p b g fits = omega (arith, g.near)
-operator_gaps (operator.Connective Or) p b g fits = omega (arith, g.near)
 operator_gaps (operator.Connective Implies) p b g fits = g.two fits
-operator_gaps (operator.Connective Iff) p b g fits = omega (arith, g.near)
+operator_gaps (operator.Connective _) p b g fits = omega (arith, g.near)
 operator_gaps operator.Application p b g fits = omega (arith, g.sixteen fits)
 operator_gaps operator.Image p b g fits = g.top
 
@@ -161,9 +149,7 @@ unary_gaps one.Inverse p b g fits = g.top
 unary_gaps (one.Sign sign.Minus) p b g fits = g.fifteen fits
 unary_gaps (one.Sign (sign.Symbol Power)) p b g fits = g.fifteen fits
 unary_gaps (one.Sign (sign.Symbol Finset)) p b g fits = g.fifteen fits
-unary_gaps (one.Sign (sign.Symbol Domain)) p b g fits = g.seventeen fits
-unary_gaps (one.Sign (sign.Symbol Range)) p b g fits = g.seventeen fits
-unary_gaps (one.Sign (sign.Symbol Size)) p b g fits = g.seventeen fits
+unary_gaps (one.Sign (sign.Symbol _)) p b g fits = g.seventeen fits
 
 listed_gaps : (form : Listed) (p b : ℕ) → Gap p b → p ≤ listed_level form → b ≤ listed_level form
 listed_gaps list.Product p b g fits = g.eight fits

@@ -1,13 +1,11 @@
 -- What a tree spells is a front of its own: it is the same before any rest, and no symbol of it ends a box.
-use Rattle.std.proofs.Common.{length-append}
-use Rattle.zf_grammar.proofs.Prelude.{◌++◌, ◌∙◌, ◌∷◌, ◌≡◌, [], ap, false, List, refl, ℕ, if◌then◌else◌, Listed, Operator, Sign, Unary, Name, ends_box, separator, Symbol, symbol, Kind, After, Before, Behind, Between, Closes, Next, Opens, PartedBy, parting, sign_kind, Spells, SpellsDecls, SpellsFurther, SpellsItems, SpellsLinks, SpellsName, SpellsNames, SpellsPart, Starts, arith, length, ◌≤◌}
+use Rattle.zf_grammar.proofs.Prelude.{◌++◌, ◌∙◌, ◌∷◌, ◌≡◌, [], ap, false, List, refl, ℕ, if◌then◌else◌, Listed, Operator, Sign, Unary, Name, ends_box, separator, Symbol, symbol, Kind, After, Before, Behind, Between, Closes, Next, Opens, PartedBy, parting, sign_kind, Spells, SpellsDecls, SpellsFurther, SpellsItems, SpellsLinks, SpellsName, SpellsNames, SpellsPart, Starts, arith, length, ◌≤◌, length-append, Trees}
 use Rattle.zf_scan.specs.declared.token.Kind.TheVariants as k
 use Rattle.zf_tree.specs.declared.operator.Listed.TheVariants as list
 use Rattle.zf_tree.specs.declared.operator.Operator.TheVariants as operator
 use Rattle.zf_tree.specs.declared.operator.Sign.TheVariants as sign
 use Rattle.zf_tree.specs.declared.operator.Unary.TheVariants as one
 use Rattle.zf_tree.specs.{absent, binary, bracket, comprehension, chain, constant, empty_set, link, Links, listed, named, no_decls, no_links, no_trees, numeral, Perhaps, present, quantified, Tree, tree, unary, var_decl, VarDecls}
-use Rattle.zf_tree.specs.Trees.{Trees}
 
 -- what stands after the first symbol that ends a box
 abbrev pub behind : List Symbol → List Symbol

@@ -1,31 +1,19 @@
 -- Reading what holds terms, from left to right, as the parser does. No public clause of `zf_parse` rests on this file.
 use Rattle.std.specs.Prelude.{◌≡◌, ℕ, zero, suc, ◌+◌, max, nat_le, Bool, true, false, ◌||◌, if◌then◌else◌, List, [], ◌∷◌, ◌++◌, length, Ok, Err}
-use Rattle.zf_scan.specs.declared.next.Mark.{Mark}
+use Rattle.zf_grammar.specs.Prelude.{Mark, Next, And, Or, Name, Term, Plain, Delta, Xi, RefMark, SchemaRef, SchemaExp, quantifier_level, expression_level, BoxTree, is_bare, is_mark, Symbol}
 use Rattle.zf_scan.specs.declared.next.Mark.TheVariants as mark
-use Rattle.zf_scan.specs.declared.next.Next.{Next}
 use Rattle.zf_scan.specs.declared.next.Next.TheVariants as next
 use Rattle.zf_grammar.specs.declared.tall.Tall.{Tall}
-use Rattle.zf_tree.specs.declared.symbol.Connective.TheVariants.{And, Or}
-use Rattle.zf_tree.specs.declared.tree.Name.{Name}
-use Rattle.zf_tree.specs.declared.tree.Term.{Term}
-use Rattle.zf_tree.specs.declared.tree.RefMark.TheVariants.{Plain, Delta, Xi}
-use Rattle.zf_tree.specs.declared.tree.RefMark.{RefMark}
-use Rattle.zf_tree.specs.declared.tree.SchemaRef.{SchemaRef}
 use Rattle.zf_tree.specs.declared.tree.Decl.{Decl}
 use Rattle.zf_tree.specs.declared.tree.Decl.TheVariants as decl
-use Rattle.zf_tree.specs.declared.tree.SchemaExp.{SchemaExp}
 use Rattle.zf_tree.specs.declared.tree.SchemaExp.TheVariants as schema
 use Rattle.zf_tree.specs.declared.tree.Paragraph.{Paragraph}
 use Rattle.zf_tree.specs.declared.tree.Paragraph.TheVariants as paragraph
 use Rattle.zf_tree.specs.declared.tree.ZBox.{ZBox}
 use Rattle.zf_tree.specs.declared.tree.ZBox.TheVariants as zbox
-use Rattle.zf_levels.specs.{quantifier_level, expression_level}
-use Rattle.zf_tree.specs.{BoxTree, is_bare}
-use Rattle.zf_grammar.specs.Reading as basic
 use Rattle.zf_grammar.specs.Spelling.{SpellsBox}
-use Rattle.zf_scan.specs.{is_mark, Symbol}
-use Rattle.zf_grammar.specs.Reading.{first, rest, is_end, read_name, read_opening}
-use Rattle.zf_grammar.specs.TermReading.{Parser, Refused, TooDeep, and_then, ◌>>=◌, ◌>>◌, past, pure, refuse, too_deep, lift, expect, read_names, here, tall, read_term}
+use Rattle.zf_grammar.specs.Reading.{◌>>=◌, ◌>>◌, and_then, expect, first, is_end, parted, Parser, past, pure, read_name, read_names, read_opening, refuse, Refused, rest, too_deep, TooDeep}
+use Rattle.zf_grammar.specs.TermReading.{here, items, tall, read_term}
 
 -- ---- what is spelled so far
 
@@ -34,27 +22,13 @@ abbrev pub SpellsUpTo : List BoxTree → List Symbol → List Symbol → Type 0
 SpellsUpTo [] ts us = ts ≡ us
 SpellsUpTo (b ∷ bs) ts us = (a : List Symbol) × SpellsBox b ts a × SpellsUpTo bs a us
 
--- ---- one or more items with their heights, parted by a symbol; the number bounds the turns
-
--- one more at the end
-abbrev pub with_item : {A : Type 0} → Tall (List A) → Tall A → Tall (List A)
-with_item xs x = tall (xs.part ++ x.part ∷ []) (max xs.height x.height)
-
-module _ {A : Type 0} (part : Mark) (item : Parser (Tall A)) where
-  unfoldable pub items_from : ℕ → Tall (List A) → Parser (Tall (List A))
-  items_from zero xs = pure xs
-  items_from (suc n) xs = λ ts. if is_mark part (first ts) then and_then (item (rest ts)) (λ x us. items_from n (with_item xs x) us) else Ok (xs, ts)
-
-  unfoldable pub items : Parser (Tall (List A))
-  items = λ ts. and_then (item ts) (λ x us. items_from (length us) (tall (x.part ∷ []) x.height) us)
-
 -- ---- schema references and declarations
 
 abbrev pub new_ref : RefMark → Name → SchemaRef
 new_ref m n = record { mark = m; name = n }
 
 unfoldable pub marked : RefMark → Parser SchemaRef
-marked m = λ ts. and_then (lift (read_name ts)) (λ n us. Ok (new_ref m n, us))
+marked m = λ ts. and_then (read_name ts) (λ n us. Ok (new_ref m n, us))
 
 abbrev pub ref_by : Next → Parser SchemaRef
 ref_by next.Delta = past (marked Delta)
@@ -154,7 +128,7 @@ given = do
   pure (tall (paragraph.Given ns) 0)
 
 unfoldable pub free_type : Name → Parser (Tall Paragraph)
-free_type n = λ ts. and_then (lift (basic.parted mark.Bar read_name ts)) (λ ns us. Ok (tall (paragraph.Free n ns) 0, us))
+free_type n = λ ts. and_then (parted mark.Bar read_name ts) (λ ns us. Ok (tall (paragraph.Free n ns) 0, us))
 
 unfoldable pub abbreviation : ℕ → Name → Parser (Tall Paragraph)
 abbreviation height n = do
@@ -171,7 +145,7 @@ named_by height n next.Defines = past (definition height n)
 named_by height n _ = refuse
 
 unfoldable pub named : ℕ → Parser (Tall Paragraph)
-named height = λ ts. and_then (lift (read_name ts)) (λ n us. named_by height n (first us) us)
+named height = λ ts. and_then (read_name ts) (λ n us. named_by height n (first us) us)
 
 unfoldable pub read_paragraph : ℕ → Parser (Tall Paragraph)
 read_paragraph height = λ ts. if is_mark mark.OpenSquare (first ts) then given (rest ts) else named height ts
@@ -186,7 +160,7 @@ read_zed height = do
 
 unfoldable pub read_schema_box : ℕ → Parser ZBox
 read_schema_box height = do
-  n ← (λ ts. lift (read_opening ts))
+  n ← read_opening
   ds ← read_decls height
   ps ← predicates height mark.Where
   expect mark.EndBox

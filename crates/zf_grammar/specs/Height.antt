@@ -1,7 +1,6 @@
 -- The height of a term or schema expression: 1, or one more than the highest term, declared set or schema expression directly in it.
 use Rattle.std.specs.Prelude.{ℕ, ◌+◌, max, List, [], ◌∷◌}
-use Rattle.zf_tree.specs.{abbreviation, absent, binary, both, BoxTree, bracket, comprehension, chain, DeclTree, definition, either, empty_set, include, link, Links, listed, no_decls, no_links, no_trees, ParagraphTree, Perhaps, present, quantified, schema_box, schema_bracket, schema_reference, schema_text, SchemaTree, Tree, tree, unary, var_decl, VarDecls, vars, zed}
-use Rattle.zf_tree.specs.Trees.{Trees}
+use Rattle.zf_grammar.specs.Prelude.{abbreviation, absent, binary, both, BoxTree, bracket, comprehension, chain, DeclTree, definition, either, empty_set, include, link, Links, listed, no_decls, no_links, no_trees, ParagraphTree, Perhaps, present, quantified, schema_box, schema_bracket, schema_reference, schema_text, SchemaTree, Tree, tree, unary, var_decl, VarDecls, vars, zed, Trees}
 
 abbrev mutual
   pub tree_height : Tree → ℕ

@@ -1,16 +1,13 @@
 -- Function values that read terms and schema expressions. No public clause rests on this file.
 use Rattle.std.specs.Prelude.{ℕ, ◌≤◌, List, Result, IfOk}
+use Rattle.zf_grammar.specs.Prelude.{TextFault, SchemaExp, Term, Symbol}
 use Rattle.std.specs.declared.alloc.Global.{Global}
 use Rattle.std.specs.contracts.impls.GlobalAllocator.TheImpl.{ghosts}
 use Rattle.bumpalo.specs.declared.bump.Bump.{Bump}
 use denote.Bor.{Bor}
 use denote.Ref.{MutBor}
-use Rattle.zf_scan.specs.declared.fault.TextFault.{TextFault}
 use Rattle.zf_grammar.specs.declared.tall.Tall.{Tall}
-use Rattle.zf_tree.specs.declared.tree.SchemaExp.{SchemaExp}
-use Rattle.zf_tree.specs.declared.tree.Term.{Term}
 use Rattle.zf_grammar.specs.BoxReading.{read_schema}
-use Rattle.zf_scan.specs.{Symbol}
 use Rattle.zf_grammar.specs.TermReading.{read_term, Gives}
 
 abbrev Arena : Type 0

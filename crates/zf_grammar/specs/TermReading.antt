@@ -1,85 +1,24 @@
 -- Reading a term from left to right, as the parser does. No public clause of `zf_parse` rests on this file.
 use Rattle.std.specs.Prelude.{◌≡◌, ℕ, zero, suc, ◌+◌, max, nat_le, Bool, true, false, not, if◌then◌else◌, List, [], ◌∷◌, ◌++◌, length, Option, Some, None, Result, Ok, Err}
-use Rattle.zf_scan.specs.declared.fault.TextFault.{TextFault}
+use Rattle.zf_grammar.specs.Prelude.{TextFault, Mark, Next, Minus, ident_of, line_of, new_decl, new_link, tree_of, Name, Listed, Operator, Unary, Term, quantifier_level, chain_level, expression_level, product_level, postfix_level, unary_level, operator_level, left_place, right_place, member_place, level, ends_names, goes_on, is_mark, next_of, Symbol}
 use Rattle.zf_scan.specs.declared.fault.TextFaultKind.{TextFaultKind}
 use Rattle.zf_scan.specs.declared.fault.TextFaultKind.TheVariants as fault
-use Rattle.zf_scan.specs.declared.next.Mark.{Mark}
 use Rattle.zf_scan.specs.declared.next.Mark.TheVariants as mark
-use Rattle.zf_scan.specs.declared.next.Next.{Next}
 use Rattle.zf_scan.specs.declared.next.Next.TheVariants as next
 use Rattle.zf_grammar.specs.declared.tall.Tall.{Tall}
-use Rattle.zf_tree.specs.declared.symbol.Infix.TheVariants.{Minus}
 use Rattle.zf_tree.specs.declared.symbol.Quantifier.{Quantifier}
 use Rattle.zf_tree.specs.declared.symbol.Relation.{Relation}
 use Rattle.zf_tree.specs.declared.tree.Link.{Link}
-use Rattle.zf_tree.specs.{ident_of, line_of, new_decl, new_link, tree_of}
-use Rattle.zf_tree.specs.declared.tree.Name.{Name}
 use Rattle.zf_grammar.specs.declared.role.Role.{Role}
 use Rattle.zf_grammar.specs.declared.role.Role.TheVariants as role
-use Rattle.zf_tree.specs.declared.operator.Listed.{Listed}
 use Rattle.zf_tree.specs.declared.operator.Listed.TheVariants as list
-use Rattle.zf_tree.specs.declared.operator.Operator.{Operator}
 use Rattle.zf_tree.specs.declared.operator.Operator.TheVariants as operator
 use Rattle.zf_tree.specs.declared.operator.Sign.TheVariants as sign
-use Rattle.zf_tree.specs.declared.operator.Unary.{Unary}
 use Rattle.zf_tree.specs.declared.operator.Unary.TheVariants as one
-use Rattle.zf_tree.specs.declared.tree.Term.{Term}
 use Rattle.zf_tree.specs.declared.tree.Term.TheVariants as term
 use Rattle.zf_tree.specs.declared.tree.VarDecl.{VarDecl}
-use Rattle.zf_levels.specs.{quantifier_level, chain_level, expression_level, product_level, postfix_level, unary_level, operator_level, left_place, right_place, member_place, level}
-use Rattle.zf_scan.specs.{ends_names, goes_on, is_mark, next_of, Symbol}
-use Rattle.zf_grammar.specs.Reading as basic
-use Rattle.zf_grammar.specs.Reading.{first, rest, read_name, read_number}
-
--- ---- a value and the symbols after it, or why there is none
-
-pub data Fault : Type 0 where
-  -- no term is spelled here, of any height
-  Refused : Fault
-  -- none of the height that is allowed
-  TooDeep : Fault
-
-abbrev pub Outcome : Type 0 → Type 0
-Outcome A = Result (A × List Symbol) Fault
-
-abbrev pub Parser : Type 0 → Type 0
-Parser A = List Symbol → Outcome A
-
-abbrev pub and_then : {A B : Type 0} → Outcome A → (A → Parser B) → Outcome B
-and_then (Ok p) f = f p.0 p.1
-and_then (Err e) f = Err e
-
-infixl 10 ◌>>=◌
-abbrev pub ◌>>=◌ : {A B : Type 0} → Parser A → (A → Parser B) → Parser B
-p >>= f = λ ts. and_then (p ts) f
-
-infixl 10 ◌>>◌
-abbrev pub ◌>>◌ : {A B : Type 0} → Parser A → Parser B → Parser B
-p >> f = p >>= (λ _. f)
-
-abbrev pub pure : {A : Type 0} → A → Parser A
-pure a = λ ts. Ok (a, ts)
-
-abbrev pub refuse : {A : Type 0} → Parser A
-refuse = λ ts. Err Refused
-
-abbrev pub too_deep : {A : Type 0} → Parser A
-too_deep = λ ts. Err TooDeep
-
--- goes past the next symbol
-abbrev pub past : {A : Type 0} → Parser A → Parser A
-past p = λ ts. p (rest ts)
-
--- what a rule without terms answers
-abbrev pub lift : {A : Type 0} → basic.Outcome A → Outcome A
-lift None = Err Refused
-lift (Some p) = Ok p
-
-abbrev pub expect : Mark → Parser (Unit {0})
-expect m = λ ts. lift (basic.expect m ts)
-
-abbrev pub read_names : Parser (List Name)
-read_names = λ ts. lift (basic.parted mark.Comma read_name ts)
+pub use Rattle.zf_grammar.specs.Reading.{and_then, expect, Outcome, Parser}
+use Rattle.zf_grammar.specs.Reading.{◌>>=◌, ◌>>◌, Fault, first, past, pure, refuse, Refused, read_name, read_names, read_number, rest, too_deep, TooDeep}
 
 -- the line of the next symbol
 abbrev pub here : List Symbol → ℕ
@@ -147,14 +86,8 @@ abbrev pub tall : {A : Type 0} → A → ℕ → Tall A
 tall part height = record { part = part; height = height }
 
 -- one more at the end
-abbrev pub with_term : Tall (List Term) → Tall Term → Tall (List Term)
-with_term xs x = tall (xs.part ++ x.part ∷ []) (max xs.height x.height)
-
-abbrev pub with_link : Tall (List Link) → Relation → Tall Term → Tall (List Link)
-with_link xs r x = tall (xs.part ++ new_link r x.part ∷ []) (max xs.height x.height)
-
-abbrev pub with_decl : Tall (List VarDecl) → Tall VarDecl → Tall (List VarDecl)
-with_decl xs x = tall (xs.part ++ x.part ∷ []) (max xs.height x.height)
+abbrev pub with_item : {A : Type 0} → Tall (List A) → Tall A → Tall (List A)
+with_item xs x = tall (xs.part ++ x.part ∷ []) (max xs.height x.height)
 
 -- a term over its only part
 abbrev pub over : (Term → Term) → Tall Term → Tall Term
@@ -167,6 +100,16 @@ over_both make x y = tall (make x.part y.part) (max x.height y.height + 1)
 -- a rule that stands at its level or a looser place
 abbrev pub if_at : ℕ → ℕ → Parser (Tall Term) → Parser (Tall Term)
 if_at least place p = λ ts. if nat_le least place then p ts else Err Refused
+
+-- ---- one or more items with their heights, parted by a symbol; the number bounds the turns
+
+module _ {A : Type 0} (part : Mark) (item : Parser (Tall A)) where
+  unfoldable pub items_from : ℕ → Tall (List A) → Parser (Tall (List A))
+  items_from zero xs = pure xs
+  items_from (suc n) xs = λ ts. if is_mark part (first ts) then and_then (item (rest ts)) (λ x us. items_from n (with_item xs x) us) else Ok (xs, ts)
+
+  unfoldable pub items : Parser (Tall (List A))
+  items = λ ts. and_then (item ts) (λ x us. items_from (length us) (tall (x.part ∷ []) x.height) us)
 
 -- ---- symbols between operands and terms, and after them
 
@@ -191,22 +134,15 @@ closed_by list.Product = pure tt
 -- ---- the rules, of which `below` reads a term at a place, one level deeper
 
 module _ (below : ℕ → Parser (Tall Term)) where
-  -- further terms at this place, each after the symbol; the number bounds the turns
-  unfoldable pub further_from : Mark → ℕ → ℕ → Tall (List Term) → Parser (Tall (List Term))
-  further_from m place zero xs = pure xs
-  further_from m place (suc n) xs = λ ts.
-      if is_mark m (first ts)
-      then and_then (below place (rest ts)) (λ x us. further_from m place n (with_term xs x) us)
-      else Ok (xs, ts)
-
+  -- terms at this place, parted by the symbol, of which the first is read
   unfoldable pub further : Mark → ℕ → Tall Term → Parser (Tall (List Term))
-  further m place x = λ ts. further_from m place (length ts) (tall (x.part ∷ []) x.height) ts
+  further m place x = λ ts. items_from m (below place) (length ts) (tall (x.part ∷ []) x.height) ts
 
   -- the links of a chain
   abbrev pub links_by : (Tall (List Link) → Parser (Tall (List Link))) → Tall (List Link) → Next → Parser (Tall (List Link))
   links_by more xs (next.Relation r) = past (do
     x ← below expression_level
-    more (with_link xs r x))
+    more (with_item xs (tall (new_link r x.part) x.height)))
   links_by more xs _ = pure xs
 
   unfoldable pub links_from : ℕ → Tall (List Link) → Parser (Tall (List Link))
@@ -224,15 +160,8 @@ module _ (below : ℕ → Parser (Tall Term)) where
     x ← below expression_level
     pure (tall (new_decl ns x.part) x.height)
 
-  unfoldable pub decls_from : ℕ → Tall (List VarDecl) → Parser (Tall (List VarDecl))
-  decls_from zero xs = pure xs
-  decls_from (suc n) xs = λ ts.
-      if is_mark mark.Separator (first ts)
-      then and_then (read_decl (rest ts)) (λ x us. decls_from n (with_decl xs x) us)
-      else Ok (xs, ts)
-
-  unfoldable pub decls : Parser (Tall (List VarDecl))
-  decls = λ ts. and_then (read_decl ts) (λ x us. decls_from (length us) (tall (x.part ∷ []) x.height) us)
+  abbrev pub decls : Parser (Tall (List VarDecl))
+  decls = items mark.Separator read_decl
 
   -- a part that may be left out, after its symbol
   unfoldable pub part : Mark → ℕ → Parser (Tall (Option Term))
@@ -300,8 +229,8 @@ module _ (below : ℕ → Parser (Tall Term)) where
     pure (tall (term.Quantified q line ds.part p.part x.part) (max (max ds.height p.height) x.height + 1))
 
   abbrev pub beginning_by : ℕ → ℕ → Next → Parser (Tall Term)
-  beginning_by least line next.Name = λ ts. and_then (lift (read_name ts)) (λ n us. Ok (tall (term.Name n.line (ident_of n)) 1, us))
-  beginning_by least line next.Number = λ ts. and_then (lift (read_number ts)) (λ v us. Ok (tall (term.Number line v) 1, us))
+  beginning_by least line next.Name = λ ts. and_then (read_name ts) (λ n us. Ok (tall (term.Name n.line (ident_of n)) 1, us))
+  beginning_by least line next.Number = λ ts. and_then (read_number ts) (λ v us. Ok (tall (term.Number line v) 1, us))
   beginning_by least line (next.Constant c) = past (pure (tall (term.Constant line c) 1))
   beginning_by least line next.EmptySet = past (empty_set line)
   beginning_by least line next.OpenRound = past (round line)

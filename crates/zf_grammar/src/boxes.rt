@@ -77,6 +77,7 @@ fn one_box<'a>(
 }
 
 /// All boxes.
+#[tactic(auto, using(std::proofs::lemmas::Grind::common_steps, crate::proofs::Turns::boxes_turn, crate::proofs::Turns::boxes_end), unfolding(crate::specs::BoxReading::read_boxes))]
 fn boxes<'a>(
     alloc: Global,
     arena: &'a Bump,

@@ -1,11 +1,10 @@
 //! The symbols of a text that are left to be read.
 ghost use Rattle.std.specs.Prelude.{◌≡◌, true, length, map};
+ghost use Rattle.zf_grammar.specs.Prelude.{is_mark, symbol_at, Unexpected};
 ghost use Rattle.zf_grammar.specs.BoxReading as boxes;
-ghost use Rattle.zf_scan.specs.{is_mark, symbol_at};
 ghost use Rattle.zf_grammar.specs.Reading as spec;
 ghost use Rattle.zf_grammar.specs.TermReading as terms;
 ghost use Rattle.zf_grammar.specs.{Gives};
-ghost use Rattle.zf_scan.specs.declared.fault.TextFaultKind.TheVariants.{Unexpected};
 
 use std::marker::Model;
 use zf_data::arena::Lent;
@@ -147,7 +146,7 @@ impl<'a, 'b> Cursor<'a, 'b> {
 
     /// Goes past this symbol.
     pub fn expect(&mut self, mark: Mark) -> Result<(), TextFault>
-        ensures { Gives (terms.expect mark self.old) result self.new }
+        ensures { Gives (spec.expect mark self.old) result self.new }
     {
         if !self.is_at(mark) {
             return Err(self.unexpected());
@@ -188,7 +187,7 @@ impl<'a, 'b> Cursor<'a, 'b> {
 
     /// A name, whose bytes the text lends.
     pub fn name(&mut self) -> Result<Name<'a>, TextFault>
-        ensures { Gives (terms.lift (spec.read_name self.old)) result self.new }
+        ensures { Gives (spec.read_name self.old) result self.new }
     {
         match self.rest {
             [first, rest @ ..] if matches!(first.next, Next::Name) => {
@@ -206,7 +205,7 @@ impl<'a, 'b> Cursor<'a, 'b> {
 
     /// A number.
     pub fn number(&mut self) -> Result<u64, TextFault>
-        ensures { Gives (terms.lift (spec.read_number self.old)) result self.new }
+        ensures { Gives (spec.read_number self.old) result self.new }
     {
         match self.rest {
             [first, rest @ ..] if matches!(first.next, Next::Number) => {
@@ -219,7 +218,7 @@ impl<'a, 'b> Cursor<'a, 'b> {
 
     /// The opening of a schema box: its name.
     pub fn opening(&mut self) -> Result<Name<'a>, TextFault>
-        ensures { Gives (terms.lift (spec.read_opening self.old)) result self.new }
+        ensures { Gives (spec.read_opening self.old) result self.new }
     {
         match self.rest {
             [first, rest @ ..] if matches!(first.next, Next::BeginSchema) => {

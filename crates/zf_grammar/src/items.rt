@@ -1,6 +1,6 @@
 //! One or more items with their heights, parted by a symbol.
 ghost use Rattle.std.specs.Prelude.{◌≤◌, IfOk};
-ghost use Rattle.zf_grammar.specs.BoxReading as spec;
+ghost use Rattle.zf_grammar.specs.TermReading as spec;
 ghost use Rattle.zf_grammar.specs.{Gives};
 
 use crate::cursor::Cursor;
@@ -15,7 +15,7 @@ pub trait Rule<'a> {
 
     ghost use Rattle.std.specs.Prelude.{ℕ, List, Result};
     ghost use Rattle.zf_scan.specs.Separators.{Symbol};
-    ghost use Rattle.zf_grammar.specs.TermReading.{Fault};
+    ghost use Rattle.zf_grammar.specs.Reading.{Fault};
     ghost use Rattle.zf_grammar.specs.declared.tall.Tall.{Tall};
 
     ghost parser: { Self → List Symbol → Result (Tall Self.Item × List Symbol) Fault };
@@ -29,6 +29,7 @@ pub trait Rule<'a> {
 }
 
 /// What the rule reads, once and again for as long as the mark parts it from what follows.
+#[tactic(auto, using(std::proofs::lemmas::Grind::common_steps, crate::proofs::Turns::items_turn, crate::proofs::Turns::items_end), unfolding(crate::specs::TermReading::items))]
 pub fn items<'a, R: Rule<'a>>(
     arena: &'a Bump,
     tokens: &mut Cursor<'a, '_>,

@@ -83,6 +83,7 @@ impl<'a, F: Fn(&'a Bump, &mut Cursor<'a, '_>, u32) -> Read<SchemaExp<'a>>> Schem
     }
 
     /// Parts joined by `\land`, to the left.
+    #[tactic(auto, using(std::proofs::lemmas::Grind::common_steps, crate::proofs::Turns::joined_turn, crate::proofs::Turns::joined_end), unfolding(crate::specs::BoxReading::conjunction))]
     fn conjunction(&self, tokens: &mut Cursor<'a, '_>) -> Read<SchemaExp<'a>>
         requires nests { SchemaNests self.now.below (F.pre self.now.read) (F.post self.now.read) }
         ensures value { Gives (spec.conjunction self.now.below (read_schema self.now.below) tokens.old) result tokens.new }
@@ -111,6 +112,7 @@ impl<'a, F: Fn(&'a Bump, &mut Cursor<'a, '_>, u32) -> Read<SchemaExp<'a>>> Schem
     }
 
     /// Conjunctions joined by `\lor`, to the left.
+    #[tactic(auto, using(std::proofs::lemmas::Grind::common_steps, crate::proofs::Turns::joined_turn, crate::proofs::Turns::joined_end), unfolding(crate::specs::BoxReading::disjunction))]
     fn disjunction(&self, tokens: &mut Cursor<'a, '_>) -> Read<SchemaExp<'a>>
         requires nests { SchemaNests self.now.below (F.pre self.now.read) (F.post self.now.read) }
         ensures value { Gives (spec.disjunction self.now.below (read_schema self.now.below) tokens.old) result tokens.new }

@@ -1,7 +1,6 @@
 //! Parts of a term, each with its height.
 ghost use Rattle.std.specs.Prelude.{◌≡◌, List, Ok, IfOk};
-ghost use Rattle.zf_scan.specs.{Symbol};
-ghost use Rattle.zf_scan.specs.declared.fault.TextFaultKind.TheVariants.{TooDeep};
+ghost use Rattle.zf_grammar.specs.Prelude.{Symbol, TooDeep};
 ghost use Rattle.zf_grammar.specs.TermReading as spec;
 ghost use Rattle.zf_grammar.specs.{Gives};
 

@@ -33,6 +33,7 @@ impl<'a, F: Fn(&'a Bump, &mut Cursor<'a, '_>, u32, u8) -> TermRead<'a>> Grammar<
     }
 
     /// Goes on while the symbols bind more tightly than this place.
+    #[tactic(auto, using(std::proofs::lemmas::Grind::common_steps, crate::proofs::Turns::climb_turn, crate::proofs::Turns::climb_end))]
     fn climb(&self, tokens: &mut Cursor<'a, '_>, least: u8, mut left: TallTerm<'a>) -> TermRead<'a>
         requires nests { Nests self.now.below (F.pre self.now.read) (F.post self.now.read) }
         requires left_low { left.height ≤ self.now.below + 1 }

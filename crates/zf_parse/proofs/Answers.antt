@@ -1,6 +1,7 @@
 -- What an outcome of the rules says of the trees that read the tokens.
 use Rattle.zf_parse.proofs.Prelude.{◌∙◌, ◌≡◌, ◌≤◌, [], ap, arith, Err, inl, inr, List, map, max, Ok, refl, sym, ℕ, ◌⊎◌, box_of, BoxTree, ZBox, IsCutInto, IsWantOfMemory, reduced, Symbol, TextFaultKind, Token, read_all, height_limit, highest, ReadsLow, RefusesTokens, RefusesSource, Reads, Fails, Refused, TooDeep}
 use Rattle.zf_scan.specs.declared.fault.TextFaultKind.TheVariants as fault
+use Rattle.zf_grammar.proofs.BoxItems.{never_refused, above_limit}
 use Rattle.zf_grammar.proofs.BoxesRead.{AreRead, all_sound, all_answers}
 use Rattle.zf_grammar.proofs.TermSteps.{ok_pair}
 
@@ -13,18 +14,10 @@ answers : (n : ℕ) (tokens : List Token) (boxes : List BoxTree) → Reads boxes
 answers n tokens boxes r = all_answers n boxes (reduced tokens) r.levelled r.spelled
 
 none_reads : (n : ℕ) (tokens : List Token) → read_all n (reduced tokens) ≡ Err Refused → (boxes : List BoxTree) → Reads boxes tokens → ⊥
-none_reads n tokens e boxes r = by (answers n tokens boxes r)
-  where
-    by : AreRead n boxes (read_all n (reduced tokens)) → ⊥
-    by (inl a) = let read = a.read in cc
-    by (inr d) = let refused = d.refused in cc
+none_reads n tokens e boxes r = never_refused (answers n tokens boxes r) e
 
 none_low : (n : ℕ) (tokens : List Token) → read_all n (reduced tokens) ≡ Err TooDeep → (boxes : List BoxTree) → Reads boxes tokens → highest boxes ≤ n → ⊥
-none_low n tokens e boxes r low = by (answers n tokens boxes r)
-  where
-    by : AreRead n boxes (read_all n (reduced tokens)) → ⊥
-    by (inl a) = let read = a.read in cc
-    by (inr d) = let above = d.above in omega arith
+none_low n tokens e boxes r low = omega (arith, above_limit (answers n tokens boxes r) e)
 
 pub refused : (kind : TextFaultKind) (line : ℕ) (tokens : List Token) → Fails (read_all height_limit (reduced tokens)) kind line → RefusesTokens kind line tokens
 refused fault.OutOfMemory line tokens h = h

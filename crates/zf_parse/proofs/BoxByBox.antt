@@ -8,7 +8,7 @@ use Rattle.zf_scan.proofs.Laws.{cut_whole}
 use Rattle.zf_scan.proofs.Texts.{eq_is}
 use Rattle.zf_parse.proofs.Answers.{refuses_source}
 use Rattle.zf_parse.proofs.Apart.{EndsOnce, box_before, box_apart}
-use Rattle.zf_grammar.proofs.BoxItems.{most_append}
+use Rattle.zf_grammar.proofs.BoxItems.{and_answers, done, never_refused, above_limit, most_append, all_append}
 use Rattle.zf_grammar.proofs.BoxesRead.{BoxIsRead, box_sound, box_answers, at_end, all_of}
 use Rattle.zf_grammar.proofs.TermSteps.{ok_pair, bind_ok, if_ok}
 
@@ -24,21 +24,17 @@ only_sound n ts us b limit e =
     let low = s.low in
     subst (λ b. ReadsBox (box_of b) ts) same (record { levelled = s.levelled; spelled = subst (SpellsBox (box_of x.0) ts) (at_end x.1 t.0) s.spelled; low = omega (arith, limit) })
 
-none_reads : (n : ℕ) (ts : List Symbol) → read_only n ts ≡ Err Refused → (b : BoxTree) → BoxIsLevelled b → SpellsBox b ts [] → ⊥
+only_answers : (n : ℕ) (ts : List Symbol) (b : BoxTree) → BoxIsLevelled b → SpellsBox b ts [] → BoxIsRead n b (read_only n ts) []
 unfolding read_only
-none_reads n ts e b lev h = by (box_answers n b ts [] lev h)
-  where
-    by : BoxIsRead n b (read_box n ts) [] → ⊥
-    by (inl a) = let read = a.read in cc
-    by (inr d) = let refused = d.refused in cc
+only_answers n ts b lev h =
+    let Is = λ (x : ZBox). box_of x ≡ b in
+    and_answers Is Is n (box_height b) n (box_height b) (read_box n ts) _ [] [] (λ above. above) (box_answers n b ts [] lev h) (λ x is low. done Is n (box_height b) x [] is low)
+
+none_reads : (n : ℕ) (ts : List Symbol) → read_only n ts ≡ Err Refused → (b : BoxTree) → BoxIsLevelled b → SpellsBox b ts [] → ⊥
+none_reads n ts e b lev h = never_refused (only_answers n ts b lev h) e
 
 none_low : (n : ℕ) (ts : List Symbol) → read_only n ts ≡ Err TooDeep → (b : BoxTree) → BoxIsLevelled b → SpellsBox b ts [] → box_height b ≤ n → ⊥
-unfolding read_only
-none_low n ts e b lev h low = by (box_answers n b ts [] lev h)
-  where
-    by : BoxIsRead n b (read_box n ts) [] → ⊥
-    by (inl a) = let read = a.read in cc
-    by (inr d) = let above = d.above in omega arith
+none_low n ts e b lev h low = omega (arith, above_limit (only_answers n ts b lev h) e)
 
 pub only_refused : (kind : TextFaultKind) (line : ℕ) (ts : List Symbol) → Fails (read_only height_limit ts) kind line → RefusesBox kind line ts
 only_refused fault.OutOfMemory line ts h = h
@@ -122,10 +118,6 @@ up_to_more : (bs : List BoxTree) (b : BoxTree) (ts a us : List Symbol) → Spell
 up_to_more [] b ts a us e h = (us, subst (λ ts. SpellsBox b ts us) (sym e) h, refl)
 up_to_more (c ∷ bs) b ts a us h s = (h.0, h.1, up_to_more bs b h.0 a us h.2 s)
 
-all_and_one : (bs : List BoxTree) (b : BoxTree) → AllByRecursion BoxIsLevelled bs → BoxIsLevelled b → AllByRecursion BoxIsLevelled (bs ++ b ∷ [])
-all_and_one [] b h l = (l, tt)
-all_and_one (c ∷ bs) b h l = (h.0, all_and_one bs b h.1 l)
-
 none_left : (rs us : List Symbol) → EndsOnce rs → rs ++ us ≡ [] → ⊥
 none_left [] us h e = h
 none_left (r ∷ rs) us h e = cc
@@ -142,7 +134,7 @@ one_more bs b ts rs f ends r =
     let low_f = f.low in
     let low_r = r.low in
     record {
-      levelled = all_and_one bs b f.levelled r.levelled;
+      levelled = all_append BoxIsLevelled bs b f.levelled r.levelled;
       low = omega (arith, most_append box_height bs (b ∷ []));
       spelled = λ us. subst (λ ts. SpellsUpTo (bs ++ b ∷ []) ts us) (sym (append_assoc ts rs us))
           (up_to_more bs b (ts ++ (rs ++ us)) (rs ++ us) us (f.spelled (rs ++ us)) (box_before b rs us r.spelled));

@@ -1,17 +1,9 @@
 -- Reading a source box by box. No public clause rests on this file.
 use Rattle.std.specs.Prelude.{◌≡◌, ℕ, ◌≤◌, List, [], ◌++◌, Result, Ok, Err, map}
-use Rattle.std.specs.List.{AllByRecursion}
-use Rattle.zf_scan.specs.declared.fault.TextFaultKind.{TextFaultKind}
-use Rattle.zf_scan.specs.declared.fault.TextFaultKind.TheVariants.{Unexpected, NotInProfile, TooDeep, OutOfMemory}
+use Rattle.zf_parse.specs.Prelude.{AllByRecursion, TextFaultKind, Unexpected, NotInProfile, TooDeep, OutOfMemory, Token, IsCutUpTo, reduced, Symbol, box_height, highest, height_limit, BoxIsLevelled, SpellsBox, SpellsBoxes, SpellsUpTo, box_of, BoxTree}
 use Rattle.zf_scan.specs.declared.scan.Border.{Border}
-use Rattle.zf_scan.specs.declared.token.Token.{Token}
-use Rattle.zf_scan.specs.{IsCutUpTo, reduced, Symbol}
 use Rattle.zf_tree.specs.declared.tree.ZBox.{ZBox}
 use Rattle.zf_parse.specs.declared.unread.Unread.{Unread}
-use Rattle.zf_grammar.specs.{box_height, highest, height_limit}
-use Rattle.zf_levels.specs.{BoxIsLevelled}
-use Rattle.zf_grammar.specs.{SpellsBox, SpellsBoxes, SpellsUpTo}
-use Rattle.zf_tree.specs.{box_of, BoxTree}
 
 -- ---- one box
 

@@ -1,13 +1,7 @@
 -- What reading the tokens of a text answers, and what reading a source does.
 use Rattle.std.specs.Prelude.{◌≡◌, ℕ, ◌⊎◌, ◌≤◌, List}
-use Rattle.zf_scan.specs.declared.fault.TextFault.{TextFault}
-use Rattle.zf_scan.specs.declared.fault.TextFaultKind.{TextFaultKind}
-use Rattle.zf_scan.specs.declared.fault.TextFaultKind.TheVariants.{Unexpected, NotInProfile, TooDeep, OutOfMemory}
-use Rattle.zf_scan.specs.declared.token.Token.{Token}
-use Rattle.zf_scan.specs.{HasFault, IsCutInto}
-use Rattle.zf_grammar.specs.{highest, height_limit}
+use Rattle.zf_parse.specs.Prelude.{TextFault, TextFaultKind, Unexpected, NotInProfile, TooDeep, OutOfMemory, Token, HasFault, IsCutInto, highest, height_limit, BoxTree}
 use Rattle.zf_parse.specs.Reads.{Reads}
-use Rattle.zf_tree.specs.{BoxTree}
 
 -- a tree that reads the tokens, with no part above the limit
 pub record ReadsLow (boxes : List BoxTree) (tokens : List Token) : Type 0 where

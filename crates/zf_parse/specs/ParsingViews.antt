@@ -1,11 +1,8 @@
 -- What the program's results of reading say, in the words of `Parsing`.
 use Rattle.std.specs.Prelude.{ℕ, ◌⊎◌, List, Result, Ok, Err}
-use Rattle.zf_scan.specs.declared.fault.TextFault.{TextFault}
-use Rattle.zf_scan.specs.declared.token.Token.{Token}
+use Rattle.zf_parse.specs.Prelude.{TextFault, Token, IsWantOfMemory, boxes_of}
 use Rattle.zf_tree.specs.declared.tree.Spec.{Spec}
-use Rattle.zf_scan.specs.{IsWantOfMemory}
 use Rattle.zf_parse.specs.declared.unread.Unread.{Unread}
-use Rattle.zf_tree.specs.{boxes_of}
 use Rattle.zf_parse.specs.Parsing.{ReadsLow, RefusesTokens, ReadsSource, RefusesSource}
 
 abbrev pub Parses : Result Spec TextFault → List Token → Type 0

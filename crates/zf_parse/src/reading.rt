@@ -1,11 +1,9 @@
 //! Trees out of tokens, and out of a source.
 ghost use Rattle.std.specs.Prelude.{◌≡◌, ◌≤◌, ◌<◌, ◌⊎◌, ◌++◌, ℕ, List, IfErr, OnOk, length, map, slice_index_or, slice_set};
+ghost use Rattle.zf_parse.specs.Prelude.{IsBorder, IsBoxAtMost, IsCutOn, IsCutUpTo, IsStuck, IsWantOfMemory, reduced, starts_closed, symbol_at, token_at, unplaced, BoxTree, Token};
 ghost use Rattle.zf_parse.specs.{Parses, ReadsOneBox, ReadsSpec, ReadsUpTo, RefusesSource};
-ghost use Rattle.zf_scan.specs.{IsBorder, IsBoxAtMost, IsCutOn, IsCutUpTo, IsStuck, IsWantOfMemory, reduced, starts_closed, symbol_at, token_at, unplaced};
 ghost use Rattle.zf_parse.specs.Reads.{Reads};
-ghost use Rattle.zf_tree.specs.{BoxTree};
 ghost use Rattle.zf_scan.specs.declared.placed.Placed.{Placed};
-ghost use Rattle.zf_scan.specs.declared.token.Token.{Token};
 
 use crate::brackets::unclosed;
 use crate::unread::{About, Unread};

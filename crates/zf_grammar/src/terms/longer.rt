@@ -1,7 +1,7 @@
 //! What goes on with a term.
 ghost use Rattle.std.specs.Prelude.{◌≡◌, ◌+◌, ◌≤◌, IfOk};
+ghost use Rattle.zf_grammar.specs.Prelude.{line_of, tree_of};
 ghost use Rattle.zf_grammar.specs.Nests.{Nests};
-ghost use Rattle.zf_tree.specs.{line_of, tree_of};
 ghost use Rattle.zf_grammar.specs.TermReading as spec;
 ghost use Rattle.zf_grammar.specs.{Gives, read_term};
 ghost use Rattle.zf_grammar.specs.declared.role.Role.TheVariants as role;

@@ -26,7 +26,7 @@ fn parted_by(form: Listed) -> Mark
 
 impl<'a, F: Fn(&'a Bump, &mut Cursor<'a, '_>, u32, u8) -> TermRead<'a>> Grammar<'a, F> {
     /// The term, and further ones at this place, each after the symbol.
-    #[tactic(auto, unfolding(crate::specs::TermReading::further))]
+    #[tactic(auto, using(std::proofs::lemmas::Grind::common_steps, crate::proofs::Turns::items_turn, crate::proofs::Turns::items_end), unfolding(crate::specs::TermReading::further))]
     pub(super) fn further(
         &self,
         tokens: &mut Cursor<'a, '_>,
@@ -79,7 +79,7 @@ impl<'a, F: Fn(&'a Bump, &mut Cursor<'a, '_>, u32, u8) -> TermRead<'a>> Grammar<
     }
 
     /// The links of a chain.
-    #[tactic(auto, unfolding(crate::specs::TermReading::chain_links))]
+    #[tactic(auto, using(std::proofs::lemmas::Grind::common_steps, crate::proofs::Turns::links_turn, crate::proofs::Turns::links_end), unfolding(crate::specs::TermReading::chain_links))]
     pub(super) fn chain_links(&self, tokens: &mut Cursor<'a, '_>) -> Read<Items<'a, Link<'a>>>
         requires nests { Nests self.now.below (F.pre self.now.read) (F.post self.now.read) }
         ensures value { Gives (spec.chain_links (read_term self.now.below) tokens.old) result tokens.new }
@@ -128,7 +128,7 @@ impl<'a, F: Fn(&'a Bump, &mut Cursor<'a, '_>, u32, u8) -> TermRead<'a>> Grammar<
     }
 
     /// One or more declarations, parted by separators.
-    #[tactic(auto, unfolding(crate::specs::TermReading::decls))]
+    #[tactic(auto, using(std::proofs::lemmas::Grind::common_steps, crate::proofs::Turns::items_turn, crate::proofs::Turns::items_end), unfolding(crate::specs::TermReading::items))]
     pub(super) fn decls(&self, tokens: &mut Cursor<'a, '_>) -> Read<Items<'a, VarDecl<'a>>>
         requires nests { Nests self.now.below (F.pre self.now.read) (F.post self.now.read) }
         ensures value { Gives (spec.decls (read_term self.now.below) tokens.old) result tokens.new }
