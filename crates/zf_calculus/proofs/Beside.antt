@@ -1,8 +1,7 @@
 -- A schema beside another: what is counted of both, and what is left.
-use Rattle.zf_calculus.proofs.Prelude.{◌++◌, ◌+◌, ◌-◌, ◌<◌, ◌∙◌, ◌∷◌, ◌≡◌, ◌≤◌, [], ap, arith, length, length-append, List, map, refl, ℕ, length-map, sum_by-append, sum_by-cons, AllByRecursion, sum_by, place_in, Comp, DeclaredSet, Schema, ResolvedTree, set_count, set_nodes, moved, nodes, AreAt, counted, HasLeft, IsLow, KeepsTo}
+use Rattle.zf_calculus.proofs.Prelude.{◌++◌, ◌+◌, ◌-◌, ◌<◌, ◌∙◌, ◌∷◌, ◌≡◌, ◌≤◌, [], ap, arith, length, length-append, List, map, refl, ℕ, length-map, sum_by-append, sum_by-cons, AllByRecursion, sum_by, place_in, Comp, DeclaredSet, Schema, ResolvedTree, set_count, set_nodes, moved, nodes, AreAt, counted, HasLeft, IsLow, KeepsTo, conjoined, new_place, schema_with, with_comp, with_comps}
 use Rattle.zf_term.specs.declared.fault.Limit.TheVariants as limit
 use Rattle.zf_term.proofs.Renumbered.{same_height, same_nodes}
-use Rattle.zf_calculus.specs.{conjoined, new_place, schema_with, with_comp, with_comps}
 use Rattle.zf_calculus.proofs.Merging.{counts_more}
 use Rattle.zf_calculus.proofs.Monotony.{all_low}
 use Rattle.zf_calculus.proofs.Placing.{are_new_places}

@@ -1,8 +1,7 @@
 -- Strokes change no size, and are added to one component after another.
-use Rattle.zf_calculus.proofs.Prelude.{set, drop-set-lt, drop_all, get_or_default, length-map, take_all, take_more_set, sum_by-cons, sum_by, dropped, pushed, Comp, comp_of, DeclaredSet, Schema, set_count, set_nodes, Component, counted, HasLeft, IsWithin, KeepsTo, Limit}
+use Rattle.zf_calculus.proofs.Prelude.{set, drop-set-lt, drop_all, get_or_default, length-map, take_all, take_more_set, sum_by-cons, sum_by, dropped, pushed, Comp, comp_of, DeclaredSet, Schema, set_count, set_nodes, Component, counted, HasLeft, IsWithin, KeepsTo, Limit, comp, decorated, schema_with}
 use Rattle.zf_term.specs.declared.fault.Limit.TheVariants as limit
 use Rattle.std.proofs.Common.{◌≡◌, ℕ, ◌+◌, ◌<◌, ◌≤◌, Bool, true, ◌==◌, eqb-true, length, sym, List, [], ◌∷◌, ◌++◌, map, take, drop, get_or, refl, ap, ◌∙◌, subst, arith, append-nil}
-use Rattle.zf_calculus.specs.{comp, decorated, schema_with}
 
 abbrev pub stroked : List ℕ → Comp → Comp
 stroked strokes c = comp (c.name ++ strokes) c.type c.sets

@@ -1,11 +1,8 @@
 -- The components of disjunctions, and the places of a side's components.
-use Rattle.zf_calculus.proofs.Prelude.{if◌then◌else◌, ◌++◌, ◌+◌, ◌<◌, ◌∙◌, ◌∷◌, ◌≡◌, ◌≤◌, [], add-one, all_of, ap, arith, batch_of, bytes_eq, Batch, Bool, carried, Conjunct, conjunct_of, Comp, comp, comp_named, comp_of, Component, DeclaredSet, disjoined, disjoined_over, Domain, either_comp, false, Flat, get_or, inr, IsNext, IsTooLarge, IsWithin, later, length, length-append, length-map, List, map, map-append, moved, new_place, None, none-some, numbering, Offence, of-Either, one_holds, Option, place_found, place_in, place_named, place_of, place_or, refl, ResolvedTree, same_Some, Schema, schema_of, set_of, sets_of, sets_on, sides, slice_get, Some, Stops, subst, suc, sym, take, too_large, true, type_of, unmoved, with_comp, with_comps, zero, ZType, ℕ}
-use Rattle.std.proofs.Math.Path.{fun_ext}
+use Rattle.zf_calculus.proofs.Prelude.{if◌then◌else◌, ◌++◌, ◌+◌, ◌<◌, ◌∙◌, ◌∷◌, ◌≡◌, ◌≤◌, [], add-one, all_of, ap, arith, batch_of, bytes_eq, Batch, Bool, carried, Conjunct, conjunct_of, Comp, comp, comp_named, comp_of, Component, DeclaredSet, disjoined, disjoined_over, Domain, either_comp, false, Flat, get_or, inr, IsNext, IsTooLarge, IsWithin, later, length, length-append, length-map, List, map, map-append, moved, new_place, None, none-some, numbering, Offence, of-Either, one_holds, Option, place_found, place_in, place_named, place_of, place_or, refl, ResolvedTree, same_Some, Schema, schema_of, set_of, sets_of, sets_on, sides, slice_get, Some, Stops, subst, suc, sym, take, too_large, true, type_of, unmoved, with_comp, with_comps, zero, ZType, ℕ, fun_ext, constraints, either_comps}
 use Rattle.std.proofs.Math.Seq.{map-set_same}
 use Rattle.zf_term.specs.declared.schema.Domain.TheVariants as v
 use Rattle.zf_term.specs.declared.fault.Limit.TheVariants as limit
-use Rattle.zf_constraints.specs.{constraints}
-use Rattle.zf_calculus.specs.{either_comps}
 use Rattle.zf_calculus.proofs.Merging.{known_in_place, known_is, new_last, none_shorter}
 use Rattle.zf_calculus.proofs.Placing.{TooMany}
 use Rattle.zf_calculus.proofs.Renumbering.{all_same}

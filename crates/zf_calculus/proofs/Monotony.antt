@@ -1,7 +1,6 @@
 -- A schema that has grown is within a limit only if it was before.
-use Rattle.zf_calculus.proofs.Prelude.{◌++◌, ◌+◌, ◌<◌, ◌∷◌, ◌≡◌, ◌≤◌, [], arith, length, length-append, List, ℕ, sum_by-append, AllByRecursion, sum_by, Comp, Schema, ResolvedTree, set_count, set_nodes, nodes, grown, HasLeft, IsLow, IsTooLarge, KeepsTo, Limit, Offence}
+use Rattle.zf_calculus.proofs.Prelude.{◌++◌, ◌+◌, ◌<◌, ◌∷◌, ◌≡◌, ◌≤◌, [], arith, length, length-append, List, ℕ, sum_by-append, AllByRecursion, sum_by, Comp, Schema, ResolvedTree, set_count, set_nodes, nodes, grown, HasLeft, IsLow, IsTooLarge, KeepsTo, Limit, Offence, schema_with, with_comp}
 use Rattle.zf_term.specs.declared.fault.Limit.TheVariants as limit
-use Rattle.zf_calculus.specs.{schema_with, with_comp}
 use Rattle.zf_calculus.proofs.Merging.{counts_more}
 
 -- what passes a limit passes it with more

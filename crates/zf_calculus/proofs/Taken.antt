@@ -1,7 +1,5 @@
 -- A schema that is taken into the one of no declarations is itself, where its components have names of their own.
-use Rattle.zf_calculus.proofs.Prelude.{if◌then◌else◌, ◌++◌, ◌∙◌, ◌∷◌, ◌≡◌, [], add-one, ap, Bool, false, List, None, Option, refl, slice_get, Some, subst, suc, sym, true, zero, ℕ, append-nil, append_assoc, none-some, same_Some, AllByRecursion, bytes_eq, unmoved, is_itself, is_same, swapped, Comp, Schema, later, ResolvedTree, moved}
-use Rattle.std.proofs.Math.Path.{fun_ext}
-use Rattle.zf_calculus.specs.{AreOnce, carried, comp_named, conjoined, empty_schema, new_place, place_of, place_or, schema_with, with_comp, with_comps}
+use Rattle.zf_calculus.proofs.Prelude.{if◌then◌else◌, ◌++◌, ◌∙◌, ◌∷◌, ◌≡◌, [], add-one, ap, Bool, false, List, None, Option, refl, slice_get, Some, subst, suc, sym, true, zero, ℕ, append-nil, append_assoc, none-some, same_Some, AllByRecursion, bytes_eq, unmoved, is_itself, is_same, swapped, Comp, Schema, later, ResolvedTree, moved, fun_ext, AreOnce, carried, comp_named, conjoined, empty_schema, new_place, place_of, place_or, schema_with, with_comp, with_comps}
 use Rattle.zf_calculus.proofs.Merging.{new_last, nothing_before, none_known}
 use Rattle.zf_calculus.proofs.Renumbering.{all_same}
 

@@ -1,14 +1,8 @@
 -- The schema calculus: what schemas are made of others by inclusion, decoration, `\Delta`, `\Xi`, conjunction and disjunction.
 use Rattle.std.specs.Prelude.{◌≡◌, ℕ, ◌+◌, List, [], ◌∷◌, ◌++◌, map, fold, Option, slice_get, if◌then◌else◌}
-use Rattle.std.specs.List.{AllByRecursion}
+use Rattle.zf_calculus.specs.Prelude.{AllByRecursion, IfSome, option_map_or, Equal, RefMark, Plain, Delta, Xi, carrier, chain, Comp, DeclaredSet, first_named, link, moved, no_links, one_holds, reference, ResolvedTree, Schema, sets_of, sides, Ty, constraints}
 use Rattle.std.specs.Str.{bytes_eq}
-use Rattle.std.specs.Option.{IfSome, option_map_or}
-use Rattle.zf_tree.specs.declared.symbol.Relation.TheVariants.{Equal}
-use Rattle.zf_tree.specs.declared.tree.RefMark.{RefMark}
-use Rattle.zf_tree.specs.declared.tree.RefMark.TheVariants.{Plain, Delta, Xi}
 use Rattle.zf_reference.specs.declared.reference.Reference.TheVariants.{Component}
-use Rattle.zf_term.specs.{carrier, chain, Comp, DeclaredSet, first_named, link, moved, no_links, one_holds, reference, ResolvedTree, Schema, sets_of, sides, Ty}
-use Rattle.zf_constraints.specs.{constraints}
 pub use Rattle.zf_term.specs.{joined}
 
 abbrev pub comp : List ℕ → Ty → List DeclaredSet → Comp

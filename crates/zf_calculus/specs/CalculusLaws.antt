@@ -1,6 +1,6 @@
 -- What laws say of components: each name stands once.
 use Rattle.std.specs.Prelude.{◌≡◌, ℕ, List, [], ◌∷◌, None}
-use Rattle.zf_term.specs.{Comp, first_named}
+use Rattle.zf_calculus.specs.Prelude.{Comp, first_named}
 
 -- no two have one name
 abbrev pub EachOnce : {A : Type 0} → (A → List ℕ) → List A → Type 0

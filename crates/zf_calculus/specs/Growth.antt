@@ -1,12 +1,7 @@
 -- A schema that grows within the limits, and what stops it.
 use Rattle.std.specs.Prelude.{◌≡◌, ℕ, ◌+◌, ◌++◌, List, [], ◌∷◌, Option, Some, None}
-use Rattle.std.specs.List.{sum_by}
-use Rattle.std.specs.Option.{option_map_or}
-use Rattle.zf_tree.specs.declared.symbol.Relation.TheVariants.{Equal}
-use Rattle.zf_term.specs.declared.schema.Component.{Component}
+use Rattle.zf_calculus.specs.Prelude.{sum_by, option_map_or, Equal, Component, AreFew, chain, clash, Comp, DeclaredSet, HasLeft, link, no_links, Offence, one_holds, reference, ResolvedTree, Schema, schema_of, sets_of, sides, too_large, type_of, constraints}
 use Rattle.zf_reference.specs.declared.reference.Reference.TheVariants as place
-use Rattle.zf_term.specs.{AreFew, chain, clash, Comp, DeclaredSet, HasLeft, link, no_links, Offence, one_holds, reference, ResolvedTree, Schema, schema_of, sets_of, sides, too_large, type_of}
-use Rattle.zf_constraints.specs.{constraints}
 use Rattle.zf_calculus.specs.declared.growing.Growing.{Growing}
 use Rattle.zf_calculus.specs.declared.stop.Stop.{Stop}
 use Rattle.zf_calculus.specs.declared.stop.Stop.TheVariants.{Clash, TooLarge, OutOfMemory}

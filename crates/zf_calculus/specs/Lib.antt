@@ -1,3 +1,4 @@
+pub mod Prelude
 pub mod Calculus
 pub mod CalculusLaws
 pub mod Steps

@@ -1,9 +1,6 @@
 -- The next schema, and why there is none.
 use Rattle.std.specs.Prelude.{◌≡◌, ◌⊎◌, ℕ, List, [], ◌∷◌, Option}
-use Rattle.std.specs.Option.{IsSomeAnd}
-use Rattle.zf_tree.specs.declared.tree.RefMark.{RefMark}
-use Rattle.zf_tree.specs.declared.tree.RefMark.TheVariants.{Plain}
-use Rattle.zf_term.specs.{clash, Comp, IsTooLarge, IsWithin, Offence, Schema}
+use Rattle.zf_calculus.specs.Prelude.{IsSomeAnd, RefMark, Plain, clash, Comp, IsTooLarge, IsWithin, Offence, Schema}
 use Rattle.zf_calculus.specs.Calculus.{schema_with, comp_named, Agrees, Agree, with_comp, conjoined, decorated, prime}
 
 -- the schema after one more, well typed and within the limits

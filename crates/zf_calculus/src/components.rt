@@ -1,10 +1,7 @@
 //! Components of a schema: which has a name, which agree, and one more.
 ghost use Rattle.std.specs.Prelude.{◌≡◌, ◌++◌, ◌∷◌, [], ◌<◌, ◌≤◌, ◌↔◌, IsTrue, IfErr, IfOk, OnOk, MatchOption, Some, None, map, length, slice_index_or, slice_set};
-ghost use Rattle.zf_term.specs.declared.schema.Component.{Component};
-ghost use Rattle.zf_term.specs.{AreFew, clash, Comp, comp_of, components_max, too_large, type_of};
-ghost use Rattle.zf_reference.specs.{place_in};
+ghost use Rattle.zf_calculus.specs.Prelude.{Component, AreFew, clash, Comp, comp_of, components_max, too_large, type_of, place_in, enriched};
 ghost use Rattle.zf_term.specs.declared.fault.Limit.TheVariants as limit;
-ghost use Rattle.zf_constraints.specs.{enriched};
 ghost use Rattle.zf_calculus.specs.{Agree, Agrees, AreAt, AreOnce, Clashes, comp_named, IfStopped, new_place, OneClashes, place_named, place_or, with_comp, with_comps};
 
 use crate::limits::COMPONENTS_MAX;

@@ -1,6 +1,6 @@
 //! Disjunctions of schemas.
 ghost use Rattle.std.specs.Prelude.{◌≡◌, IfErr, IfOk, List, OnOk, map};
-ghost use Rattle.zf_term.specs.{AreFew, Comp, comp_of, IsTooLarge, ResolvedTree, schema_of, set_of, too_large, type_of};
+ghost use Rattle.zf_calculus.specs.Prelude.{AreFew, Comp, comp_of, IsTooLarge, ResolvedTree, schema_of, set_of, too_large, type_of};
 ghost use Rattle.zf_term.specs.Shapes as shape;
 ghost use Rattle.zf_term.specs.ShapeViews as shape_views;
 ghost use Rattle.zf_term.specs.declared.fault.Limit.TheVariants as limit;

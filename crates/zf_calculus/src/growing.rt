@@ -1,7 +1,6 @@
 //! Schemas that grow within the limits.
 ghost use Rattle.std.specs.Prelude.{◌≡◌, ◌∷◌, [], ◌++◌, ◌↔◌, IfErr, IfOk, IsTrue, OnOk, length, map};
-ghost use Rattle.zf_term.specs.{AreFew, comp_of, conjunct_of, HasLeft, IsTooLarge, KeepsTo, moved, numbering, ResolvedTree, schema_of};
-ghost use Rattle.zf_reference.specs.{place_in};
+ghost use Rattle.zf_calculus.specs.Prelude.{AreFew, comp_of, conjunct_of, HasLeft, IsTooLarge, KeepsTo, moved, numbering, ResolvedTree, schema_of, place_in};
 ghost use Rattle.zf_calculus.specs.{Adds, Agree, Agrees, Clashes, conjoined, constrained, empty_schema, equalities, equality, grown, HasLeftBeside, IfStopped, Includes, IsGrowing, IsNext, new_place, OneClashes, Stops};
 
 use crate::components::{agree, agrees, are_apart, join, join_all};

@@ -1,7 +1,6 @@
 //! Decorated schemas, and those of operations on a state.
 ghost use Rattle.std.specs.Prelude.{◌≡◌, ◌++◌, ℕ, IfErr, IfOk, List, OnOk, length, map};
-ghost use Rattle.zf_term.specs.{comp_of, IsTooLarge, schema_of};
-ghost use Rattle.zf_reference.specs.{place_in};
+ghost use Rattle.zf_calculus.specs.Prelude.{comp_of, IsTooLarge, schema_of, place_in};
 ghost use Rattle.zf_calculus.specs.Calculus as spec;
 ghost use Rattle.zf_calculus.specs.{Agree, comp, conjoined, decorated, delta, IfStopped, IsGrowing, IsNext, MarkAgrees, MarkClashes, new_place, OneClashes, prime, Stops, xi};
 

@@ -1,7 +1,6 @@
 //! How much of the limits is left after parts of a schema.
 ghost use Rattle.std.specs.Prelude.{◌≡◌, ◌+◌, ◌<◌, ◌↔◌, IsTrue, MatchOption, map};
-ghost use Rattle.std.specs.List.{AllByRecursion, sum_by};
-ghost use Rattle.zf_term.specs.{comp_of, conjunct_of, IsLow, nodes, set_count, set_nodes, set_of};
+ghost use Rattle.zf_calculus.specs.Prelude.{AllByRecursion, sum_by, comp_of, conjunct_of, IsLow, nodes, set_count, set_nodes, set_of};
 ghost use Rattle.zf_calculus.specs.{counted};
 
 use crate::limits::HEIGHT_MAX;

@@ -1,14 +1,12 @@
 -- What is asked of a well typed term has the same answer where more is defined after.
-use Rattle.zf_checker.proofs.Prelude.{if◌then◌else◌, ◌&&◌, ◌++◌, ◌∙◌, ◌≡◌, ap, Bool, drop, List, None, Option, refl, slice_get, Some, subst, sym, take, ℕ, take-append-drop, none-some, spelling, Links, no_decls, no_trees, Perhaps, Tree, tree, Trees, var_decl, VarDecls, abbreviation, Comp, Defined, first_named, ResolvedTree, Ty, Tys, bound, referent, resolved, resolved_all, resolved_links, resolved_part, resolved_ranges, predicate, set_sort, Sort, typed, outside, ExtentsKept, option_or}
+use Rattle.zf_checker.proofs.Prelude.{if◌then◌else◌, ◌&&◌, ◌++◌, ◌∙◌, ◌≡◌, ap, Bool, drop, List, None, Option, refl, slice_get, Some, subst, sym, take, ℕ, take-append-drop, none-some, spelling, Links, no_decls, no_trees, Perhaps, Tree, tree, Trees, var_decl, VarDecls, abbreviation, Comp, Defined, first_named, ResolvedTree, Ty, Tys, bound, referent, resolved, resolved_all, resolved_links, resolved_part, resolved_ranges, predicate, set_sort, Sort, typed, outside, ExtentsKept, option_or, AreMembers, component_meaning, Declare, global_meaning, HasMemberType, IsOf, last_named, LinksAreTyped, meaning, member_sort, PartIsPredicate, Scope, Var, variable_meaning, with_variables, named_there}
 use Rattle.zf_tree.specs.declared.symbol.Relation.{Relation}
 use Rattle.zf_tree.specs.declared.operator.Listed.{Listed}
 use Rattle.zf_tree.specs.Trees as text
 use Rattle.zf_reference.specs.declared.reference.Reference.{Reference}
 use Rattle.zf_extent.specs.{all_offending, direct, extent_by, extent_found, extent_named, extent_of, extent_set, is_last, is_membership, links_offending, name_offenders, offending, part_offending, ranges_offending, tested, unless}
-use Rattle.zf_typing.specs.{AreMembers, component_meaning, Declare, global_meaning, HasMemberType, IsOf, last_named, LinksAreTyped, meaning, member_sort, PartIsPredicate, Scope, Var, variable_meaning, with_variables}
 use Rattle.zf_typing.proofs.ResolvedAlike.{resolved_within}
 use Rattle.zf_checker.proofs.Fronts.{in_front}
-use Rattle.zf_schema.proofs.Named.{named_there}
 use Rattle.zf_checker.proofs.WellTyped.{globals_well_typed}
 
 -- what is asked has the same answer with more after these globals

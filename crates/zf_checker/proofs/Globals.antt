@@ -1,8 +1,7 @@
 -- The globals of a text: where they stand, and that each has a name of its own.
-use Rattle.zf_checker.proofs.Prelude.{if◌then◌else◌, ◌++◌, ◌+◌, ◌∙◌, ◌∷◌, ◌≡◌, [], ap, Bool, false, inl, inr, List, map, None, Option, refl, Some, subst, sym, true, ℕ, append-nil, append_assoc, none-some, bytes_eq, spelling, definition, free, given, ParagraphTree, Name, swapped, constructor, Defined, Definition, free_type, given_set, schema, first_named, later, resolved, Fault, outside, AreDefinedOnce, GlobalsKept, HasCompsOnce, HaveCompsOnce, NamesOnce}
+use Rattle.zf_checker.proofs.Prelude.{if◌then◌else◌, ◌++◌, ◌+◌, ◌∙◌, ◌∷◌, ◌≡◌, [], ap, Bool, false, inl, inr, List, map, None, Option, refl, Some, subst, sym, true, ℕ, append-nil, append_assoc, none-some, bytes_eq, spelling, definition, free, given, ParagraphTree, Name, swapped, constructor, Defined, Definition, free_type, given_set, schema, first_named, later, resolved, Fault, outside, AreDefinedOnce, GlobalsKept, HasCompsOnce, HaveCompsOnce, NamesOnce, schema_once, text_once}
 use Rattle.zf_tree.specs.Trees as text
 use Rattle.zf_schema.specs.{a_box, a_paragraph, abbreviated, ChecksAll, ChecksOne, Constructs, Defines, DefinesParagraph, Gives, IsNew, Item, items, next_number, with_global}
-use Rattle.zf_schema.proofs.Once.{schema_once, text_once}
 
 -- ---- what is defined stands after what was
 

@@ -1,6 +1,5 @@
 -- Conjunction and disjunction by name, and where components of the second schema stand.
-use Rattle.zf_checker.proofs.Prelude.{if◌then◌else◌, ◌∙◌, ◌∷◌, ◌≡◌, [], ap, Bool, false, List, map, None, Option, refl, slice_get, Some, subst, suc, sym, true, zero, ℕ, none-some, same_Some, slice_get-map, option_map, bytes_eq, Comp, sets_of, sides, later, Ty, Agree, Agrees, AreOnce, comp, comp_named, either_comps, HasTypeOf, new_place, place_of, place_or, sets_on, with_comps, PlacesCarried, sets_found, SetsJoined, SetsOfEither, StandsAt, type_found, type_named, TypesJoined, TypesOfEither, option_or}
-use Rattle.zf_schema.proofs.Named.{found, stands_there, joined_type, joined_sets, type_of_once}
+use Rattle.zf_checker.proofs.Prelude.{if◌then◌else◌, ◌∙◌, ◌∷◌, ◌≡◌, [], ap, Bool, false, List, map, None, Option, refl, slice_get, Some, subst, suc, sym, true, zero, ℕ, none-some, same_Some, slice_get-map, option_map, bytes_eq, Comp, sets_of, sides, later, Ty, Agree, Agrees, AreOnce, comp, comp_named, either_comps, HasTypeOf, new_place, place_of, place_or, sets_on, with_comps, PlacesCarried, sets_found, SetsJoined, SetsOfEither, StandsAt, type_found, type_named, TypesJoined, TypesOfEither, option_or, found, stands_there, joined_type, joined_sets, type_of_once}
 
 pub types_joined : TypesJoined
 types_joined a b x = joined_type x a.comps b.comps

@@ -1,7 +1,6 @@
 -- A conjunction has the components of the first schema, then those of the second that are new.
-use Rattle.zf_checker.proofs.Prelude.{if◌then◌else◌, ◌++◌, ◌+◌, ◌∙◌, ◌∷◌, ◌≡◌, [], ap, Bool, false, List, None, Option, refl, Some, sym, true, ℕ, append-nil, append_assoc, none-some, bytes_eq, or_none, swapped, Comp, later, AreOnce, comp, comp_named, with_comp, with_comps, CompsJoined, new_comps, signature, type_found, type_named, unless_found, option_or}
+use Rattle.zf_checker.proofs.Prelude.{if◌then◌else◌, ◌++◌, ◌+◌, ◌∙◌, ◌∷◌, ◌≡◌, [], ap, Bool, false, List, None, Option, refl, Some, sym, true, ℕ, append-nil, append_assoc, none-some, bytes_eq, or_none, swapped, Comp, later, AreOnce, comp, comp_named, with_comp, with_comps, CompsJoined, new_comps, signature, type_found, type_named, unless_found, option_or, type_one_more}
 use Rattle.zf_calculus.proofs.Merging.{nothing_before}
-use Rattle.zf_schema.proofs.Named.{type_one_more}
 
 -- ---- whether one is found
 

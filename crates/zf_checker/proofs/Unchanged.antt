@@ -1,9 +1,8 @@
 -- What `\Xi` adds to `\Delta`.
-use Rattle.zf_checker.proofs.Prelude.{◌++◌, ◌+◌, ◌∙◌, ◌∷◌, ◌≡◌, [], ap, arith, List, refl, slice_get, Some, suc, zero, ℕ, none-some, same_Some, slice_get-map, option_map, Comp, Ty, all_unchanged, comp, decorated, new_place, prime, unchanged, with_comps, signature, StandsAt, XiEquates}
+use Rattle.zf_checker.proofs.Prelude.{◌++◌, ◌+◌, ◌∙◌, ◌∷◌, ◌≡◌, [], ap, arith, List, refl, slice_get, Some, suc, zero, ℕ, none-some, same_Some, slice_get-map, option_map, Comp, Ty, all_unchanged, comp, decorated, new_place, prime, unchanged, with_comps, signature, StandsAt, XiEquates, decorated_once}
 use Rattle.zf_checker.proofs.FirstComponents.{more}
 use Rattle.zf_checker.proofs.Fronts.{in_front}
 use Rattle.zf_checker.proofs.Joined.{carried_place}
-use Rattle.zf_schema.proofs.Once.{decorated_once}
 
 -- the equation at a place
 equation_at :

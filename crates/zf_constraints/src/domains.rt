@@ -1,6 +1,6 @@
 //! The declared sets of a component, and further ones.
-ghost use Rattle.std.specs.Prelude.{◌≡◌, ◌++◌, IfOk, OnOk};
-ghost use Rattle.zf_constraints.specs.{enriched};
+ghost use Rattle.std.specs.Prelude.{◌≡◌, ◌++◌, IfOk, OnErr, OnOk};
+ghost use Rattle.zf_constraints.specs.{enriched, with_domains};
 
 use bumpalo::Bump;
 use std::alloc::AllocError;
@@ -8,13 +8,14 @@ use std::mem;
 use zf_data::arena::{Chunked, Shared};
 use zf_term::{Component, Domain, Domains};
 
-/// The component gains declared sets.
+/// The component gains declared sets. An error leaves it with these alone.
 pub fn enrich<'a>(
     arena: &'a Bump,
     component: &mut Component<'a>,
     domains: Domains<'a>,
 ) -> Result<(), AllocError>
-    ensures { OnOk result (component.new ≡ enriched component.old domains.entry) }
+    ensures gained { OnOk result (component.new ≡ enriched component.old domains.entry) }
+    ensures refused { OnErr result (component.new ≡ with_domains component.old domains.entry) }
 {
     let first = mem::replace(&mut component.domains, domains);
     component.domains = both(arena, first, component.domains.get())?;

@@ -1,10 +1,7 @@
 -- A schema expression that is a schema has no offence.
-use Rattle.zf_schema.proofs.Prelude.{◌∙◌, ◌++◌, ◌∷◌, [], inl, inr, List, refl, subst, sym, ℕ, None, none-some, Option, same_Some, Some, spelling, both, DeclTree, either, include, schema_reference, schema_bracket, schema_text, SchemaTree, Tree, vars, Name, SchemaRef, DeclaredSet, Defined, plain, Schema, schema, ResolvedTree, conjuncts, Comp, Ty, Offence, no_offence, one_sort, same_set, Offends, resolved, predicate, set_sort, Clashes, Differs, Includes, IsNext, IsTooLarge, IsWithin, KeepsTo, Limit, MarkClashes, OneClashes, Stops, AddsAll, Constrains, Declares, DeclaresOne, inside, IsSchema, IsText, outside, Refers, TakesAll, AnyByRecursion, CantRefer, IsNoSchema, name_line, OffendsAfter, OffendsAlone, OffendsConjuncts, OffendsDecls, OffendsNames, OffendsPredicates, OffendsRef, OffendsSchema, OffendsText, OneConstrainsTooMuch, OneOffendsAfter, StopsEither}
+use Rattle.zf_schema.proofs.Prelude.{◌∙◌, ◌++◌, ◌∷◌, [], inl, inr, List, refl, subst, sym, ℕ, None, none-some, Option, same_Some, Some, spelling, both, DeclTree, either, include, schema_reference, schema_bracket, schema_text, SchemaTree, Tree, vars, Name, SchemaRef, DeclaredSet, Defined, plain, Schema, schema, ResolvedTree, conjuncts, Comp, Ty, Offence, no_offence, one_sort, same_set, Offends, resolved, predicate, set_sort, Clashes, Differs, Includes, IsNext, IsTooLarge, IsWithin, KeepsTo, Limit, MarkClashes, OneClashes, Stops, AddsAll, Constrains, Declares, DeclaresOne, inside, IsSchema, IsText, outside, Refers, TakesAll, AnyByRecursion, CantRefer, IsNoSchema, name_line, OffendsAfter, OffendsAlone, OffendsConjuncts, OffendsDecls, OffendsNames, OffendsPredicates, OffendsRef, OffendsSchema, OffendsText, OneConstrainsTooMuch, OneOffendsAfter, StopsEither, RefMark, Plain, Delta, Xi, Agree, Agrees, comp, comp_named, conjoined, decorated, disjoined, empty_schema, HasTypeOf, MarkAgrees, marked, prime, schema_with, with_comp}
 use Rattle.zf_tree.specs.declared.operator.Need.TheVariants as need
-use Rattle.zf_tree.specs.declared.tree.RefMark.{RefMark}
-use Rattle.zf_tree.specs.declared.tree.RefMark.TheVariants.{Plain, Delta, Xi}
 use Rattle.zf_term.specs.declared.fault.Limit.TheVariants as limit
-use Rattle.zf_calculus.specs.{Agree, Agrees, comp, comp_named, conjoined, decorated, disjoined, empty_schema, HasTypeOf, MarkAgrees, marked, prime, schema_with, with_comp}
 use Rattle.zf_schema.proofs.Once.{taken_comps}
 use Rattle.zf_schema.proofs.Texts.{same_judged}
 use Rattle.zf_schema.proofs.OneSchema.{one_base, one_reference, one_added, one_declaration, all_declared, one_constraint, one_schema}

@@ -1,9 +1,7 @@
 -- What is made of schemas whose components have names of their own is such a schema.
-use Rattle.zf_schema.proofs.Prelude.{if◌then◌else◌, ◌++◌, ◌+◌, ◌∙◌, ◌∷◌, ◌≡◌, [], ap, Bool, false, List, map, None, Option, refl, Some, subst, sym, true, ℕ, append_cancel_right, none-some, same_Some, bytes_eq, spelling, both, DeclTree, either, include, schema_reference, schema_bracket, schema_text, SchemaTree, Tree, vars, Name, SchemaRef, is_same, swapped, tests_alike, Comp, DeclaredSet, Defined, plain, Schema, schema, first_named, later, ResolvedTree, conjuncts, Ty, resolved, AreOnce, comp, comp_named, decorated, either_comps, marked, empty_schema, prime, with_comp, with_comps, AddsAll, Constrains, Declares, DeclaresOne, inside, IsSchema, IsText, outside, Refers, TakesAll, HasCompsOnce, HaveCompsOnce, type_found, type_named}
+use Rattle.zf_schema.proofs.Prelude.{if◌then◌else◌, ◌++◌, ◌+◌, ◌∙◌, ◌∷◌, ◌≡◌, [], ap, Bool, false, List, map, None, Option, refl, Some, subst, sym, true, ℕ, append_cancel_right, none-some, same_Some, bytes_eq, spelling, both, DeclTree, either, include, schema_reference, schema_bracket, schema_text, SchemaTree, Tree, vars, Name, SchemaRef, is_same, swapped, tests_alike, Comp, DeclaredSet, Defined, plain, Schema, schema, first_named, later, ResolvedTree, conjuncts, Ty, resolved, AreOnce, comp, comp_named, decorated, either_comps, marked, empty_schema, prime, with_comp, with_comps, AddsAll, Constrains, Declares, DeclaresOne, inside, IsSchema, IsText, outside, Refers, TakesAll, HasCompsOnce, HaveCompsOnce, type_found, type_named, RefMark, Plain, Delta, Xi}
 use Rattle.std.proofs.lemmas.Slice.Eq.{bytes_eq-Decides}
 use Rattle.std.specs.List.{AllByRecursion}
-use Rattle.zf_tree.specs.declared.tree.RefMark.{RefMark}
-use Rattle.zf_tree.specs.declared.tree.RefMark.TheVariants.{Plain, Delta, Xi}
 use Rattle.zf_calculus.proofs.Merging.{none_known}
 use Rattle.zf_schema.proofs.Named.{later_type, not_found}
 

@@ -1,8 +1,6 @@
 -- What is offended where a step stops.
-use Rattle.zf_schema.proofs.Prelude.{◌∷◌, ◌≡◌, [], inl, inr, List, None, Option, refl, Some, subst, sym, told, ℕ, spelling, Name, Comp, DeclaredSet, Schema, ResolvedTree, Ty, type_of, Limit, Offence, IfFault, Refusal, Agrees, comp, comp_named, IfStopped, IsTooLarge, Clashes, Differs, OneClashes, Stops, CantAdd, CantTake, either_line, Refuses, StopsEither}
-use Rattle.zf_term.specs.{clash, term_line, too_large}
+use Rattle.zf_schema.proofs.Prelude.{◌∷◌, ◌≡◌, [], inl, inr, List, None, Option, refl, Some, subst, sym, told, ℕ, spelling, Name, Comp, DeclaredSet, Schema, ResolvedTree, Ty, type_of, Limit, Offence, IfFault, Refusal, Agrees, comp, comp_named, IfStopped, IsTooLarge, Clashes, Differs, OneClashes, Stops, CantAdd, CantTake, either_line, Refuses, StopsEither, clash, term_line, too_large, constrained, grown}
 use Rattle.zf_term.specs.declared.fault.Clash as fault
-use Rattle.zf_calculus.specs.{constrained, grown}
 use Rattle.zf_calculus.specs.declared.stop.Stop.{Stop}
 use Rattle.zf_calculus.specs.declared.stop.Stop.TheVariants.{Clash, TooLarge, OutOfMemory}
 

@@ -1,14 +1,10 @@
 -- What a text defines, and the faults of its paragraphs and boxes.
 use Rattle.std.specs.Prelude.{◌≡◌, ◌⊎◌, ℕ, ◌+◌, List, [], ◌∷◌, ◌++◌, map, flat_map, None}
-use Rattle.zf_tree.specs.declared.tree.Name.{Name}
-use Rattle.zf_tree.specs.{BoxTree, DeclTree, definition, free, given, ParagraphTree, schema_box, spelling, Tree, zed}
+use Rattle.zf_schema.specs.Prelude.{Name, BoxTree, DeclTree, definition, free, given, ParagraphTree, schema_box, spelling, Tree, zed, abbreviation, already_defined, constructor, Defined, Definition, Fault, first_named, free_type, given_set, Offence, ResolvedTree, Schema, schema, Ty, IsOf, Offends, resolved, typed}
 use Rattle.zf_tree.specs.Trees as text
-use Rattle.zf_term.specs.{abbreviation, already_defined, constructor, Defined, Definition, Fault, first_named, free_type, given_set, Offence, ResolvedTree, Schema, schema, Ty}
 use Rattle.zf_tree.specs.declared.operator.Need.TheVariants as need
 pub use Rattle.zf_term.specs.{has_elements, next_number}
 use Rattle.zf_extent.specs.{extent_of}
-use Rattle.zf_typing.specs.{IsOf, Offends, resolved}
-use Rattle.zf_sorts.specs.{typed}
 use Rattle.zf_schema.specs.Expressions.{outside, IsText, IsSchema}
 use Rattle.zf_schema.specs.SchemaOffences.{OffendsText, OffendsSchema}
 

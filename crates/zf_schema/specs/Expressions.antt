@@ -1,12 +1,6 @@
 -- Which schema a schema expression or a box is, where it is well typed.
 use Rattle.std.specs.Prelude.{◌≡◌, ℕ, List, [], ◌∷◌, ◌++◌, Some}
-use Rattle.zf_tree.specs.declared.tree.Name.{Name}
-use Rattle.zf_tree.specs.declared.tree.SchemaRef.{SchemaRef}
-use Rattle.zf_tree.specs.{both, DeclTree, either, include, schema_bracket, schema_reference, schema_text, SchemaTree, spelling, Tree, vars}
-use Rattle.zf_term.specs.{conjuncts, DeclaredSet, Defined, first_named, plain, ResolvedTree, Schema, schema, Ty}
-use Rattle.zf_typing.specs.{IsOf, resolved, Scope}
-use Rattle.zf_sorts.specs.{predicate, set_sort}
-use Rattle.zf_calculus.specs.{Adds, Agree, comp, conjoined, decorated, disjoined, empty_schema, Includes, IsNext, MarkAgrees, marked, schema_with}
+use Rattle.zf_schema.specs.Prelude.{Name, SchemaRef, both, DeclTree, either, include, schema_bracket, schema_reference, schema_text, SchemaTree, spelling, Tree, vars, conjuncts, DeclaredSet, Defined, first_named, plain, ResolvedTree, Schema, schema, Ty, IsOf, resolved, Scope, predicate, set_sort, Adds, Agree, comp, conjoined, decorated, disjoined, empty_schema, Includes, IsNext, MarkAgrees, marked, schema_with}
 
 -- what is in scope in a declared set: the globals
 abbrev pub outside : List Defined → Scope

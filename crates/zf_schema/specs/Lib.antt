@@ -1,3 +1,4 @@
+pub mod Prelude
 pub mod Expressions
 pub mod SchemaOffences
 pub mod Checking

@@ -1,17 +1,12 @@
 -- For private contracts alone: what can't be taken in, and the refusal of a step that stops.
 use Rattle.std.specs.Prelude.{◌≡◌, ◌⊎◌, ℕ, List, [], ◌∷◌, Some, None}
-use Rattle.zf_term.specs.{clash, Comp, DeclaredSet, Defined, first_named, IsTooLarge, not_a_schema, not_declared, Offence, ResolvedTree, Schema, schema, term_line, too_large, Ty, type_of}
+use Rattle.zf_schema.specs.Prelude.{clash, Comp, DeclaredSet, Defined, first_named, IsTooLarge, not_a_schema, not_declared, Offence, ResolvedTree, Schema, schema, term_line, too_large, Ty, type_of, Agree, Agrees, Clashes, constrained, grown, OneClashes, Stops, Name, DeclTree, spelling, Tree, Offends, Scope, IsRefusal}
 use Rattle.zf_sorts.specs.declared.fault.Refusal.{Refusal}
 use Rattle.zf_sorts.specs.declared.fault.Refusal.TheVariants as refusal
 use Rattle.zf_calculus.specs.declared.stop.Stop.{Stop}
 use Rattle.zf_calculus.specs.declared.stop.Stop.TheVariants.{Clash, TooLarge, OutOfMemory}
 use Rattle.zf_calculus.specs.Calculus as calculus
-use Rattle.zf_calculus.specs.{Agree, Agrees, Clashes, constrained, grown, OneClashes, Stops}
-use Rattle.zf_tree.specs.declared.tree.Name.{Name}
-use Rattle.zf_tree.specs.{DeclTree, spelling, Tree}
 use Rattle.zf_tree.specs.declared.operator.Need.TheVariants as need
-use Rattle.zf_typing.specs.{Offends, Scope}
-use Rattle.zf_sorts.specs.{IsRefusal}
 use Rattle.zf_schema.specs.Expressions.{inside}
 use Rattle.zf_schema.specs.SchemaOffences.{IsNoSchema, OffendsAlone, OffendsAfter, ConstrainsTooMuch}
 

@@ -1,13 +1,11 @@
 -- What holds of every schema expression, of every item and of every text.
 use Rattle.std.specs.Prelude.{◌≡◌, ℕ, List, [], ◌∷◌, ◌++◌, map, length, slice_get, Option, Some, None}
+use Rattle.zf_schema.specs.Prelude.{BoxTree, free, given, ParagraphTree, SchemaTree, abbreviation, chain, Comp, constructor, DeclaredSet, Defined, Definition, Fault, free_type, given_set, link, no_links, Offence, reference, Schema, schema, sets_of, sides, Ty, Agree, all_unchanged, AreOnce, comp, comp_named, conjoined, decorated, delta, disjoined, EachOnce, MarkAgrees, new_place, prime, sets_on, with_comps, xi}
 use Rattle.std.specs.List.{AllByRecursion}
 use Rattle.zf_tree.specs.declared.symbol.Relation.TheVariants.{Equal}
 use Rattle.zf_tree.specs.declared.tree.RefMark.TheVariants.{Xi}
-use Rattle.zf_tree.specs.{BoxTree, free, given, ParagraphTree, SchemaTree}
 use Rattle.zf_reference.specs.declared.reference.Reference.TheVariants.{Component}
-use Rattle.zf_term.specs.{abbreviation, chain, Comp, constructor, DeclaredSet, Defined, Definition, Fault, free_type, given_set, link, no_links, Offence, reference, Schema, schema, sets_of, sides, Ty}
 use Rattle.std.specs.Option.{option_or}
-use Rattle.zf_calculus.specs.{Agree, all_unchanged, AreOnce, comp, comp_named, conjoined, decorated, delta, disjoined, EachOnce, MarkAgrees, new_place, prime, sets_on, with_comps, xi}
 use Rattle.zf_schema.specs.Checking.{Item, Defines, OffendsItem, IsChecked}
 use Rattle.zf_schema.specs.Expressions.{IsSchema}
 use Rattle.zf_schema.specs.SchemaOffences.{OffendsSchema}

@@ -1,13 +1,7 @@
 -- What is wrong with a schema expression or a box that is not well typed. It has no order: clashes and limits alone hang on what stands before them.
 use Rattle.std.specs.Prelude.{◌≡◌, ◌⊎◌, ℕ, List, [], ◌∷◌, ◌++◌, None, Some}
-use Rattle.zf_tree.specs.declared.tree.Name.{Name}
-use Rattle.zf_tree.specs.declared.tree.SchemaRef.{SchemaRef}
-use Rattle.zf_tree.specs.{both, DeclTree, either, include, schema_bracket, schema_reference, schema_text, SchemaTree, spelling, Tree, vars}
-use Rattle.zf_term.specs.{conjuncts, DeclaredSet, Defined, Definition, first_named, IsTooLarge, not_a_schema, not_declared, Offence, plain, ResolvedTree, Schema, schema, term_line, Ty}
+use Rattle.zf_schema.specs.Prelude.{Name, SchemaRef, both, DeclTree, either, include, schema_bracket, schema_reference, schema_text, SchemaTree, spelling, Tree, vars, conjuncts, DeclaredSet, Defined, Definition, first_named, IsTooLarge, not_a_schema, not_declared, Offence, plain, ResolvedTree, Schema, schema, term_line, Ty, IsOf, Offends, resolved, predicate, set_sort, Adds, Agree, Agrees, Clashes, comp, conjoined, decorated, disjoined, empty_schema, IsNext, MarkAgrees, MarkClashes, marked, OneClashes, schema_with, Stops, with_comp}
 use Rattle.zf_tree.specs.declared.operator.Need.TheVariants as need
-use Rattle.zf_typing.specs.{IsOf, Offends, resolved}
-use Rattle.zf_sorts.specs.{predicate, set_sort}
-use Rattle.zf_calculus.specs.{Adds, Agree, Agrees, Clashes, comp, conjoined, decorated, disjoined, empty_schema, IsNext, MarkAgrees, MarkClashes, marked, OneClashes, schema_with, Stops, with_comp}
 use Rattle.zf_schema.specs.Expressions.{outside, inside, Refers, DeclaresOne, Declares, ConstrainsOne, IsSchema}
 
 -- it holds of one of them

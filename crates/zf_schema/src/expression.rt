@@ -1,10 +1,7 @@
 //! The schemas that schema expressions are.
 ghost use Rattle.std.specs.Prelude.{◌≡◌, IfErr, IfOk, map};
+ghost use Rattle.zf_schema.specs.Prelude.{decl_of, globals_of, schema_of, IfFault, Agree, conjoined, disjoined, IsGrowing, IsNext, OneClashes};
 ghost use Rattle.zf_tree.specs.TreeViews as tree;
-ghost use Rattle.zf_tree.specs.{decl_of};
-ghost use Rattle.zf_term.specs.{globals_of, schema_of};
-ghost use Rattle.zf_sorts.specs.{IfFault};
-ghost use Rattle.zf_calculus.specs.{Agree, conjoined, disjoined, IsGrowing, IsNext, OneClashes};
 ghost use Rattle.zf_schema.specs.{CantConjoin, IsSchema, OffendsSchema, StopsEither};
 ghost use Rattle.zf_schema.specs.SchemaOffences as spec;
 

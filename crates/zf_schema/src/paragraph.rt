@@ -1,12 +1,9 @@
 //! What a paragraph or box adds to the globals.
 ghost use Rattle.std.specs.Prelude.{◌≡◌, ◌<◌, ◌^◌, map, length, take, IfOk, IfErr, OnOk, OnErr};
-ghost use Rattle.zf_tree.specs.{decl_of, paragraph_of, schema_tree_of, spelling, tree_of};
+ghost use Rattle.zf_schema.specs.Prelude.{decl_of, paragraph_of, schema_tree_of, spelling, tree_of, definition_of, globals_of, next_number, Ty, IsOf, Offends, resolved, IfFault, typed};
 ghost use Rattle.zf_tree.specs.Trees as text;
 ghost use Rattle.zf_tree.specs.TreeViews as text_views;
 ghost use Rattle.zf_tree.specs.declared.operator.Need.TheVariants as need;
-ghost use Rattle.zf_term.specs.{definition_of, globals_of, next_number, Ty};
-ghost use Rattle.zf_typing.specs.{IsOf, Offends, resolved};
-ghost use Rattle.zf_sorts.specs.{IfFault, typed};
 ghost use Rattle.zf_schema.specs.{a_box, abbreviated, Constructs, Defines, DefinesParagraph, elements, Gives, IsNew, IsTaken, OffendsConstructors, OffendsGiven, OffendsItem, OffendsParagraph, outside, with_global};
 
 use crate::expression::schema_of_expression;

@@ -1,9 +1,7 @@
 //! References to schemas.
 ghost use Rattle.std.specs.Prelude.{◌≡◌, IfErr, IfOk, MatchOption, Some, None};
-ghost use Rattle.zf_term.specs.{definition_of, globals_of, schema, schema_of};
-ghost use Rattle.zf_sorts.specs.{IfFault, offence_of};
+ghost use Rattle.zf_schema.specs.Prelude.{definition_of, globals_of, schema, schema_of, IfFault, offence_of, IsGrowing};
 ghost use Rattle.zf_schema.specs.{IsNamed, IsNoSchema, LacksSchema, OffendsRef, Refers};
-ghost use Rattle.zf_calculus.specs.{IsGrowing};
 
 use crate::stop::refusal;
 use bumpalo::Bump;

@@ -1,12 +1,8 @@
 //! The schemas of boxes and of horizontal texts: declarations, and predicates over them.
 ghost use Rattle.std.specs.Prelude.{◌≡◌, ◌∷◌, [], IfErr, IfOk, OnOk, map};
-ghost use Rattle.zf_tree.specs.{decl_of, include, spelling, tree_of, vars};
-ghost use Rattle.zf_term.specs.{comp_of, globals_of, plain, resolved_of, schema_of, type_of};
+ghost use Rattle.zf_schema.specs.Prelude.{decl_of, include, spelling, tree_of, vars, comp_of, globals_of, plain, resolved_of, schema_of, type_of, IsOf, Offends, resolved, scope_of, IfFault, Adds, comp, constrained, IsGrowing, IsNext};
 ghost use Rattle.zf_tree.specs.declared.operator.Need.TheVariants as needs;
-ghost use Rattle.zf_typing.specs.{IsOf, Offends, resolved, scope_of};
-ghost use Rattle.zf_sorts.specs.{IfFault};
 ghost use Rattle.zf_sorts.specs.Rules as rules;
-ghost use Rattle.zf_calculus.specs.{Adds, comp, constrained, IsGrowing, IsNext};
 ghost use Rattle.zf_schema.specs.{AddsAll, CantAdd, CantConstrain, CantDeclare, CantTake, Constrains, ConstrainsOne, Declares, DeclaresOne, IsText, OffendsConjuncts, OffendsDecls, OffendsNames, OffendsPredicates, OffendsText, over, TakesAll};
 ghost use Rattle.zf_term.specs.Shapes as shape;
 

@@ -1,6 +1,6 @@
 -- The program's sorts as those of `Faults`, and what its rules make of operands.
-use Rattle.std.specs.Prelude.{Option, Some, None}
-use Rattle.zf_term.specs.{a_schema, predicate, Sort, type_of, typed}
+use Rattle.std.specs.Prelude.{Bool, false, true, Option, Some, None}
+use Rattle.zf_term.specs.{a_schema, Offence, power, predicate, Sort, Ty, type_of, typed, unfit}
 use Rattle.zf_tree.specs.declared.operator.Rule.{Rule}
 use Rattle.zf_tree.specs.declared.operator.Unary.{Unary}
 use Rattle.zf_sorts.specs.declared.sort.Sort as program
@@ -21,3 +21,8 @@ IsMade rule x y (Some z) = Takes rule x y (sort_of z)
 unfoldable pub IsMadeOfOne : Unary → Sort → Option program.Sort → Type 0
 IsMadeOfOne op x None = (z : Sort) → UnaryTakes op x z → ⊥
 IsMadeOfOne op x (Some z) = UnaryTakes op x (sort_of z)
+
+-- a type is needed, and another one found; or sets of such members. For private contracts alone
+abbrev pub unfitting : (sets : Bool) → (needed found : Ty) → Offence
+unfitting true n f = unfit (power n) (power f)
+unfitting false n f = unfit n f

@@ -1,5 +1,5 @@
 -- The rules of types: what the places of a symbol need, and how the types of its operands and of the whole belong together.
-use Rattle.std.specs.Prelude.{◌≡◌, Bool, false, true}
+use Rattle.std.specs.Prelude.{◌≡◌}
 use Rattle.zf_tree.specs.declared.symbol.Constant.{Constant}
 use Rattle.zf_tree.specs.declared.symbol.Constant.TheVariants.{True, False}
 use Rattle.zf_tree.specs.declared.symbol.Prefix.{Prefix}
@@ -85,8 +85,3 @@ Disagreement rule.DomainRestricting x y o = (t u v : Ty) × (x ≡ set_sort v) �
 Disagreement rule.RangeRestricting x y o = (t u v : Ty) × (x ≡ relation_sort t u) × (y ≡ set_sort v) × (o ≡ unfit (power u) (power v))
 Disagreement rule.Composing x y o = (t n f v : Ty) × (x ≡ relation_sort t n) × (y ≡ relation_sort f v) × (o ≡ unfit n f)
 Disagreement _ x y o = o ≡ mismatch x y
-
--- a type is needed, and another one found; or sets of such members. For private contracts alone
-abbrev pub unfitting : (sets : Bool) → (needed found : Ty) → Offence
-unfitting true n f = unfit (power n) (power f)
-unfitting false n f = unfit n f

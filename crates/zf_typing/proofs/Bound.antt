@@ -1,6 +1,5 @@
 -- Bound variables: names that are declared apart, and scopes with variables in them.
-use Rattle.zf_typing.proofs.Prelude.{if◌then◌else◌, ◌++◌, ◌∙◌, ◌∷◌, ◌≡◌, [], ap, Bool, Err, false, inl, inr, length, List, map, None, Ok, Option, refl, Some, sym, take, true, true≢false, ℕ, ⊎_elim, take-append_seam, length-map, map-append, take-map, bytes_eq-Decides, bytes_eq, spelling, Name, comp_of, globals_of, later, Offence, AreNew, AreRepeated, IsBound, IsRepeated, Repeats, last_named, Scope, Var, variable_of, with_variables, scope_of, AreApart, IsApart, Variable, option_or}
-use Rattle.std.specs.Prelude.{◌⊎◌, Result, OnErr, OnOk}
+use Rattle.zf_typing.proofs.Prelude.{if◌then◌else◌, ◌++◌, ◌∙◌, ◌∷◌, ◌≡◌, [], ap, Bool, Err, false, inl, inr, length, List, map, None, Ok, Option, refl, Some, sym, take, true, true≢false, ℕ, ⊎_elim, take-append_seam, length-map, map-append, take-map, bytes_eq-Decides, bytes_eq, spelling, Name, comp_of, globals_of, later, Offence, AreNew, AreRepeated, IsBound, IsRepeated, Repeats, last_named, Scope, Var, variable_of, with_variables, scope_of, AreApart, IsApart, Variable, option_or, ◌⊎◌, Result, OnErr, OnOk}
 use Rattle.zf_typing.specs.declared.scope.Scope as program
 
 -- ---- the variable of a name

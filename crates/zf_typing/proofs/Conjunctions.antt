@@ -1,7 +1,5 @@
 -- How predicates are split.
-use Rattle.zf_typing.proofs.Prelude.{Tree, conjuncts, is_and, is_conjunction, resolved, Scope}
-use Rattle.std.proofs.Common.{◌≡◌, ℕ, true, false, Result, Ok, Err, OnOk, List, ◌∷◌, [], ◌++◌, append_assoc, refl, sym, ap, ◌∙◌}
-use Rattle.zf_tree.specs.declared.operator.Operator.{Operator}
+use Rattle.zf_typing.proofs.Prelude.{Tree, conjuncts, is_and, is_conjunction, resolved, Scope, ◌≡◌, ℕ, true, false, Result, Ok, Err, OnOk, List, ◌∷◌, [], ◌++◌, append_assoc, refl, sym, ap, ◌∙◌, Operator}
 use Rattle.zf_tree.specs.Trees as text
 use Rattle.zf_term.specs.{binary, bracket, ResolvedTree}
 use Rattle.zf_term.specs.Shapes as shape

@@ -1,12 +1,10 @@
 -- From the answers about the parts of a term to the answer about the term.
-use Rattle.zf_typing.proofs.Prelude.{◌∙◌, ◌≡◌, ap, Err, inr, None, Ok, Option, refl, Some, subst, sym, true≢false, ℕ, IfErr, IfOk, IsErr, IsErrAnd, Result, need_of, binary, bracket, comprehension, chain, constant, empty_set, listed, named, numeral, quantified, Tree, tree_of, unary, Need, Rule, Unary, Domain, Finset, Power, Range, Size, Term, resolved_of, pair_type, power, Offence, IsJudged, Judges, Misplaced, Offends, IfFault, IsRefusal, IsStill, offence_of, resolved, a_schema, Meets, number_sort, predicate, set_sort, Sort, sort_of, Takes, UnaryTakes, IsMade, IsMadeOfOne, Scope, IsOf, Refusal, Fault, OutOfMemory, Judged}
-use Rattle.zf_tree.specs.declared.operator.Operator.{Operator}
+use Rattle.zf_typing.proofs.Prelude.{◌∙◌, ◌≡◌, ap, Err, inr, Ok, refl, subst, sym, true≢false, ℕ, IfErr, IfOk, IsErr, IsErrAnd, Result, need_of, binary, bracket, comprehension, chain, constant, empty_set, listed, named, numeral, quantified, Tree, tree_of, unary, Need, Unary, Domain, Finset, Power, Range, Size, Term, pair_type, power, Offence, IsJudged, Judges, Misplaced, Offends, IfFault, IsRefusal, IsStill, offence_of, a_schema, Meets, number_sort, predicate, set_sort, Sort, UnaryTakes, Scope, Refusal, Fault, OutOfMemory, Judged, Operator}
 use Rattle.zf_tree.specs.declared.operator.Sign.TheVariants as sign
 use Rattle.zf_tree.specs.declared.tree.Term.TheVariants as form
 use Rattle.zf_tree.proofs.TermSeen as seen
 use Rattle.zf_tree.specs.declared.operator.Need.TheVariants as need
 use Rattle.zf_tree.specs.declared.operator.Unary.TheVariants.{Sign, Inverse, Not}
-use Rattle.zf_sorts.specs.declared.sort.Sort as program
 
 -- ---- faults
 
@@ -25,9 +23,16 @@ pub still : (old new : Refusal) (P : Offence → ℕ → Type 0) → IsStill old
 still (Fault f) new P same h = told new (offence_of f.offence) f.line P same h
 still OutOfMemory new P same h = subst (λ r. IfFault r P) (sym same) tt
 
-pub fault_from : {T : Type 0} (x : Refusal) (P : Offence → ℕ → Type 0) (r : Result T Refusal) → IfFault x P → IsErr r → IsErrAnd r (λ y. y ≡ x) → IfErr r (λ y. IfFault y P)
-fault_from x P (Ok j) h p g = absurd (true≢false (sym p))
-fault_from x P (Err y) h p g = subst (λ z. IfFault z P) (sym g) h
+-- a fault is passed on as it is
+abbrev pub Passes : {T : Type 0} → Result T Refusal → Refusal → Type 0
+Passes r x = IsErr r × IsErrAnd r (λ y. y ≡ x)
+
+-- what follows of each kind and line of a fault follows of it when it is passed on
+pub fault_from :
+    {T : Type 0} (x : Refusal) (P Q : Offence → ℕ → Type 0) (r : Result T Refusal)
+    → ((k : Offence) (m : ℕ) → P k m → Q k m) → IfFault x P → Passes r x → IfErr r (λ y. IfFault y Q)
+fault_from x P Q (Ok j) step h p = absurd (true≢false (sym p.0))
+fault_from x P Q (Err y) step h p = subst (λ z. IfFault z Q) (sym p.1) (if_fault x P Q step h)
 
 -- ---- answers
 
@@ -51,26 +56,44 @@ judges_err s n e r h = (tt, h)
 pub still_judged : (s : Scope) (n : Need) (e : Tree) (old new : Refusal) → IsStill old new → Judges s n e (Err old) → Judges s n e (Err new)
 still_judged s n e old new same h = judges_err s n e new (still old new (λ k m. Offends s n e k m) same (fault_of s n e old h))
 
-pub from_fault : (s : Scope) (n : Need) (e : Tree) (x : Refusal) (r : Result Judged Refusal) → IfFault x (λ k m. Offends s n e k m) → IsErr r → IsErrAnd r (λ y. y ≡ x) → Judges s n e r
-from_fault s n e x (Ok j) h p g = absurd (true≢false (sym p))
-from_fault s n e x (Err y) h p g = subst (λ z. Judges s n e (Err z)) (sym g) (judges_err s n e x h)
+pub from_offence :
+    (s : Scope) (n : Need) (e : Tree) (x : Refusal) (P : Offence → ℕ → Type 0) (r : Result Judged Refusal)
+    → ((k : Offence) (m : ℕ) → P k m → Offends s n e k m) → IfFault x P → Passes r x → Judges s n e r
+from_offence s n e x P (Ok j) step h p = absurd (true≢false (sym p.0))
+from_offence s n e x P (Err y) step h p =
+    subst (λ z. Judges s n e (Err z)) (sym p.1) (judges_err s n e x (if_fault x P (λ k m. Offends s n e k m) step h))
 
 pub from_memory : (s : Scope) (n : Need) (e : Tree) (r : Result Judged Refusal) → IsErr r → IsErrAnd r (λ x. x ≡ OutOfMemory) → Judges s n e r
-from_memory s n e r p g = from_fault s n e OutOfMemory r tt p g
+from_memory s n e r p g = from_offence s n e OutOfMemory (λ k m. Offends s n e k m) r (λ k m o. o) tt (p, g)
 
 -- what a symbol between two terms is seen as
 pub of_binary : (t : Term) (l : ℕ) (op : Operator) (a b x y : Term) → t ≡ form.Binary l op a b → x ≡ a → y ≡ b → tree_of t ≡ binary l op (tree_of x) (tree_of y)
 of_binary t l op a b x y is left right =
     ap tree_of is ∙ seen.of-Binary l op a b ∙ ap (λ z. binary l op (tree_of z) (tree_of b)) (sym left) ∙ ap (λ z. binary l op (tree_of x) (tree_of z)) (sym right)
 
--- what offends of a part offends of the whole
-pub from_part : (s t : Scope) (n m : Need) (e f : Tree) (x : Refusal) (r : Result Judged Refusal)
-    → ((k : Offence) (l : ℕ) → Offends s n e k l → Offends t m f k l) → Judges s n e (Err x) → IsErr r → IsErrAnd r (λ y. y ≡ x) → Judges t m f r
-from_part s t n m e f x r step h p g = from_fault t m f x r (if_fault x (λ k l. Offends s n e k l) (λ k l. Offends t m f k l) step (fault_of s n e x h)) p g
-
 -- the same scope and need, and a term that stands in a box
 pub judged_as : (s t : Scope) (n m : Need) (e f : Term) (r : Result Judged Refusal) → t ≡ s → m ≡ n → f ≡ e → Judges t m (tree_of f) r → Judges s n (tree_of e) r
 judged_as s t n m e f r scope need is h = subst (λ z. Judges z n (tree_of e) r) scope (subst (λ o. Judges t o (tree_of e) r) need (subst (λ x. Judges t m (tree_of x) r) is h))
+
+pub judged_in : (s : Scope) {t : Scope} (n : Need) {m : Need} (e : Term) {f : Term} (j : Judged) → t ≡ s → m ≡ n → f ≡ e
+    → Judges t m (tree_of f) (Ok j) → IsJudged s n (tree_of e) j
+judged_in s n e j scope need is h = judged_of s n (tree_of e) j (judged_as s _ n _ e _ (Ok j) scope need is h)
+
+-- what offends of a part offends of the whole
+pub from_part :
+    (s : Scope) {t : Scope} (n : Need) {m : Need} (e : Term) {f : Term} (d : Need) (whole : Tree) (x : Refusal) (r : Result Judged Refusal)
+    → t ≡ s → m ≡ n → f ≡ e → Judges t m (tree_of f) (Err x)
+    → ((k : Offence) (l : ℕ) → Offends s n (tree_of e) k l → Offends s d whole k l) → Passes r x → Judges s d whole r
+from_part s n e d whole x r scope need is h step p =
+    from_offence s d whole x (λ k l. Offends s n (tree_of e) k l) r step (fault_of s n (tree_of e) x (judged_as s _ n _ e _ (Err x) scope need is h)) p
+
+-- or is what is reported of several
+pub part_wrong :
+    {T : Type 0} (s : Scope) {t : Scope} (n : Need) {m : Need} (e : Term) {f : Term} (P : Offence → ℕ → Type 0) (x : Refusal) (r : Result T Refusal)
+    → t ≡ s → m ≡ n → f ≡ e → Judges t m (tree_of f) (Err x)
+    → ((k : Offence) (l : ℕ) → Offends s n (tree_of e) k l → P k l) → Passes r x → IfErr r (λ y. IfFault y P)
+part_wrong s n e P x r scope need is h step p =
+    fault_from x (λ k l. Offends s n (tree_of e) k l) P r step (fault_of s n (tree_of e) x (judged_as s _ n _ e _ (Err x) scope need is h)) p
 
 pub misplaced : (s : Scope) (n : Need) (e : Tree) (k : Offence) (m : ℕ) → Misplaced s n e k m → Offends s n e k m
 misplaced s n (named x) k m h = inr h
@@ -106,43 +129,9 @@ unary_taken (Sign (sign.Symbol Range)) x h = (set_sort h.1, (h.0, h.1, h.2, refl
 unary_taken Inverse x h = (set_sort (pair_type h.1 h.0), (h.0, h.1, h.2, refl))
 unary_taken Not x h = (predicate, (h, refl))
 
--- what one operand makes, or that it makes nothing
-pub takes_one : (op : Unary) (x : Sort) (o : Option program.Sort) (z : program.Sort) → o ≡ Some z → IsMadeOfOne op x o → UnaryTakes op x (sort_of z)
-unfolding IsMadeOfOne
-takes_one op x o z e h = subst (λ p. IsMadeOfOne op x p) e h
-
-pub takes_not_one : (op : Unary) (x : Sort) (o : Option program.Sort) → o ≡ None → IsMadeOfOne op x o → (z : Sort) → UnaryTakes op x z → ⊥
-unfolding IsMadeOfOne
-takes_not_one op x o e h = subst (λ p. IsMadeOfOne op x p) e h
-
--- ---- two operands
-
--- what they make, or that they make nothing
-pub takes_both : (r : Rule) (x y : Sort) (o : Option program.Sort) (z : program.Sort) → o ≡ Some z → IsMade r x y o → Takes r x y (sort_of z)
-unfolding IsMade
-takes_both r x y o z e h = subst (λ p. IsMade r x y p) e h
-
-pub takes_not : (r : Rule) (x y : Sort) (o : Option program.Sort) → o ≡ None → IsMade r x y o → (z : Sort) → Takes r x y z → ⊥
-unfolding IsMade
-takes_not r x y o e h = subst (λ p. IsMade r x y p) e h
-
 -- ---- the clauses of the public call
 
-pub judges_sort : (s : Scope) (n : Need) (e : Tree) (r : Result Judged Refusal) → Judges s n e r → IfOk r (λ j. IsOf s e (sort_of j.sort))
+pub opened : (s : Scope) (n : Need) (e : Tree) (r : Result Judged Refusal) → Judges s n e r
+    → IfOk r (IsJudged s n e) × IfErr r (λ x. IfFault x (λ k m. Offends s n e k m))
 unfolding Judges
-judges_sort s n e (Ok j) h = h.0.is_of
-judges_sort s n e (Err x) h = tt
-
-pub judges_met : (s : Scope) (n : Need) (e : Tree) (r : Result Judged Refusal) → Judges s n e r → IfOk r (λ j. Meets n (sort_of j.sort))
-unfolding Judges
-judges_met s n e (Ok j) h = h.0.met
-judges_met s n e (Err x) h = tt
-
-pub judges_term : (s : Scope) (n : Need) (e : Tree) (r : Result Judged Refusal) → Judges s n e r → IfOk r (λ j. resolved_of j.term ≡ resolved s e)
-unfolding Judges
-judges_term s n e (Ok j) h = h.0.term
-judges_term s n e (Err x) h = tt
-
-pub judges_wrong : (s : Scope) (n : Need) (e : Tree) (r : Result Judged Refusal) → Judges s n e r → IfErr r (λ x. IfFault x (λ k m. Offends s n e k m))
-unfolding Judges
-judges_wrong s n e r h = h.1
+opened s n e r h = h

@@ -1,5 +1,5 @@
 -- What stands within declarations, from what its parts are.
-use Rattle.zf_typing.proofs.Prelude.{◌∙◌, ◌≡◌, ap, Err, length, List, map, None, Ok, Option, refl, Some, subst, sym, true≢false, ℕ, IfOk, IsErr, IsErrAnd, Result, absent, comprehension, Perhaps, present, quantified, Tree, VarDecls, Need, type_of, ZType, IsPart, Judges, JudgesPart, PartOffends, IfFault, resolved, resolved_part, resolved_ranges, Scope, Var, with_variables, PartIsPredicate, Declare, IsOf, row_type, Refusal, Judged}
+use Rattle.zf_typing.proofs.Prelude.{◌∙◌, ◌≡◌, ap, Err, length, List, map, None, Ok, Option, refl, Some, subst, sym, true≢false, ℕ, IfOk, Result, absent, comprehension, Perhaps, present, quantified, Tree, VarDecls, Need, type_of, ZType, IsPart, Judges, JudgesPart, PartOffends, IfFault, resolved, resolved_part, resolved_ranges, Scope, Var, with_variables, PartIsPredicate, Declare, IsOf, row_type, Refusal, Judged}
 use Rattle.zf_tree.specs.declared.symbol.Quantifier.{Quantifier}
 use Rattle.zf_tree.specs.declared.operator.Need.TheVariants as need
 use Rattle.zf_term.specs.declared.resolved.Range.{Range}
@@ -8,7 +8,7 @@ use Rattle.zf_term.specs.declared.resolved.Resolved.TheVariants as v
 use Rattle.zf_term.specs.ResolvedTrees as kept
 use Rattle.zf_term.specs.ResolvedViews as kept_views
 use Rattle.zf_term.proofs.ResolvedSeen as seen
-use Rattle.zf_typing.proofs.Judging.{judged_of, fault_of}
+use Rattle.zf_typing.proofs.Judging.{judged_of, fault_of, Passes}
 use Rattle.zf_typing.proofs.ResolvedAlike.{part_within, resolved_within}
 
 -- ---- parts that may be left out
@@ -25,9 +25,10 @@ pub part_refused : (s : Scope) (n : Need) (e : Tree) (x : Refusal) → Judges s 
 unfolding JudgesPart
 part_refused s n e x h = (tt, fault_of s n e x h)
 
-pub part_from : (s : Scope) (n : Need) (e : Tree) (x : Refusal) (r : Result (Option Judged) Refusal) → Judges s n e (Err x) → IsErr r → IsErrAnd r (λ y. y ≡ x) → JudgesPart s n (present e) r
-part_from s n e x (Ok o) h p g = absurd (true≢false (sym p))
-part_from s n e x (Err y) h p g = subst (λ z. JudgesPart s n (present e) (Err z)) (sym g) (part_refused s n e x h)
+pub part_from : (s : Scope) (n : Need) (e : Tree) (x : Refusal) (r : Result (Option Judged) Refusal) → Judges s n e (Err x) → Passes r x
+    → JudgesPart s n (present e) r
+part_from s n e x (Ok o) h p = absurd (true≢false (sym p.0))
+part_from s n e x (Err y) h p = subst (λ z. JudgesPart s n (present e) (Err z)) (sym p.1) (part_refused s n e x h)
 
 pub part_of_judged : (s : Scope) (n : Need) (p : Perhaps) (o : Option Judged) → JudgesPart s n p (Ok o) → IsPart s n p o
 unfolding JudgesPart

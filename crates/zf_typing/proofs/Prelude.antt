@@ -6,7 +6,7 @@ pub use Rattle.std.proofs.lemmas.List.{at_drop_more, drop-map, drop_all, get_or-
 pub use Rattle.std.proofs.lemmas.Option.{none-some, same_Some}
 pub use Rattle.std.proofs.lemmas.Result.{IfOk-weaker}
 pub use Rattle.std.proofs.lemmas.Slice.Eq.{bytes_eq-Decides}
-pub use Rattle.std.specs.Prelude.{IfErr, IfOk, IsErr, IsErrAnd, Result, slice_get, slice_set}
+pub use Rattle.std.specs.Prelude.{IfErr, IfOk, IsErr, IsErrAnd, Result, slice_get, slice_set, OnErr}
 pub use Rattle.std.specs.Str.{bytes_eq}
 pub use Rattle.std.specs.Vec.Iter.{into_iter_items}
 pub use Rattle.zf_reference.specs.declared.reference.Reference.TheVariants.{Component, Global, Local}
@@ -38,3 +38,4 @@ pub use Rattle.zf_sorts.specs.declared.fault.Refusal.TheVariants.{Fault, OutOfMe
 pub use Rattle.zf_typing.specs.declared.index.Chained.{Chained}
 pub use Rattle.zf_typing.specs.declared.judge.Judged.{Judged}
 pub use Rattle.zf_typing.specs.declared.variable.Variable.{Variable}
+pub use Rattle.zf_tree.specs.declared.operator.Operator.{Operator}

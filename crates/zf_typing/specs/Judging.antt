@@ -1,19 +1,15 @@
 -- What the parts of the checker of terms answer, for private contracts alone.
 use Rattle.std.specs.Prelude.{Bool, false, ◌≡◌, ◌⊎◌, ℕ, List, [], ◌∷◌, Option, Some, None, Result, IfOk, IfErr}
-use Rattle.zf_tree.specs.declared.tree.Name.{Name}
+use Rattle.zf_typing.specs.Prelude.{Name, absent, binary, bracket, line_of, Perhaps, present, spelling, Tree, VarDecls, Need, is_and, local_twice, mismatch, no_members, no_types, Offence, resolved_of, Ty, type, Tys, IfFault, Meets, sort_of, typed}
 use Rattle.zf_tree.specs.declared.tree.Term.{Term}
 use Rattle.zf_tree.specs.declared.tree.Term.TheVariants as form
 use Rattle.zf_tree.specs.declared.tree.Link.{Link}
 use Rattle.zf_tree.specs.declared.tree.VarDecl.{VarDecl}
 use Rattle.zf_tree.specs.declared.operator.Operator.{Operator}
 use Rattle.zf_tree.specs.declared.symbol.Quantifier.{Quantifier}
-use Rattle.zf_tree.specs.{absent, binary, bracket, line_of, Perhaps, present, spelling, Tree, VarDecls}
-use Rattle.zf_tree.specs.declared.operator.Need.{Need}
-use Rattle.zf_term.specs.{is_and, local_twice, mismatch, no_members, no_types, Offence, resolved_of, Ty, type, Tys}
 use Rattle.zf_sorts.specs.declared.fault.Refusal.{Refusal}
 use Rattle.zf_typing.specs.declared.judge.Judged.{Judged}
 use Rattle.zf_typing.specs.Offences.{Offends, PartOffends, SetsOffend, Repeats, IsRepeated}
-use Rattle.zf_sorts.specs.{IfFault, Meets, sort_of, typed}
 use Rattle.zf_typing.specs.Resolving.{resolved}
 use Rattle.zf_typing.specs.Scopes.{Scope, Var}
 use Rattle.zf_typing.specs.Typing.{IsOf, IsApart, declared}

@@ -1,9 +1,6 @@
 -- What holds of every term.
 use Rattle.std.specs.Prelude.{◌≡◌, ℕ}
-use Rattle.zf_tree.specs.{Tree}
-use Rattle.zf_tree.specs.declared.operator.Need.{Need}
-use Rattle.zf_term.specs.{Offence}
-use Rattle.zf_sorts.specs.{Meets, Sort}
+use Rattle.zf_typing.specs.Prelude.{Tree, Need, Offence, Meets, Sort}
 use Rattle.zf_typing.specs.Scopes.{Scope}
 use Rattle.zf_typing.specs.Typing.{IsOf}
 use Rattle.zf_typing.specs.Offences.{Offends}

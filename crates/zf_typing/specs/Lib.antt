@@ -1,3 +1,4 @@
+pub mod Prelude
 pub mod Buckets
 pub mod Scopes
 pub mod ScopeViews

@@ -1,18 +1,11 @@
 -- What is wrong with a term that has no sort, or not one that its place takes. It is defined apart from the checker, and has no order.
 use Rattle.std.specs.Prelude.{◌≡◌, ◌⊎◌, ℕ, List, [], ◌∷◌, None}
-use Rattle.zf_tree.specs.declared.tree.Name.{Name}
-use Rattle.zf_tree.specs.{absent, binary, bracket, comprehension, chain, empty_set, left_need, line_of, link, Links, listed, named, need_of, no_decls, no_links, no_trees, Perhaps, present, quantified, relation_rule, right_need, rule_of, spelling, Tree, tree, unary, var_decl, VarDecls}
-use Rattle.zf_tree.specs.Trees.{Trees}
-use Rattle.zf_term.specs.{IsSmall, local_twice, mismatch, no_members, not_declared, Offence, power, too_large, Ty, Tys}
-use Rattle.zf_tree.specs.declared.operator.Need.{Need}
+use Rattle.zf_typing.specs.Prelude.{Name, absent, binary, bracket, comprehension, chain, empty_set, left_need, line_of, link, Links, listed, named, need_of, no_decls, no_links, no_trees, Perhaps, present, quantified, relation_rule, right_need, rule_of, spelling, Tree, tree, unary, var_decl, VarDecls, Trees, IsSmall, local_twice, mismatch, no_members, not_declared, Offence, power, too_large, Ty, Tys, Need, Listed, Display, Disagreement, IsSmallSort, Meets, Sort, Takes, typed, UnaryTakes}
 use Rattle.zf_tree.specs.declared.operator.Need.TheVariants as need
 use Rattle.zf_tree.specs.declared.operator.Rule.{Rule}
 use Rattle.zf_tree.specs.declared.operator.Unary.{Unary}
-use Rattle.zf_tree.specs.declared.operator.Listed.{Listed}
-use Rattle.zf_tree.specs.declared.operator.Listed.TheVariants.{Display}
 use Rattle.zf_term.specs.declared.fault.Limit.TheVariants.{TypeNodes}
 use Rattle.zf_term.specs.Faults as fault
-use Rattle.zf_sorts.specs.{Disagreement, IsSmallSort, Meets, Sort, Takes, typed, UnaryTakes}
 use Rattle.zf_typing.specs.Scopes.{Scope, Var, with_variables, meaning}
 use Rattle.zf_typing.specs.Typing.{IsOf, AreMembers, Makes, member_need, Binds, HasMemberType, declared}
 

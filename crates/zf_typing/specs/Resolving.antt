@@ -1,13 +1,9 @@
 -- Resolved terms: each name of a term is resolved where it stands, and all else stays as it is.
 use Rattle.std.specs.Prelude.{length, Option, Some, None}
+use Rattle.zf_typing.specs.Prelude.{Links, no_decls, no_trees, Perhaps, spelling, Tree, tree, var_decl, VarDecls, Trees, Reference, Global, Sort}
 use Rattle.zf_tree.specs.Trees as text
-use Rattle.zf_tree.specs.{Links, no_decls, no_trees, Perhaps, spelling, Tree, tree, var_decl, VarDecls}
-use Rattle.zf_tree.specs.Trees.{Trees}
-use Rattle.zf_reference.specs.declared.reference.Reference.{Reference}
-use Rattle.zf_reference.specs.declared.reference.Reference.TheVariants.{Global}
 use Rattle.zf_term.specs.{absent, binary, bracket, comprehension, chain, constant, empty_set, int, link, listed, no_links, no_ranges, no_terms, number, present, quantified, range, Ranges, reference, ResolvedLinks, ResolvedPart, ResolvedTree, term, unary}
 use Rattle.zf_term.specs.ResolvedTrees.{ResolvedTrees}
-use Rattle.zf_sorts.specs.{Sort}
 use Rattle.zf_typing.specs.Scopes.{Scope, with_variables, meaning}
 use Rattle.zf_typing.specs.Typing.{variables, declared}
 

@@ -1,11 +1,9 @@
 -- How the program's scopes and what it finds in them are seen.
 use Rattle.std.specs.Prelude.{Option, Some, None, map}
-use Rattle.zf_reference.specs.declared.reference.Reference.{Reference}
-use Rattle.zf_term.specs.{comp_of, globals_of, type_of}
+use Rattle.zf_typing.specs.Prelude.{Reference, comp_of, globals_of, type_of, Sort, sort_of}
 use Rattle.zf_typing.specs.declared.scope.Scope as program_scope
 use Rattle.zf_typing.specs.declared.variable.Variable.{Variable}
 use Rattle.zf_sorts.specs.declared.sort.Sort as program
-use Rattle.zf_sorts.specs.{Sort, sort_of}
 use Rattle.zf_typing.specs.Scopes.{Var, Scope}
 
 abbrev pub variable_of : Variable → Var

@@ -1,11 +1,8 @@
 -- What a name stands for: the innermost bound variable of that name, else the component, else the global.
 use Rattle.std.specs.Prelude.{ℕ, if◌then◌else◌, List, [], ◌∷◌, ◌++◌, Option, Some, None}
+use Rattle.zf_typing.specs.Prelude.{abbreviation, basic, Comp, constructor, Defined, Definition, first_named, free_type, given_set, later, schema, Ty, Reference, Component, Local, Global, a_schema, set_sort, Sort, typed}
 use Rattle.std.specs.Str.{bytes_eq}
 use Rattle.std.specs.Option.{option_map, option_or}
-use Rattle.zf_term.specs.{abbreviation, basic, Comp, constructor, Defined, Definition, first_named, free_type, given_set, later, schema, Ty}
-use Rattle.zf_reference.specs.declared.reference.Reference.{Reference}
-use Rattle.zf_reference.specs.declared.reference.Reference.TheVariants.{Component, Local, Global}
-use Rattle.zf_sorts.specs.{a_schema, set_sort, Sort, typed}
 
 pub record Var : Type 0 where
   pub name : List ℕ

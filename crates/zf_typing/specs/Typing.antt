@@ -1,17 +1,10 @@
 -- The typing rules: a relation between what is in scope, a term, and a type, or that it is a predicate or a schema's name.
 use Rattle.std.specs.Prelude.{◌≡◌, List, [], ◌∷◌, ◌++◌, Some, map}
+use Rattle.zf_typing.specs.Prelude.{Name, Trees, IsSmall, no_types, power, Ty, type, types, Tys, Listed, Tuple, Display, Product, Need, Reference, a_schema, constant_sort, IsSmallSort, number_sort, predicate, set_sort, Sort, Takes, typed, UnaryTakes}
 use Rattle.std.specs.List.{AllByRecursion}
-use Rattle.zf_tree.specs.declared.tree.Name.{Name}
 use Rattle.zf_tree.specs.{absent, binary, bracket, comprehension, chain, constant, empty_set, link, Links, listed, named, no_decls, no_links, no_trees, numeral, Perhaps, present, quantified, relation_rule, rule_of, spelling, Tree, tree, unary, var_decl, VarDecls}
-use Rattle.zf_tree.specs.Trees.{Trees}
-use Rattle.zf_term.specs.{IsSmall, no_types, power, Ty, type, types, Tys}
-use Rattle.zf_tree.specs.declared.operator.Listed.{Listed}
-use Rattle.zf_tree.specs.declared.operator.Listed.TheVariants.{Tuple, Display, Product}
-use Rattle.zf_tree.specs.declared.operator.Need.{Need}
 use Rattle.zf_tree.specs.declared.operator.Need.TheVariants as need
-use Rattle.zf_reference.specs.declared.reference.Reference.{Reference}
 use Rattle.zf_term.specs.Types as t
-use Rattle.zf_sorts.specs.{a_schema, constant_sort, IsSmallSort, number_sort, predicate, set_sort, Sort, Takes, typed, UnaryTakes}
 use Rattle.zf_typing.specs.Scopes.{Scope, Var, with_variables, meaning}
 
 -- the variables of names that are declared to be in a set

@@ -1,12 +1,10 @@
 //! Bound variables: how declarations bring them into scope, and how they leave it.
 ghost use Rattle.std.specs.Prelude.{◌≡◌, ℕ, IfOk, IfErr, OnOk, OnErr, List, ◌++◌, length, map};
+ghost use Rattle.zf_typing.specs.Prelude.{Ty, type_of, IfFault, Meets, set_sort, sort_of, spelling};
 ghost use Rattle.zf_tree.specs.declared.tree.Name as program;
-ghost use Rattle.zf_term.specs.{Ty, type_of};
 ghost use Rattle.zf_tree.specs.declared.operator.Need.TheVariants as needs;
 ghost use Rattle.zf_typing.specs.{AreNew, AreRepeated, scope_of, Var, var_type, variable_of, with_variables};
-ghost use Rattle.zf_sorts.specs.{IfFault, Meets, set_sort, sort_of};
 ghost use Rattle.zf_typing.specs.Scopes as spec;
-ghost use Rattle.zf_tree.specs.{spelling};
 ghost use Rattle.zf_typing.specs.Typing as typing;
 ghost use Rattle.zf_term.specs.Faults as faults;
 

@@ -1,11 +1,9 @@
 //! The conjuncts of a predicate of the text.
 ghost use Rattle.std.specs.Prelude.{◌≡◌, ◌++◌, [], ◌∷◌, IfErr, OnOk, map};
-ghost use Rattle.zf_tree.specs.{tree_of};
-ghost use Rattle.zf_term.specs.{resolved_of};
+ghost use Rattle.zf_typing.specs.Prelude.{tree_of, resolved_of, IfFault, predicate};
 ghost use Rattle.zf_term.specs.Shapes as spec;
 ghost use Rattle.zf_tree.specs.declared.operator.Need.TheVariants as needs;
 ghost use Rattle.zf_typing.specs.{is_conjunction, IsOf, Offends, resolved, scope_of};
-ghost use Rattle.zf_sorts.specs.{IfFault, predicate};
 
 use crate::judge::judge;
 use crate::scope::Scope;

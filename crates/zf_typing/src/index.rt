@@ -1,7 +1,7 @@
 //! Variables that are found by buckets of their names.
 ghost use Rattle.std.specs.Prelude.{◌≡◌, ◌-◌, ◌^◌, ◌∷◌, ◌++◌, ◌<◌, [], IfSome, OnOk, OnErr, get_or, length, map, take};
+ghost use Rattle.zf_typing.specs.Prelude.{found_as};
 ghost use Rattle.zf_typing.specs.{AreHeads, IsIndexed, last_named, variable_of};
-ghost use Rattle.zf_term.specs.{found_as};
 
 use crate::spelling::{BUCKETS, bucket_of};
 use crate::variable::Variable;

@@ -1,10 +1,8 @@
 //! What a term is by the typing rules, or an offence against them.
 ghost use Rattle.std.specs.Prelude.{◌≡◌, IfOk, IfErr};
-ghost use Rattle.zf_tree.specs.{named, numeral, spelling, Tree, tree_of};
+ghost use Rattle.zf_typing.specs.Prelude.{named, numeral, spelling, Tree, tree_of, not_declared, resolved_of, too_large, IfFault, IsRefusal, IsSmallSort, Meets, sort_of};
 ghost use Rattle.zf_tree.specs.Trees as tree;
-ghost use Rattle.zf_term.specs.{not_declared, resolved_of, too_large};
 ghost use Rattle.zf_typing.specs.{IsOf, Judges, Offends, resolved, scope_of};
-ghost use Rattle.zf_sorts.specs.{IfFault, IsRefusal, IsSmallSort, Meets, sort_of};
 ghost use Rattle.zf_typing.specs.Scopes as spec;
 
 mod binders;
@@ -130,6 +128,7 @@ fn judge_form<'a>(
     }
 }
 
+#[tactic(auto, using(crate::proofs::Judging::from_memory))]
 #[inline(never)]
 fn named<'a>(
     arena: &'a Bump,
@@ -172,6 +171,7 @@ fn number<'a>(arena: &'a Bump, place: Place, value: u64) -> Result<Judged<'a>, R
     )
 }
 
+#[tactic(auto, using(crate::proofs::Judging::from_memory))]
 #[inline(never)]
 fn constant_term<'a>(
     arena: &'a Bump,
@@ -185,6 +185,7 @@ fn constant_term<'a>(
 }
 
 #[cycle(judging)]
+#[tactic(auto, using(crate::proofs::Judging::from_memory))]
 #[inline(never)]
 fn empty_set<'a>(
     of: &Term<'a>,
@@ -201,6 +202,7 @@ fn empty_set<'a>(
 }
 
 #[cycle(judging)]
+#[tactic(auto, using(crate::proofs::Judging::from_memory))]
 #[inline(never)]
 fn bracket<'a>(
     inner: &Term<'a>,

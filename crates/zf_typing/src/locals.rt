@@ -1,7 +1,7 @@
 //! The bound variables of a scope, in the order in which they were bound.
 ghost use Rattle.std.specs.Prelude.{◌≡◌, ◌∷◌, ◌++◌, ◌<◌, [], OnOk, OnErr, get_or, length, map, take};
+ghost use Rattle.zf_typing.specs.Prelude.{found_as};
 ghost use Rattle.zf_typing.specs.{last_named, variable_of};
-ghost use Rattle.zf_term.specs.{found_as};
 
 use crate::index::{Chained, Indexed};
 use crate::variable::{Variable, last_of};

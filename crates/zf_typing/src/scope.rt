@@ -1,10 +1,8 @@
 //! What names stand for.
 ghost use Rattle.std.specs.Prelude.{◌≡◌, ◌↔◌, IsTrue, IfOk, map};
-ghost use Rattle.zf_term.specs.{definition_of};
+ghost use Rattle.zf_typing.specs.Prelude.{definition_of, sort_of, spelling};
 ghost use Rattle.zf_typing.specs.{IsBound, meant, scope_of, variable_of};
-ghost use Rattle.zf_sorts.specs.{sort_of};
 ghost use Rattle.zf_typing.specs.Scopes as spec;
-ghost use Rattle.zf_tree.specs.{spelling};
 
 use crate::locals::Locals;
 use bumpalo::Bump;

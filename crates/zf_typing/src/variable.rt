@@ -1,7 +1,7 @@
 //! Bound variables.
 ghost use Rattle.std.specs.Prelude.{◌≡◌, map};
+ghost use Rattle.zf_typing.specs.Prelude.{found_as};
 ghost use Rattle.zf_typing.specs.{last_named, variable_of};
-ghost use Rattle.zf_term.specs.{found_as};
 
 use zf_data::arena::Lent;
 use zf_term::{ZType, is_same};

@@ -1,14 +1,12 @@
 //! What binds variables: declarations, quantified predicates and comprehensions.
 ghost use Rattle.std.specs.Prelude.{◌≡◌, IfOk, IfErr, OnErr, OnOk, List, map};
+ghost use Rattle.zf_typing.specs.Prelude.{part_of, Tree, tree_of, var_decl_of, range_of, type_of, IfFault};
 ghost use Rattle.zf_tree.specs.Trees as tree;
 ghost use Rattle.zf_tree.specs.TreeViews as tree_views;
-ghost use Rattle.zf_tree.specs.{part_of, Tree, tree_of, var_decl_of};
 ghost use Rattle.zf_term.specs.ResolvedViews as kept;
-ghost use Rattle.zf_term.specs.{range_of, type_of};
 ghost use Rattle.zf_tree.specs.declared.operator.Need.TheVariants as needs;
 ghost use Rattle.zf_tree.specs.declared.operator.Need as need;
 ghost use Rattle.zf_typing.specs.{Binds, DeclarationsOffend, HasMemberType, IsComprehension, IsPart, IsQuantified, Judges, JudgesPart, resolved_part, resolved_ranges, row_type, scope_of, Var, variable_of, with_variables};
-ghost use Rattle.zf_sorts.specs.{IfFault};
 ghost use Rattle.zf_typing.specs.Scopes as spec;
 
 use super::{Judged, Place, judge_boxed, judge_term, made, placed};
@@ -149,6 +147,7 @@ fn judge_part<'a>(
 }
 
 /// A quantified predicate, of which the parts are judged within its variables.
+#[tactic(auto, using(crate::proofs::Judging::from_memory))]
 fn with_body<'a>(
     arena: &'a Bump,
     place: Place,
@@ -174,6 +173,7 @@ fn with_body<'a>(
 
 /// A comprehension, of which the parts are judged within its variables. Where it has no term it builds
 /// rows of the variables.
+#[tactic(auto, using(crate::proofs::Judging::from_memory))]
 fn built<'a>(
     arena: &'a Bump,
     place: Place,

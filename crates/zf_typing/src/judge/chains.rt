@@ -1,13 +1,11 @@
 //! Chains of relations.
 ghost use Rattle.std.specs.Prelude.{◌≡◌, IfOk, IfErr, OnOk, map};
+ghost use Rattle.zf_typing.specs.Prelude.{left_need, link_of, right_need, Tree, tree_of, resolved_link_of, Disagreement, IfFault, Meets, sort_of, Takes};
 ghost use Rattle.zf_term.specs.Faults as fault;
 ghost use Rattle.zf_tree.specs.Trees as tree;
 ghost use Rattle.zf_tree.specs.TreeViews as tree_views;
-ghost use Rattle.zf_tree.specs.{left_need, link_of, right_need, Tree, tree_of};
 ghost use Rattle.zf_term.specs.ResolvedViews as kept;
-ghost use Rattle.zf_term.specs.{resolved_link_of};
 ghost use Rattle.zf_typing.specs.{IsChain, IsOf, Judges, LinksAreTyped, LinksOffend, resolved_links, scope_of};
-ghost use Rattle.zf_sorts.specs.{Disagreement, IfFault, Meets, sort_of, Takes};
 ghost use Rattle.zf_sorts.specs.Rules as rules;
 
 use super::{Judged, Place, judge_boxed, judge_term, placed};
@@ -27,6 +25,7 @@ struct Operand<'a> {
 
 /// A chain of relations.
 #[cycle(judging)]
+#[tactic(auto, using(crate::proofs::Judging::from_memory))]
 #[inline(never)]
 pub(super) fn chain<'a>(
     term: &Term<'a>,

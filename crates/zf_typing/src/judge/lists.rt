@@ -1,12 +1,10 @@
 //! What several terms make: tuples, displays and products.
 ghost use Rattle.std.specs.Prelude.{◌≡◌, IfOk, IfErr, length, map};
+ghost use Rattle.zf_typing.specs.Prelude.{tree_of, trees, power, resolved_of, Ty, type_of, IfFault, Meets, sort_of};
 ghost use Rattle.zf_tree.specs.Trees as tree;
-ghost use Rattle.zf_tree.specs.{tree_of, trees};
 ghost use Rattle.zf_term.specs.ResolvedViews as kept;
-ghost use Rattle.zf_term.specs.{power, resolved_of, Ty, type_of};
 ghost use Rattle.zf_term.specs.Types as tys;
 ghost use Rattle.zf_typing.specs.{AreMembers, DiffersAt, Judges, Makes, member_sort, OneOffends, resolved_all, scope_of};
-ghost use Rattle.zf_sorts.specs.{IfFault, Meets, sort_of};
 ghost use Rattle.zf_typing.specs.Scopes as spec;
 ghost use Rattle.zf_typing.specs.Typing as typing;
 
@@ -101,6 +99,7 @@ fn element<'a>(ztype: &ZType<'a>) -> Result<ZType<'a>, AllocError>
 }
 
 /// The rule of what makes one term out of several.
+#[tactic(auto, using(crate::proofs::Judging::from_memory))]
 fn with_members<'a>(
     arena: &'a Bump,
     place: Place,

@@ -1,9 +1,8 @@
 //! Symbols that stand before a term or between two, and their rules.
 ghost use Rattle.std.specs.Prelude.{◌≡◌};
+ghost use Rattle.zf_typing.specs.Prelude.{left_need, line_of, need_of, right_need, rule_of, Tree, tree_of, Meets, sort_of};
 ghost use Rattle.zf_tree.specs.Trees as tree;
-ghost use Rattle.zf_tree.specs.{left_need, line_of, need_of, right_need, rule_of, Tree, tree_of};
 ghost use Rattle.zf_typing.specs.{IsBinary, IsJudged, Judges, scope_of};
-ghost use Rattle.zf_sorts.specs.{Meets, sort_of};
 ghost use Rattle.zf_typing.specs.Scopes as spec;
 
 use super::{Judged, Place, judge_term, made};
@@ -31,6 +30,7 @@ pub(super) fn unary<'a>(
 }
 
 /// The rule of a symbol that is applied to one term.
+#[tactic(auto, using(crate::proofs::Judging::from_memory))]
 fn with_operand<'a>(
     arena: &'a Bump,
     place: Place,
@@ -80,6 +80,7 @@ pub(super) fn binary<'a>(
 }
 
 /// The rule of a symbol that stands between two terms, of which the right one stands at the line.
+#[tactic(auto, using(crate::proofs::Judging::from_memory))]
 fn with_operands<'a>(
     arena: &'a Bump,
     place: Place,

@@ -1,5 +1,4 @@
-use Rattle.zf_calculus.proofs.Prelude.{arith, sum_by, comp_of, set_count}
-use Rattle.zf_shape.proofs.Nodes.{none_left}
+use Rattle.zf_calculus.proofs.Prelude.{arith, sum_by, comp_of, set_count, none_left}
 use Rattle.zf_calculus.proofs.Counting.{counted_at}
 use Rattle.zf_calculus.proofs.room.after_all_sets.Goals as goal
 

@@ -1,5 +1,4 @@
-use Rattle.zf_calculus.proofs.Prelude.{arith, conjunct_of, nodes}
-use Rattle.zf_shape.proofs.Nodes.{none_left}
+use Rattle.zf_calculus.proofs.Prelude.{arith, conjunct_of, nodes, none_left}
 use Rattle.zf_calculus.proofs.Counting.{counted_ahead}
 use Rattle.zf_calculus.proofs.room.after_conjuncts.Goals as goal
 

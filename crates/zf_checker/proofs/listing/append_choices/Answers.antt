@@ -1,5 +1,4 @@
-use Rattle.std.proofs.Common.{◌≡◌, ◌++◌, refl, ap, ◌∙◌, arith, codes}
-use Rattle.zf_term.proofs.PrintedTypes.{both}
+use Rattle.zf_checker.proofs.Prelude.{◌≡◌, ◌++◌, refl, ap, ◌∙◌, arith, codes, both}
 use Rattle.zf_checker.proofs.Lines.{first_choice, next_choice}
 use Rattle.zf_checker.proofs.listing.append_choices.Goals as goal
 use Rattle.zf_checker.proofs.listing.append_choices.Goals.{then-i-gt0+in_ok-extend_from_slice, else-i-gt0}

@@ -1,5 +1,4 @@
-use Rattle.zf_checker.proofs.Prelude.{comp_of, component_line}
-use Rattle.zf_term.proofs.PrintedTypes.{both}
+use Rattle.zf_checker.proofs.Prelude.{comp_of, component_line, both}
 use Rattle.zf_checker.proofs.Lines.{next_line}
 use Rattle.zf_checker.proofs.listing.append_components.Goals as goal
 

@@ -1,5 +1,4 @@
-use Rattle.zf_schema.proofs.Prelude.{at_step, if_fault, inl, rules, ℕ, spelling, globals_of, Offence, OffendsConstructors}
-use Rattle.zf_schema.specs.{IsTaken}
+use Rattle.zf_schema.proofs.Prelude.{at_step, if_fault, inl, rules, ℕ, spelling, globals_of, Offence, OffendsConstructors, IsTaken}
 use Rattle.zf_schema.proofs.paragraph.add_constructors.Goals as goal
 
 pub returns-in_err-add_name-clause-fault : goal.returns-in_err-add_name-clause-fault

@@ -1,5 +1,4 @@
-use Rattle.zf_schema.proofs.Prelude.{at_step, if_fault, inl, rules, ℕ, globals_of, Offence, OffendsGiven}
-use Rattle.zf_schema.specs.{IsTaken}
+use Rattle.zf_schema.proofs.Prelude.{at_step, if_fault, inl, rules, ℕ, globals_of, Offence, OffendsGiven, IsTaken}
 use Rattle.zf_schema.proofs.paragraph.add_given.Goals as goal
 
 pub returns-in_err-add_name-clause-fault : goal.returns-in_err-add_name-clause-fault

@@ -1,6 +1,4 @@
-use Rattle.zf_schema.proofs.Prelude.{◌∙◌, ◌≡◌, ap, None, subst, sym, told, true≢false, globals_of, first_named}
-use Rattle.zf_term.specs.{already_defined}
-use Rattle.zf_schema.specs.{IsNew, IsTaken}
+use Rattle.zf_schema.proofs.Prelude.{◌∙◌, ◌≡◌, ap, None, subst, sym, told, true≢false, globals_of, first_named, already_defined, IsNew, IsTaken}
 use Rattle.zf_schema.proofs.paragraph.new_name.Goals as goal
 
 pub returns-then-not-is_new-clause-fault : goal.returns-then-not-is_new-clause-fault

@@ -1,5 +1,4 @@
-use Rattle.zf_schema.proofs.Prelude.{ap, plain, comp_of, schema_of, resolved_of, type_of, Agrees, Clashes, Stops, CantAdd}
-use Rattle.zf_calculus.specs.{grown}
+use Rattle.zf_schema.proofs.Prelude.{ap, plain, comp_of, schema_of, resolved_of, type_of, Agrees, Clashes, Stops, CantAdd, grown}
 use Rattle.zf_schema.proofs.Stopping.{refused_by, cant_add}
 use Rattle.zf_schema.proofs.text.add.Goals as goal
 

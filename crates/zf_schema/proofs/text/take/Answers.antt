@@ -1,6 +1,4 @@
-use Rattle.zf_schema.proofs.Prelude.{◌∷◌, [], schema_of, resolved_of, IsTooLarge, CantTake}
-use Rattle.zf_term.specs.{conjunct_of}
-use Rattle.zf_calculus.specs.{constrained}
+use Rattle.zf_schema.proofs.Prelude.{◌∷◌, [], schema_of, resolved_of, IsTooLarge, CantTake, conjunct_of, constrained}
 use Rattle.zf_schema.proofs.Stopping.{refused_by, cant_take}
 use Rattle.zf_schema.proofs.text.take.Goals as goal
 

@@ -1,4 +1,4 @@
-use Rattle.zf_typing.proofs.Prelude.{◌++◌, ◌+◌, ◌∙◌, ◌∷◌, ◌≡◌, [], ap, append-nil, arith, drop, Err, inl, inr, length, List, map, None, Ok, refl, Some, subst, sym, ℕ, ⊎_elim, left_need, need_of, relation_rule, right_need, rule_of, part_of, tree_of, trees, Name, at_end, at_step, pushed, range_of, resolved_link_of, resolved_of, no_types, type_of, types, Disagreement, Offence, AreNew, AreRepeated, DeclarationsOffend, Judges, JudgesPart, LinksOffend, Offends, OneOffends, SetsOffend, IfFault, resolved, resolved_all, resolved_links, resolved_ranges, Meets, predicate, Sort, sort_of, Takes, variable_of, with_variables, scope_of, LinksAreTyped, AreMembers, Declare, declared, IsOf, member_need, variables}
+use Rattle.zf_typing.proofs.Prelude.{◌++◌, ◌+◌, ◌∙◌, ◌∷◌, ◌≡◌, [], ap, append-nil, arith, drop, Err, inl, inr, length, List, map, None, Ok, refl, Some, subst, sym, ℕ, ⊎_elim, left_need, need_of, relation_rule, right_need, rule_of, part_of, tree_of, trees, Name, at_end, at_step, pushed, range_of, resolved_link_of, resolved_of, no_types, type_of, types, Disagreement, Offence, AreNew, AreRepeated, DeclarationsOffend, Judges, JudgesPart, LinksOffend, OneOffends, SetsOffend, IfFault, resolved, resolved_all, resolved_links, resolved_ranges, Meets, predicate, Sort, sort_of, Takes, variable_of, with_variables, scope_of, LinksAreTyped, AreMembers, Declare, declared, IsOf, member_need, variables}
 use Rattle.std.proofs.lemmas.List.{length-map, append_assoc}
 use Rattle.zf_tree.specs.Trees as tree
 use Rattle.zf_tree.specs.TreeViews as tree_views
@@ -13,7 +13,7 @@ use Rattle.zf_typing.proofs.Members.{lengths}
 use Rattle.zf_typing.proofs.Bound.{all_apart, some_repeated}
 use Rattle.zf_typing.proofs.Parts.{no_part, part_judged, part_from, row_here}
 use Rattle.zf_typing.proofs.Chains.{compares}
-use Rattle.zf_typing.proofs.Judging.{judged_of, judged_as, of_binary, judges_ok, still_judged, if_fault, fault_of, fault_from, from_fault, from_memory, from_part, no_schema}
+use Rattle.zf_typing.proofs.Judging.{judged_of, judged_in, of_binary, judges_ok, still_judged, fault_from, from_offence, from_part, part_wrong, no_schema}
 use Rattle.zf_typing.proofs.judge.+judging.Goals as goal
 
 -- ---- a fault that passes out of a term
@@ -28,14 +28,9 @@ judge_term-returns-in-Err-clause-judged t c =
 pub empty_set-returns-in_err-term-clause-judged : goal.empty_set-returns-in_err-term-clause-judged
 empty_set-returns-in_err-term-clause-judged t c =
     let s = scope_of c.args.scope.now in
-    let e = tree_of c.args.of.now in
-    from_part s s need.Set c.args.place.need e (tree.empty_set c.args.place.line e) c.in_err-term.field-0.0 c.from_residual.result
-    (λ k m h. inl h) c.in_err-term.ensures.judged c.from_residual.ensures.0 c.from_residual.ensures.1
-
-pub empty_set-returns-in_err-new-clause-judged : goal.empty_set-returns-in_err-new-clause-judged
-empty_set-returns-in_err-new-clause-judged t c =
-    from_memory (scope_of c.args.scope.now) c.args.place.need (tree.empty_set c.args.place.line (tree_of c.args.of.now)) c.from_residual-in_err-new.result
-    c.from_residual-in_err-new.ensures.0 c.from_residual-in_err-new.ensures.1
+    let e = c.args.of.now in
+    from_part s need.Set e c.args.place.need (tree.empty_set c.args.place.line (tree_of e)) c.in_err-term.field-0.0 c.from_residual.result
+    refl refl refl c.in_err-term.ensures.judged (λ k m h. inl h) c.from_residual.ensures
 
 pub empty_set-returns-clause-judged : goal.empty_set-returns-clause-judged
 empty_set-returns-clause-judged t c =
@@ -48,16 +43,10 @@ empty_set-returns-clause-judged t c =
 
 pub bracket-returns-in_err-term-clause-judged : goal.bracket-returns-in_err-term-clause-judged
 bracket-returns-in_err-term-clause-judged t c =
-    let s = scope_of c.args.scope.now in
     let n = c.args.place.need in
-    let e = tree_of c.args.inner.now in
-    from_part s s n n e (tree.bracket c.args.place.line e) c.in_err-term.field-0.0 c.from_residual.result
-    (λ k m h. inl h) c.in_err-term.ensures.judged c.from_residual.ensures.0 c.from_residual.ensures.1
-
-pub bracket-returns-in_err-new-clause-judged : goal.bracket-returns-in_err-new-clause-judged
-bracket-returns-in_err-new-clause-judged t c =
-    from_memory (scope_of c.args.scope.now) c.args.place.need (tree.bracket c.args.place.line (tree_of c.args.inner.now)) c.from_residual-in_err-new.result
-    c.from_residual-in_err-new.ensures.0 c.from_residual-in_err-new.ensures.1
+    let e = c.args.inner.now in
+    from_part (scope_of c.args.scope.now) n e n (tree.bracket c.args.place.line (tree_of e)) c.in_err-term.field-0.0 c.from_residual.result
+    refl refl refl c.in_err-term.ensures.judged (λ k m h. inl h) c.from_residual.ensures
 
 pub bracket-returns-clause-judged : goal.bracket-returns-clause-judged
 bracket-returns-clause-judged t c =
@@ -76,101 +65,76 @@ bracket-returns-clause-judged t c =
 
 pub operands::unary-returns-in_err-operand-clause-judged : goal.operands::unary-returns-in_err-operand-clause-judged
 operands::unary-returns-in_err-operand-clause-judged t c =
-    let s = scope_of c.args.scope.now in
-    let e = tree_of c.args.operand.now in
-    let x = c.in_err-operand.field-0.0 in
-    from_part s s (need_of c.args.op) c.args.place.need e (tree.unary c.args.place.line c.args.op e) x c.from_residual.result (λ k m o. inl o)
-    (subst (λ n. Judges s n e (Err x)) c.need.ensures c.in_err-operand.ensures.judged) c.from_residual.ensures.0 c.from_residual.ensures.1
+    let e = c.args.operand.now in
+    from_part (scope_of c.args.scope.now) (need_of c.args.op) e c.args.place.need (tree.unary c.args.place.line c.args.op (tree_of e))
+    c.in_err-operand.field-0.0 c.from_residual.result refl c.need.ensures refl c.in_err-operand.ensures.judged (λ k m o. inl o) c.from_residual.ensures
 
 pub operands::unary-returns-clause-judged : goal.operands::unary-returns-clause-judged
 operands::unary-returns-clause-judged t c =
     let s = scope_of c.args.scope.now in
-    let e = tree_of c.args.operand.now in
-    let j = c.in_ok-operand.operand in
-    c.with_operand.ensures s e (judged_of s (need_of c.args.op) e j (subst (λ n. Judges s n e (Ok j)) c.need.ensures c.in_ok-operand.ensures.judged))
+    let e = c.args.operand.now in
+    c.with_operand.ensures s (tree_of e) (judged_in s (need_of c.args.op) e c.in_ok-operand.operand refl c.need.ensures refl c.in_ok-operand.ensures.judged)
 
 pub operands::unary-with_operand-requires : goal.operands::unary-with_operand-requires
 operands::unary-with_operand-requires t c =
-    let s = scope_of c.args.scope.now in
-    let e = tree_of c.args.operand.now in
-    let j = c.in_ok-operand.operand in
-    (judged_of s (need_of c.args.op) e j (subst (λ n. Judges s n e (Ok j)) c.need.ensures c.in_ok-operand.ensures.judged)).met
+    (judged_in (scope_of c.args.scope.now) (need_of c.args.op) c.args.operand.now c.in_ok-operand.operand refl c.need.ensures refl
+    c.in_ok-operand.ensures.judged).met
 
 pub operands::binary-returns-in_err-of_left-clause-judged : goal.operands::binary-returns-in_err-of_left-clause-judged
 operands::binary-returns-in_err-of_left-clause-judged t c =
     let s = scope_of c.args.scope.now in
     let l = c.in-Binary.line in
     let op = c.in-Binary.op in
-    let a = tree_of c.get-left.result.now in
-    let b = tree_of c.get-right.result.now in
-    let x = c.in_err-of_left.field-0.0 in
-    let need = c.left_need.ensures ∙ ap left_need c.rule-rule.ensures in
+    let left = c.get-left.result.now in
     subst (λ d. Judges s c.args.need d c.from_residual.result) (sym (of_binary _ l op _ _ _ _ c.in-Binary.is c.get-left.ensures c.get-right.ensures))
-    (from_part s s (left_need (rule_of op)) c.args.need a (tree.binary l op a b) x c.from_residual.result (λ k m o. inl o)
-    (subst (λ n. Judges s n a (Err x)) need c.in_err-of_left.ensures.judged) c.from_residual.ensures.0 c.from_residual.ensures.1)
+    (from_part s (left_need (rule_of op)) left c.args.need (tree.binary l op (tree_of left) (tree_of c.get-right.result.now)) c.in_err-of_left.field-0.0
+    c.from_residual.result refl (c.left_need.ensures ∙ ap left_need c.rule-rule.ensures) refl c.in_err-of_left.ensures.judged (λ k m o. inl o)
+    c.from_residual.ensures)
 
 pub operands::binary-returns-in_err-of_right-clause-judged : goal.operands::binary-returns-in_err-of_right-clause-judged
 operands::binary-returns-in_err-of_right-clause-judged t c =
     let s = scope_of c.args.scope.now in
     let l = c.in-Binary.line in
     let op = c.in-Binary.op in
-    let n = right_need (rule_of op) in
-    let a = tree_of c.get-left.result.now in
     let right = c.get-right.result.now in
-    let x = c.in_err-of_right.field-0.0 in
-    let need = c.right_need.ensures ∙ ap right_need c.rule-rule.ensures in
     let residual = c.from_residual-in_err-of_right in
     subst (λ d. Judges s c.args.need d residual.result) (sym (of_binary _ l op _ _ _ _ c.in-Binary.is c.get-left.ensures c.get-right.ensures))
-    (from_part s s n c.args.need (tree_of right) (tree.binary l op a (tree_of right)) x residual.result (λ k m o. inr (inl o))
-    (judged_as s _ n _ right _ (Err x) c.in_ok-of_left.ensures.scope need refl c.in_err-of_right.ensures.judged) residual.ensures.0 residual.ensures.1)
+    (from_part s (right_need (rule_of op)) right c.args.need (tree.binary l op (tree_of c.get-left.result.now) (tree_of right)) c.in_err-of_right.field-0.0
+    residual.result c.in_ok-of_left.ensures.scope (c.right_need.ensures ∙ ap right_need c.rule-rule.ensures) refl c.in_err-of_right.ensures.judged
+    (λ k m o. inr (inl o)) residual.ensures)
 
 pub operands::binary-with_operands-requires-clause-left : goal.operands::binary-with_operands-requires-clause-left
 operands::binary-with_operands-requires-clause-left t c =
-    let s = scope_of c.args.scope.now in
-    let a = tree_of c.get-left.result.now in
-    let i = c.in_ok-of_left.of_left in
-    let need = c.left_need.ensures ∙ ap left_need c.rule-rule.ensures in
-    (judged_of s (left_need (rule_of c.in-Binary.op)) a i (subst (λ n. Judges s n a (Ok i)) need c.in_ok-of_left.ensures.judged)).met
+    (judged_in (scope_of c.args.scope.now) (left_need (rule_of c.in-Binary.op)) c.get-left.result.now c.in_ok-of_left.of_left refl
+    (c.left_need.ensures ∙ ap left_need c.rule-rule.ensures) refl c.in_ok-of_left.ensures.judged).met
 
 pub operands::binary-with_operands-requires-clause-right : goal.operands::binary-with_operands-requires-clause-right
 operands::binary-with_operands-requires-clause-right t c =
-    let s = scope_of c.args.scope.now in
-    let n = right_need (rule_of c.in-Binary.op) in
-    let right = c.get-right.result.now in
-    let j = c.in_ok-of_right.of_right in
-    let need = c.right_need.ensures ∙ ap right_need c.rule-rule.ensures in
-    (judged_of s n (tree_of right) j (judged_as s _ n _ right _ (Ok j) c.in_ok-of_left.ensures.scope need refl c.in_ok-of_right.ensures.judged)).met
+    (judged_in (scope_of c.args.scope.now) (right_need (rule_of c.in-Binary.op)) c.get-right.result.now c.in_ok-of_right.of_right c.in_ok-of_left.ensures.scope
+    (c.right_need.ensures ∙ ap right_need c.rule-rule.ensures) refl c.in_ok-of_right.ensures.judged).met
 
 pub operands::binary-returns-clause-judged : goal.operands::binary-returns-clause-judged
 operands::binary-returns-clause-judged t c =
     let s = scope_of c.args.scope.now in
     let op = c.in-Binary.op in
-    let a = tree_of c.get-left.result.now in
+    let left = c.get-left.result.now in
     let right = c.get-right.result.now in
-    let i = c.in_ok-of_left.of_left in
-    let j = c.in_ok-of_right.of_right in
-    let left_is = c.left_need.ensures ∙ ap left_need c.rule-rule.ensures in
-    let right_is = c.right_need.ensures ∙ ap right_need c.rule-rule.ensures in
-    let m = left_need (rule_of op) in
-    let n = right_need (rule_of op) in
     subst (λ d. Judges s c.args.need d c.with_operands.result) (sym (of_binary _ c.in-Binary.line op _ _ _ _ c.in-Binary.is c.get-left.ensures c.get-right.ensures))
-    (c.with_operands.ensures s a (tree_of right)
-    (judged_of s m a i (subst (λ k. Judges s k a (Ok i)) left_is c.in_ok-of_left.ensures.judged))
-    (judged_of s n (tree_of right) j (judged_as s _ n _ right _ (Ok j) c.in_ok-of_left.ensures.scope right_is refl c.in_ok-of_right.ensures.judged))
-    c.line.ensures)
+    (c.with_operands.ensures s (tree_of left) (tree_of right)
+    (judged_in s (left_need (rule_of op)) left c.in_ok-of_left.of_left refl (c.left_need.ensures ∙ ap left_need c.rule-rule.ensures) refl
+    c.in_ok-of_left.ensures.judged)
+    (judged_in s (right_need (rule_of op)) right c.in_ok-of_right.of_right c.in_ok-of_left.ensures.scope
+    (c.right_need.ensures ∙ ap right_need c.rule-rule.ensures) refl c.in_ok-of_right.ensures.judged) c.line.ensures)
 
 -- ---- members
 
 pub lists::listed-returns-in_err-members-clause-judged : goal.lists::listed-returns-in_err-members-clause-judged
 lists::listed-returns-in_err-members-clause-judged t c =
     let s = scope_of c.args.scope.now in
-    let n = c.args.place.need in
     let es = trees (map tree_of c.args.terms.now) in
-    let x = c.in_err-members.field-0.0 in
-    let whole = tree.listed c.args.place.line c.args.form es in
-    from_fault s n whole x c.from_residual.result
-    (if_fault x (λ k m. OneOffends s (member_need c.args.form) es k m) (λ k m. Offends s n whole k m) (λ k m o. inl o) c.in_err-members.ensures.wrong)
-    c.from_residual.ensures.0 c.from_residual.ensures.1
+    from_offence s c.args.place.need (tree.listed c.args.place.line c.args.form es) c.in_err-members.field-0.0
+    (λ k m. OneOffends s (member_need c.args.form) es k m)
+    c.from_residual.result (λ k m o. inl o) c.in_err-members.ensures.wrong c.from_residual.ensures
 
 pub lists::listed-with_members-requires : goal.lists::listed-with_members-requires
 lists::listed-with_members-requires t c =
@@ -201,7 +165,7 @@ lists::judge_all-loop-member-preserved t c =
     let e = tree_of r in
     let j = c.in_ok-term.field-0 in
     let u = c.in_ok-member_type.field-0 in
-    let judged = judged_of s (member_need form) e j (judged_as s _ (member_need form) _ r _ (Ok j) c.loop-member.invariant.same c.member_need.ensures c.get.ensures c.in_ok-term.ensures.judged) in
+    let judged = judged_in s (member_need form) r j c.loop-member.invariant.same c.member_need.ensures c.get.ensures c.in_ok-term.ensures.judged in
     let is = subst (λ z. IsOf s e z) c.in_ok-member_type.ensures judged.is_of in
     record {
       same = c.in_ok-term.ensures.scope ∙ c.loop-member.invariant.same;
@@ -235,22 +199,17 @@ lists::judge_all-returns-in_err-term-clause-wrong t c =
     let n = member_need c.args.form in
     let all = c.args.terms.now in
     let r = c.member-item.result in
-    let e = tree_of r in
-    let x = c.in_err-term.field-0.0 in
-    let P : Offence → ℕ → Type 0 = λ k m. OneOffends s n (trees (map tree_of all)) k m in
-    let judged = judged_as s _ n _ r _ (Err x) c.loop-member.invariant.same c.member_need.ensures c.get.ensures c.in_err-term.ensures.judged in
-    let step : (k : Offence) (m : ℕ) → Offends s n e k m → P k m =
-    λ k m o. c.loop-member.invariant.offends k m (at_step (λ rs. OneOffends s n (trees (map tree_of rs)) k m) all c.loop-member.member-index r c.member-item.is (omega arith) (inl o)) in
-    fault_from x P c.from_residual-in_err-term.result (if_fault x (λ k m. Offends s n e k m) P step (fault_of s n e x judged))
-    c.from_residual-in_err-term.ensures.0 c.from_residual-in_err-term.ensures.1
+    let residual = c.from_residual-in_err-term in
+    part_wrong s n r (λ k m. OneOffends s n (trees (map tree_of all)) k m) c.in_err-term.field-0.0 residual.result
+    c.loop-member.invariant.same c.member_need.ensures c.get.ensures c.in_err-term.ensures.judged
+    (λ k m o. c.loop-member.invariant.offends k m
+    (at_step (λ rs. OneOffends s n (trees (map tree_of rs)) k m) all c.loop-member.member-index r c.member-item.is
+    (omega arith) (inl o))) residual.ensures
 
 pub lists::judge_all-member_type-requires : goal.lists::judge_all-member_type-requires
 lists::judge_all-member_type-requires t c =
-    let s = scope_of c.args.scope.now in
-    let n = member_need c.args.form in
-    let r = c.member-item.result in
-    let j = c.in_ok-term.field-0 in
-    (judged_of s n (tree_of r) j (judged_as s _ n _ r _ (Ok j) c.loop-member.invariant.same c.member_need.ensures c.get.ensures c.in_ok-term.ensures.judged)).met
+    (judged_in (scope_of c.args.scope.now) (member_need c.args.form) c.member-item.result c.in_ok-term.field-0 c.loop-member.invariant.same
+    c.member_need.ensures c.get.ensures c.in_ok-term.ensures.judged).met
 
 -- ---- links of a chain
 
@@ -273,8 +232,8 @@ chains::judge_links-loop-link-preserved t c =
     let j = c.in_ok-term.field-0 in
     let x = sort_of c.loop-link.left.sort in
     let y = sort_of j.sort in
-    let judged = judged_of s (right_need rule) e j (judged_as s _ (right_need rule) _ k.right _ (Ok j) c.loop-link.invariant.same
-    (c.right_need.ensures ∙ ap right_need c.relation_rule-rule.ensures) refl c.in_ok-term.ensures.judged) in
+    let judged = judged_in s (right_need rule) k.right j c.loop-link.invariant.same (c.right_need.ensures ∙ ap right_need c.relation_rule-rule.ensures) refl
+    c.in_ok-term.ensures.judged in
     let made = c.in_ok-relate.ensures.ok in
     let taken : Takes rule x y predicate = compares k.relation x y made.0 (subst (λ r. Takes r x y made.0) c.relation_rule-rule.ensures made.1) in
     record {
@@ -311,63 +270,53 @@ chains::judge_links-returns-in_err-term-clause-wrong t c = λ a h l.
     let s = scope_of c.args.scope.now in
     let all = c.args.links.now in
     let k = c.link-item.result in
-    let n = right_need (relation_rule k.relation) in
-    let e = tree_of k.right in
-    let x = c.in_err-term.field-0.0 in
-    let P : Offence → ℕ → Type 0 = λ f m. LinksOffend s a (tree_views.links (map tree_views.link_of all)) f m in
     let b = c.loop-link.invariant.offends a h l in
-    let judged = judged_as s _ n _ k.right _ (Err x) c.loop-link.invariant.same (c.right_need.ensures ∙ ap right_need c.relation_rule-rule.ensures) refl c.in_err-term.ensures.judged in
-    let step : (f : Offence) (m : ℕ) → Offends s n e f m → P f m =
-    λ f m o. b.3 f m (link_ahead (λ q. LinksOffend s b.0 q f m) all c.loop-link.link-index k c.link-item.is (omega arith) (inr (inl o))) in
-    fault_from x P c.from_residual-in_err-term.result (if_fault x (λ f m. Offends s n e f m) P step (fault_of s n e x judged))
-    c.from_residual-in_err-term.ensures.0 c.from_residual-in_err-term.ensures.1
+    let residual = c.from_residual-in_err-term in
+    part_wrong s (right_need (relation_rule k.relation)) k.right (λ f m. LinksOffend s a (tree_views.links (map tree_views.link_of all)) f m)
+    c.in_err-term.field-0.0 residual.result c.loop-link.invariant.same (c.right_need.ensures ∙ ap right_need c.relation_rule-rule.ensures) refl
+    c.in_err-term.ensures.judged
+    (λ f m o. b.3 f m (link_ahead (λ q. LinksOffend s b.0 q f m) all c.loop-link.link-index k c.link-item.is (omega arith) (inr (inl o)))) residual.ensures
 
 pub chains::judge_links-returns-in_err-check_left-clause-wrong : goal.chains::judge_links-returns-in_err-check_left-clause-wrong
 chains::judge_links-returns-in_err-check_left-clause-wrong t c = λ a h l.
     let s = scope_of c.args.scope.now in
     let all = c.args.links.now in
     let k = c.link-item.result in
-    let n = left_need (relation_rule k.relation) in
+    let n = c.left_need.result in
     let z = sort_of c.loop-link.left.sort in
-    let x = c.in_err-check_left.field-0.0 in
-    let P : Offence → ℕ → Type 0 = λ f m. LinksOffend s a (tree_views.links (map tree_views.link_of all)) f m in
     let b = c.loop-link.invariant.offends a h l in
-    let is : c.left_need.result ≡ n = c.left_need.ensures ∙ ap left_need c.relation_rule-rule.ensures in
-    let Q : Offence → ℕ → Type 0 = λ f m. (Meets c.left_need.result z → ⊥) × (f ≡ fault.misplaced c.left_need.result z) × (m ≡ c.loop-link.left.line) in
-    let step : (f : Offence) (m : ℕ) → Q f m → P f m =
-    λ f m o. b.3 f m (link_ahead (λ q. LinksOffend s b.0 q f m) all c.loop-link.link-index k c.link-item.is (omega arith)
-    (inl (z, b.1, (λ meets. o.0 (subst (λ q. Meets q z) (sym is) meets)), o.1 ∙ ap (λ q. fault.misplaced q z) is, o.2 ∙ b.2))) in
-    fault_from x P c.from_residual-in_err-check_left.result (if_fault x Q P step c.in_err-check_left.ensures.wrong) c.from_residual-in_err-check_left.ensures.0
-    c.from_residual-in_err-check_left.ensures.1
+    let is : n ≡ left_need (relation_rule k.relation) = c.left_need.ensures ∙ ap left_need c.relation_rule-rule.ensures in
+    let residual = c.from_residual-in_err-check_left in
+    fault_from c.in_err-check_left.field-0.0 (λ f m. (Meets n z → ⊥) × (f ≡ fault.misplaced n z) × (m ≡ c.loop-link.left.line))
+    (λ f m. LinksOffend s a (tree_views.links (map tree_views.link_of all)) f m) residual.result
+    (λ f m o. b.3 f m (link_ahead (λ q. LinksOffend s b.0 q f m) all c.loop-link.link-index k c.link-item.is (omega arith)
+    (inl (z, b.1, (λ meets. o.0 (subst (λ q. Meets q z) (sym is) meets)), o.1 ∙ ap (λ q. fault.misplaced q z) is, o.2 ∙ b.2))))
+    c.in_err-check_left.ensures.wrong residual.ensures
 
 pub chains::judge_links-relate-requires-clause-right : goal.chains::judge_links-relate-requires-clause-right
 chains::judge_links-relate-requires-clause-right t c =
-    let s = scope_of c.args.scope.now in
-    let k = c.link-item.result in
-    let j = c.in_ok-term.field-0 in
-    let n = right_need c.relation_rule-rule.result in
-    (judged_of s n (tree_of k.right) j (judged_as s _ n _ k.right _ (Ok j) c.loop-link.invariant.same c.right_need.ensures refl c.in_ok-term.ensures.judged)).met
+    (judged_in (scope_of c.args.scope.now) (right_need c.relation_rule-rule.result) c.link-item.result.right c.in_ok-term.field-0 c.loop-link.invariant.same
+    c.right_need.ensures refl c.in_ok-term.ensures.judged).met
 
 pub chains::judge_links-returns-in_err-relate-clause-wrong : goal.chains::judge_links-returns-in_err-relate-clause-wrong
 chains::judge_links-returns-in_err-relate-clause-wrong t c = λ a h l.
     let s = scope_of c.args.scope.now in
     let all = c.args.links.now in
     let k = c.link-item.result in
-    let rule = relation_rule k.relation in
-    let e = tree_of k.right in
+    let rule = c.relation_rule-rule.result in
+    let same = c.relation_rule-rule.ensures in
     let j = c.in_ok-term.field-0 in
     let y = sort_of c.loop-link.left.sort in
     let z = sort_of j.sort in
-    let x = c.in_err-relate.field-0.0 in
-    let P : Offence → ℕ → Type 0 = λ f m. LinksOffend s a (tree_views.links (map tree_views.link_of all)) f m in
     let b = c.loop-link.invariant.offends a h l in
-    let judged = judged_of s (right_need rule) e j (judged_as s _ (right_need rule) _ k.right _ (Ok j) c.loop-link.invariant.same
-    (c.right_need.ensures ∙ ap right_need c.relation_rule-rule.ensures) refl c.in_ok-term.ensures.judged) in
-    let meets : Meets (left_need rule) y = subst (λ n. Meets n y) (c.left_need.ensures ∙ ap left_need c.relation_rule-rule.ensures) c.in_ok-check_left.ensures.ok in
-    let line : c.line-line.result ≡ tree.line_of e = c.line-line.ensures ∙ ap (λ y. tree.line_of (tree_of y)) c.get.ensures in
-    let Q : Offence → ℕ → Type 0 = λ f m. ((q : Sort) → Takes c.relation_rule-rule.result y z q → ⊥) × Disagreement c.relation_rule-rule.result y z f × (m ≡ c.line-line.result) in
-    let step : (f : Offence) (m : ℕ) → Q f m → P f m =
-    λ f m o. b.3 f m (link_ahead (λ q. LinksOffend s b.0 q f m) all c.loop-link.link-index k c.link-item.is (omega arith)
+    let judged = judged_in s (right_need (relation_rule k.relation)) k.right j c.loop-link.invariant.same (c.right_need.ensures ∙ ap right_need same) refl
+    c.in_ok-term.ensures.judged in
+    let meets = subst (λ n. Meets n y) (c.left_need.ensures ∙ ap left_need same) c.in_ok-check_left.ensures.ok in
+    let line = c.line-line.ensures ∙ ap (λ r. tree.line_of (tree_of r)) c.get.ensures in
+    let residual = c.from_residual-in_err-relate in
+    fault_from c.in_err-relate.field-0.0 (λ f m. ((q : Sort) → Takes rule y z q → ⊥) × Disagreement rule y z f × (m ≡ c.line-line.result))
+    (λ f m. LinksOffend s a (tree_views.links (map tree_views.link_of all)) f m) residual.result
+    (λ f m o. b.3 f m (link_ahead (λ q. LinksOffend s b.0 q f m) all c.loop-link.link-index k c.link-item.is (omega arith)
     (inr (inr (inl (
       y,
       z,
@@ -375,52 +324,39 @@ chains::judge_links-returns-in_err-relate-clause-wrong t c = λ a h l.
       judged.is_of,
       meets,
       judged.met,
-      (λ q takes. o.0 q (subst (λ r. Takes r y z q) (sym c.relation_rule-rule.ensures) takes)),
-      subst (λ r. Disagreement r y z f) c.relation_rule-rule.ensures o.1,
+      (λ q takes. o.0 q (subst (λ r. Takes r y z q) (sym same) takes)),
+      subst (λ r. Disagreement r y z f) same o.1,
       o.2 ∙ line,
-    ))))) in
-    fault_from x P c.from_residual-in_err-relate.result (if_fault x Q P step c.in_err-relate.ensures.wrong) c.from_residual-in_err-relate.ensures.0 c.from_residual-in_err-relate.ensures.1
+    )))))) c.in_err-relate.ensures.wrong residual.ensures
 
 pub chains::chain-returns-in_err-term-clause-judged : goal.chains::chain-returns-in_err-term-clause-judged
 chains::chain-returns-in_err-term-clause-judged t c =
     let s = scope_of c.args.scope.now in
-    let e = tree_of c.get.result.now in
+    let l = c.in-Chain.line in
+    let first = c.get.result.now in
     let ks = tree_views.links (map tree_views.link_of c.in-Chain.links) in
-    let x = c.in_err-term.field-0.0 in
-    let is = ap tree_of c.in-Chain.is ∙ seen.of-Chain c.in-Chain.line c.in-Chain.first c.in-Chain.links ∙ ap (λ r. tree.chain c.in-Chain.line (tree_of r) ks) (sym c.get.ensures) in
+    let is = ap tree_of c.in-Chain.is ∙ seen.of-Chain l c.in-Chain.first c.in-Chain.links ∙ ap (λ r. tree.chain l (tree_of r) ks) (sym c.get.ensures) in
     subst (λ d. Judges s c.args.need d c.from_residual.result) (sym is)
-    (from_part s s need.Expression c.args.need e (tree.chain c.in-Chain.line e ks) x c.from_residual.result
-    (λ k m o. inl o) c.in_err-term.ensures.judged c.from_residual.ensures.0 c.from_residual.ensures.1)
+    (from_part s need.Expression first c.args.need (tree.chain l (tree_of first) ks) c.in_err-term.field-0.0 c.from_residual.result
+    refl refl refl c.in_err-term.ensures.judged (λ k m o. inl o) c.from_residual.ensures)
 
 pub chains::chain-returns-in_err-links-clause-judged : goal.chains::chain-returns-in_err-links-clause-judged
 chains::chain-returns-in_err-links-clause-judged t c =
     let s = scope_of c.args.scope.now in
-    let n = c.args.need in
     let l = c.in-Chain.line in
-    let e = tree_of c.in-Chain.first in
+    let first = c.in-Chain.first in
+    let e = tree_of first in
     let ks = tree_views.links (map tree_views.link_of c.in-Chain.links) in
-    let is = ap tree_of c.in-Chain.is ∙ seen.of-Chain l c.in-Chain.first c.in-Chain.links in
     let j = c.in_ok-term.field-0 in
-    let z = sort_of j.sort in
     let x = c.in_err-links.field-0.0 in
-    let judged = judged_of s need.Expression e j (subst (λ y. Judges s need.Expression y (Ok j)) (ap tree_of c.get.ensures) c.in_ok-term.ensures.judged) in
+    let residual = c.from_residual-in_err-links in
+    let judged = judged_in s need.Expression first j refl refl c.get.ensures c.in_ok-term.ensures.judged in
     let line = c.line.ensures ∙ ap (λ y. tree.line_of (tree_of y)) c.get-2.ensures in
-    let fault = c.in_err-links.ensures.wrong e (subst (λ y. IsOf y e z) (sym c.in_ok-term.ensures.scope) judged.is_of) line in
+    let fault = c.in_err-links.ensures.wrong e (subst (λ y. IsOf y e (sort_of j.sort)) (sym c.in_ok-term.ensures.scope) judged.is_of) line in
     let here = subst (λ y. IfFault x (λ k m. LinksOffend y e (tree_views.links (map tree_views.link_of c.as_slice.result.now)) k m)) c.in_ok-term.ensures.scope fault in
-    subst (λ d. Judges s n d c.from_residual-in_err-links.result) (sym is)
-    (from_fault s n (tree.chain l e ks) x c.from_residual-in_err-links.result
-    (if_fault x (λ k m. LinksOffend s e ks k m) (λ k m. Offends s n (tree.chain l e ks) k m) (λ k m o. inr (inl o))
-    (subst (λ ys. IfFault x (λ k m. LinksOffend s e (tree_views.links (map tree_views.link_of ys)) k m)) c.as_slice.ensures here))
-    c.from_residual-in_err-links.ensures.0 c.from_residual-in_err-links.ensures.1)
-
-pub chains::chain-returns-in_err-first-clause-judged : goal.chains::chain-returns-in_err-first-clause-judged
-chains::chain-returns-in_err-first-clause-judged t c =
-    from_memory (scope_of c.args.scope.now) c.args.need (tree_of c.args.term.now) c.from_residual-in_err-first.result c.from_residual-in_err-first.ensures.0 c.from_residual-in_err-first.ensures.1
-
-pub chains::chain-returns-in_err-further-clause-judged : goal.chains::chain-returns-in_err-further-clause-judged
-chains::chain-returns-in_err-further-clause-judged t c =
-    from_memory (scope_of c.args.scope.now) c.args.need (tree_of c.args.term.now) c.from_residual-in_err-further.result
-    c.from_residual-in_err-further.ensures.0 c.from_residual-in_err-further.ensures.1
+    subst (λ d. Judges s c.args.need d residual.result) (sym (ap tree_of c.in-Chain.is ∙ seen.of-Chain l first c.in-Chain.links))
+    (from_offence s c.args.need (tree.chain l e ks) x (λ k m. LinksOffend s e ks k m) residual.result (λ k m o. inr (inl o))
+    (subst (λ ys. IfFault x (λ k m. LinksOffend s e (tree_views.links (map tree_views.link_of ys)) k m)) c.as_slice.ensures here) residual.ensures)
 
 pub chains::chain-returns-clause-judged : goal.chains::chain-returns-clause-judged
 chains::chain-returns-clause-judged t c =
@@ -430,7 +366,7 @@ chains::chain-returns-clause-judged t c =
     let ks = tree_views.links (map tree_views.link_of c.in-Chain.links) in
     let is = ap tree_of c.in-Chain.is ∙ seen.of-Chain l c.in-Chain.first c.in-Chain.links in
     let j = c.in_ok-term.field-0 in
-    let judged = judged_of s need.Expression e j (subst (λ y. Judges s need.Expression y (Ok j)) (ap tree_of c.get.ensures) c.in_ok-term.ensures.judged) in
+    let judged = judged_in s need.Expression c.in-Chain.first j refl refl c.get.ensures c.in_ok-term.ensures.judged in
     let linked = subst (λ ys. LinksAreTyped s (sort_of j.sort) (tree_views.links (map tree_views.link_of ys))) c.as_slice.ensures
     (subst (λ y. LinksAreTyped y (sort_of j.sort) (tree_views.links (map tree_views.link_of c.as_slice.result.now))) c.in_ok-term.ensures.scope c.in_ok-links.ensures.ok) in
     let further : kept_views.links (map resolved_link_of c.in_ok-links.links) ≡ resolved_links s ks =
@@ -457,8 +393,7 @@ binders::judge_part-returns-in_err-judged-in-Some-clause-judged t c =
     let x = c.in_err-judged-in-Some.field-0.0 in
     subst (λ o. JudgesPart s c.args.need (part_of o) c.from_residual.result) (sym c.in-Some.is ∙ c.get.ensures)
     (part_from s c.args.need (tree_of c.in-Some.term) x c.from_residual.result
-    (subst (λ y. Judges s c.args.need y (Err x)) (ap tree_of c.get-in-Some.ensures) c.in_err-judged-in-Some.ensures.judged) c.from_residual.ensures.0
-    c.from_residual.ensures.1)
+    (subst (λ y. Judges s c.args.need y (Err x)) (ap tree_of c.get-in-Some.ensures) c.in_err-judged-in-Some.ensures.judged) c.from_residual.ensures)
 
 pub binders::judge_part-returns-in_ok-judged-in-Some-clause-judged : goal.binders::judge_part-returns-in_ok-judged-in-Some-clause-judged
 binders::judge_part-returns-in_ok-judged-in-Some-clause-judged t c =
@@ -476,9 +411,9 @@ binders::declare-returns-clause-ok t c =
 
 pub binders::declare-returns-in_err-variables-clause-wrong : goal.binders::declare-returns-in_err-variables-clause-wrong
 binders::declare-returns-in_err-variables-clause-wrong t c =
-    fault_from c.in_err-variables.field-0.0 (λ k m. DeclarationsOffend (scope_of c.args.scope.now)
-    (tree_views.var_decls (map tree_views.var_decl_of c.args.decls.now)) k m) c.from_residual.result c.in_err-variables.ensures.wrong
-    c.from_residual.ensures.0 c.from_residual.ensures.1
+    let P : Offence → ℕ → Type 0 = λ k m. DeclarationsOffend (scope_of c.args.scope.now)
+    (tree_views.var_decls (map tree_views.var_decl_of c.args.decls.now)) k m in
+    fault_from c.in_err-variables.field-0.0 P P c.from_residual.result (λ k m o. o) c.in_err-variables.ensures.wrong c.from_residual.ensures
 
 pub binders::judge_sets-loop-decl-init : goal.binders::judge_sets-loop-decl-init
 binders::judge_sets-loop-decl-init t c =
@@ -503,7 +438,7 @@ binders::judge_sets-loop-decl-preserved t c =
     let j = c.in_ok-term.field-0 in
     let old = map variable_of c.loop-decl.variables in
     let rest = tree_views.var_decls (map tree_views.var_decl_of (drop (i + 1) all)) in
-    let judged = judged_of s need.Set e j (judged_as s _ need.Set need.Set d.set _ (Ok j) c.loop-decl.invariant.same refl refl c.in_ok-term.ensures.judged) in
+    let judged = judged_in s need.Set d.set j c.loop-decl.invariant.same refl refl c.in_ok-term.ensures.judged in
     let added = c.in_ok-declare_names.ensures.ok in
     let u = added.0 in
     let here = variables d.names u in
@@ -557,58 +492,48 @@ binders::judge_sets-returns-in_err-term-clause-wrong t c =
     let s = scope_of c.args.scope.now in
     let all = c.args.decls.now in
     let d = c.decl-item.result in
-    let e = tree_of d.set in
-    let x = c.in_err-term.field-0.0 in
-    let P : Offence → ℕ → Type 0 = λ k m. DeclarationsOffend s (tree_views.var_decls (map tree_views.var_decl_of all)) k m in
-    let judged = judged_as s _ need.Set need.Set d.set _ (Err x) c.loop-decl.invariant.same refl refl c.in_err-term.ensures.judged in
-    let step : (k : Offence) (m : ℕ) → Offends s need.Set e k m → P k m =
-    λ k m o. inr (c.loop-decl.invariant.offends k m (decl_ahead (λ ds. SetsOffend s ds k m) all c.loop-decl.decl-index d c.decl-item.is (omega arith) (inl o))) in
-    fault_from x P c.from_residual-in_err-term.result (if_fault x (λ k m. Offends s need.Set e k m) P step (fault_of s need.Set e x judged))
-    c.from_residual-in_err-term.ensures.0 c.from_residual-in_err-term.ensures.1
+    let residual = c.from_residual-in_err-term in
+    part_wrong s need.Set d.set (λ k m. DeclarationsOffend s (tree_views.var_decls (map tree_views.var_decl_of all)) k m) c.in_err-term.field-0.0
+    residual.result c.loop-decl.invariant.same refl refl c.in_err-term.ensures.judged
+    (λ k m o. inr (c.loop-decl.invariant.offends k m
+    (decl_ahead (λ ds. SetsOffend s ds k m) all c.loop-decl.decl-index d c.decl-item.is (omega arith) (inl o))))
+    residual.ensures
 
 pub binders::judge_sets-returns-in_err-declare_names-clause-wrong : goal.binders::judge_sets-returns-in_err-declare_names-clause-wrong
 binders::judge_sets-returns-in_err-declare_names-clause-wrong t c =
     let s = scope_of c.args.scope.now in
     let all = c.args.decls.now in
     let i = c.loop-decl.decl-index in
-    let d = c.decl-item.result in
-    let x = c.in_err-declare_names.field-0.0 in
     let old = map variable_of c.loop-decl.variables in
+    let whole = tree_views.var_decls (map tree_views.var_decl_of all) in
     let rest = declared (tree_views.var_decls (map tree_views.var_decl_of (drop (i + 1) all))) in
-    let P : Offence → ℕ → Type 0 = λ k m. DeclarationsOffend s (tree_views.var_decls (map tree_views.var_decl_of all)) k m in
-    let Q : Offence → ℕ → Type 0 = λ k m. (ns : List Name) → AreRepeated old (c.as_slice.result.now ++ ns) k m in
-    let step : (k : Offence) (m : ℕ) → Q k m → P k m =
-    λ k m o. inl (some_repeated (declared (tree_views.var_decls (map tree_views.var_decl_of all))) k m
-    (c.loop-decl.invariant.repeated k m (decl_ahead (λ ds. AreRepeated old (declared ds) k m) all i d c.decl-item.is (omega arith)
-    (subst (λ ns. AreRepeated old (ns ++ rest) k m) c.as_slice.ensures (o rest))))) in
-    fault_from x P c.from_residual-in_err-declare_names.result (if_fault x Q P step c.in_err-declare_names.ensures.repeated)
-    c.from_residual-in_err-declare_names.ensures.0 c.from_residual-in_err-declare_names.ensures.1
+    let residual = c.from_residual-in_err-declare_names in
+    fault_from c.in_err-declare_names.field-0.0 (λ k m. (ns : List Name) → AreRepeated old (c.as_slice.result.now ++ ns) k m)
+    (λ k m. DeclarationsOffend s whole k m) residual.result
+    (λ k m o. inl (some_repeated (declared whole) k m
+    (c.loop-decl.invariant.repeated k m (decl_ahead (λ ds. AreRepeated old (declared ds) k m) all i c.decl-item.result c.decl-item.is (omega arith)
+    (subst (λ ns. AreRepeated old (ns ++ rest) k m) c.as_slice.ensures (o rest)))))) c.in_err-declare_names.ensures.repeated residual.ensures
 
 pub binders::judge_sets-declare_names-requires : goal.binders::judge_sets-declare_names-requires
 binders::judge_sets-declare_names-requires t c =
-    let s = scope_of c.args.scope.now in
-    let d = c.decl-item.result in
-    let j = c.in_ok-term.field-0 in
-    (judged_of s need.Set (tree_of d.set) j (judged_as s _ need.Set need.Set d.set _ (Ok j) c.loop-decl.invariant.same refl refl c.in_ok-term.ensures.judged)).met
+    (judged_in (scope_of c.args.scope.now) need.Set c.decl-item.result.set c.in_ok-term.field-0 c.loop-decl.invariant.same refl refl
+    c.in_ok-term.ensures.judged).met
 
 -- ---- what stands within declarations
 
 pub binders::quantified-returns-in_err-ranges-clause-judged : goal.binders::quantified-returns-in_err-ranges-clause-judged
 binders::quantified-returns-in_err-ranges-clause-judged t c =
     let s = scope_of c.args.scope.now in
-    let n = c.args.need in
     let l = c.in-Quantified.line in
     let q = c.in-Quantified.quantifier in
     let p = part_of c.in-Quantified.constraint in
     let e = tree_of c.in-Quantified.body in
     let ds = tree_views.var_decls (map tree_views.var_decl_of c.as_slice.result.now) in
-    let x = c.in_err-ranges.field-0.0 in
     let is = ap tree_of c.in-Quantified.is ∙ seen.of-Quantified l q c.in-Quantified.decls c.in-Quantified.constraint c.in-Quantified.body
     ∙ ap (λ xs. tree.quantified l q (tree_views.var_decls (map tree_views.var_decl_of xs)) p e) (sym c.as_slice.ensures) in
-    subst (λ d. Judges s n d c.from_residual.result) (sym is)
-    (from_fault s n (tree.quantified l q ds p e) x c.from_residual.result
-    (if_fault x (λ k m. DeclarationsOffend s ds k m) (λ k m. Offends s n (tree.quantified l q ds p e) k m) (λ k m o. ⊎_elim (λ a. inl a) (λ b. inr (inl b)) o) c.in_err-ranges.ensures.wrong)
-    c.from_residual.ensures.0 c.from_residual.ensures.1)
+    subst (λ d. Judges s c.args.need d c.from_residual.result) (sym is)
+    (from_offence s c.args.need (tree.quantified l q ds p e) c.in_err-ranges.field-0.0 (λ k m. DeclarationsOffend s ds k m) c.from_residual.result
+    (λ k m o. ⊎_elim (λ a. inl a) (λ b. inr (inl b)) o) c.in_err-ranges.ensures.wrong c.from_residual.ensures)
 
 pub binders::quantified-returns-clause-judged : goal.binders::quantified-returns-clause-judged
 binders::quantified-returns-clause-judged t c =
@@ -635,18 +560,15 @@ binders::quantified-returns-clause-scope t c =
 pub binders::comprehension-returns-in_err-ranges-clause-judged : goal.binders::comprehension-returns-in_err-ranges-clause-judged
 binders::comprehension-returns-in_err-ranges-clause-judged t c =
     let s = scope_of c.args.scope.now in
-    let n = c.args.need in
     let l = c.in-Comprehension.line in
     let p = part_of c.in-Comprehension.filter in
     let e = part_of c.in-Comprehension.member in
     let ds = tree_views.var_decls (map tree_views.var_decl_of c.as_slice.result.now) in
-    let x = c.in_err-ranges.field-0.0 in
     let is = ap tree_of c.in-Comprehension.is ∙ seen.of-Comprehension l c.in-Comprehension.decls c.in-Comprehension.filter c.in-Comprehension.member
     ∙ ap (λ xs. tree.comprehension l (tree_views.var_decls (map tree_views.var_decl_of xs)) p e) (sym c.as_slice.ensures) in
-    subst (λ d. Judges s n d c.from_residual.result) (sym is)
-    (from_fault s n (tree.comprehension l ds p e) x c.from_residual.result
-    (if_fault x (λ k m. DeclarationsOffend s ds k m) (λ k m. Offends s n (tree.comprehension l ds p e) k m) (λ k m o. ⊎_elim (λ a. inl a) (λ b. inr (inl b)) o) c.in_err-ranges.ensures.wrong)
-    c.from_residual.ensures.0 c.from_residual.ensures.1)
+    subst (λ d. Judges s c.args.need d c.from_residual.result) (sym is)
+    (from_offence s c.args.need (tree.comprehension l ds p e) c.in_err-ranges.field-0.0 (λ k m. DeclarationsOffend s ds k m) c.from_residual.result
+    (λ k m o. ⊎_elim (λ a. inl a) (λ b. inr (inl b)) o) c.in_err-ranges.ensures.wrong c.from_residual.ensures)
 
 pub binders::comprehension-returns-clause-judged : goal.binders::comprehension-returns-clause-judged
 binders::comprehension-returns-clause-judged t c =

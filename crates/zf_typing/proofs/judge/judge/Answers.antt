@@ -1,15 +1,18 @@
-use Rattle.zf_typing.proofs.Prelude.{tree_of, scope_of}
-use Rattle.zf_typing.proofs.Judging.{judges_met, judges_sort, judges_term, judges_wrong}
+use Rattle.zf_typing.proofs.Prelude.{◌≡◌, tree_of, resolved_of, IfOk-weaker, IsJudged, resolved, Meets, sort_of, scope_of, IsOf}
+use Rattle.zf_typing.proofs.Judging.{opened}
 use Rattle.zf_typing.proofs.judge.judge.Goals as goal
 
-pub returns-clause-sort : goal.returns-clause-sort
-returns-clause-sort c = judges_sort (scope_of c.args.scope.now) c.args.need (tree_of c.args.term.now) c.judge_term.result c.judge_term.ensures.judged
-
-pub returns-clause-met : goal.returns-clause-met
-returns-clause-met c = judges_met (scope_of c.args.scope.now) c.args.need (tree_of c.args.term.now) c.judge_term.result c.judge_term.ensures.judged
-
-pub returns-clause-term : goal.returns-clause-term
-returns-clause-term c = judges_term (scope_of c.args.scope.now) c.args.need (tree_of c.args.term.now) c.judge_term.result c.judge_term.ensures.judged
-
-pub returns-clause-wrong : goal.returns-clause-wrong
-returns-clause-wrong c = judges_wrong (scope_of c.args.scope.now) c.args.need (tree_of c.args.term.now) c.judge_term.result c.judge_term.ensures.judged
+pub returns : goal.returns
+returns c =
+    let s = scope_of c.args.scope.now in
+    let n = c.args.need in
+    let e = tree_of c.args.term.now in
+    let r = c.judge_term.result in
+    let judged = opened s n e r c.judge_term.ensures.judged in
+    record {
+      sort = IfOk-weaker r (IsJudged s n e) (λ j. IsOf s e (sort_of j.sort)) (λ j h. h.is_of) judged.0;
+      met = IfOk-weaker r (IsJudged s n e) (λ j. Meets n (sort_of j.sort)) (λ j h. h.met) judged.0;
+      term = IfOk-weaker r (IsJudged s n e) (λ j. resolved_of j.term ≡ resolved s e) (λ j h. h.term) judged.0;
+      wrong = judged.1;
+      scope = c.judge_term.ensures.scope;
+    }

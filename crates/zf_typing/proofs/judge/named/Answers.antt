@@ -1,10 +1,7 @@
 use Rattle.zf_typing.proofs.Prelude.{◌∙◌, ◌≡◌, ap, inl, None, refl, Some, sym, spelling, named, reference, not_declared, Offends, referent, sort_of, meaning, meant, scope_of}
 use Rattle.zf_term.proofs.ResolvedSeen as seen
-use Rattle.zf_typing.proofs.Judging.{judges_err, from_memory, told}
+use Rattle.zf_typing.proofs.Judging.{judges_err, told}
 use Rattle.zf_typing.proofs.judge.named.Goals as goal
-
-pub returns-in_err-reference : goal.returns-in_err-reference
-returns-in_err-reference c = from_memory (scope_of c.args.scope.now) c.args.need (named c.args.name.now) c.from_residual.result c.from_residual.ensures.0 c.from_residual.ensures.1
 
 pub returns-in_default : goal.returns-in_default
 returns-in_default c =

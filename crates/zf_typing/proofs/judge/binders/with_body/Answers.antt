@@ -1,42 +1,27 @@
 use Rattle.zf_typing.proofs.Prelude.{◌∙◌, ap, inl, inr, map, refl, subst, range_of, ranges, resolved_of, Judges, JudgesPart, Offends, PartOffends, with_variables, IsOf}
 use Rattle.zf_tree.specs.Trees as tree
 use Rattle.zf_tree.specs.declared.operator.Need.TheVariants as need
-use Rattle.zf_typing.proofs.Judging.{from_fault, from_memory, if_fault, fault_of, judged_of}
+use Rattle.zf_typing.proofs.Judging.{from_offence, fault_of, judged_of}
 use Rattle.zf_typing.proofs.Parts.{part_fault, part_of_judged, part_constrains, quantified_kept}
 use Rattle.zf_typing.proofs.judge.binders.with_body.Goals as goal
 
 pub returns-in_err-constraint : goal.returns-in_err-constraint
 returns-in_err-constraint c = λ s ds vs p e binds sets hp hb.
     let x = c.in_err-constraint.field-0.0 in
+    let inside = with_variables s vs in
     let whole = tree.quantified c.args.place.line c.args.quantifier ds p e in
-    from_fault s c.args.place.need whole x c.from_residual.result
-    (if_fault x (λ k m. PartOffends (with_variables s vs) need.Predicate p k m) (λ k m. Offends s c.args.place.need whole k m) (λ k m o. inr (inr (inl (vs, binds, inl o))))
-    (part_fault (with_variables s vs) need.Predicate p x (subst (λ r. JudgesPart (with_variables s vs) need.Predicate p r) c.in_err-constraint.was hp)))
-    c.from_residual.ensures.0 c.from_residual.ensures.1
+    from_offence s c.args.place.need whole x (λ k m. PartOffends inside need.Predicate p k m) c.from_residual.result
+    (λ k m o. inr (inr (inl (vs, binds, inl o))))
+    (part_fault inside need.Predicate p x (subst (λ r. JudgesPart inside need.Predicate p r) c.in_err-constraint.was hp)) c.from_residual.ensures
 
 pub returns-in_err-body : goal.returns-in_err-body
 returns-in_err-body c = λ s ds vs p e binds sets hp hb.
     let x = c.in_err-body.field-0.0 in
+    let inside = with_variables s vs in
     let whole = tree.quantified c.args.place.line c.args.quantifier ds p e in
-    from_fault s c.args.place.need whole x c.from_residual-in_err-body.result
-    (if_fault x (λ k m. Offends (with_variables s vs) need.Predicate e k m) (λ k m. Offends s c.args.place.need whole k m) (λ k m o. inr (inr (inl (vs, binds, inr o))))
-    (fault_of (with_variables s vs) need.Predicate e x (subst (λ r. Judges (with_variables s vs) need.Predicate e r) c.in_err-body.was hb)))
-    c.from_residual-in_err-body.ensures.0 c.from_residual-in_err-body.ensures.1
-
-pub returns-in_err-ranges : goal.returns-in_err-ranges
-returns-in_err-ranges c = λ s ds vs p e binds sets hp hb.
-    from_memory s c.args.place.need (tree.quantified c.args.place.line c.args.quantifier ds p e) c.from_residual-in_err-ranges.result
-    c.from_residual-in_err-ranges.ensures.0 c.from_residual-in_err-ranges.ensures.1
-
-pub returns-in_err-condition : goal.returns-in_err-condition
-returns-in_err-condition c = λ s ds vs p e binds sets hp hb.
-    from_memory s c.args.place.need (tree.quantified c.args.place.line c.args.quantifier ds p e) c.from_residual-in_err-condition.result
-    c.from_residual-in_err-condition.ensures.0 c.from_residual-in_err-condition.ensures.1
-
-pub returns-in_err-predicate : goal.returns-in_err-predicate
-returns-in_err-predicate c = λ s ds vs p e binds sets hp hb.
-    from_memory s c.args.place.need (tree.quantified c.args.place.line c.args.quantifier ds p e) c.from_residual-in_err-predicate.result
-    c.from_residual-in_err-predicate.ensures.0 c.from_residual-in_err-predicate.ensures.1
+    let residual = c.from_residual-in_err-body in
+    from_offence s c.args.place.need whole x (λ k m. Offends inside need.Predicate e k m) residual.result (λ k m o. inr (inr (inl (vs, binds, inr o))))
+    (fault_of inside need.Predicate e x (subst (λ r. Judges inside need.Predicate e r) c.in_err-body.was hb)) residual.ensures
 
 pub returns : goal.returns
 returns c = λ s ds vs p e binds sets hp hb.

@@ -1,29 +1,20 @@
-use Rattle.zf_typing.proofs.Prelude.{◌∙◌, ◌≡◌, ap, inl, inr, map, refl, ℕ, tree_of, trees, Display, type_of, types, Offence, DiffersAt, Offends}
+use Rattle.zf_typing.proofs.Prelude.{◌∙◌, ◌≡◌, ap, inl, inr, map, refl, tree_of, trees, Display, type_of, types, DiffersAt}
 use Rattle.zf_tree.specs.Trees as tree
 use Rattle.zf_term.specs.{listed, resolved_of, terms}
 use Rattle.zf_term.proofs.ResolvedSeen as seen
-use Rattle.zf_typing.proofs.Judging.{from_memory, if_fault, from_fault}
+use Rattle.zf_typing.proofs.Judging.{from_offence}
 use Rattle.zf_typing.proofs.Members.{list_differs}
 use Rattle.zf_typing.proofs.judge.lists.with_members.Goals as goal
 
 pub returns-in_err-ztype : goal.returns-in_err-ztype
 returns-in_err-ztype c = λ s h kept.
-    let n = c.args.place.need in
     let l = c.args.place.line in
     let form = c.args.form in
     let es = map tree_of c.args.terms.now in
     let us = types (map type_of c.args.members.types) in
-    let x = c.in_err-ztype.field-0.0 in
-    let whole = tree.listed l form (trees es) in
-    let P : Offence → ℕ → Type 0 = λ k m. (form ≡ Display) × DiffersAt l es us k m in
-    from_fault s n whole x c.from_residual.result
-    (if_fault x P (λ k m. Offends s n whole k m) (λ k m d. inr (inl (list_differs form s l es us k m h d))) c.in_err-ztype.ensures.wrong)
-    c.from_residual.ensures.0 c.from_residual.ensures.1
-
-pub returns-in_err-new : goal.returns-in_err-new
-returns-in_err-new c = λ s h kept.
-    from_memory s c.args.place.need (tree.listed c.args.place.line c.args.form (trees (map tree_of c.args.terms.now))) c.from_residual-in_err-new.result
-    c.from_residual-in_err-new.ensures.0 c.from_residual-in_err-new.ensures.1
+    from_offence s c.args.place.need (tree.listed l form (trees es)) c.in_err-ztype.field-0.0 (λ k m. (form ≡ Display) × DiffersAt l es us k m)
+    c.from_residual.result
+    (λ k m d. inr (inl (list_differs form s l es us k m h d))) c.in_err-ztype.ensures.wrong c.from_residual.ensures
 
 pub returns : goal.returns
 returns c = λ s h kept.
