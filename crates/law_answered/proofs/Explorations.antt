@@ -1,8 +1,9 @@
 -- An answer of an exploration by its stages: at each it is refused, or goes on with what the next one stands on; and there is one.
-use Rattle.law_answered.proofs.Prelude.{◌∙◌, ◌∷◌, ◌≡◌, ◌⊎◌, [], ap, inl, inr, List, None, Option, refl, Some, subst, sym, ℕ, AllByRecursion, AreComplete, Checks, Defined, Environment, given_sets, IsEnvironment, IsFinite, IsNoneOut, numbers_of, Schema, spellings, stated, Status, AreMessages, AreMessagesAlike, AreSmall, messages_in, AllZip, AreSchemasOf, Exploration, ExplorationAnswer, ExploresMachine, HasInfinite, HasLacking, HasOut, HasSchemas, HasShape, IsBounded, IsOfSchema, IsSchemaOf, IsSettled, LacksSchema, Named, RefusesExploration, Schemas, Seeks, System, TellsFaults, TellsInfinite, TellsMachine, TellsMisfit, TellsNoSchema, TellsNumbers, TellsOut, all_of, ending_status, explored_in, form_of, is_searched_once, is_sure, names_of, no_component_line, one_machine, option_to_list, result_status, sought_in, states_limit, verdict, words, ◌++◌, IsSearchable}
+use Rattle.law_answered.proofs.Prelude.{◌∙◌, ◌∷◌, ◌≡◌, ◌⊎◌, [], ap, inl, inr, List, None, Option, refl, Some, subst, sym, ℕ, AllByRecursion, AreComplete, Checks, Defined, Environment, given_sets, IsEnvironment, IsFinite, IsNoneOut, numbers_of, Schema, spellings, stated, Status, AreMessages, AreMessagesAlike, AreSmall, messages_in, AllZip, AreSchemasOf, Exploration, ExplorationAnswer, ExploresMachine, HasInfinite, HasLacking, HasOut, HasSchemas, HasShape, IsBounded, IsOfSchema, IsSchemaOf, IsSettled, LacksSchema, Named, RefusesExploration, Schemas, Seeks, System, TellsFaults, TellsInfinite, TellsMachine, TellsMisfit, TellsNoSchema, TellsNumbers, TellsOut, all_of, ending_status, explored_in, form_of, is_searched_once, is_sure, names_of, no_component_line, one_machine, option_to_list, result_status, sought_in, states_limit, verdict, words, IsSearchable}
 use Rattle.zf_graph.proofs.OneWay.{one_way}
 use Rattle.zf_graph.specs.Seeking as seeking
 use Rattle.zf_graph.specs.Texts as graph
+use Rattle.zf_engine.proofs.Reaching.{all_named, in_order}
 use Rattle.law_answered.proofs.Machines.{not_all_and_first, not_shape_and_lack, one_first, one_lacking}
 use Rattle.law_answered.proofs.OneSearch.{one_environment_at}
 use Rattle.law_answered.proofs.OneSource.{one_checked, one_named}
@@ -73,19 +74,8 @@ staged x file source text status (ExplorationAnswer.explored g p e is told) = gr
 
 -- ---- the schemas of names
 
--- each name is that of a schema, where these are the schemas of some, and those of others
-both_named : (g : List Defined) (names others : List (List ℕ)) (ns ms : List Named) → AllZip (IsSchemaOf g) names ns → AllZip (IsSchemaOf g) others ms → AllByRecursion (IsOfSchema g) (names ++ others)
-both_named g [] [] [] [] named more = tt
-both_named g [] [] [] (m ∷ ms) named more = tt
-both_named g [] (name ∷ others) [] [] named more = absurd more
-both_named g [] (name ∷ others) [] (m ∷ ms) named more = ((m.schema, more.0.1), both_named g [] others [] ms tt more.1)
-both_named g [] others (n ∷ ns) ms named more = absurd named
-both_named g (name ∷ names) others [] ms named more = absurd named
-both_named g (name ∷ names) others (n ∷ ns) ms named more = ((n.schema, named.0.1), both_named g names others ns ms named.1 more)
-
 pub named_all : (g : List Defined) (x : Exploration) (p : Schemas) → AreSchemasOf g x p → AllByRecursion (IsOfSchema g) (names_of x)
-named_all g x p are =
-    ((p.state.schema, are.state.1), ((p.init.schema, are.init.1), both_named g x.operations (option_to_list x.sought) p.operations (option_to_list p.sought) are.operations are.sought))
+named_all g x p are = all_named g (names_of x) (all_of p) (in_order g x p are)
 
 abbrev called : List ℕ → Schema → Named
 called name a = record { name = name; schema = a }

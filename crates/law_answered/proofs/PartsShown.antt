@@ -1,14 +1,8 @@
 -- What is written of parts is written of exactly the values that bindings have at the places.
-use Rattle.law_answered.proofs.Prelude.{EachPartIsShown, ◌++◌, ◌<◌, ◌↔◌, ◌∙◌, ◌∷◌, ◌≡◌, ◌⊎◌, [], ap, append-nil, arith, inl, inr, length, List, map, None, Option, refl, Some, subst, sym, ℕ, All-contains, AllPairs, AllPairs-across, AllPairs-head, AllPairs-mapped, Contains, Contains-cases, Contains-either, Contains-head, Contains-left, Contains-map, Contains-mapped, Contains-nil, Contains-right, ComesAfter, Defined, Environment, Event, False, flat_map, flat_map-map, HasLimit, IsBefore, IsBelow, IsBinding, IsEvent, IsInDoubt, IsLater, IsNotPast, length-map, Out, Portion, property, Request, Schema, ShowsParts, Status, True, Truth, Value, value_order, AreEventsUpTo, Wording, map-append, spellings, AllHold, AllPairs-back, AreParts, ArePartsWritten, Done, EndsLines, IsFirstInDoubt, IsFirstWith, IsPartOfBinding, Part, PastBounds, ShowsEachPart, comps_at, exact, has_each_part, part_lines, part_wording, values_at, total-law, AllPairs-front}
-use Rattle.law_answered.proofs.OneEnding.{never_both, never_itself}
+use Rattle.law_answered.proofs.Prelude.{EachPartIsShown, ◌++◌, ◌<◌, ◌↔◌, ◌∙◌, ◌∷◌, ◌≡◌, ◌⊎◌, [], ap, append-nil, arith, inl, inr, length, List, map, None, Option, refl, Some, subst, sym, ℕ, All-contains, AllPairs, AllPairs-across, AllPairs-head, AllPairs-mapped, Contains, Contains-cases, Contains-either, Contains-head, Contains-left, Contains-map, Contains-mapped, Contains-nil, Contains-right, ComesAfter, Defined, Environment, Event, False, flat_map, flat_map-map, HasLimit, IsBefore, IsBelow, IsBinding, IsEvent, IsInDoubt, IsLater, IsNotPast, length-map, Out, Portion, property, Request, Schema, ShowsParts, Status, True, Truth, Value, value_order, AreEventsUpTo, Wording, map-append, spellings, AllHold, AllPairs-back, AreParts, ArePartsWritten, Done, EndsLines, IsFirstInDoubt, IsFirstWith, IsPartOfBinding, Part, PastBounds, ShowsEachPart, comps_at, has_each_part, part_lines, part_wording, values_at, AllPairs-front}
+use Rattle.zf_parts.proofs.Orders.{never_both, never_itself}
 use Rattle.law_answered.proofs.Shown.{binding_event, doubt_event, shown_told}
 use Rattle.law_answered.proofs.WrittenRows.{with_truth}
-
-both_ways : (a b : List Value) → ComesAfter value_order a b → ComesAfter value_order b a → ⊥
-both_ways a b = never_both value_order total-law exact a b
-
-itself : (a : List Value) → ComesAfter value_order a a → ⊥
-itself a = never_itself value_order total-law exact a
 
 apart : (x : Event Value) → x.truth ≡ True → x.truth ≡ Out → ⊥
 apart x t o = let same : True ≡ Out = sym t ∙ o in cc
@@ -73,7 +67,7 @@ module _ (e : Environment) (a : Schema) (ranges : List (List Value)) (start : Op
         later = ((are.members p).0 m).1;
         certain = λ other d has before. elim (f.first (with_truth other Out) (doubt_in other d) has) [
           | inl same ↦ apart p.first t (sym (ap (λ (x : Event Value). x.truth) same))
-          | inr c ↦ both_ways p.first.row other c before
+          | inr c ↦ never_both p.first.row other c before
         ];
       }
 
@@ -84,7 +78,7 @@ module _ (e : Environment) (a : Schema) (ranges : List (List Value)) (start : Op
         doubt = is_doubt p.first f.event t;
         first = λ other b has before. elim (f.first (with_truth other True) (binding_in other b) (has ∙ f.has)) [
           | inl same ↦ apart p.first (sym (ap (λ (x : Event Value). x.truth) same)) t
-          | inr c ↦ both_ways p.first.row other c before
+          | inr c ↦ never_both p.first.row other c before
         ];
       }
 
@@ -205,11 +199,11 @@ module _ (e : Environment) (a : Schema) (ranges : List (List Value)) (start : Op
     ]
 
     none_beyond : (p : Part) → Contains rest p → IsNotPast value_order (Some q.values) p.values → ⊥
-    none_beyond p m (inl same) = itself q.values (subst (ComesAfter value_order q.values) same (over p m))
-    none_beyond p m (inr c) = both_ways q.values p.values (over p m) c
+    none_beyond p m (inl same) = never_itself q.values (subst (ComesAfter value_order q.values) same (over p m))
+    none_beyond p m (inr c) = never_both q.values p.values (over p m) c
 
     none_stands_before : (p : Part) → Contains rest p → IsBefore value_order (Some q.values) p.values → ⊥
-    none_stands_before p m c = both_ways q.values p.values (over p m) c
+    none_stands_before p m c = never_both q.values p.values (over p m) c
 
     paused : limit ≡ Some (length front) → text ≡ part_lines w front ++ w.more → status ≡ Done → AreWritten w limit text status
     paused full told done =
@@ -233,8 +227,8 @@ module _ (e : Environment) (a : Schema) (ranges : List (List Value)) (start : Op
     later_than_it x m = AllPairs-head Follows p rest (AllPairs-back Follows front (p ∷ rest) (asc front (p ∷ rest) split)) x m
 
     none_after : (x : Part) → Contains rest x → IsNotPast value_order (Some (values_at places p.first.row)) x.values → ⊥
-    none_after x m (inl same) = itself p.values (subst (ComesAfter value_order p.values) (same ∙ has) (later_than_it x m))
-    none_after x m (inr c) = both_ways p.values x.values (later_than_it x m) (subst (ComesAfter value_order x.values) has c)
+    none_after x m (inl same) = never_itself p.values (subst (ComesAfter value_order p.values) (same ∙ has) (later_than_it x m))
+    none_after x m (inr c) = never_both p.values x.values (later_than_it x m) (subst (ComesAfter value_order x.values) has c)
 
     none_holds : (x : Part) → Contains (p ∷ rest) x → x.first.truth ≡ True → IsNotPast value_order (Some (values_at places p.first.row)) x.values → ⊥
     none_holds x m t n = elim (Contains-cases p rest x m) [
@@ -244,8 +238,8 @@ module _ (e : Environment) (a : Schema) (ranges : List (List Value)) (start : Op
 
     none_before : (x : Part) → Contains (p ∷ rest) x → IsBefore value_order (Some (values_at places p.first.row)) x.values → ⊥
     none_before x m c = elim (Contains-cases p rest x m) [
-      | inl same ↦ itself p.values (subst (λ (y : Part). ComesAfter value_order y.values p.values) (sym same) (subst (ComesAfter value_order x.values) has c))
-      | inr further ↦ both_ways p.values x.values (later_than_it x further) (subst (ComesAfter value_order x.values) has c)
+      | inl same ↦ never_itself p.values (subst (λ (y : Part). ComesAfter value_order y.values p.values) (sym same) (subst (ComesAfter value_order x.values) has c))
+      | inr further ↦ never_both p.values x.values (later_than_it x further) (subst (ComesAfter value_order x.values) has c)
     ]
 
     broken : IsBelow limit (length front) → text ≡ part_lines w front ++ w.out p.first.row → status ≡ PastBounds → AreWritten w limit text status

@@ -21,15 +21,14 @@ before_last (u ∷ us) m vs (f ∷ front) e h =
 
 pub same_last : {X : Type 0} (xs ys : List X) (x y : X) → xs ++ x ∷ [] ≡ ys ++ y ∷ [] → (xs ≡ ys) × (x ≡ y)
 same_last [] [] x y h = (refl, cc)
-same_last [] (v ∷ []) x y h = absurd (cc)
-same_last [] (v ∷ w ∷ ys) x y h = absurd (cc)
-same_last (u ∷ []) [] x y h = absurd (cc)
-same_last (u ∷ w ∷ xs) [] x y h = absurd (cc)
 same_last (u ∷ xs) (v ∷ ys) x y h =
     let tail : xs ++ x ∷ [] ≡ ys ++ y ∷ [] = cc in
     let head : u ≡ v = cc in
     let ih = same_last xs ys x y tail in
     (ap (λ z. z ∷ xs) head ∙ ap (λ zs. v ∷ zs) ih.0, ih.1)
+same_last [] (v ∷ []) x y h = absurd (cc)
+same_last (u ∷ []) [] x y h = absurd (cc)
+same_last xs ys x y h = absurd (cc)
 
 pub All-front : {X : Type 0} (P : X → Type 0) (xs ys : List X) → All P (xs ++ ys) → All P xs
 All-front P [] ys h k d l = absurd (omega arith)

@@ -1,6 +1,10 @@
 -- Each exploration has an answer: it is refused at a stage, or what its machine can reach is reported.
-use Rattle.law_answered.proofs.Prelude.{◌∷◌, ◌≡◌, ◌≤◌, ◌⊎◌, [], arith, inl, inr, List, map, None, Option, refl, Some, subst, sym, ℕ, AllByRecursion, AreSmall, BadRequest, BadSpec, Checks, declared_out_line, Defined, Environment, given_sets, HasLimit, IsFinite, IsNoneOut, no_schema_lines, numbers_of, numbers_too_large_line, PastBounds, size_fault_lines, spellings, stated, Status, messages_in, AllZip, AreSchemasOf, CanExplore, Exploration, ExplorationAnswer, ExploresMachine, Fault, Form, HasSchemas, HasShape, IsBounded, IsInit, IsMachineOf, IsOfSchema, IsSchemaOf, IsSearchable, IsSettled, Named, Operation, RefusesExploration, Schemas, Seeks, Spelling, System, TellsInfinite, TellsMachine, TellsNoSchema, TellsOut, all_of, complete_or_refused, ending_status, explored_in, first_out_or_none, form_of, names_of, no_component_line, of_operations, of_test, operation_in, option_to_list, result_status, some_environment, some_result, some_turns, state_of, states_limit, words, ◌++◌}
+use Rattle.law_answered.proofs.Prelude.{◌∷◌, ◌≡◌, ◌≤◌, ◌⊎◌, [], arith, inl, inr, List, None, Option, refl, Some, subst, sym, ℕ, AllByRecursion, AreSmall, BadRequest, BadSpec, Checks, declared_out_line, Defined, Environment, given_sets, HasLimit, IsFinite, IsNoneOut, no_schema_lines, numbers_of, numbers_too_large_line, PastBounds, size_fault_lines, spellings, stated, Status, messages_in, AllZip, AreSchemasOf, CanExplore, Exploration, ExplorationAnswer, ExploresMachine, Fault, HasSchemas, HasShape, IsBounded, IsMachineOf, IsOfSchema, IsSchemaOf, IsSearchable, IsSettled, Named, Operation, RefusesExploration, Schemas, Seeks, System, TellsInfinite, TellsMachine, TellsNoSchema, TellsOut, all_of, complete_or_refused, ending_status, explored_in, first_out_or_none, form_of, names_of, no_component_line, option_to_list, result_status, some_environment, some_result, some_turns, states_limit, words, ◌++◌}
 use Rattle.zf_graph.proofs.Existing.{somehow_written}
+use Rattle.zf_steps.specs.{CanSearch}
+use Rattle.zf_machines.proofs.Sole.{can_search_all}
+use Rattle.zf_engine.proofs.Explored.{can_search}
+use Rattle.zf_engine.proofs.Lists.{all_weaker}
 use Rattle.law_answered.proofs.EveryName.{finite_or_told, named_or_none}
 use Rattle.law_answered.proofs.FaultLines.{some_lines}
 use Rattle.law_answered.proofs.Machines.{all_or_first, shape_or_lack, some_machine}
@@ -9,31 +13,16 @@ use Rattle.law_answered.proofs.SmallNumbers.{small_or_too_large}
 -- ---- the machine
 
 -- each of its schemas is finite
-initial_finite : (e : Environment) (p : Schemas) (o : Operation) → IsInit (state_of p) p.init.name p.init.schema o → IsFinite e.numbers e.globals p.init.schema → IsFinite e.numbers e.globals o.schema
-initial_finite e p o (inl is) finite = subst (λ (q : Operation). IsFinite e.numbers e.globals q.schema) (sym is.1) finite
-initial_finite e p o (inr is) finite = subst (λ (q : Operation). IsFinite e.numbers e.globals q.schema) (sym is.2) finite
-
-operations_finite : (e : Environment) (p : Schemas) (ns : List Named) → AllByRecursion (λ n. IsFinite e.numbers e.globals n.schema) ns
-    → AllByRecursion (λ (o : Operation). IsFinite e.numbers e.globals o.schema) (map (λ (n : Named). operation_in (state_of p) n.name n.schema) ns)
-operations_finite e p [] finite = tt
-operations_finite e p (n ∷ ns) finite = (finite.0, operations_finite e p ns finite.1)
-
-can_explore : (e : Environment) (elements : List Spelling) (form : Form) (p : Schemas) (m : System) → IsMachineOf e elements form p m
-    → AllByRecursion (λ n. IsFinite e.numbers e.globals n.schema) (all_of p) → CanExplore m
-can_explore e elements form p m is finite = record {
-  test = subst (λ (f : Environment). IsFinite f.numbers f.globals m.test.schema) (sym is.environment)
-      (subst (λ (o : Operation). IsFinite e.numbers e.globals o.schema) (sym is.test) (of_test (λ (n : Named). IsFinite e.numbers e.globals n.schema) p finite));
-  init = subst (λ (f : Environment). IsFinite f.numbers f.globals m.init.schema) (sym is.environment) (initial_finite e p m.init is.init finite.1.0);
-  operations = subst (λ (f : Environment). AllByRecursion (λ (o : Operation). IsFinite f.numbers f.globals o.schema) m.operations) (sym is.environment)
-      (subst (λ os. AllByRecursion (λ (o : Operation). IsFinite e.numbers e.globals o.schema) os) (sym is.operations)
-      (operations_finite e p p.operations (of_operations (λ (n : Named). IsFinite e.numbers e.globals n.schema) p finite)));
-}
-
 pub can_be_explored : (x : Exploration) (source : List ℕ) (g : List Defined) (p : Schemas) (e : Environment) → IsSearchable x source g p e → (m : System)
     → IsMachineOf e (spellings g) (form_of x) p m → CanExplore m
 can_be_explored x source g p e is m of =
-    can_explore e (spellings g) (form_of x) p m of (subst (λ (h : List Defined). AllByRecursion (λ (n : Named). IsFinite e.numbers h n.schema) (all_of p))
-    (sym is.bounded.environment.0) is.bounded.finite)
+    let each = can_search x source p e (subst (λ (h : List Defined). IsSearchable x source h p e) (sym is.bounded.environment.0) is) in
+    let all = can_search_all e (spellings g) (form_of x) p m of each in
+    let f = m.environment in record {
+      test = all.test.finite;
+      init = all.init.finite;
+      operations = all_weaker (λ (o : Operation). CanSearch f o.schema) (λ (o : Operation). IsFinite f.numbers f.globals o.schema) (λ o can. can.finite) m.operations all.operations;
+    }
 
 some_limit : (limit : Option ℕ) (x : Exploration) → x.limit ≡ limit → HasLimit limit → 1 ≤ states_limit x
 some_limit None x is h = rw is (omega arith)

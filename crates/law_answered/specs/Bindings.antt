@@ -1,20 +1,9 @@
 -- What `show` writes of a schema, in the words of its bindings: which rows have a line, in which order, and what ends the lines.
 use Rattle.std.specs.Prelude.{◌≡◌, ◌↔◌, ◌⊎◌, ℕ, List, [], ◌∷◌, ◌++◌, length, Option, Some, None, Contains, All, AllPairs}
-use Rattle.std.specs.List.{flat_map}
+use Rattle.law_answered.specs.Prelude.{flat_map, Defined, ResolvedTree, Schema, Value, value_order, ComesAfter, IsLater, IsRowOf, Environment, in_row, IsTruth, Portion, AreRanges, Status, IsBelow, IsTestsLine, Wording, Request, wording}
 use Rattle.std.specs.declared.cmp.Ordering.{Ordering}
-use Rattle.zf_term.specs.{Defined, ResolvedTree, Schema}
-use Rattle.zf_value.specs.declared.plain.Value.{Value}
 use Rattle.zf_value.specs.declared.value.Truth.TheVariants.{True, Out}
-use Rattle.zf_value.specs.{value_order}
-use Rattle.zf_walk.specs.{ComesAfter, IsLater, IsRowOf}
-use Rattle.zf_meaning.specs.{Environment, in_row, IsTruth}
-use Rattle.zf_enum.specs.{Portion}
-use Rattle.zf_ranges.specs.{AreRanges}
-use Rattle.zf_lines.specs.declared.fault.Status.{Status}
 use Rattle.zf_lines.specs.declared.fault.Status.TheVariants.{Done, PastBounds}
-use Rattle.zf_lines.specs.{IsBelow, IsTestsLine, Wording}
-use Rattle.zf_command.specs.declared.job.Request.{Request}
-use Rattle.zf_engine.specs.{wording}
 
 -- ---- rows
 

@@ -1,27 +1,15 @@
 -- What is claimed of the answers.
 use Rattle.std.specs.Prelude.{◌≡◌, ◌≢◌, ◌⊎◌, ℕ, Bool, false, List, [], ◌∷◌, ◌++◌, Option, None, Some}
-use Rattle.std.specs.List.{flat_map}
-use Rattle.zf_command.specs.declared.job.Job.{Job}
-use Rattle.zf_command.specs.declared.job.Job.TheVariants.{Show, Why}
+use Rattle.law_answered.specs.Prelude.{flat_map, Job, Show, Why, IsCutInto, Comp, Defined, Fault, Schema, Value, Environment, IsEnvironment, Size, Portion, HasLimit, Status, Request, Answer, AreHeld, Checks, format_of, HasSchema, HoldsNoValues, IsLimited, IsNamedRow, IsSearch, NamesNoRow, ShowsEvents, TellsConjuncts, TellsWhy, wants_details}
 use Rattle.zf_format.specs.declared.format.Format.{Format}
 use Rattle.zf_format.specs.{messages_in}
 use Rattle.zf_finite.specs.declared.not_finite.NotFinite.{NotFinite}
 use Rattle.zf_scan.specs.declared.fault.TextFault.{TextFault}
 use Rattle.zf_scan.specs.declared.token.Token.{Token}
-use Rattle.zf_scan.specs.{IsCutInto}
 use Rattle.zf_parse.specs.{IsGrammarFault, ReadsSource, RefusesSource, RefusesTokens}
 use Rattle.zf_tree.specs.{BoxTree}
-use Rattle.zf_term.specs.{Comp, Defined, Fault, Schema}
 use Rattle.zf_schema.specs.{Item, OffendsItem}
-use Rattle.zf_value.specs.declared.plain.Value.{Value}
-use Rattle.zf_meaning.specs.{Environment, IsEnvironment}
-use Rattle.zf_meaning.specs.declared.sizes.Size.{Size}
 use Rattle.zf_why.specs.{nothing_beside, others_beside, RefutedBy, RefutedTogetherBy}
-use Rattle.zf_enum.specs.{Portion}
-use Rattle.zf_lines.specs.{HasLimit}
-use Rattle.zf_lines.specs.declared.fault.Status.{Status}
-use Rattle.zf_command.specs.declared.job.Request.{Request}
-use Rattle.zf_engine.specs.{Answer, AreHeld, Checks, format_of, HasSchema, HoldsNoValues, IsLimited, IsNamedRow, IsSearch, NamesNoRow, ShowsEvents, TellsConjuncts, TellsWhy, wants_details}
 use Rattle.zf_messages.specs.{AreLines, Cited, not_a_binding_line, not_components_line, not_finite_lines, not_held_line, text_fault_lines, type_fault_line}
 use Rattle.law_answered.specs.Bindings.{ShowsBindings}
 use Rattle.law_answered.specs.Parts.{ShowsEachPart}

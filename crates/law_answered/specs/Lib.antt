@@ -1,3 +1,4 @@
+pub mod Prelude
 pub mod Bindings
 pub mod Parts
 pub mod Laws

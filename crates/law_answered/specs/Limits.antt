@@ -1,16 +1,13 @@
 -- The limits that the definitions speak of, as numbers.
 use Rattle.std.specs.Prelude.{◌≡◌, ◌↔◌, ℕ, Some}
+use Rattle.law_answered.specs.Prelude.{number_max, components_max, conjuncts_max, height_max, nodes_max, sets_max, type_nodes_max, IsNumberSet, AreTooLarge}
 use Rattle.zf_command.specs.declared.limit.TheConstants.{LIMIT_MAX, STATES_MAX}
 use Rattle.zf_scan.specs.declared.scan.TheConstants.{SOURCE_MAX}
-use Rattle.zf_scan.specs.{number_max}
-use Rattle.zf_term.specs.{components_max, conjuncts_max, height_max, nodes_max, sets_max, type_nodes_max}
 use Rattle.zf_grammar.specs.{height_limit}
 use Rattle.zf_value.specs.declared.TheConstants.{SET_MAX}
 use Rattle.zf_value.specs.declared.value.Outcome.TheVariants.{Out}
 use Rattle.zf_term.specs.declared.extent.Infinite.TheVariants.{Num}
-use Rattle.zf_meaning.specs.{IsNumberSet}
 use Rattle.zf_engine.specs.declared.numbers.TheConstants.{NUMBERS_MAX}
-use Rattle.zf_engine.specs.{AreTooLarge}
 
 -- a set has at most so many members, a source so many bytes, and a limit is at most so many bindings or states
 abbrev pub LimitsOfRuns : Type 0

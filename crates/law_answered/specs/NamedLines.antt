@@ -1,12 +1,7 @@
 -- Lines that name a row, in a source that is read and well typed, at sizes of all its given sets.
 use Rattle.std.specs.Prelude.{◌≡◌, ◌↔◌, ℕ, List, Some}
-use Rattle.zf_term.specs.{Defined, Schema}
-use Rattle.zf_value.specs.declared.plain.Value.{Value}
-use Rattle.zf_meaning.specs.declared.sizes.Size.{Size}
-use Rattle.zf_meaning.specs.{AreComplete, Environment, given_sets, IsEnvironment, IsRow}
-use Rattle.zf_print.specs.{binding_object, spellings}
+use Rattle.law_answered.specs.Prelude.{Defined, Schema, Value, Size, AreComplete, Environment, given_sets, IsEnvironment, IsRow, binding_object, spellings, HasSchema, IsLineOf, NamesNoRow}
 use Rattle.zf_read.specs.{IsNoLine}
-use Rattle.zf_engine.specs.{HasSchema, IsLineOf, NamesNoRow}
 
 -- a schema of the source, and the environment at the sizes
 pub record IsSchemaAt (source name : List ℕ) (sizes : List Size) (globals : List Defined) (a : Schema) (e : Environment) : Type 0 where

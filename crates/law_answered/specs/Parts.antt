@@ -1,19 +1,8 @@
 -- What `show --only` writes of a schema, in the words of its bindings: which values of some components have a line, in which order, and what ends the lines.
 use Rattle.std.specs.Prelude.{◌≡◌, ◌↔◌, ◌⊎◌, ℕ, List, ◌++◌, Option, Contains, AllPairs}
-use Rattle.std.specs.List.{flat_map}
-use Rattle.zf_term.specs.{Defined, Schema}
-use Rattle.zf_value.specs.declared.plain.Value.{Value}
-use Rattle.zf_value.specs.{value_order}
-use Rattle.zf_walk.specs.{ComesAfter, IsLater}
-use Rattle.zf_meaning.specs.{Environment}
-use Rattle.zf_enum.specs.{Portion}
-use Rattle.zf_ranges.specs.{AreRanges}
-use Rattle.zf_print.specs.{spellings}
-use Rattle.zf_lines.specs.declared.fault.Status.{Status}
+use Rattle.law_answered.specs.Prelude.{flat_map, Defined, Schema, Value, value_order, ComesAfter, IsLater, Environment, Portion, AreRanges, spellings, Status, Request, IsNamedRow, NamesParts}
 use Rattle.zf_places.specs.{comps_at, values_at}
 use Rattle.zf_parts.specs.{part_wording}
-use Rattle.zf_command.specs.declared.job.Request.{Request}
-use Rattle.zf_engine.specs.{IsNamedRow, NamesParts}
 use Rattle.law_answered.specs.Bindings.{EndsLines, IsBefore, IsBinding, IsInDoubt, IsNotPast}
 
 -- Some binding has these values at the places, and no row with them of which it is not known comes before it; and they come after the named ones, if some are named.

@@ -1,19 +1,9 @@
 -- What `reach` answers: the text of what the machine of its schemas can reach, or of a search for a state.
 use Rattle.std.specs.Prelude.{◌≡◌, ◌↔◌, ◌-◌, ℕ, List, ◌++◌, Contains, length, Some, slice_get}
-use Rattle.zf_command.specs.declared.job.Exploration.{Exploration}
-use Rattle.zf_command.specs.declared.job.Job.TheVariants.{Reach}
-use Rattle.zf_graph.specs.{Edge, ended, ExploresAll, Graph, inner_edges, IsExplored, IsMet, IsReachable, IsShortest, Met, no_turn, text_up_to, Turn}
-use Rattle.zf_lines.specs.declared.fault.Status.{Status}
-use Rattle.zf_machines.specs.{IsMachineOf, Schemas}
-use Rattle.zf_meaning.specs.{Environment}
+use Rattle.law_answered.specs.Prelude.{Exploration, Reach, Edge, ended, ExploresAll, Graph, inner_edges, IsExplored, IsMet, IsReachable, IsShortest, Met, no_turn, text_up_to, Turn, Status, IsMachineOf, Schemas, Environment, Label, Node, explored_in, steps, System, words, Defined, Answer, IsSearchable, TellsMachine}
 use Rattle.zf_steps.specs.contracts.node.NodePartialEq.TheImpl as nodes
-use Rattle.zf_steps.specs.declared.node.Label.{Label}
-use Rattle.zf_steps.specs.declared.node.Node.{Node}
 use Rattle.zf_steps.specs.declared.form.Form.{Form}
-use Rattle.zf_steps.specs.{explored_in, steps, System, words}
-use Rattle.zf_term.specs.{Defined}
 use Rattle.zf_print.specs.declared.spelling.Spelling.{Spelling}
-use Rattle.zf_engine.specs.{Answer, IsSearchable, TellsMachine}
 
 -- Where nothing stands in the way of an exploration, every answer is the text of what the machine of its schemas can reach, or, where a state is sought, that of the search.
 abbrev pub WhatIsReachedIsTold : Type 0

@@ -1,16 +1,7 @@
 -- Runs of `show` that stop early, and runs that follow each other.
 use Rattle.std.specs.Prelude.{◌≡◌, ℕ, ◌+◌, false, List, ◌++◌, Option, Some, None}
-use Rattle.std.specs.List.{flat_map}
-use Rattle.zf_command.specs.declared.job.Job.{Job}
-use Rattle.zf_term.specs.{Defined, Schema}
-use Rattle.zf_value.specs.declared.plain.Value.{Value}
-use Rattle.zf_meaning.specs.{Environment}
-use Rattle.zf_enum.specs.{Portion}
-use Rattle.zf_print.specs.{binding_text, spellings}
-use Rattle.zf_lines.specs.declared.fault.Status.{Status}
+use Rattle.law_answered.specs.Prelude.{flat_map, Job, Defined, Schema, Value, Environment, Portion, binding_text, spellings, Status, Request, Answer, IsLimited, IsPartOfAnswer, ShowBegins, wording}
 use Rattle.zf_lines.specs.Faults.{IsFront}
-use Rattle.zf_command.specs.declared.job.Request.{Request}
-use Rattle.zf_engine.specs.{Answer, IsLimited, IsPartOfAnswer, ShowBegins, wording}
 use Rattle.law_answered.specs.Bindings.{ShowsBindings}
 use Rattle.law_answered.specs.Laws.{AnswersRequest, IsGranted}
 

@@ -1,17 +1,7 @@
 -- What `reach` answers where a state is sought: a shortest way to a state that satisfies a schema, or that no reachable one does.
 use Rattle.std.specs.Prelude.{◌≡◌, ℕ, List, ◌++◌, Some}
-use Rattle.zf_command.specs.declared.job.Exploration.{Exploration}
-use Rattle.zf_command.specs.declared.job.Job.TheVariants.{Reach}
-use Rattle.zf_graph.specs.{Edge, found, IsReachable, IsShortest, missing, open_ended, Result, untold, way_text}
-use Rattle.zf_lines.specs.declared.fault.Status.{Status}
-use Rattle.zf_machines.specs.{Named, Schemas, state_of}
-use Rattle.zf_meaning.specs.{Environment}
-use Rattle.zf_steps.specs.declared.node.Label.{Label}
-use Rattle.zf_steps.specs.declared.node.Node.{Node}
+use Rattle.law_answered.specs.Prelude.{Exploration, Reach, Edge, found, IsReachable, IsShortest, missing, open_ended, Result, untold, way_text, Status, Named, Schemas, state_of, Environment, Label, Node, explored_in, Satisfies, System, verdict, words, Comp, Defined, Schema, Answer, IsSearchable, Seeks}
 use Rattle.zf_steps.specs.declared.node.Node.TheVariants.{Root, State}
-use Rattle.zf_steps.specs.{explored_in, Satisfies, System, verdict, words}
-use Rattle.zf_term.specs.{Comp, Defined, Schema}
-use Rattle.zf_engine.specs.{Answer, IsSearchable, Seeks}
 use Rattle.law_answered.specs.Reached.{graph_in}
 
 -- ---- states that satisfy a schema

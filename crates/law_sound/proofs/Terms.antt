@@ -1,5 +1,5 @@
 -- The outcome of a well typed term is of its type, where each value that is bound is of its own.
-use Rattle.law_sound.proofs.Prelude.{◌++◌, ◌∙◌, ◌∷◌, ◌≡◌, [], ap, arith, length, List, Option, refl, replicate, subst, sym, ℕ, ⊎_elim, pos, AreFrom, IsCross, IsDisplay, IsMember, Outcome, Is, Out, Undefined, SetOf, Value, spelling, rule_of, no_decls, no_trees, Perhaps, Tree, tree, Trees, var_decl, VarDecls, Operator, Unary, Constant, Name, ResolvedPart, ResolvedTree, no_types, power, Ty, type, Tys, bound, referent, resolved, resolved_all, resolved_part, resolved_ranges, constant_sort, number_sort, predicate, set_sort, Sort, Takes, typed, UnaryTakes, Scope, Var, AreAll, AreMembers, Declare, IsOf, Makes, member_sort, row_type, types_of, variables, Context, Environment, outcome_in, within, HasOutcome, HaveOutcomes, HaveRanges, IsBuilt, IsBuiltBy, IsConstraint, row_value, OnBoth, one_more, one_out, one_undefined, OnOne, OnSeveral, repeated, Several, values, AreOfTypes, IsOfType, BinaryOutcome, ListedOutcome, UnaryOutcome, IsConstantOutcome, Nat, Nat1, Num}
+use Rattle.law_sound.proofs.Prelude.{◌++◌, ◌∙◌, ◌∷◌, ◌≡◌, [], ap, arith, length, List, Option, refl, replicate, subst, sym, ℕ, ⊎_elim, pos, AreFrom, IsCross, IsDisplay, IsMember, Outcome, Is, Out, SetOf, Value, spelling, rule_of, no_decls, no_trees, Perhaps, Tree, tree, Trees, var_decl, VarDecls, Operator, Unary, Constant, Name, ResolvedPart, ResolvedTree, no_types, power, Ty, type, Tys, bound, referent, resolved, resolved_all, resolved_part, resolved_ranges, constant_sort, number_sort, predicate, set_sort, Sort, Takes, typed, UnaryTakes, Scope, Var, AreAll, AreMembers, Declare, IsOf, Makes, member_sort, row_type, types_of, variables, Context, Environment, outcome_in, within, HasOutcome, HaveOutcomes, HaveRanges, IsBuilt, IsBuiltBy, IsConstraint, row_value, OnBoth, one_more, one_out, one_undefined, OnOne, OnSeveral, repeated, Several, values, AreOfTypes, IsOfType, BinaryOutcome, ListedOutcome, UnaryOutcome, IsConstantOutcome, Nat, Nat1, Num}
 use Rattle.zf_tree.specs.declared.symbol.Constant.TheVariants as constants
 use Rattle.zf_tree.specs.Trees as text
 use Rattle.zf_tree.specs.declared.operator.Listed.{Listed}
@@ -18,41 +18,27 @@ use Rattle.law_sound.proofs.Operations.{IsOfSort, sorted, binary, number_set, un
 -- ---- outcomes that are values, by those of the operands
 
 pub one : (o : Outcome) (P : Value → Outcome → Type 0) (v : Value) → OnOne o P (Is v) → (a : Value) × (o ≡ Is a) × P a (Is v)
-one Out P v h = absurd (cc)
-one Undefined P v h = absurd (cc)
 one (Is a) P v h = (a, refl, h)
+one o P v h = absurd (cc)
 
 both : (o q : Outcome) (P : Value → Value → Outcome → Type 0) (v : Value) → OnBoth o q P (Is v) → (a b : Value) × (o ≡ Is a) × (q ≡ Is b) × P a b (Is v)
-both Out q P v h = absurd (cc)
-both Undefined Out P v h = absurd (cc)
-both Undefined Undefined P v h = absurd (cc)
-both Undefined (Is b) P v h = absurd (cc)
-both (Is a) Out P v h = absurd (cc)
-both (Is a) Undefined P v h = absurd (cc)
 both (Is a) (Is b) P v h = (a, b, refl, refl, h)
+both o Out P v h = absurd (cc)
+both o q P v h = absurd (cc)
 
 pub several : (s : Several) (P : List Value → Outcome → Type 0) (v : Value) → OnSeveral s P (Is v) → (vs : List Value) × (s ≡ values vs) × P vs (Is v)
-several one_out P v h = absurd (cc)
-several one_undefined P v h = absurd (cc)
 several (values vs) P v h = (vs, refl, h)
+several s P v h = absurd (cc)
 
 pub all_values : (x : Outcome) (r : Several) (vs : List Value) → values vs ≡ one_more x r → (w : Value) × (ws : List Value) × (x ≡ Is w) × (r ≡ values ws) × (vs ≡ w ∷ ws)
-all_values Out r vs e = absurd (cc)
-all_values Undefined one_out vs e = absurd (cc)
-all_values Undefined one_undefined vs e = absurd (cc)
-all_values Undefined (values ws) vs e = absurd (cc)
-all_values (Is w) one_out vs e = absurd (cc)
-all_values (Is w) one_undefined vs e = absurd (cc)
 all_values (Is w) (values ws) vs e = (w, ws, refl, refl, cc)
+all_values x one_out vs e = absurd (cc)
+all_values x r vs e = absurd (cc)
 
 all_repeated : (n : ℕ) (x : Outcome) (r : Several) (vs : List Value) → values vs ≡ repeated n x r → (w : Value) × (ws : List Value) × (x ≡ Is w) × (r ≡ values ws) × (vs ≡ replicate n w ++ ws)
-all_repeated n Out r vs e = absurd (cc)
-all_repeated n Undefined one_out vs e = absurd (cc)
-all_repeated n Undefined one_undefined vs e = absurd (cc)
-all_repeated n Undefined (values ws) vs e = absurd (cc)
-all_repeated n (Is w) one_out vs e = absurd (cc)
-all_repeated n (Is w) one_undefined vs e = absurd (cc)
 all_repeated n (Is w) (values ws) vs e = (w, ws, refl, refl, cc)
+all_repeated n x one_out vs e = absurd (cc)
+all_repeated n x r vs e = absurd (cc)
 
 constant_typed : (e : Environment) (n : Option ℕ) (k : Constant) (v : Value) → IsConstantOutcome n k (Is v) → IsOfSort e (constant_sort k) v
 constant_typed e n constants.True v h = absurd (cc)

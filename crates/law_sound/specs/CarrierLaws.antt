@@ -1,19 +1,14 @@
 -- What the carrier of a type is: the set of exactly the type's values, and the outcome of the expression that spells the type.
 use Rattle.std.specs.Prelude.{◌≡◌, ◌↔◌, ◌⊎◌, ℕ, false, List, Option, None, Some}
+use Rattle.law_sound.specs.Prelude.{basic, constant, Defined, first_named, has_numbers, int, listed, no_terms, no_types, power, product, reference, ResolvedTree, term, Ty, type, Tys, unary, Value, Is, IsMember, members, Size, definition_number, Environment, globally, HasOutcome, IsCarrier, IsEnvironment, IsOfType}
 use Rattle.zf_tree.specs.declared.symbol.Constant.TheVariants.{Integers}
 use Rattle.zf_tree.specs.declared.symbol.Prefix.TheVariants.{Power}
 use Rattle.zf_tree.specs.declared.operator.Sign.TheVariants.{Symbol}
 use Rattle.zf_tree.specs.declared.operator.Listed.TheVariants.{Product}
 use Rattle.zf_tree.specs.declared.operator.Unary.TheVariants.{Sign}
 use Rattle.zf_reference.specs.declared.reference.Reference.TheVariants.{Global}
-use Rattle.zf_term.specs.{basic, constant, Defined, first_named, has_numbers, int, listed, no_terms, no_types, power, product, reference, ResolvedTree, term, Ty, type, Tys, unary}
 use Rattle.zf_term.specs.ResolvedTrees.{ResolvedTrees}
-use Rattle.zf_value.specs.declared.plain.Value.{Value}
 use Rattle.zf_value.specs.declared.value.Outcome.{Outcome}
-use Rattle.zf_value.specs.declared.value.Outcome.TheVariants.{Is}
-use Rattle.zf_value.specs.{IsMember, members}
-use Rattle.zf_meaning.specs.declared.sizes.Size.{Size}
-use Rattle.zf_meaning.specs.{definition_number, Environment, globally, HasOutcome, IsCarrier, IsEnvironment, IsOfType}
 
 -- ---- its members
 

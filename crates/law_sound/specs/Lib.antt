@@ -1,3 +1,4 @@
+pub mod Prelude
 pub mod OutcomeLaws
 pub mod RowLaws
 pub mod CarrierLaws

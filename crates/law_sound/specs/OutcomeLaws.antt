@@ -1,15 +1,8 @@
 -- Outcomes have the types of their terms.
 use Rattle.std.specs.Prelude.{ℕ, List, Option, take, length}
-use Rattle.zf_tree.specs.{Tree}
-use Rattle.zf_term.specs.{Comp, Defined, Ty}
+use Rattle.law_sound.specs.Prelude.{Tree, Comp, Defined, Ty, Value, Is, Size, AreOfTypes, Context, Environment, HasOutcome, IsEnvironment, IsOfType, IsRow, AreDefinedOnce, AreWellTyped}
 use Rattle.zf_typing.specs.{IsOf, resolved, Scope, types_of, Var}
 use Rattle.zf_sorts.specs.{typed}
-use Rattle.zf_value.specs.declared.plain.Value.{Value}
-use Rattle.zf_value.specs.declared.value.Outcome.TheVariants.{Is}
-use Rattle.zf_meaning.specs.declared.sizes.Size.{Size}
-use Rattle.zf_meaning.specs.{AreOfTypes, Context, Environment, HasOutcome, IsEnvironment, IsOfType, IsRow}
-use Rattle.zf_schema.specs.{AreDefinedOnce}
-use Rattle.zf_checker.specs.{AreWellTyped}
 
 -- a value of its type for each of the first components
 abbrev pub IsFrontOfRow : Environment → List Comp → List Value → Type 0

@@ -1,16 +1,9 @@
 -- The rows that a search finds have the types of the schema's components.
 use Rattle.std.specs.Prelude.{◌≡◌, ℕ, List, [], ◌∷◌, MatchOption, Option, Some, slice_get}
-use Rattle.zf_tree.specs.{BoxTree}
-use Rattle.zf_term.specs.{Comp, Defined, Fault, Schema, schema}
-use Rattle.zf_value.specs.declared.plain.Value.{Value}
-use Rattle.zf_value.specs.{value_order}
+use Rattle.law_sound.specs.Prelude.{BoxTree, Comp, Defined, Fault, Schema, schema, Value, value_order, Size, Environment, IsEnvironment, IsOfType, IsRow, AreDefinedOnce, IsChecked, AreWellTyped}
 use Rattle.zf_walk.specs.{Event, IsEvent, IsRowOf}
-use Rattle.zf_meaning.specs.declared.sizes.Size.{Size}
-use Rattle.zf_meaning.specs.{Environment, IsEnvironment, IsOfType, IsRow}
 use Rattle.zf_enum.specs.{property}
 use Rattle.zf_ranges.specs.{AreRanges, first_held, later_held}
-use Rattle.zf_schema.specs.{AreDefinedOnce, IsChecked}
-use Rattle.zf_checker.specs.{AreWellTyped}
 
 -- each value that is held of a component is of its type
 abbrev pub AreHeldTyped : Environment → List Comp → List (Option Value) → Type 0

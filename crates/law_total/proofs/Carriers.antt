@@ -1,8 +1,5 @@
 -- Each type has a carrier.
-use Rattle.law_total.proofs.Prelude.{[], None, Option, refl, Some, ℕ, IsCross, IsPower, members, Undefined, AreElementsIf, element_count, Environment, IsTypeSet, type_number, one_more, values}
-use Rattle.zf_term.specs.declared.extent.Infinite.TheVariants.{Num}
-use Rattle.zf_term.specs.{basic, int, no_types, power, product, Ty, type, Tys}
-use Rattle.zf_meaning.specs.{AreCarriers, IsCarrier, IsTypeSetIf}
+use Rattle.law_total.proofs.Prelude.{[], None, Option, refl, Some, ℕ, IsCross, IsPower, members, Undefined, AreElementsIf, element_count, Environment, IsTypeSet, type_number, one_more, values, Num, basic, int, no_types, power, product, Ty, type, Tys, AreCarriers, IsCarrier, IsTypeSetIf}
 use Rattle.law_total.proofs.Listed.{HasSome}
 use Rattle.law_total.proofs.Operations.{some_elements, some_power, some_cross}
 use Rattle.law_total.proofs.Terms.{some_number_set, some_on_one, some_on_several}

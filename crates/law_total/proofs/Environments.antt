@@ -1,6 +1,5 @@
 -- Globals at complete sizes have an environment.
-use Rattle.law_total.proofs.Prelude.{◌+◌, ◌≡◌, [], arith, length, List, None, Option, refl, Some, subst, suc, zero, ℕ, slice_get, Outcome, Undefined, abbreviation, constructor, Defined, Definition, free_type, given_set, schema, element, Environment, globally, AreComplete, given_sets, Size}
-use Rattle.zf_meaning.specs.{AreWorkedOut, IsEnvironment, IsOutcomeOf}
+use Rattle.law_total.proofs.Prelude.{◌+◌, ◌≡◌, [], arith, length, List, None, Option, refl, Some, subst, suc, zero, ℕ, slice_get, Outcome, Undefined, abbreviation, constructor, Defined, Definition, free_type, given_set, schema, element, Environment, globally, AreComplete, given_sets, Size, AreWorkedOut, IsEnvironment, IsOutcomeOf}
 use Rattle.zf_meaning.proofs.WorkedOut.{AreWorkedOutTo, none-worked_out, further, one-worked_out, all-worked_out}
 use Rattle.law_total.proofs.Listed.{HasSome}
 use Rattle.law_total.proofs.Carriers.{some_type_set}

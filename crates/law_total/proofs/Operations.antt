@@ -1,5 +1,5 @@
 -- Sets and relations: each operation on them has an outcome.
-use Rattle.law_total.proofs.Prelude.{◌≡◌, inl, inr, length, List, refl, subst, sym, ℕ, ⊎_elim, pos, IsBetween, IsFunctional, IsInDomain, IsInjective, IsInRange, IsPairOf, IsRelationThat, IsTotal, pair, Relates, AreElements, ArePartialFunctions, ArePartialInjections, AreRelations, AreTotalFunctions, AreTotalInjections, IsApplied, IsComposition, IsCross, IsDisplay, IsDomain, IsDomainRestriction, IsDomainSubtraction, IsElement, IsImage, IsIntersection, IsInverse, IsOverriding, IsPower, IsRange, IsRangeRestriction, IsRangeSubtraction, IsSetDifference, IsSize, IsUnion, IsAscending, IsMember, IsSetOf, AreAmong, Is, Undefined, Elem, SetOf, Tuple, Value}
+use Rattle.law_total.proofs.Prelude.{◌≡◌, inl, length, List, refl, subst, sym, ℕ, ⊎_elim, pos, IsBetween, IsFunctional, IsInDomain, IsInjective, IsInRange, IsPairOf, IsRelationThat, IsTotal, pair, Relates, AreElements, ArePartialFunctions, ArePartialInjections, AreRelations, AreTotalFunctions, AreTotalInjections, IsApplied, IsComposition, IsCross, IsDisplay, IsDomain, IsDomainRestriction, IsDomainSubtraction, IsElement, IsImage, IsIntersection, IsInverse, IsOverriding, IsPower, IsRange, IsRangeRestriction, IsRangeSubtraction, IsSetDifference, IsSize, IsUnion, IsAscending, IsMember, IsSetOf, AreAmong, Is, Undefined, Elem, SetOf, Tuple, Value}
 use Rattle.law_total.proofs.Listed.{HasSome, Decided, decided_both, decided_not, decided_then, decided_same, decided_some, decided_all, decided_in, Listed, listed_same, listed_either, listed_image, listed_kept, listed_pairs}
 use Rattle.law_total.proofs.Naturals.{listed_below}
 use Rattle.law_total.proofs.Numbers.{some_number}
@@ -186,12 +186,7 @@ pub some_partial_injections : (a b : List Value) → HasSome (ArePartialInjectio
 unfolding ArePartialInjections
 some_partial_injections a b = some_that (λ r. IsFunctional r × IsInjective r) (λ r. decided_both (decided_functional r) (decided_injective r)) a b
 
-decided_three : {P Q R : Type 0} → Decided P → Decided Q → Decided R → Decided (P × Q × R)
-decided_three (inl p) (inl q) (inl r) = inl (p, q, r)
-decided_three (inr n) q r = inr (λ h. n h.0)
-decided_three (inl p) (inr n) r = inr (λ h. n h.1)
-decided_three (inl p) (inl q) (inr n) = inr (λ h. n h.2)
-
 pub some_total_injections : (a b : List Value) → HasSome (AreTotalInjections a b)
 unfolding AreTotalInjections
-some_total_injections a b = some_that (λ r. IsFunctional r × IsInjective r × IsTotal a r) (λ r. decided_three (decided_functional r) (decided_injective r) (decided_total a r)) a b
+some_total_injections a b = some_that (λ r. IsFunctional r × IsInjective r × IsTotal a r) (λ r.
+    decided_same (λ h. (h.0.0, h.0.1, h.1)) (λ h. ((h.0, h.1), h.2)) (decided_both (decided_both (decided_functional r) (decided_injective r)) (decided_total a r))) a b

@@ -1,8 +1,7 @@
 -- Lists in order, and lists without repeats, of what a list has.
-use Rattle.law_total.proofs.Prelude.{◌↔◌, ◌∙◌, ◌∷◌, ◌≡◌, ◌⊎◌, [], ap, inl, inr, List, map, refl, subst, sym, ⊎_elim, ordering_reverse, ◌≢◌, AllPairs, Contains, AllPairs-cons, AllPairs-head, AllPairs-nil, AllPairs-tail, Contains-cases, Contains-head, Contains-later, Contains-nil}
+use Rattle.law_total.proofs.Prelude.{◌↔◌, ◌∙◌, ◌∷◌, ◌≡◌, ◌⊎◌, [], ap, inl, inr, List, map, refl, subst, sym, ⊎_elim, ordering_reverse, ◌≢◌, AllPairs, Contains, AllPairs-cons, AllPairs-head, AllPairs-nil, AllPairs-tail, Contains-cases, Contains-head, Contains-later, Contains-nil, IsTotalOrder}
 use Rattle.std.specs.declared.cmp.Ordering.{Ordering}
 use Rattle.std.specs.declared.cmp.Ordering.TheVariants.{Less, Equal, Greater}
-use Rattle.std.specs.Cmp.{IsTotalOrder}
 use Rattle.law_total.proofs.Listed.{Decided, decided_in, Listed}
 
 -- ---- in order

@@ -1,6 +1,5 @@
 -- Rows of finite ranges, the truth of each, and the list of the events.
-use Rattle.law_total.proofs.Prelude.{◌<◌, ◌↔◌, ◌∷◌, ◌≡◌, ◌⊎◌, [], ap, inl, inr, List, map, None, Option, refl, Some, subst, sym, ℕ, ⊎_elim, ◌≢◌, Contains, Ordering, Equal, Greater, Less}
-use Rattle.std.specs.Cmp.{IsTotalOrder}
+use Rattle.law_total.proofs.Prelude.{◌<◌, ◌↔◌, ◌∷◌, ◌≡◌, ◌⊎◌, [], ap, inl, inr, List, map, None, Option, refl, Some, subst, sym, ℕ, ⊎_elim, ◌≢◌, Contains, Ordering, Equal, Greater, Less, IsTotalOrder}
 use Rattle.std.specs.Cmp.Lexicographic.{lists_total, slice_cmp}
 use Rattle.zf_walk.specs.{ComesAfter, Event, IsEvent, IsEvents, IsFrontOf, IsLater, IsRowOf, IsTruthOf, TiesAreEqual}
 use Rattle.zf_walk.specs.Conjuncts.{Conjuncts}
@@ -15,25 +14,15 @@ use Rattle.zf_walk.proofs.Order.{slice-ties}
 
 pub same_ordering : (p q : Ordering) → Decided (p ≡ q)
 same_ordering Less Less = inl refl
-same_ordering Less Equal = inr (λ e. (cc))
-same_ordering Less Greater = inr (λ e. (cc))
-same_ordering Equal Less = inr (λ e. (cc))
 same_ordering Equal Equal = inl refl
-same_ordering Equal Greater = inr (λ e. (cc))
-same_ordering Greater Less = inr (λ e. (cc))
-same_ordering Greater Equal = inr (λ e. (cc))
 same_ordering Greater Greater = inl refl
+same_ordering p q = inr (λ e. (cc))
 
 pub same_truth : (t u : Truth) → Decided (t ≡ u)
 same_truth True True = inl refl
-same_truth True False = inr (λ e. (cc))
-same_truth True Out = inr (λ e. (cc))
-same_truth False True = inr (λ e. (cc))
 same_truth False False = inl refl
-same_truth False Out = inr (λ e. (cc))
-same_truth Out True = inr (λ e. (cc))
-same_truth Out False = inr (λ e. (cc))
 same_truth Out Out = inl refl
+same_truth t u = inr (λ e. (cc))
 
 -- ---- rows
 

@@ -1,6 +1,5 @@
 -- Sets: what a list has is a set, or is out.
-use Rattle.law_total.proofs.Prelude.{◌+◌, ◌↔◌, ◌∷◌, ◌≡◌, ◌≤◌, ◌⊎◌, [], ap, arith, inl, inr, length, length-take, Less, List, refl, subst, sym, take, ℕ, ⊎_elim, cases_lt, AllPairs, AllPairs-head, AllPairs-tail, ascending-take, contained, every-take, every_at, every_from, member, not_below_itself, exact, IsAscending, IsMember, IsSetOf, value_order, AreAmong, SET_MAX, Is, Out, SetOf, Value, AllByRecursion}
-use Rattle.zf_value.specs.contracts.plain.ValueOrd.TheImpl.Laws.{total-law}
+use Rattle.law_total.proofs.Prelude.{◌+◌, ◌↔◌, ◌∷◌, ◌≡◌, ◌≤◌, ◌⊎◌, [], ap, arith, inl, inr, length, length-take, Less, List, refl, subst, sym, take, ℕ, ⊎_elim, cases_lt, AllPairs, AllPairs-head, AllPairs-tail, ascending-take, contained, every-take, every_at, every_from, member, not_below_itself, exact, IsAscending, IsMember, IsSetOf, value_order, AreAmong, SET_MAX, Is, Out, SetOf, Value, AllByRecursion, total-law}
 use Rattle.law_total.proofs.Listed.{HasSome, Listed, listed_same, listed_one, listed_either, listed_image}
 use Rattle.law_total.proofs.Orders.{in_order}
 use Rattle.law_total.proofs.Values.{same_value}

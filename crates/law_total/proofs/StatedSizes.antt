@@ -1,5 +1,6 @@
 -- Stated sizes are complete, or one fault of theirs is the first.
-use Rattle.law_total.proofs.Prelude.{◌+◌, ◌<◌, ◌∷◌, ◌≡◌, ◌≤◌, ◌⊎◌, [], ap, arith, get_or, inl, inr, length, List, refl, subst, suc, take, zero, ℕ, ⊎_elim, cases_eq, cases_lt, ◌≢◌, All, Contains, Contains-cases, Contains-head, Contains-later, Contains-nil, SET_MAX, abbreviation, constructor, Defined, Definition, free_type, given_set, schema, AddsSize, AreAccepted, AreComplete, AreSizes, given_sets, IsAccepted, IsRefusal, IsStated, names, IsSizeFault, with_given, Size}
+use Rattle.law_total.proofs.Prelude.{◌+◌, ◌<◌, ◌∷◌, ◌≡◌, ◌⊎◌, [], arith, get_or, inl, inr, length, List, refl, subst, suc, take, zero, ℕ, ⊎_elim, cases_eq, cases_lt, ◌≢◌, All, Contains, Contains-cases, Contains-head, Contains-later, Contains-nil, SET_MAX, Defined, Definition, free_type, given_set, AddsSize, AreAccepted, AreComplete, AreSizes, given_sets, IsAccepted, IsRefusal, IsStated, names, IsSizeFault, with_given, Size}
+use Rattle.std.proofs.lemmas.List.{take_all}
 use Rattle.std.proofs.lemmas.List.Elements.{All-nil}
 use Rattle.zf_meaning.specs.declared.sizes.SizeFault.{SizeFault}
 use Rattle.zf_meaning.specs.declared.sizes.SizeFault.TheVariants.{NoSize, NotGiven, SizeTwice, SizeTooLarge, OutOfMemory}
@@ -20,12 +21,6 @@ nth [] i l = absurd (omega arith)
 nth (x ∷ xs) zero l = (x, refl)
 nth (x ∷ xs) (suc i) l = nth xs i (omega arith)
 
-whole : {X : Type 0} (xs : List X) (i : ℕ) → length xs ≤ i → take i xs ≡ xs
-whole [] zero l = refl
-whole [] (suc i) l = refl
-whole (x ∷ xs) zero l = absurd (omega arith)
-whole (x ∷ xs) (suc i) l = ap (λ ys. x ∷ ys) (whole xs i (omega arith))
-
 -- ---- what is accepted
 
 -- a size is accepted after the earlier ones, or has a fault
@@ -45,7 +40,7 @@ abbrev IsRefused : List (List ℕ) → List Size → Type 0
 IsRefused sets sizes = (fault : SizeFault) × IsRefusal sets sizes fault × (fault ≢ OutOfMemory)
 
 all_accepted_or_not : (sets : List (List ℕ)) (sizes : List Size) (n i : ℕ) → i + n ≡ length sizes → AreAccepted sets (take i sizes) → AreAccepted sets sizes ⊎ IsRefused sets sizes
-all_accepted_or_not sets sizes zero i e h = inl (subst (AreAccepted sets) (whole sizes i (omega arith)) h)
+all_accepted_or_not sets sizes zero i e h = inl (subst (AreAccepted sets) (take_all i sizes (omega arith)) h)
 all_accepted_or_not sets sizes (suc n) i e h =
     let l : i < length sizes = omega arith in
     let s = nth sizes i l in
@@ -54,7 +49,7 @@ all_accepted_or_not sets sizes (suc n) i e h =
 
 all_sized_or_not : (sets : List (List ℕ)) (sizes : List Size) (n i : ℕ) → i + n ≡ length sets → AreAccepted sets sizes → All (λ set. Contains (names sizes) set) (take i sets)
     → All (λ set. Contains (names sizes) set) sets ⊎ IsRefused sets sizes
-all_sized_or_not sets sizes zero i e a h = inl (subst (λ xs. All (λ set. Contains (names sizes) set) xs) (whole sets i (omega arith)) h)
+all_sized_or_not sets sizes zero i e a h = inl (subst (λ xs. All (λ set. Contains (names sizes) set) xs) (take_all i sets (omega arith)) h)
 all_sized_or_not sets sizes (suc n) i e a h =
     let l : i < length sets = omega arith in
     let s = nth sets i l in
@@ -80,17 +75,12 @@ AreAllStated stated sets = (set : List ℕ) → Contains sets set → Contains (
 
 others_stated : (stated : List Size) (name : List ℕ) (d : Definition) (sets : List (List ℕ)) → AreAllStated stated (with_given name d sets) → AreAllStated stated sets
 others_stated stated name (given_set n) sets h = λ set m. h set (Contains-later name sets set m)
-others_stated stated name (free_type n constructors) sets h = h
-others_stated stated name (constructor n of_type place) sets h = h
-others_stated stated name (abbreviation t r x) sets h = h
-others_stated stated name (schema a) sets h = h
+others_stated stated name d sets h = h
 
 added : (stated : List Size) (name : List ℕ) (d : Definition) (sets : List (List ℕ)) (later : List ℕ) → AreAllStated stated (with_given name d sets) → HasSome (AddsSize stated name d later)
 added stated name (given_set n) sets later h = let here = stated_for stated name (h name (Contains-head name sets)) in (here.0 ∷ later, (here.0, here.1, refl))
 added stated name (free_type n constructors) sets later h = (length constructors ∷ later, refl)
-added stated name (constructor n of_type place) sets later h = (later, refl)
-added stated name (abbreviation t r x) sets later h = (later, refl)
-added stated name (schema a) sets later h = (later, refl)
+added stated name d sets later h = (later, refl)
 
 some_sizes_if : (stated : List Size) (g : List Defined) → AreAllStated stated (given_sets g) → HasSome (AreSizes stated g)
 some_sizes_if stated [] h = ([], refl)

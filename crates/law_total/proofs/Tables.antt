@@ -1,11 +1,6 @@
 -- The truth of a connective is that of its table.
-use Rattle.law_total.proofs.Prelude.{◌≡◌, subst, sym, Truth, IsTruth}
+use Rattle.law_total.proofs.Prelude.{◌≡◌, subst, sym, Truth, IsTruth, Connective, binary, ResolvedTree, connected, connected-told, one_truth}
 use Rattle.zf_tree.specs.declared.operator.Operator.TheVariants as operator
-use Rattle.zf_tree.specs.declared.symbol.Connective.{Connective}
-use Rattle.zf_term.specs.{binary, ResolvedTree}
-use Rattle.zf_outcome.specs.{connected}
-use Rattle.zf_meaning.proofs.Connecting.{connected-told}
-use Rattle.zf_meaning.proofs.Unique.{one_truth}
 use Rattle.law_total.specs.{ConnectivesByTable}
 use Rattle.law_total.proofs.Terms.{some_truth}
 

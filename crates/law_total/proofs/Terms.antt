@@ -1,5 +1,5 @@
 -- Each expression has an outcome, and each predicate a truth.
-use Rattle.law_total.proofs.Prelude.{[], List, None, Option, refl, Some, ℕ, pos, pair, Outcome, Is, Out, Undefined, SetOf, Tuple, Value, Context, outcome_in, within, AreLinked, Builds, constant_truth, HasOutcome, HaveOutcomes, HaveRanges, infinite_right, IsConstraint, IsLink, IsTruth, row_value, OnBoth, one_more, one_out, one_undefined, OnOne, OnSeveral, repeated, Several, values, ArrowOutcome, BinaryOutcome, InfixOutcome, ListedOutcome, PrefixOutcome, SignOutcome, UnaryOutcome, IsTold}
+use Rattle.law_total.proofs.Prelude.{[], List, None, Option, refl, Some, ℕ, pos, pair, Outcome, Is, Out, Undefined, SetOf, Tuple, Value, Context, outcome_in, within, AreLinked, Builds, constant_truth, HasOutcome, HaveOutcomes, HaveRanges, infinite_right, IsConstraint, IsLink, IsTruth, row_value, OnBoth, one_more, one_out, one_undefined, OnOne, OnSeveral, repeated, Several, values, ArrowOutcome, BinaryOutcome, InfixOutcome, ListedOutcome, PrefixOutcome, SignOutcome, UnaryOutcome, IsTold, absent, binary, bracket, comprehension, chain, constant, empty_set, link, listed, no_links, no_ranges, no_terms, number, present, quantified, range, Ranges, reference, ResolvedLinks, ResolvedPart, ResolvedTree, term, unary, Infinite, Num, Nat, Nat1, IsConstantOutcome, IsNumberSet, least, IsDifference, IsInterval, IsModulus, IsNegation, IsProduct, IsQuotient, IsSum, one_truth, one_constraint, one_build, one_told_of}
 use Rattle.zf_tree.specs.declared.symbol.Arrow.{Arrow}
 use Rattle.zf_tree.specs.declared.symbol.Arrow.TheVariants as arrow
 use Rattle.zf_tree.specs.declared.symbol.Constant.{Constant}
@@ -16,14 +16,8 @@ use Rattle.zf_tree.specs.declared.operator.Operator.{Operator}
 use Rattle.zf_tree.specs.declared.operator.Operator.TheVariants as operator
 use Rattle.zf_tree.specs.declared.operator.Unary.{Unary}
 use Rattle.zf_tree.specs.declared.operator.Unary.TheVariants as the_unary
-use Rattle.zf_term.specs.{absent, binary, bracket, comprehension, chain, constant, empty_set, link, listed, no_links, no_ranges, no_terms, number, present, quantified, range, Ranges, reference, ResolvedLinks, ResolvedPart, ResolvedTree, term, unary}
 use Rattle.zf_term.specs.ResolvedTrees.{ResolvedTrees}
-use Rattle.zf_term.specs.declared.extent.Infinite.{Infinite}
-use Rattle.zf_term.specs.declared.extent.Infinite.TheVariants.{Num, Nat, Nat1}
-use Rattle.zf_meaning.specs.{IsConstantOutcome, IsNumberSet, least}
 use Rattle.zf_value.specs.declared.value.Truth.TheVariants as truth
-use Rattle.zf_value.specs.{IsDifference, IsInterval, IsModulus, IsNegation, IsProduct, IsQuotient, IsSum}
-use Rattle.zf_meaning.proofs.Unique.{one_truth, one_constraint, one_build, one_told_of}
 use Rattle.law_total.proofs.Listed.{HasSome}
 use Rattle.law_total.proofs.Numbers as numbers
 use Rattle.law_total.proofs.Operations as operations
@@ -92,12 +86,9 @@ some_on_one (Is v) P f = f v
 
 some_on_both : (x y : Outcome) (P : Value → Value → Outcome → Type 0) → ((v w : Value) → HasSome (P v w)) → HasSome (OnBoth x y P)
 some_on_both Out y P f = (Out, refl)
-some_on_both Undefined Out P f = (Out, refl)
-some_on_both Undefined Undefined P f = (Undefined, refl)
-some_on_both Undefined (Is w) P f = (Undefined, refl)
-some_on_both (Is v) Out P f = (Out, refl)
-some_on_both (Is v) Undefined P f = (Undefined, refl)
+some_on_both x Out P f = (Out, refl)
 some_on_both (Is v) (Is w) P f = f v w
+some_on_both x y P f = (Undefined, refl)
 
 pub some_on_several : (s : Several) (P : List Value → Outcome → Type 0) → ((vs : List Value) → HasSome (P vs)) → HasSome (OnSeveral s P)
 some_on_several one_out P f = (Out, refl)
@@ -136,8 +127,7 @@ mutual
   some_outcome c (binary l op a b) =
       let x = some_outcome c a in let y = some_outcome c b in let o = some_on_both x.0 y.0 (BinaryOutcome op) (some_binary op) in
       (o.0, (x.0, y.0, x.1, y.1, o.1))
-  some_outcome c (chain l t ks) = (Undefined, refl)
-  some_outcome c (quantified l q rs f t) = (Undefined, refl)
+  some_outcome c t = (Undefined, refl)
 
   some_several : (c : Context) (ts : ResolvedTrees) → HasSome (HaveOutcomes c ts)
   some_several c no_terms = (values [], refl)
@@ -159,13 +149,7 @@ mutual
   some_truth c (constant l x) = (constant_truth x, refl)
   some_truth c (bracket l t) = some_truth c t
   some_truth c (unary l the_unary.Not t) = some_opposite (λ p. IsTruth c t p) (some_truth c t)
-  some_truth c (unary l (the_unary.Sign s) t) = (truth.False, refl)
-  some_truth c (unary l the_unary.Inverse t) = (truth.False, refl)
   some_truth c (binary l (operator.Connective x) a b) = some_connected x (λ p. IsTruth c a p) (λ q. IsTruth c b q) (some_truth c a) (some_truth c b)
-  some_truth c (binary l (operator.Function x) a b) = (truth.False, refl)
-  some_truth c (binary l (operator.Generic x) a b) = (truth.False, refl)
-  some_truth c (binary l operator.Application a b) = (truth.False, refl)
-  some_truth c (binary l operator.Image a b) = (truth.False, refl)
   some_truth c (chain l t ks) = let x = some_outcome c t in let u = some_linked c x.0 ks in (u.0, (x.0, x.1, u.1))
   some_truth c (quantified l q rs f t) =
       let s = some_ranges c rs in
@@ -173,11 +157,7 @@ mutual
       (λ vs. some_told_of q (λ a. IsConstraint (within c vs) f a) (λ b. IsTruth (within c vs) t b) (some_constraint (within c vs) f) (some_truth (within c vs) t))
       (λ vs m n. one_told_of q (λ a. IsConstraint (within c vs) f a) (λ b. IsTruth (within c vs) t b) (λ a b. one_constraint (within c vs) f a b) (λ a b. one_truth (within c vs) t a b) m n) in
       (u.0, (s.0, s.1, u.1))
-  some_truth c (reference l r) = (truth.False, refl)
-  some_truth c (number l n) = (truth.False, refl)
-  some_truth c (empty_set l t) = (truth.False, refl)
-  some_truth c (listed l form ts) = (truth.False, refl)
-  some_truth c (comprehension l rs f t) = (truth.False, refl)
+  some_truth c t = (truth.False, refl)
 
   some_linked : (c : Context) (x : Outcome) (ks : ResolvedLinks) → HasSome (AreLinked c x ks)
   some_linked c x no_links = (truth.True, refl)

@@ -1,16 +1,11 @@
 -- Atoms, connectives and quantifiers have a truth.
-use Rattle.law_total.proofs.Prelude.{◌∙◌, ◌≡◌, ◌⊎◌, inl, inr, List, None, Option, refl, Some, subst, sym, ℤ, ⊎_elim, ◌<ℤ◌, ◌≤ℤ◌, pos, same_number, AreFrom, members, Outcome, Truth, Int, Value, IsLink, one_out, one_undefined, Several, values, Compares, Holds, HoldsOf, IsIn, HasTwo, IsAtom, IsConjunction, IsConnected, IsExists, IsExistsOne, IsForAll, IsOver, IsQuantified, IsTest, IsTold, opposite, Tells}
-use Rattle.zf_tree.specs.declared.symbol.Connective.{Connective}
+use Rattle.law_total.proofs.Prelude.{◌∙◌, ◌≡◌, ◌⊎◌, inl, inr, List, None, Option, refl, Some, subst, sym, ℤ, ⊎_elim, ◌<ℤ◌, ◌≤ℤ◌, pos, same_number, AreFrom, members, Outcome, Truth, Int, Value, IsLink, one_out, one_undefined, Several, values, Compares, Holds, HoldsOf, IsIn, HasTwo, IsAtom, IsConjunction, IsConnected, IsExists, IsExistsOne, IsForAll, IsOver, IsQuantified, IsTest, IsTold, opposite, Tells, Connective, Infinite, Num, Nat, Nat1, conjunction, connected, connective_of, conjoined, twice, connected-told, told-by}
 use Rattle.zf_tree.specs.declared.symbol.Quantifier.{Quantifier}
 use Rattle.zf_tree.specs.declared.symbol.Quantifier.TheVariants as quantifier
 use Rattle.zf_tree.specs.declared.symbol.Relation.{Relation}
 use Rattle.zf_tree.specs.declared.symbol.Relation.TheVariants as relation
-use Rattle.zf_term.specs.declared.extent.Infinite.{Infinite}
-use Rattle.zf_term.specs.declared.extent.Infinite.TheVariants.{Num, Nat, Nat1}
 use Rattle.zf_value.specs.declared.value.Outcome.TheVariants as outcome
 use Rattle.zf_value.specs.declared.value.Truth.TheVariants.{True, False, Out}
-use Rattle.zf_outcome.specs.{conjunction, connected, connective_of}
-use Rattle.zf_meaning.proofs.Connecting.{conjoined, twice, connected-told, told-by}
 use Rattle.law_total.proofs.Listed.{HasSome, Decided, decided_both, decided_not, decided_same, decided_some, one_or_all, swapped, Listed, listed_none, listed_pairs}
 use Rattle.law_total.proofs.Numbers.{decided_below, decided_at_most, number_or_not}
 use Rattle.law_total.proofs.Values.{same_value, same_row, decided_member, decided_among, listed_rows}
@@ -53,14 +48,7 @@ decided_is_in Nat1 v = decided_number_from (pos 1) v
 decided_holds_of : (s : Infinite) (r : Relation) (v : Value) → Decided (HoldsOf s r v)
 decided_holds_of s relation.Member v = decided_is_in s v
 decided_holds_of s relation.NotMember v = decided_not (decided_is_in s v)
-decided_holds_of s relation.Equal v = inr (λ h. h)
-decided_holds_of s relation.NotEqual v = inr (λ h. h)
-decided_holds_of s relation.Subset v = inr (λ h. h)
-decided_holds_of s relation.ProperSubset v = inr (λ h. h)
-decided_holds_of s relation.Less v = inr (λ h. h)
-decided_holds_of s relation.AtMost v = inr (λ h. h)
-decided_holds_of s relation.Greater v = inr (λ h. h)
-decided_holds_of s relation.AtLeast v = inr (λ h. h)
+decided_holds_of s r v = inr (λ h. h)
 
 -- ---- atoms
 
@@ -70,12 +58,9 @@ some_told P (inr n) = (False, n)
 
 some_atom : (x y : Outcome) (P : Value → Value → Type 0) → ((v w : Value) → Decided (P v w)) → HasSome (IsAtom x y P)
 some_atom outcome.Out y P d = (Out, refl)
-some_atom outcome.Undefined outcome.Out P d = (Out, refl)
-some_atom outcome.Undefined outcome.Undefined P d = (False, refl)
-some_atom outcome.Undefined (outcome.Is w) P d = (False, refl)
-some_atom (outcome.Is v) outcome.Out P d = (Out, refl)
-some_atom (outcome.Is v) outcome.Undefined P d = (False, refl)
+some_atom x outcome.Out P d = (Out, refl)
 some_atom (outcome.Is v) (outcome.Is w) P d = some_told (P v w) (d v w)
+some_atom x y P d = (False, refl)
 
 some_test : (x : Outcome) (P : Value → Type 0) → ((v : Value) → Decided (P v)) → HasSome (IsTest x P)
 some_test outcome.Out P d = (Out, refl)

@@ -1,6 +1,5 @@
 -- Values and members: what is decided of them, and what lists have.
-use Rattle.law_total.proofs.Prelude.{◌↔◌, ◌∙◌, ◌∷◌, ◌≡◌, [], ap, Equal, Greater, inl, inr, Less, List, Ordering, refl, subst, sym, ordering_reverse, contained, member, not_below_itself, exact, parts-Tuple, AreFrom, pair, Relates, IsMember, members, parts, value_order, AreAmong, Value}
-use Rattle.zf_value.specs.contracts.plain.ValueOrd.TheImpl.Laws.{total-law}
+use Rattle.law_total.proofs.Prelude.{◌↔◌, ◌∙◌, ◌∷◌, ◌≡◌, [], ap, Equal, Greater, inl, inr, Less, List, Ordering, refl, subst, sym, ordering_reverse, contained, member, not_below_itself, exact, parts-Tuple, AreFrom, pair, Relates, IsMember, members, parts, value_order, AreAmong, Value, total-law}
 use Rattle.law_total.proofs.Listed.{Decided, decided_all, decided_in, decided_lists, Listed, listed_same, listed_none, listed_one, listed_some, listed_image, listed_pairs}
 
 below_from_above : (x y : Value) → value_order x y ≡ Greater → value_order y x ≡ Less
@@ -49,10 +48,8 @@ twice z x y (inl e) f = listed_same (listed_one (x, y)) (λ p. (λ s. subst (λ 
 twice z x y (inr n) f = listed_none (λ (p : Value × Value). z ≡ pair p.0 p.1) (λ p s. let both = f p.0 p.1 s in n (s ∙ ap (λ u. pair u p.1) both.0 ∙ ap (λ w. pair x w) both.1))
 
 split : (z : Value) (ps : List Value) → parts z ≡ ps → Listed (λ (p : Value × Value). z ≡ pair p.0 p.1)
-split z [] e = listed_none (λ (p : Value × Value). z ≡ pair p.0 p.1) (λ p s. let k = sym e ∙ ap parts s ∙ parts-Tuple (p.0 ∷ p.1 ∷ []) in (cc))
-split z (x ∷ []) e = listed_none (λ (p : Value × Value). z ≡ pair p.0 p.1) (λ p s. let k = sym e ∙ ap parts s ∙ parts-Tuple (p.0 ∷ p.1 ∷ []) in (cc))
 split z (x ∷ y ∷ []) e = twice z x y (same_value z (pair x y)) (λ u w s. let k = sym e ∙ ap parts s ∙ parts-Tuple (u ∷ w ∷ []) in ((cc), (cc)))
-split z (x ∷ y ∷ v ∷ vs) e = listed_none (λ (p : Value × Value). z ≡ pair p.0 p.1) (λ p s. let k = sym e ∙ ap parts s ∙ parts-Tuple (p.0 ∷ p.1 ∷ []) in (cc))
+split z ps e = listed_none (λ (p : Value × Value). z ≡ pair p.0 p.1) (λ p s. let k = sym e ∙ ap parts s ∙ parts-Tuple (p.0 ∷ p.1 ∷ []) in (cc))
 
 -- the pairs of a relation
 pub listed_related : (r : List Value) → Listed (λ (p : Value × Value). Relates r p.0 p.1)

@@ -1,12 +1,8 @@
 -- The lines of what is chosen, one after another.
-use Rattle.zf_engine.proofs.Prelude.{◌++◌, ◌+◌, ◌<◌, ◌∙◌, ◌≡◌, ◌≤◌, ◌∷◌, [], ap, append-nil, Bool, false, length, List, map, refl, Some, sym, true, ℕ}
-use Rattle.std.specs.Prelude.{drop, slice_get}
-use Rattle.std.specs.List.{flat_map}
+use Rattle.zf_engine.proofs.Prelude.{◌++◌, ◌+◌, ◌<◌, ◌∙◌, ◌≡◌, ◌≤◌, ◌∷◌, [], ap, append-nil, Bool, false, length, List, map, refl, Some, sym, true, ℕ, drop, slice_get, flat_map, flat_map-map, stays_out_at}
 use Rattle.std.proofs.lemmas.Grind.{flat_map-append}
-use Rattle.std.proofs.lemmas.List.Folds.{flat_map-map}
 use Rattle.zf_cores.specs.{chosen_of}
 use Rattle.zf_cores.proofs.Choosing.{goes_in, none_further, seen_chosen}
-use Rattle.zf_why.proofs.Lists.{stays_out_at}
 
 module _ {A : Type 0} (f : A → List ℕ) (xs : List A) (m : List Bool) where
   -- the lines are those of what is chosen before the place

@@ -1,8 +1,8 @@
 -- A schema that a well typed text defines can be searched: each conjunct needs the components of the schema alone.
-use Rattle.zf_engine.proofs.Prelude.{◌<◌, ◌∷◌, ◌≡◌, ◌≤◌, [], arith, length, List, Some, suc, take, zero, ℕ, none-some, AreDueWithin, Defined, Schema, schema, ResolvedTree, AreWellTyped, Environment, due_of, property, IsNamed}
-use Rattle.std.specs.Prelude.{slice_get}
+use Rattle.zf_engine.proofs.Prelude.{[], ◌<◌, ◌∷◌, ◌≡◌, ◌≤◌, arith, length, List, Some, suc, take, zero, ℕ, none-some, AreDueWithin, Defined, Schema, schema, ResolvedTree, AreWellTyped, Environment, due_of, property, IsNamed, slice_get}
+use Rattle.zf_schema.proofs.Named.{named_there}
 use Rattle.zf_engine.proofs.Within.{AreDue}
-use Rattle.zf_engine.proofs.OwnComponents.{IsOwn, AreOwn, named_at, own_schema}
+use Rattle.zf_engine.proofs.OwnComponents.{IsOwn, AreOwn, own_schema}
 
 in_front : (i j : ℕ) (g : List Defined) (d : Defined) → slice_get (take i g) j ≡ Some d → (j < i) × (slice_get g j ≡ Some d)
 in_front zero j g d e = absurd (none-some d e)
@@ -28,4 +28,4 @@ each_due n (t ∷ ts) (suc c) h = each_due n ts c h.1
 
 pub due_within : (e : Environment) (g : List Defined) (name : List ℕ) (a : Schema) → AreWellTyped g → IsNamed g name a → AreDueWithin (property e a.conjuncts) (length a.comps)
 due_within e g name a well (place, found) c l =
-    each_due (length a.comps) a.conjuncts c ((all_own g well place name a (named_at name g (place, record { name = name; definition = schema a }) found)).0)
+    each_due (length a.comps) a.conjuncts c ((all_own g well place name a (named_there (λ d. d.name) name g (place, record { name = name; definition = schema a }) found).0).0)

@@ -1,14 +1,6 @@
 -- What is written of a machine is the answer of `reach`, or a part of it: of its exploration, or of a search for a state.
-use Rattle.zf_engine.proofs.Prelude.{◌∷◌, ◌≡◌, ◌⊎◌, [], inl, inr, List, None, Ok, Option, refl, Some, subst, sym, ℕ, Answer, Appends, Environment, Reaches, spellings, Spelling, Status, StopsInSource}
-use Rattle.std.specs.List.{AllByRecursion, AllZip}
-use Rattle.zf_checker.specs.{AreWellTyped}
-use Rattle.zf_command.specs.declared.job.Exploration.{Exploration}
-use Rattle.zf_command.specs.declared.job.Job.TheVariants.{Reach}
-use Rattle.zf_finite.specs.{IsFinite}
-use Rattle.zf_graph.specs.{Ending, IsExplored, IsPart, IsSearched, IsSearchedPart, Result}
-use Rattle.zf_lines.specs.{AppendsFront}
-use Rattle.zf_machines.specs.{all_of, IsMachineOf, Named, Schemas}
-use Rattle.zf_ranges.specs.{IsNoneOut}
+use Rattle.zf_engine.proofs.Prelude.{◌∷◌, ◌≡◌, ◌⊎◌, [], inl, inr, List, None, Ok, Option, refl, Some, subst, sym, ℕ, Answer, Appends, Environment, Reaches, spellings, Spelling, Status, StopsInSource, AllByRecursion, AllZip, AreWellTyped, Exploration, Reach, IsFinite, all_of, IsMachineOf, Named, Schemas, IsNoneOut, ending_status, ExplorationAnswer, ExplorationBegins, form_of, IsSchemaOf, IsSearchable, names_of, result_status, states_limit, TellsMachine}
+use Rattle.zf_graph.specs.{Ending, IsExplored, IsSearched, Result}
 use Rattle.zf_reach.specs.declared.ending.Ending as code
 use Rattle.zf_reach.specs.declared.ending.Ending.TheVariants.{Broken, Ended, Paused}
 use Rattle.zf_reach.specs.declared.finding.Finding.{Finding}
@@ -16,7 +8,6 @@ use Rattle.zf_reach.specs.declared.finding.Finding.TheVariants.{Found, Missing, 
 use Rattle.zf_reach.specs.{ending_of, result_of, StopsEarly, StopsSearch}
 use Rattle.zf_steps.specs.declared.form.Form.{Form}
 use Rattle.zf_steps.specs.{CanSearch, explored_in, sought_in, System, verdict, words}
-use Rattle.zf_engine.specs.{ending_status, ExplorationAnswer, ExplorationBegins, form_of, IsSchemaOf, IsSearchable, names_of, result_status, states_limit, TellsMachine}
 use Rattle.zf_engine.proofs.DueWithin.{due_within}
 use Rattle.zf_engine.proofs.Parts.{nothing_stops}
 use Rattle.zf_engine.proofs.Reaching.{in_order}
@@ -66,18 +57,15 @@ module _ (x : Exploration) (file source : List ℕ) (p : Schemas) (e : Environme
     whole_answer : (ending : Ending) (text : List ℕ) → IsExplored (explored_in m) (words m) (states_limit x) ending text → ExplorationAnswer x file source text (ending_status ending)
     whole_answer ending text w = told_answer None none text (ending_status ending) (record { machine = m; is_of = of; ending = ending; written = w; ends = refl })
 
-    stops_part : (old new : Option (List ℕ)) (text : List ℕ) → IsPart (explored_in m) (words m) (states_limit x) text → AppendsFront old new text → StopsInSource (Reach x) file source old new
-    stops_part old new text (inl nothing) front = nothing_stops (Reach x) file source text old new nothing front
-    stops_part old new text (inr (inl begun)) (f, front, written) = (f, inr (inr (text, ExplorationBegins.turns e.globals p e m none is of begun, front)), written)
-    stops_part old new text (inr (inr (ending, w))) (f, front, written) = (f, inr (inl (text, ending_status ending, inr (whole_answer ending text w), front)), written)
-
     explored_text : (old new : Option (List ℕ)) (ending : code.Ending) (at text : List ℕ) → IsExplored (explored_in m) (words m) (states_limit x) (ending_of ending at) text → Appends old new text
         → Reaches x file source old new (Ok (ending_status (ending_of ending [])))
     explored_text old new ending at text w written =
         (text, subst (λ s. Answer (Reach x) file source text s) (sym (same_status ending at)) (inr (whole_answer (ending_of ending at) text w)), written)
 
     explored_part : (old new : Option (List ℕ)) → StopsEarly (explored_in m) (words m) (states_limit x) old new → StopsInSource (Reach x) file source old new
-    explored_part old new (text, part, front) = stops_part old new text part front
+    explored_part old new (text, inl nothing, front) = nothing_stops (Reach x) file source text old new nothing front
+    explored_part old new (text, inr (inl begun), (f, front, written)) = (f, inr (inr (text, ExplorationBegins.turns e.globals p e m none is of begun, front)), written)
+    explored_part old new (text, inr (inr (ending, w)), (f, front, written)) = (f, inr (inl (text, ending_status ending, inr (whole_answer ending text w), front)), written)
 
   -- ---- where one is sought
   module _ (name : List ℕ) (some : x.sought ≡ Some name) (m : System) (of : IsMachine m) where
@@ -85,18 +73,14 @@ module _ (x : Exploration) (file source : List ℕ) (p : Schemas) (e : Environme
         → ExplorationAnswer x file source text (result_status result)
     whole_search result text w = told_answer (Some name) some text (result_status result) (record { machine = m; is_of = of; result = result; written = w; ends = refl })
 
-    stops_search : (old new : Option (List ℕ)) (text : List ℕ) → IsSearchedPart (explored_in m) (sought_in m) (words m) (verdict m) (states_limit x) text → AppendsFront old new text
-        → StopsInSource (Reach x) file source old new
-    stops_search old new text (inl nothing) front = nothing_stops (Reach x) file source text old new nothing front
-    stops_search old new text (inr (result, w)) (f, front, written) = (f, inr (inl (text, result_status result, inr (whole_search result text w), front)), written)
-
     sought_text : (old new : Option (List ℕ)) (finding : Finding) (at text : List ℕ) → IsSearched (explored_in m) (sought_in m) (words m) (verdict m) (states_limit x) (result_of finding at) text
         → Appends old new text → Reaches x file source old new (Ok (result_status (result_of finding [])))
     sought_text old new finding at text w written =
         (text, subst (λ s. Answer (Reach x) file source text s) (sym (same_result_status finding at)) (inr (whole_search (result_of finding at) text w)), written)
 
     sought_part : (old new : Option (List ℕ)) → StopsSearch (explored_in m) (sought_in m) (words m) (verdict m) (states_limit x) old new → StopsInSource (Reach x) file source old new
-    sought_part old new (text, part, front) = stops_search old new text part front
+    sought_part old new (text, inl nothing, front) = nothing_stops (Reach x) file source text old new nothing front
+    sought_part old new (text, inr (result, w), (f, front, written)) = (f, inr (inl (text, result_status result, inr (whole_search result text w), front)), written)
 
   -- ---- as the functions have it
 

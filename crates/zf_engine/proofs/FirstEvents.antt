@@ -1,20 +1,12 @@
 -- The first event of a search, and what is reported of it.
-use Rattle.zf_engine.proofs.Prelude.{◌++◌, ◌∙◌, ◌∷◌, ◌≡◌, [], ap, List, None, Option, refl, Some, subst, ℕ, Stage, Value, Schema, Environment, portion, property, Goal, spellings, Spelling}
-use Rattle.std.specs.Prelude.{unwrap_or}
-use Rattle.zf_enum.specs.{Begins, conjuncts_of}
-use Rattle.zf_value.specs.{value_order}
+use Rattle.zf_engine.proofs.Prelude.{◌++◌, ◌∙◌, ◌∷◌, ◌≡◌, [], ap, List, None, Option, refl, Some, subst, ℕ, Stage, Value, Schema, Environment, portion, property, Goal, spellings, Spelling, unwrap_or, Begins, conjuncts_of, value_order, Advances, Event, IsNoneAhead, Takes, Done, PastBounds, HasEvents, out_line, row_line, CanBeSearched, environment_in, HasNone, IsBegunOf, line_in, out_line_in, satisfied_line, schema_in, TellsFirst, TellsWhy, Subject}
 use Rattle.zf_value.specs.contracts.plain.ValueOrd.TheImpl.Laws as order_laws
 use Rattle.zf_walk.specs.Conjuncts.{Conjuncts}
-use Rattle.zf_walk.specs.{Advances, Event, IsNoneAhead, Takes}
 use Rattle.zf_walk.specs.declared.judge.Truth.TheVariants.{Out, True}
 use Rattle.zf_walk.specs.declared.step.Step.TheVariants.{Breaks, End, Holds}
 use Rattle.zf_plan.proofs.Alike.{advances}
 use Rattle.zf_why.proofs.Decided.{ends}
-use Rattle.zf_lines.specs.declared.fault.Status.TheVariants.{Done, PastBounds}
-use Rattle.zf_lines.specs.{HasEvents, out_line, row_line}
 use Rattle.zf_lines.proofs.Behind.{Behind, none_behind, one_behind, up_to_end, up_to_last}
-use Rattle.zf_engine.specs.{CanBeSearched, environment_in, HasNone, IsBegunOf, line_in, out_line_in, satisfied_line, schema_in, TellsFirst, TellsWhy}
-use Rattle.zf_engine.specs.declared.subject.Subject.{Subject}
 
 module _ (e : Environment) (a : Schema) (held : List (Option Value)) (g : Goal) (b d : Stage Value) (begun : Begins e a (portion None held) g b) where
   abbrev stated : Conjuncts Value

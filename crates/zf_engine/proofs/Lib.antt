@@ -3,6 +3,7 @@ pub mod Unsized
 pub mod Reported
 pub mod Refusing
 pub mod Parts
+pub mod Lists
 pub mod Within
 pub mod OwnComponents
 pub mod DueWithin

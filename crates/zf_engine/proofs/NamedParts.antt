@@ -1,18 +1,10 @@
 -- The names of components in a text, read one after another.
-use Rattle.zf_engine.proofs.Prelude.{◌++◌, ◌+◌, ◌<◌, ◌==◌, ◌∙◌, ◌∷◌, ◌≡◌, ◌≢◌, ◌≤◌, [], ap, append-nil, arith, Bool, eqb-true, false, get_or, inl, inr, length, length-append, length-take, List, map, None, Option, refl, Some, subst, sym, take, true, ℕ, Comp}
-use Rattle.std.proofs.Common.{append_assoc}
-use Rattle.std.proofs.lemmas.Bool.{cases_lt, eq-eqb}
+use Rattle.zf_engine.proofs.Prelude.{◌++◌, ◌+◌, ◌<◌, ◌==◌, ◌∙◌, ◌∷◌, ◌≡◌, ◌≢◌, ◌≤◌, [], ap, append-nil, arith, Bool, eqb-true, false, get_or, inl, inr, length, length-append, length-take, List, map, None, Option, refl, Some, subst, sym, take, true, ℕ, Comp, append_assoc, cases_lt, eq-eqb, list_any_at, get_or_append_left, get_or_default, map-append, take_all, drop, not, option_map, AllPairs, Contains, after_first, before_first, list_any, position_or_len, slice_split, first_named, component_place, HasNoPlace, is_comma, IsAdded, names_between, NamesParts, trimmed}
 use Rattle.std.proofs.lemmas.Map.Views.{Contains-from_any}
-use Rattle.std.proofs.lemmas.List.Folds.{list_any_at}
-use Rattle.std.proofs.lemmas.List.{get_or_append_left, get_or_default, map-append, take_all}
 use Rattle.std.proofs.Math.Seq.{get_or-append_seam}
 use Rattle.std.proofs.lemmas.List.Quantifiers.{all_pairs_push}
 use Rattle.std.proofs.lemmas.List.Splits.{slice_split_first, slice_split_none}
 use Rattle.std.proofs.lemmas.List.Sums.{fails_before_first, position_or_len_is, prefix_len-le-length}
-use Rattle.std.specs.Prelude.{drop, not, option_map, AllPairs, Contains}
-use Rattle.std.specs.List.{after_first, before_first, list_any, position_or_len, slice_split}
-use Rattle.zf_term.specs.{first_named}
-use Rattle.zf_engine.specs.{component_place, HasNoPlace, is_comma, IsAdded, names_between, NamesParts, trimmed}
 
 -- ---- what stands before the first comma
 

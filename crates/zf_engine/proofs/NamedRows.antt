@@ -1,7 +1,5 @@
 -- The row that is named has a value of each component.
-use Rattle.zf_engine.proofs.Prelude.{◌∷◌, ◌≡◌, [], ap, arith, length, List, None, Option, Some, ℕ, Value, Comp, Environment, IsNamedRow}
-use Rattle.zf_walk.specs.{HasLength}
-use Rattle.zf_meaning.specs.{IsRow}
+use Rattle.zf_engine.proofs.Prelude.{◌∷◌, ◌≡◌, [], ap, arith, length, List, None, Option, Some, ℕ, Value, Comp, Environment, IsNamedRow, HasLength, IsRow}
 
 row_length : (e : Environment) (comps : List Comp) (row : List Value) → IsRow e comps row → length row ≡ length comps
 row_length e [] row h = ap (λ (vs : List Value). length vs) h

@@ -1,19 +1,9 @@
 -- How the parts of an answer that are written come together.
-use Rattle.zf_engine.proofs.Prelude.{◌++◌, ◌∙◌, ◌∷◌, ◌≡◌, ◌⊎◌, [], append-nil, Bool, Err, false, IfOk, inl, inr, List, Ok, None, OnErr, Option, refl, Some, Result, subst, sym, true, ℕ, Appends-kept, Appends-nil, false≢true, Appends, Keeps, Stage, Value, Schema, Environment, spellings, Portion, property, Goal, Status, Answer, AnswersReader, AnswersSource, IsNamedRow, IsSearch, Request, RequestAnswer, ShowAnswer, ShowBegins, StopsInReader, StopsInSource, AnswersRequest, AreMessages, IfAnswered, IsRefused, IsUnexplored, Shows, Tells, ToldOfFaults, wording, Writes, WritesText, Stop, Answered, OutOfMemory}
+use Rattle.zf_engine.proofs.Prelude.{◌++◌, ◌∙◌, ◌∷◌, ◌≡◌, ◌⊎◌, [], append-nil, Bool, Err, false, IfOk, inl, inr, List, Ok, None, OnErr, Option, refl, Some, Result, subst, sym, true, ℕ, Appends-kept, Appends-nil, false≢true, Appends, Keeps, Stage, Value, Schema, Environment, spellings, Portion, property, Goal, Status, Answer, AnswersReader, AnswersSource, IsNamedRow, IsSearch, Request, RequestAnswer, ShowAnswer, ShowBegins, StopsInReader, StopsInSource, AnswersRequest, AreMessages, IfAnswered, IsRefused, IsUnexplored, Shows, Tells, ToldOfFaults, wording, Writes, WritesText, Stop, Answered, OutOfMemory, Exploration, Check, Reach, Show, Why, value_order, Begins, RunFault, Event, IsNumberOfTests, AppendsFront, AreEventsUpTo, FindsEvents, HasEvents, IsBegun, IsSome, IsTestsLine, IsWritten, StopsShown, TellsTests, Wording, WritesAll, ExplorationAnswer, Gave, NamesParts, TellsShown, comps_at, ArePartsWritten, part_wording, StopsParts, WritesParts}
 use Rattle.std.specs.Result.{IsErr}
 use Rattle.zf_command.specs.declared.job.Job.{Job}
-use Rattle.zf_command.specs.declared.job.Exploration.{Exploration}
-use Rattle.zf_command.specs.declared.job.Job.TheVariants.{Check, Reach, Show, Why}
 use Rattle.zf_format.specs.declared.format.Format.{Format}
 use Rattle.zf_format.specs.{messages_in}
-use Rattle.zf_value.specs.{value_order}
-use Rattle.zf_enum.specs.{Begins}
-use Rattle.zf_lines.specs.declared.fault.RunFault.{RunFault}
-use Rattle.zf_walk.specs.{Event, IsNumberOfTests}
-use Rattle.zf_lines.specs.{AppendsFront, AreEventsUpTo, FindsEvents, HasEvents, IsBegun, IsSome, IsTestsLine, IsWritten, StopsShown, TellsTests, Wording, WritesAll}
-use Rattle.zf_engine.specs.{ExplorationAnswer, Gave, NamesParts, TellsShown}
-use Rattle.zf_places.specs.{comps_at}
-use Rattle.zf_parts.specs.{ArePartsWritten, part_wording, StopsParts, WritesParts}
 
 -- ---- answers that are whole
 

@@ -1,17 +1,6 @@
 -- The steps before the first state make answers: refusals, in their order.
-use Rattle.zf_engine.proofs.Prelude.{◌+◌, ◌++◌, ◌<◌, ◌∙◌, ◌∷◌, ◌≡◌, [], ap, Err, get_or, inl, inr, length, List, map, None, Ok, Option, Result, Some, subst, sym, take, ℕ, Defined, Environment, Status, AnswersExploration, Checks, IfAnswered, IsUnexplored, IsUnfit, numbers_of, Reaches, stated, Stop, Tells, TellsMisfit, TellsNumbers}
-use Rattle.std.specs.List.{AllByRecursion, AllZip}
-use Rattle.std.specs.Prelude.{MatchOption, OnOk, option_map, option_to_list}
-use Rattle.std.proofs.lemmas.List.{take_more}
-use Rattle.zf_command.specs.declared.job.Exploration.{Exploration}
-use Rattle.zf_command.specs.declared.job.Job.TheVariants.{Reach}
-use Rattle.zf_finite.specs.{IsFinite}
-use Rattle.zf_lines.specs.declared.fault.RunFault.{RunFault}
-use Rattle.zf_machines.specs.{all_of, FirstFails, HasShape, Named, Schemas}
-use Rattle.zf_meaning.specs.{AreComplete, given_sets, IsEnvironment}
-use Rattle.zf_ranges.specs.{IsNoneOut}
-use Rattle.zf_engine.specs.{AreSchemasOf, AreSmall, HasInfinite, HasLacking, HasOut, HasSchemas, IsBounded, IsSchemaOf, IsSearchable, IsSettled, LacksSchema, names_of, RefusesExploration}
-use Rattle.zf_engine.specs.Explorations.{IsOfSchema}
+use Rattle.zf_engine.proofs.Prelude.{[], ◌+◌, ◌++◌, ◌<◌, ◌∙◌, ◌∷◌, ◌≡◌, ap, Err, get_or, inl, inr, length, List, map, None, Ok, Option, Result, Some, subst, sym, take, ℕ, Defined, Environment, Status, AnswersExploration, Checks, IfAnswered, IsUnexplored, IsUnfit, numbers_of, Reaches, stated, Stop, Tells, TellsMisfit, TellsNumbers, AllByRecursion, AllZip, MatchOption, OnOk, option_map, option_to_list, take_more, Exploration, Reach, IsFinite, RunFault, all_of, FirstFails, HasShape, Named, Schemas, AreComplete, given_sets, IsEnvironment, IsNoneOut, AreSchemasOf, AreSmall, HasInfinite, HasLacking, HasOut, HasSchemas, IsBounded, IsSchemaOf, IsSearchable, IsSettled, LacksSchema, names_of, RefusesExploration, IsOfSchema}
+use Rattle.zf_engine.proofs.Lists.{all_joined}
 use Rattle.zf_engine.proofs.Parts.{reach_refused, told_written}
 use Rattle.zf_engine.proofs.Refusing.{weaker}
 
@@ -40,10 +29,6 @@ pub in_order : (g : List Defined) (x : Exploration) (p : Schemas) → AreSchemas
 in_order g x p are = (are.state, (are.init, zip_joined (IsSchemaOf g) x.operations (option_to_list x.sought) p.operations (option_to_list p.sought) are.operations are.sought))
 
 -- ---- some, and then others
-
-all_joined : {A : Type 0} (P : A → Type 0) (xs ys : List A) → AllByRecursion P xs → AllByRecursion P ys → AllByRecursion P (xs ++ ys)
-all_joined P [] ys all more = more
-all_joined P (x ∷ xs) ys all more = (all.0, all_joined P xs ys all.1 more)
 
 -- what holds of the first ones, and of the last where there is an answer
 pub all_on_ok : {A : Type 0} (P : A → Type 0) (x y : A) (zs us : List A) (result : Result (Unit {0}) Stop) → P x → P y → AllByRecursion P zs → OnOk result (AllByRecursion P us)

@@ -1,18 +1,12 @@
 -- The steps before the first binding make answers: refusals, in their order.
-use Rattle.zf_engine.proofs.Prelude.{◌==◌, ◌∙◌, ◌∷◌, ◌≡◌, ◌⊎◌, [], ap, arith, Bool, Err, false, IfErr, inl, inr, length, List, map, None, Ok, Option, refl, Result, Some, subst, sym, true, ℕ, eqb-true, Value, Comp, Defined, Schema, AreWellTyped, Environment, spellings, Spelling, Status, AreHeld, Checks, HasSchema, IsAsked, IsNamed, IsNamedRow, Request, RefusesRequest, numbers_of, stated, UnreadAnswer, AnswersRequest, IfAnswered, IsRefused, IsUnfit, IsFaultLine, AreSmall, TellsInfinite, TellsMisfit, TellsNoSchema, TellsNumbers, TellsNoRow, TellsNoValues, TellsBounds, TellsMisnamed, TellsOut, TellsPlace, TellsPlaceHeld, Cited, Stop, Answered, OutOfMemory}
-use Rattle.zf_finite.specs.{IsFinite}
+use Rattle.zf_engine.proofs.Prelude.{◌==◌, ◌∙◌, ◌∷◌, ◌≡◌, ◌⊎◌, [], ap, arith, Bool, Err, false, IfErr, inl, inr, length, List, map, None, Ok, Option, refl, Result, Some, subst, sym, true, ℕ, eqb-true, Value, Comp, Defined, Schema, AreWellTyped, Environment, spellings, Spelling, Status, AreHeld, Checks, HasSchema, IsAsked, IsNamed, IsNamedRow, Request, RefusesRequest, numbers_of, stated, UnreadAnswer, AnswersRequest, IfAnswered, IsRefused, IsUnfit, IsFaultLine, AreSmall, TellsInfinite, TellsMisfit, TellsNoSchema, TellsNumbers, TellsNoRow, TellsNoValues, TellsBounds, TellsMisnamed, TellsOut, TellsPlace, TellsPlaceHeld, Cited, Stop, Answered, OutOfMemory, IsFinite, Fault, AreComplete, given_sets, IsEnvironment, AreClear, binding_text, AreShown, NamesParts, row_after, comps_at}
 use Rattle.zf_scan.specs.declared.fault.TextFault.{TextFault}
 use Rattle.zf_scan.specs.{IsWantOfMemory}
 use Rattle.zf_parse.specs.{RefusesSource}
-use Rattle.zf_term.specs.{Fault}
 use Rattle.zf_checker.proofs.WellTyped.{globals_well_typed}
-use Rattle.zf_meaning.specs.{AreComplete, given_sets, IsEnvironment}
-use Rattle.zf_print.specs.{AreClear, binding_text}
 use Rattle.zf_read.specs.{HaveClearNames, IsHeldLine, IsNoHeldLine, IsNoLine}
 use Rattle.law_names.proofs.Clear.{components_clear, globals_clear}
 use Rattle.zf_read.proofs.Chosen.{held_is_line, line_is_held}
-use Rattle.zf_engine.specs.{AreShown, NamesParts, row_after}
-use Rattle.zf_places.specs.{comps_at}
 
 pub weaker : (stop : Stop) {P Q : List ℕ → Status → Type 0} → ((text : List ℕ) (status : Status) → P text status → Q text status) → IfAnswered stop P → IfAnswered stop Q
 weaker (Answered text status) f h = f text.items status h

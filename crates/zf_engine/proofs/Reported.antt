@@ -1,9 +1,6 @@
 -- The lines of faults, one fault after another.
-use Rattle.zf_engine.proofs.Prelude.{◌++◌, ◌+◌, ◌<◌, ◌∙◌, ◌∷◌, ◌≡◌, [], ap, Bool, get_or, length, List, map, subst, sym, take, ℕ, fault_of, AreLines, type_fault_lines}
-use Rattle.std.proofs.lemmas.List.{flat_map_more, map-append, take_more}
-use Rattle.zf_term.specs.{Fault}
+use Rattle.zf_engine.proofs.Prelude.{◌++◌, ◌+◌, ◌<◌, ◌∙◌, ◌∷◌, ◌≡◌, [], ap, Bool, get_or, length, List, map, subst, sym, take, ℕ, fault_of, AreLines, type_fault_lines, flat_map_more, map-append, take_more, Fault, Aside, Reported, reported_lines}
 use Rattle.zf_sorts.specs.declared.fault.TypeFault.{TypeFault}
-use Rattle.zf_messages.specs.{Aside, Reported, reported_lines}
 
 module _ (details : Bool) (file : List ℕ) where
   more_lines : (faults : List Fault) (fault : Fault) (aside : Aside) (lines further : List ℕ) → AreLines details file faults lines → further ≡ type_fault_lines details file fault aside

@@ -1,8 +1,6 @@
 -- The lines of a source, one after another.
-use Rattle.zf_engine.proofs.Prelude.{if◌then◌else◌, ◌+◌, ◌-◌, ◌<◌, ◌==◌, ◌∙◌, ◌∷◌, ◌≡◌, ◌≤◌, ◌++◌, [], ap, append-nil, arith, Bool, eqb-true, false, get_or, length, List, refl, suc, sym, take, true, ℕ}
-use Rattle.std.specs.Prelude.{drop}
+use Rattle.zf_engine.proofs.Prelude.{if◌then◌else◌, ◌+◌, ◌-◌, ◌<◌, ◌==◌, ◌∙◌, ◌∷◌, ◌≡◌, ◌≤◌, ◌++◌, [], ap, append-nil, arith, Bool, eqb-true, false, get_or, length, List, refl, suc, sym, take, true, ℕ, drop, first_line, further_lines, lines_behind}
 use Rattle.std.proofs.lemmas.List.{append_assoc, drop_all, drop_more, take_all, take_more}
-use Rattle.zf_engine.specs.{first_line, further_lines, lines_behind}
 
 -- ---- a byte further
 

@@ -1,12 +1,6 @@
 -- What is asked for can be searched, in the wording of the request.
-use Rattle.zf_engine.proofs.Prelude.{◌∙◌, ◌≡◌, ap, List, None, Option, refl, Some, subst, sym, ℕ, Comp, IsNamedRow, IsSearch, portion, Request, schema_of, spellings, Value, wording}
-use Rattle.zf_lines.specs.{row_wording}
-use Rattle.zf_places.specs.{comps_at}
-use Rattle.zf_parts.specs.{part_wording}
-use Rattle.zf_ranges.specs.{IsNoneOut}
-use Rattle.zf_engine.specs.{AreShown, CanBeSearched, environment_in, IsChosenBy, IsSubjectOf, NamesParts, schema_in, shown_in}
+use Rattle.zf_engine.proofs.Prelude.{◌∙◌, ◌≡◌, ap, List, None, Option, refl, Some, subst, sym, ℕ, Comp, IsNamedRow, IsSearch, portion, Request, schema_of, spellings, Value, wording, row_wording, comps_at, part_wording, IsNoneOut, AreShown, CanBeSearched, environment_in, IsChosenBy, IsSubjectOf, NamesParts, schema_in, shown_in, Subject}
 use Rattle.zf_engine.specs.declared.bounds.Chosen.{Chosen}
-use Rattle.zf_engine.specs.declared.subject.Subject.{Subject}
 use Rattle.zf_engine.proofs.DueWithin.{due_within}
 use Rattle.zf_engine.proofs.Refusing.{after_all, after_some, all_shown, some_shown, well_typed}
 

@@ -1,16 +1,10 @@
 -- The lines of what is reported, one after another.
-use Rattle.zf_engine.proofs.Prelude.{◌++◌, ◌+◌, ◌<◌, ◌∙◌, ◌≡◌, ◌≤◌, ◌∷◌, [], ap, append-nil, arith, get_or, length, List, refl, Result, suc, sym, zero, ℕ}
-use Rattle.std.proofs.Common.{append_assoc}
-use Rattle.std.specs.Prelude.{codes, drop, OnOk, Ok, Err}
-use Rattle.std.specs.List.{flat_map}
-use Rattle.std.proofs.lemmas.List.{drop_all}
+use Rattle.zf_engine.proofs.Prelude.{get_or_default, ◌++◌, ◌+◌, ◌<◌, ◌∙◌, ◌≡◌, ◌≤◌, ◌∷◌, ap, append-nil, get_or, length, List, Result, sym, ℕ, append_assoc, codes, drop, OnOk, Ok, Err, flat_map, drop_all, Spelling, operands_lines, operands_lines_of, outcome_text, side_lines, sides_lines, sides_lines_of, source_line, told_line}
 use Rattle.zf_term.proofs.Walk.{dropped}
 use Rattle.zf_format.specs.declared.format.Format.TheVariants.{Lines}
-use Rattle.zf_print.specs.declared.spelling.Spelling.{Spelling}
 use Rattle.zf_why.specs.declared.told.Operands.{Operands}
 use Rattle.zf_why.specs.declared.told.Sides.{Sides}
 use Rattle.zf_why.specs.declared.told.Told.{Told}
-use Rattle.zf_engine.specs.{operands_lines, operands_lines_of, outcome_text, side_lines, sides_lines, sides_lines_of, source_line, told_line}
 
 module _ {A : Type 0} (f : A → List ℕ) where
   pub one_more : (xs : List A) (i : ℕ) (x : A) (before after whole : List ℕ) → x ≡ get_or xs i x → i < length xs → after ≡ before ++ f x
@@ -22,19 +16,13 @@ module _ {A : Type 0} (f : A → List ℕ) where
   pub no_more : (xs : List A) (i : ℕ) (before whole : List ℕ) → length xs ≤ i → before ++ flat_map f (drop i xs) ≡ whole → before ≡ whole
   no_more xs i before whole past is = sym (append-nil before) ∙ ap (λ ys. before ++ flat_map f ys) (sym (drop_all i xs past)) ∙ is
 
--- what is read past the end plays no part
-same_read : (xs : List ℕ) (i d e : ℕ) → i < length xs → get_or xs i d ≡ get_or xs i e
-same_read [] i d e l = absurd (omega arith)
-same_read (x ∷ xs) zero d e l = refl
-same_read (x ∷ xs) (suc i) d e l = same_read xs i d e (omega arith)
-
 -- what is ahead begins with what is read
 pub read_ahead : (xs : List ℕ) (i d : ℕ) → i < length xs → drop i xs ≡ get_or xs i d ∷ drop (i + 1) xs
-read_ahead xs i d l = dropped xs i (get_or xs i d) l (same_read xs i d (get_or xs i d) l)
+read_ahead xs i d l = dropped xs i (get_or xs i d) l (get_or_default xs i d (get_or xs i d) l)
 
 pub one_read : (f : ℕ → List ℕ) (xs : List ℕ) (i d : ℕ) (before after whole : List ℕ) → i < length xs → after ≡ before ++ f (get_or xs i d)
     → before ++ flat_map f (drop i xs) ≡ whole → after ++ flat_map f (drop (i + 1) xs) ≡ whole
-one_read f xs i d before after whole l step is = one_more f xs i (get_or xs i d) before after whole (same_read xs i d (get_or xs i d) l) l step is
+one_read f xs i d before after whole l step is = one_more f xs i (get_or xs i d) before after whole (get_or_default xs i d (get_or xs i d) l) l step is
 
 module _ (file source : List ℕ) where
   pub all_told : {R E : Type 0} (r : Result R E) (ss : List Spelling) (t : Told) (old first mid new : List ℕ) → first ≡ old ++ source_line file source t.line

@@ -1,10 +1,6 @@
 -- Given sets without a size, listed by going over all of them.
-use Rattle.zf_engine.proofs.Prelude.{◌++◌, ◌+◌, ◌∙◌, ◌∷◌, ◌≡◌, [], ap, List, suc, sym, zero, ℕ, without_size}
-use Rattle.std.proofs.Common.{◌<◌, add-one, arith, drop, get_or, length}
+use Rattle.zf_engine.proofs.Prelude.{◌++◌, ◌+◌, ◌∙◌, ◌∷◌, ◌≡◌, [], ap, List, suc, sym, zero, ℕ, without_size, ◌<◌, add-one, arith, drop, get_or, length, not, list_any, bytes_eq}
 use Rattle.std.proofs.lemmas.List.Elements.{filter-append}
-use Rattle.std.specs.Prelude.{not}
-use Rattle.std.specs.List.{list_any}
-use Rattle.std.specs.Str.{bytes_eq}
 use Rattle.zf_meaning.specs.declared.sizes.Size.{Size}
 use Rattle.zf_messages.proofs.Listing.{more}
 

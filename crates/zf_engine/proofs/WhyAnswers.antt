@@ -1,17 +1,11 @@
 -- What `why` finds is the answer of its request.
-use Rattle.zf_engine.proofs.Prelude.{◌++◌, ◌∙◌, ◌≡◌, ap, Bool, Err, IfOk, inr, List, None, Ok, Option, refl, Result, subst, sym, ℕ, Value, Schema, Environment, portion, Status, Answer, AreHeld, IsAsked, IsNamedRow, Request, RequestAnswer, AnswersRequest, IfAnswered, TellsOut, Stop}
+use Rattle.zf_engine.proofs.Prelude.{◌++◌, ◌∙◌, ◌≡◌, ap, Bool, Err, IfOk, inr, List, None, Ok, Option, refl, Result, subst, sym, ℕ, Value, Schema, Environment, portion, Status, Answer, AreHeld, IsAsked, IsNamedRow, Request, RequestAnswer, AnswersRequest, IfAnswered, TellsOut, Stop, OnOk, Why, IsNoneOut, Done, CanBeSearched, HasNone, no_binding_line, TellsNone, TellsOf, TellsWhy, told_lines, Subject}
 use Rattle.std.proofs.Common.{Global, Vec}
-use Rattle.std.specs.Prelude.{OnOk}
 use Rattle.zf_command.specs.{IsBare}
-use Rattle.zf_command.specs.declared.job.Job.TheVariants.{Why}
-use Rattle.zf_ranges.specs.{IsNoneOut}
-use Rattle.zf_lines.specs.declared.fault.Status.TheVariants.{Done}
 use Rattle.zf_why.specs.{disjunction_at, Explains}
 use Rattle.zf_why.specs.declared.cause.Cause.{Cause}
 use Rattle.zf_why.specs.declared.cause.Cause.TheVariants.{Alone, Empty, Together}
-use Rattle.zf_engine.specs.{CanBeSearched, HasNone, no_binding_line, TellsNone, TellsOf, TellsWhy, told_lines}
 use Rattle.zf_engine.specs.Subjects.{IsOfSchema}
-use Rattle.zf_engine.specs.declared.subject.Subject.{Subject}
 use Rattle.zf_engine.proofs.Refusing.{after_all, all_shown, out_answers}
 
 -- no row is named where none is asked for

@@ -1,52 +1,27 @@
 -- The conjuncts of a schema name its own components alone.
-use Rattle.zf_engine.proofs.Prelude.{if◌then◌else◌, ◌++◌, ◌+◌, ◌<◌, ◌∷◌, ◌≡◌, ◌≤◌, [], ap, arith, Bool, false, length, List, map, None, Option, refl, Some, subst, suc, sym, true, zero, ℕ, bytes_eq, Component, Global, Local, spelling, Links, no_decls, no_trees, Perhaps, Tree, tree, Trees, var_decl, VarDecls, onto_behind, Comp, Defined, first_named, later, binary, bracket, comprehension, chain, constant, empty_set, listed, number, quantified, reference, ResolvedTree, unary, conjuncts, is_and, is_conjunction, moved, references, bound, referent, resolved, resolved_all, resolved_links, resolved_part, resolved_ranges, due, greatest_place, place_named, option_or}
+use Rattle.zf_engine.proofs.Prelude.{[], AllByRecursion, ◌∙◌, if◌then◌else◌, ◌++◌, ◌+◌, ◌<◌, ◌∷◌, ◌≡◌, ◌≤◌, ap, arith, Bool, false, length, List, map, None, Option, refl, Some, subst, sym, true, ℕ, Component, Global, Local, spelling, Links, no_decls, no_trees, Perhaps, Tree, tree, Trees, var_decl, VarDecls, onto_behind, Comp, Defined, first_named, binary, bracket, comprehension, chain, constant, empty_set, listed, quantified, ResolvedTree, unary, conjuncts, is_and, is_conjunction, moved, references, bound, referent, resolved, resolved_all, resolved_links, resolved_part, resolved_ranges, due, greatest_place, place_named, option_or, all_onto, links_onto, onto, part_onto, ranges_onto, component_meaning, global_meaning, last_named, meaning, Scope, Var, variable_meaning}
+use Rattle.std.specs.Prelude.{max}
 use Rattle.zf_tree.specs.Trees as text
 use Rattle.zf_reference.specs.declared.reference.Reference.{Reference}
-use Rattle.zf_term.specs.{all_onto, links_onto, onto, part_onto, ranges_onto}
 use Rattle.zf_reference.specs.{renumbered}
 use Rattle.zf_term.proofs.MovedReferences.{moved_keeps_variables}
-use Rattle.zf_typing.specs.{component_meaning, global_meaning, last_named, meaning, Scope, Var, variable_meaning}
+use Rattle.zf_calculus.proofs.Merging.{known_is}
+use Rattle.zf_engine.proofs.Lists.{all_joined, all_weaker}
 
 -- ---- places
 
--- no reference names a component after the first n
-pub push : (n : ℕ) (rs : List Reference) (r : Reference) → greatest_place rs ≤ n → place_named r ≤ n → greatest_place (rs ++ r ∷ []) ≤ n
-push n [] r h k = omega (arith, k)
-push n (q ∷ rs) r h k = let ih = push n rs r (omega (arith, h)) k in omega (arith, h, ih)
+greatest_joined : (rs qs : List Reference) → greatest_place (rs ++ qs) ≡ max (greatest_place rs) (greatest_place qs)
+greatest_joined [] qs = omega arith
+greatest_joined (r ∷ rs) qs = omega (arith, greatest_joined rs qs)
 
-pub joins : (n : ℕ) (rs qs : List Reference) → greatest_place rs ≤ n → greatest_place qs ≤ n → greatest_place (rs ++ qs) ≤ n
-joins n [] qs h k = k
-joins n (r ∷ rs) qs h k = let ih = joins n rs qs (omega (arith, h)) k in omega (arith, h, ih)
+-- what a term names after others
+pub greatest_onto : (rs : List Reference) (t : ResolvedTree) → greatest_place (onto rs t) ≡ max (greatest_place rs) (due t)
+greatest_onto rs t = ap greatest_place (onto_behind rs t) ∙ greatest_joined rs (references t)
 
-pub first_part : (n : ℕ) (rs qs : List Reference) → greatest_place (rs ++ qs) ≤ n → greatest_place rs ≤ n
-first_part n [] qs h = omega arith
-first_part n (r ∷ rs) qs h = let ih = first_part n rs qs (omega (arith, h)) in omega (arith, h, ih)
-
-pub last_part : (n : ℕ) (rs qs : List Reference) → greatest_place (rs ++ qs) ≤ n → greatest_place qs ≤ n
-last_part n [] qs h = h
-last_part n (r ∷ rs) qs h = last_part n rs qs (omega (arith, h))
+pub due_both : (a b : ResolvedTree) → greatest_place (onto (onto [] a) b) ≡ max (due a) (due b)
+due_both a b = greatest_onto (references a) b
 
 -- ---- names
-
-later_below : {A : Type 0} (n : ℕ) (o : Option (ℕ × A)) → ((p : ℕ × A) → o ≡ Some p → p.0 < n) → (p : ℕ × A) → later o ≡ Some p → p.0 < suc n
-later_below n None h p e = cc
-later_below n (Some q) h p e = let k = h q refl in let f : q.0 + 1 ≡ p.0 = ap place e in omega (arith, k, f)
-  where
-    place : {A : Type 0} → Option (ℕ × A) → ℕ
-    place None = zero
-    place (Some r) = r.0
-
-pub first_below : {A : Type 0} (name : A → List ℕ) (x : List ℕ) (xs : List A) (p : ℕ × A) → first_named name x xs ≡ Some p → p.0 < length xs
-first_below name x [] p e = cc
-first_below {A} name x (a ∷ rest) p e = go (bytes_eq (name a) x) (first_below name x rest) e
-  where
-    place : Option (ℕ × A) → ℕ
-    place None = zero
-    place (Some r) = r.0
-
-    go : (b : Bool) → ((q : ℕ × A) → first_named name x rest ≡ Some q → q.0 < length rest) → (if b then Some (0, a) else later (first_named name x rest)) ≡ Some p → p.0 < suc (length rest)
-    go true ih f = let g : 0 ≡ p.0 = ap place f in omega (arith, g)
-    go false ih f = later_below (length rest) (first_named name x rest) ih p f
 
 named_within : (n : ℕ) (s : Scope) (x : List ℕ) → length s.comps ≤ n → place_named (referent (meaning s x)) ≤ n
 named_within n s x h = local (last_named (λ v. v.name) x s.locals)
@@ -62,14 +37,15 @@ named_within n s x h = local (last_named (λ v. v.name) x s.locals)
 
     local : (o : Option (ℕ × Var)) → place_named (referent (option_or (variable_meaning o)
         (option_or (component_meaning (first_named (λ c. c.name) x s.comps)) (global_meaning (first_named (λ d. d.name) x s.globals))))) ≤ n
-    local None = component (first_named (λ c. c.name) x s.comps) (first_below (λ c. c.name) x s.comps)
+    local None = component (first_named (λ c. c.name) x s.comps) (λ p e. (known_is x s.comps p.1 p.0 e).0)
     local (Some p) = omega arith
 
 -- ---- terms of a text
 
 mutual
   pub term_within : (n : ℕ) (s : Scope) (rs : List Reference) (e : Tree) → length s.comps ≤ n → greatest_place rs ≤ n → greatest_place (onto rs (resolved s e)) ≤ n
-  term_within n s rs (text.named m) h k = push n rs (referent (meaning s (spelling m))) k (named_within n s (spelling m) h)
+  term_within n s rs (text.named m) h k =
+      let r = referent (meaning s (spelling m)) in let here = named_within n s (spelling m) h in let all = greatest_joined rs (r ∷ []) in omega (arith, k, here, all)
   term_within n s rs (text.numeral l v) h k = k
   term_within n s rs (text.constant l c) h k = k
   term_within n s rs (text.empty_set l e) h k = term_within n s rs e h k
@@ -106,27 +82,15 @@ resolved_within s e = term_within (length s.comps) s [] e (omega arith) (omega a
 
 -- ---- conjuncts
 
+-- each names components among the first n alone
 abbrev pub AreDue : ℕ → List ResolvedTree → Type 0
-AreDue n [] = Unit {0}
-AreDue n (t ∷ ts) = (due t ≤ n) × AreDue n ts
+AreDue n ts = AllByRecursion (λ t. due t ≤ n) ts
 
 pub due_joined : (n : ℕ) (ts us : List ResolvedTree) → AreDue n ts → AreDue n us → AreDue n (ts ++ us)
-due_joined n [] us h k = k
-due_joined n (t ∷ ts) us h k = (h.0, due_joined n ts us h.1 k)
+due_joined n ts us h k = all_joined (λ t. due t ≤ n) ts us h k
 
 pub due_longer : (n m : ℕ) (ts : List ResolvedTree) → n ≤ m → AreDue n ts → AreDue m ts
-due_longer n m [] l h = tt
-due_longer n m (t ∷ ts) l h = (let k = h.0 in omega (arith, k, l), due_longer n m ts l h.1)
-
--- the references of two operands
-due_left : (n : ℕ) (a b : ResolvedTree) → greatest_place (onto (onto [] a) b) ≤ n → due a ≤ n
-due_left n a b h = first_part n (references a) (references b) (subst (λ rs. greatest_place rs ≤ n) (onto_behind (references a) b) h)
-
-due_right : (n : ℕ) (a b : ResolvedTree) → greatest_place (onto (onto [] a) b) ≤ n → due b ≤ n
-due_right n a b h = last_part n (references a) (references b) (subst (λ rs. greatest_place rs ≤ n) (onto_behind (references a) b) h)
-
-pub due_both : (n : ℕ) (a b : ResolvedTree) → due a ≤ n → due b ≤ n → greatest_place (onto (onto [] a) b) ≤ n
-due_both n a b h k = subst (λ rs. greatest_place rs ≤ n) (sym (onto_behind (references a) b)) (joins n (references a) (references b) h k)
+due_longer n m ts l h = all_weaker (λ t. due t ≤ n) (λ t. due t ≤ m) (λ t k. omega (arith, k, l)) ts h
 
 pub conjuncts_due : (n : ℕ) (t : ResolvedTree) → due t ≤ n → AreDue n (conjuncts t)
 conjuncts_due n (bracket l t) h = go (is_conjunction t) (conjuncts_due n t h)
@@ -134,20 +98,13 @@ conjuncts_due n (bracket l t) h = go (is_conjunction t) (conjuncts_due n t h)
     go : (b : Bool) → AreDue n (conjuncts t) → AreDue n (if b then conjuncts t else bracket l t ∷ [])
     go true k = k
     go false k = (h, tt)
-conjuncts_due n (binary l op a b) h = go (is_and op) (conjuncts_due n a (due_left n a b h)) (conjuncts_due n b (due_right n a b h))
+conjuncts_due n (binary l op a b) h =
+    let both = due_both a b in go (is_and op) (conjuncts_due n a (omega (arith, h, both))) (conjuncts_due n b (omega (arith, h, both)))
   where
     go : (c : Bool) → AreDue n (conjuncts a) → AreDue n (conjuncts b) → AreDue n (if c then conjuncts a ++ conjuncts b else binary l op a b ∷ [])
     go true k m = due_joined n (conjuncts a) (conjuncts b) k m
     go false k m = (h, tt)
-conjuncts_due n (reference l r) h = (h, tt)
-conjuncts_due n (number l v) h = (h, tt)
-conjuncts_due n (constant l c) h = (h, tt)
-conjuncts_due n (empty_set l t) h = (h, tt)
-conjuncts_due n (listed l f ts) h = (h, tt)
-conjuncts_due n (comprehension l rs p t) h = (h, tt)
-conjuncts_due n (unary l op t) h = (h, tt)
-conjuncts_due n (chain l t ks) h = (h, tt)
-conjuncts_due n (quantified l q rs p t) h = (h, tt)
+conjuncts_due n t h = (h, tt)
 
 -- ---- components numbered anew
 

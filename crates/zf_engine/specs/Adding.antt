@@ -1,6 +1,6 @@
 -- One more place of a component. No public clause rests on this file.
 use Rattle.std.specs.Prelude.{◌≡◌, ◌⊎◌, ℕ, List, [], ◌∷◌, ◌++◌, Some, None, Contains}
-use Rattle.zf_term.specs.{Comp}
+use Rattle.zf_engine.specs.Prelude.{Comp}
 use Rattle.zf_engine.specs.SourceLines.{trimmed}
 use Rattle.zf_engine.specs.Only.{component_place}
 

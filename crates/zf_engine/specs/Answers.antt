@@ -1,35 +1,10 @@
 -- What a run writes and answers, by the first case that applies.
 use Rattle.std.specs.Prelude.{◌≡◌, ◌≢◌, ◌⊎◌, ℕ, Bool, if◌then◌else◌, List, [], ◌∷◌, ◌++◌, Option, Some, None, IsSomeAnd, slice_get, MatchOption}
-use Rattle.std.specs.Io.KnownBytes.{Appends}
-use Rattle.zf_command.specs.declared.job.Job.{Job}
-use Rattle.zf_command.specs.declared.job.Job.TheVariants.{Check, Reach, Show, Why}
-use Rattle.zf_command.specs.declared.job.Request.{Request}
-use Rattle.zf_command.specs.{IsBare}
-use Rattle.zf_format.specs.declared.format.Format.{Format}
+use Rattle.zf_engine.specs.Prelude.{Appends, Job, Check, Reach, Show, Why, Request, IsBare, Format, NotFinite, causes, IsFinite, TextFault, RefusesSource, Comp, Defined, Fault, Schema, first, Value, Event, SizeFault, OutOfMemory, AreComplete, Environment, given_sets, IsEnvironment, IsRefusal, IsRow, Portion, IsFirstOut, IsNoneOut, binding_text, spellings, IsLineOfSome, Status, Done, BadSpec, BadRequest, PastBounds, comps_at, HasEvents, HasLimit, IsBegun, IsTestsLine, IsWritten, row_wording, Wording, AreLines, Cited, declared_out_line, IsReportedBeside, no_schema_lines, not_a_binding_line, not_components_line, not_finite_lines, not_held_line, numbers_too_large_line, text_fault_lines}
 use Rattle.zf_checker.specs.{listing}
-use Rattle.zf_finite.specs.declared.not_finite.NotFinite.{NotFinite}
-use Rattle.zf_finite.specs.{causes, IsFinite}
-use Rattle.zf_scan.specs.declared.fault.TextFault.{TextFault}
-use Rattle.zf_parse.specs.{RefusesSource}
-use Rattle.zf_term.specs.{Comp, Defined, Fault, Schema}
-use Rattle.zf_extent.specs.{first}
-use Rattle.zf_value.specs.declared.plain.Value.{Value}
-use Rattle.zf_walk.specs.{Event}
-use Rattle.zf_meaning.specs.declared.sizes.SizeFault.{SizeFault}
-use Rattle.zf_meaning.specs.declared.sizes.SizeFault.TheVariants.{OutOfMemory}
-use Rattle.zf_meaning.specs.{AreComplete, Environment, given_sets, IsEnvironment, IsRefusal, IsRow}
-use Rattle.zf_enum.specs.{Portion}
-use Rattle.zf_ranges.specs.{IsFirstOut, IsNoneOut}
-use Rattle.zf_print.specs.{binding_text, spellings}
-use Rattle.zf_read.specs.{IsLineOfSome}
-use Rattle.zf_lines.specs.declared.fault.Status.{Status}
-use Rattle.zf_lines.specs.declared.fault.Status.TheVariants.{Done, BadSpec, BadRequest, PastBounds}
 use Rattle.zf_lines.specs.Faults.{IsFront}
 use Rattle.zf_parts.specs.{ArePartsWritten, HasParts, Part, part_wording}
-use Rattle.zf_places.specs.{comps_at}
 use Rattle.zf_engine.specs.Faults.{Gave}
-use Rattle.zf_lines.specs.{HasEvents, HasLimit, IsBegun, IsTestsLine, IsWritten, row_wording, Wording}
-use Rattle.zf_messages.specs.{AreLines, Cited, declared_out_line, IsReportedBeside, no_schema_lines, not_a_binding_line, not_components_line, not_finite_lines, not_held_line, numbers_too_large_line, text_fault_lines}
 use Rattle.zf_engine.specs.Explorations.{ExplorationAnswer, ExplorationBegins}
 use Rattle.zf_engine.specs.Numbers.{AreSmall, AreTooLarge}
 use Rattle.zf_engine.specs.Only.{AreShown, NamesNoParts, NamesParts}

@@ -1,11 +1,6 @@
 -- The lines of a cause, as the program has it. No public clause rests on this file.
 use Rattle.std.specs.Prelude.{ℕ, List}
-use Rattle.zf_format.specs.declared.format.Format.{Format}
-use Rattle.zf_print.specs.declared.spelling.Spelling.{Spelling}
-use Rattle.zf_term.specs.{Schema}
-use Rattle.zf_cores.specs.{chosen_of}
-use Rattle.zf_why.specs.declared.cause.Cause.{Cause}
-use Rattle.zf_why.specs.declared.cause.Cause.TheVariants.{Empty, Alone, Together}
+use Rattle.zf_engine.specs.Prelude.{Format, Spelling, Schema, chosen_of, Cause, Empty, Alone, Together}
 use Rattle.zf_engine.specs.Reasons.{empty_lines, told_lines}
 
 -- the components without a value, or what is reported of the conjuncts that are to blame

@@ -1,27 +1,15 @@
 -- What `reach` answers: its schemas, by which it is refused, and the text of what can be reached, or of a search for a state.
 use Rattle.std.specs.Prelude.{◌≡◌, ◌++◌, ℕ, List, [], ◌∷◌, cond, Option, None, Some, option_to_list, unwrap_or}
-use Rattle.std.specs.List.{AllByRecursion, AllZip}
-use Rattle.zf_command.specs.declared.job.Exploration.{Exploration}
+use Rattle.zf_engine.specs.Prelude.{AllByRecursion, AllZip, Exploration, Format, Lines, Objects, Defined, Schema, IsFinite, AreComplete, Environment, given_sets, IsEnvironment, IsNoneOut, spellings, all_of, FirstFails, HasShape, IsMachineOf, LacksFirst, Named, Schemas, Status, BadRequest, Done, PastBounds, no_component_line}
 use Rattle.zf_command.specs.declared.limit.TheConstants.{STATES_MAX}
-use Rattle.zf_format.specs.declared.format.Format.{Format}
-use Rattle.zf_format.specs.declared.format.Format.TheVariants.{Lines, Objects}
-use Rattle.zf_term.specs.{Defined, Schema}
-use Rattle.zf_finite.specs.{IsFinite}
-use Rattle.zf_meaning.specs.{AreComplete, Environment, given_sets, IsEnvironment}
-use Rattle.zf_ranges.specs.{IsNoneOut}
-use Rattle.zf_print.specs.{spellings}
 use Rattle.zf_graph.specs.Seeking as seeking
 use Rattle.zf_graph.specs.Texts as graph
 use Rattle.zf_graph.specs.{broken, ended, Ending, paused}
 use Rattle.zf_steps.specs.declared.form.Form.{Form}
 use Rattle.zf_steps.specs.declared.form.Form.TheVariants as form
 use Rattle.zf_steps.specs.{explored_in, sought_in, System, verdict, words}
-use Rattle.zf_machines.specs.{all_of, FirstFails, HasShape, IsMachineOf, LacksFirst, Named, Schemas}
-use Rattle.zf_lines.specs.declared.fault.Status.{Status}
-use Rattle.zf_lines.specs.declared.fault.Status.TheVariants.{BadRequest, Done, PastBounds}
 use Rattle.zf_engine.specs.Numbers.{AreSmall}
 use Rattle.zf_engine.specs.Settings.{AreMessages, Checks, IsNamed, numbers_of, stated, TellsFaults, TellsInfinite, TellsMisfit, TellsNoSchema, TellsNumbers, TellsOut}
-use Rattle.zf_messages.specs.{no_component_line}
 
 -- ---- what is asked for
 

@@ -1,3 +1,4 @@
+pub mod Prelude
 pub mod Faults
 pub mod SourceLines
 pub mod Objects

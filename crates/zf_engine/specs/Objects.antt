@@ -1,15 +1,7 @@
 -- The objects of a cause: what `why` tells of a component or a conjunct, for programs.
 use Rattle.std.specs.Prelude.{ℕ, List, [], ◌++◌, codes, decimal, map, Option, Some, None}
-use Rattle.zf_format.specs.{string_text}
-use Rattle.zf_term.specs.{Comp, sets_of}
-use Rattle.zf_finite.specs.{first_plain}
-use Rattle.zf_value.specs.declared.value.Outcome.{Outcome}
+use Rattle.zf_engine.specs.Prelude.{string_text, Comp, sets_of, first_plain, Outcome, Spelling, parted, value_object, Operands, Sides, Told}
 use Rattle.zf_value.specs.declared.value.Outcome.TheVariants as outcome
-use Rattle.zf_print.specs.declared.spelling.Spelling.{Spelling}
-use Rattle.zf_print.specs.{parted, value_object}
-use Rattle.zf_why.specs.declared.told.Operands.{Operands}
-use Rattle.zf_why.specs.declared.told.Sides.{Sides}
-use Rattle.zf_why.specs.declared.told.Told.{Told}
 use Rattle.zf_engine.specs.SourceLines.{line_numbered, trimmed}
 
 abbrev pub file_member : (file : List ℕ) → List ℕ

@@ -1,8 +1,6 @@
 -- Which components the lines of `show` have: those that a text names, parted by commas, or all.
 use Rattle.std.specs.Prelude.{◌≡◌, ◌≢◌, ℕ, ◌==◌, Bool, List, map, Option, Some, None, option_map, AllPairs}
-use Rattle.std.specs.List.{slice_split}
-use Rattle.zf_term.specs.{Comp, first_named}
-use Rattle.zf_places.specs.{comps_at}
+use Rattle.zf_engine.specs.Prelude.{slice_split, Comp, first_named, comps_at}
 use Rattle.zf_engine.specs.SourceLines.{trimmed}
 
 -- the comma, which is the byte 44

@@ -1,30 +1,10 @@
 -- What `why` tells of a search: its first event, or why there is none.
 use Rattle.std.specs.Prelude.{◌≡◌, ℕ, Bool, List, [], ◌∷◌, ◌++◌, codes, Option, Some, None}
-use Rattle.std.specs.List.{flat_map}
-use Rattle.zf_format.specs.declared.format.Format.{Format}
-use Rattle.zf_format.specs.declared.format.Format.TheVariants.{Lines, Objects}
-use Rattle.zf_term.specs.{Comp, Defined, ResolvedTree, Schema, sets_of}
-use Rattle.zf_finite.specs.{first_plain}
-use Rattle.zf_value.specs.declared.plain.Value.{Value}
-use Rattle.zf_value.specs.declared.value.Outcome.{Outcome}
+use Rattle.zf_engine.specs.Prelude.{flat_map, Format, Lines, Objects, Comp, Defined, ResolvedTree, Schema, sets_of, first_plain, Value, Outcome, Event, Environment, Portion, Spelling, spellings, value_text, chosen_of, Operands, Sides, Told, AreTold, EmptiedBy, nothing_beside, others_beside, RefutedBy, RefutedTogetherBy, Status, Done, PastBounds, HasEvents, out_line, row_line, fault_line}
 use Rattle.zf_value.specs.declared.value.Outcome.TheVariants as outcome
 use Rattle.zf_walk.specs.declared.judge.Truth.TheVariants.{True, Out}
-use Rattle.zf_walk.specs.{Event}
-use Rattle.zf_meaning.specs.{Environment}
-use Rattle.zf_enum.specs.{Portion}
-use Rattle.zf_print.specs.declared.spelling.Spelling.{Spelling}
-use Rattle.zf_print.specs.{spellings, value_text}
-use Rattle.zf_cores.specs.{chosen_of}
-use Rattle.zf_why.specs.declared.told.Operands.{Operands}
-use Rattle.zf_why.specs.declared.told.Sides.{Sides}
-use Rattle.zf_why.specs.declared.told.Told.{Told}
-use Rattle.zf_why.specs.{AreTold, EmptiedBy, nothing_beside, others_beside, RefutedBy, RefutedTogetherBy}
-use Rattle.zf_lines.specs.declared.fault.Status.{Status}
-use Rattle.zf_lines.specs.declared.fault.Status.TheVariants.{Done, PastBounds}
-use Rattle.zf_lines.specs.{HasEvents, out_line, row_line}
 use Rattle.zf_engine.specs.Objects.{empty_object, told_object}
 use Rattle.zf_engine.specs.SourceLines.{line_numbered, trimmed}
-use Rattle.zf_messages.specs.{fault_line}
 
 -- ---- the lines of a cause
 

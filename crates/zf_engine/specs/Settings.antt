@@ -1,27 +1,11 @@
 -- What `show`, `why` and `reach` share: what a source defines, the sizes and the greatest number that are stated, and what is reported where these or a schema are refused.
 use Rattle.std.specs.Prelude.{◌≡◌, ◌≢◌, ℕ, Bool, not, List, [], ◌++◌, map, Option, Some, None, slice_get}
-use Rattle.std.specs.List.{filter, list_any}
-use Rattle.std.specs.Str.{bytes_eq}
+use Rattle.zf_engine.specs.Prelude.{filter, list_any, bytes_eq, Format, messages_in, NotFinite, causes, ReadsSource, BoxTree, Comp, Defined, Fault, first_named, Schema, schema, first, SizeFault, NoSize, NotGiven, SizeTwice, SizeTooLarge, Environment, given_sets, IsRefusal, IsFirstOut, Status, BadSpec, BadRequest, PastBounds, AreLines, declared_out_line, IsReportedBeside, no_schema_lines, no_size_lines, not_finite_lines, not_given_line, numbers_too_large_line, size_too_large_line, size_twice_line}
 use Rattle.zf_command.specs.declared.job.Setting.{Setting}
 use Rattle.zf_command.specs.declared.job.Size as command
-use Rattle.zf_format.specs.declared.format.Format.{Format}
-use Rattle.zf_format.specs.{messages_in}
 use Rattle.zf_schema.specs.{IsChecked}
-use Rattle.zf_finite.specs.declared.not_finite.NotFinite.{NotFinite}
-use Rattle.zf_finite.specs.{causes}
-use Rattle.zf_parse.specs.{ReadsSource}
-use Rattle.zf_tree.specs.{BoxTree}
-use Rattle.zf_term.specs.{Comp, Defined, Fault, first_named, Schema, schema}
-use Rattle.zf_extent.specs.{first}
 use Rattle.zf_meaning.specs.declared.sizes.Size.{Size}
-use Rattle.zf_meaning.specs.declared.sizes.SizeFault.{SizeFault}
 use Rattle.zf_meaning.specs.declared.sizes.SizeFault.TheVariants as size_faults
-use Rattle.zf_meaning.specs.declared.sizes.SizeFault.TheVariants.{NoSize, NotGiven, SizeTwice, SizeTooLarge}
-use Rattle.zf_meaning.specs.{Environment, given_sets, IsRefusal}
-use Rattle.zf_ranges.specs.{IsFirstOut}
-use Rattle.zf_lines.specs.declared.fault.Status.{Status}
-use Rattle.zf_lines.specs.declared.fault.Status.TheVariants.{BadSpec, BadRequest, PastBounds}
-use Rattle.zf_messages.specs.{AreLines, declared_out_line, IsReportedBeside, no_schema_lines, no_size_lines, not_finite_lines, not_given_line, numbers_too_large_line, size_too_large_line, size_twice_line}
 use Rattle.zf_engine.specs.Numbers.{AreTooLarge}
 
 -- a tree reads the source; it defines these globals, and has these faults of types

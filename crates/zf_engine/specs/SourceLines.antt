@@ -1,6 +1,6 @@
 -- The lines of a source. Each ends before a newline byte, which is 10, or with the source.
 use Rattle.std.specs.Prelude.{ℕ, zero, suc, ◌+◌, ◌-◌, ◌==◌, if◌then◌else◌, List, [], ◌∷◌, length, take, drop}
-use Rattle.std.specs.List.{prefix_len, suffix_len}
+use Rattle.zf_engine.specs.Prelude.{prefix_len, suffix_len}
 use Rattle.std.specs.Char.{is_ascii_whitespace}
 
 abbrev pub first_line : List ℕ → List ℕ

@@ -1,10 +1,7 @@
 -- The status that a process ends with, by what its words ask for.
 use Rattle.std.specs.Prelude.{◌≡◌, ◌⊎◌, ℕ, List, []}
+use Rattle.zf_engine.specs.Prelude.{Job, IsAsked, IsRefused, Status, number}
 use Rattle.zf_command.specs.declared.job.Asked.TheVariants.{About, Work}
-use Rattle.zf_command.specs.declared.job.Job.{Job}
-use Rattle.zf_command.specs.{IsAsked, IsRefused}
-use Rattle.zf_lines.specs.declared.fault.Status.{Status}
-use Rattle.zf_lines.specs.{number}
 use Rattle.zf_engine.specs.Answers.{Answer}
 use Rattle.zf_command.specs.declared.job.UsageFault.{UsageFault}
 use Rattle.zf_command.specs.declared.job.UsageFault.TheVariants.{BadWords, OutOfMemory}

@@ -1,30 +1,15 @@
 -- What the steps of an answer ensure. No public clause rests on this file.
 use Rattle.std.specs.Prelude.{◌≡◌, ◌≢◌, ◌⊎◌, ℕ, Bool, List, [], Option, Result, Ok, Err, Vec}
-use Rattle.std.specs.declared.alloc.Global.{Global}
-use Rattle.std.specs.Io.KnownBytes.{Appends}
-use Rattle.zf_command.specs.declared.job.Job.TheVariants.{Reach, Show}
-use Rattle.zf_scan.specs.declared.fault.TextFault.{TextFault}
+use Rattle.zf_engine.specs.Prelude.{Global, Appends, Reach, Show, TextFault, Comp, Defined, Value, Environment, Status, BadSpec, BadRequest, Exploration, Request, AppendsFront, Cited, not_a_binding_line, not_components_line, not_held_line, text_fault_lines, Job, Format, messages_in}
 use Rattle.zf_scan.specs.declared.fault.TextFaultKind.TheVariants as text_faults
-use Rattle.zf_term.specs.{Comp, Defined}
-use Rattle.zf_value.specs.declared.plain.Value.{Value}
-use Rattle.zf_meaning.specs.{Environment}
 use Rattle.zf_lines.specs.declared.fault.RunFault.{RunFault}
-use Rattle.zf_lines.specs.declared.fault.Status.{Status}
-use Rattle.zf_lines.specs.declared.fault.Status.TheVariants.{BadSpec, BadRequest}
 use Rattle.zf_engine.specs.declared.stop.Stop.{Stop}
 use Rattle.zf_engine.specs.declared.stop.Stop.TheVariants.{Answered, OutOfMemory}
-use Rattle.zf_command.specs.declared.job.Exploration.{Exploration}
-use Rattle.zf_command.specs.declared.job.Request.{Request}
 use Rattle.zf_engine.specs.Answers.{AnswersSource, CheckAnswer, HoldsNoValues, IsNamedRow, NamesNoRow, RefusesRequest, UnreadAnswer, IsPartOfAnswer}
 use Rattle.zf_engine.specs.Only.{AreShown, NamesNoParts}
 use Rattle.zf_engine.specs.Adding.{HasNoPlace}
 use Rattle.zf_engine.specs.Settings.{Checks, TellsFaults}
-use Rattle.zf_lines.specs.{AppendsFront}
-use Rattle.zf_messages.specs.{Cited, not_a_binding_line, not_components_line, not_held_line, text_fault_lines}
 use Rattle.zf_engine.specs.Explorations.{RefusesExploration}
-use Rattle.zf_command.specs.declared.job.Job.{Job}
-use Rattle.zf_format.specs.declared.format.Format.{Format}
-use Rattle.zf_format.specs.{messages_in}
 
 abbrev pub StopsInSource : Job → List ℕ → List ℕ → Option (List ℕ) → Option (List ℕ) → Type 0
 StopsInSource job file source old new = (written : List ℕ) × IsPartOfAnswer job file source written × Appends old new written

@@ -1,24 +1,10 @@
 -- A schema in an environment, and what `why` finds of it. No public clause rests on this file.
 use Rattle.std.specs.Prelude.{◌≡◌, ℕ, Bool, List, [], ◌++◌, length, Option, Some, None, IsSomeAnd, option_map, Vec}
-use Rattle.std.specs.declared.alloc.Global.{Global}
-use Rattle.zf_term.specs.{Comp, Schema, schema_of}
-use Rattle.zf_finite.specs.{IsFinite}
-use Rattle.zf_value.specs.declared.plain.Value.{Value}
-use Rattle.zf_walk.specs.{AreDueWithin, Stage}
-use Rattle.zf_meaning.specs.{Environment, environment_of}
-use Rattle.zf_enum.specs.{Begins, Goal, Portion, portion, property}
-use Rattle.zf_print.specs.{spellings}
-use Rattle.zf_why.specs.{disjunction_at, Explains, RuleOut}
-use Rattle.zf_why.specs.declared.cause.Cause.{Cause}
-use Rattle.zf_why.specs.declared.cause.Cause.TheVariants.{Empty, Alone, Together}
-use Rattle.zf_lines.specs.declared.fault.Status.{Status}
-use Rattle.zf_lines.specs.{HasEvents, out_line, row_line}
-use Rattle.zf_command.specs.declared.job.Request.{Request}
+use Rattle.zf_engine.specs.Prelude.{Global, Comp, Schema, schema_of, IsFinite, Value, AreDueWithin, Stage, Environment, environment_of, Begins, Goal, Portion, portion, property, spellings, disjunction_at, Explains, RuleOut, Cause, Empty, Alone, Together, Status, HasEvents, out_line, row_line, Request, comps_at}
 use Rattle.zf_engine.specs.Answers.{AreHeld, IsAsked, IsNamedRow}
 use Rattle.zf_engine.specs.Only.{NamesParts}
 use Rattle.zf_engine.specs.declared.bounds.Bounds.{Bounds}
 use Rattle.zf_engine.specs.declared.bounds.Chosen.{Chosen}
-use Rattle.zf_places.specs.{comps_at}
 use Rattle.zf_engine.specs.Reasons.{TellsWhy, no_binding_line}
 use Rattle.zf_engine.specs.CauseLines.{cause_lines}
 use Rattle.zf_engine.specs.declared.subject.Subject.{Subject}

@@ -1,12 +1,7 @@
 //! What is written of a job on a source.
 ghost use Rattle.std.specs.Prelude.{◌≡◌, [], true, IfOk, IfErr, None, OnErr, Some, option_map};
-ghost use Rattle.std.specs.Option.{option_copied};
-ghost use Rattle.zf_command.specs.{IsBare};
-ghost use Rattle.zf_command.specs.declared.job.Job.TheVariants.{Why};
+ghost use Rattle.zf_engine.specs.Prelude.{option_copied, IsBare, Why, device_of, failures_of, HasLimit, read_failures, write_failures, environment_of, globals_of, schema_of};
 ghost use Rattle.zf_engine.specs.{AnswersRequest, AnswersSource, AreNamedIn, Checks, environment_in, IfAnswered, IsAsked, IsChosenBy, IsLimited, IsNamedRow, IsSubjectOf, schema_in, Shows, StopsInSource, ToldOfFaults, Writes};
-ghost use Rattle.zf_lines.specs.{device_of, failures_of, HasLimit, read_failures, write_failures};
-ghost use Rattle.zf_meaning.specs.{environment_of};
-ghost use Rattle.zf_term.specs.{globals_of, schema_of};
 
 use crate::asked::{Asked, find_schema};
 use crate::begin::{begin, begin_counting};

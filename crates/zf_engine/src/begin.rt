@@ -1,12 +1,7 @@
 //! The search for the bindings of a schema, or the answer where none is begun.
 ghost use Rattle.std.specs.Prelude.{◌<◌, length, IfOk, IfErr};
-ghost use Rattle.std.specs.Option.{option_copied};
+ghost use Rattle.zf_engine.specs.Prelude.{option_copied, Begins, BeginsCounting, planted_goal, portion, RefusesStart, Environment, schema_of, HasLength};
 ghost use Rattle.zf_engine.specs.{CanBeSearched, environment_in, IfAnswered, schema_in, TellsComponent, TellsOut};
-ghost use Rattle.zf_enum.specs.{Begins, BeginsCounting, planted_goal, portion};
-ghost use Rattle.zf_ranges.specs.{RefusesStart};
-ghost use Rattle.zf_meaning.specs.{Environment};
-ghost use Rattle.zf_term.specs.{schema_of};
-ghost use Rattle.zf_walk.specs.{HasLength};
 
 use crate::stop::Stop;
 use crate::subject::Subject;

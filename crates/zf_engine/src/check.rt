@@ -1,10 +1,7 @@
 //! What a source defines, its faults, and the answer of `check`.
 ghost use Rattle.std.specs.Prelude.{◌≡◌, [], IfOk, IfErr, map};
+ghost use Rattle.zf_engine.specs.Prelude.{AreLines, cited_of, ReadsSource, boxes_of, globals_of};
 ghost use Rattle.zf_engine.specs.{check_status, Checks, IfAnswered, IsCheckText, IsFaultLine, UnreadAnswer};
-ghost use Rattle.zf_messages.specs.{AreLines, cited_of};
-ghost use Rattle.zf_parse.specs.{ReadsSource};
-ghost use Rattle.zf_tree.specs.{boxes_of};
-ghost use Rattle.zf_term.specs.{globals_of};
 ghost use Rattle.zf_sorts.specs.{fault_of};
 
 use crate::stop::Stop;

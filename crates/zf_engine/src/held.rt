@@ -1,10 +1,7 @@
 //! The values that are held.
 ghost use Rattle.std.specs.Prelude.{◌≡◌, Some, IfOk, IfErr};
+ghost use Rattle.zf_engine.specs.Prelude.{environment_of, schema_of, AreClear, spellings, HaveClearNames};
 ghost use Rattle.zf_engine.specs.{AreHeld, IfAnswered, TellsNoValues, TellsPlaceHeld};
-ghost use Rattle.zf_meaning.specs.{environment_of};
-ghost use Rattle.zf_term.specs.{schema_of};
-ghost use Rattle.zf_print.specs.{AreClear, spellings};
-ghost use Rattle.zf_read.specs.{HaveClearNames};
 
 use crate::stop::Stop;
 use std::alloc::Global;

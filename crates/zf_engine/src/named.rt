@@ -1,9 +1,7 @@
 //! The binding that a search comes after.
 ghost use Rattle.std.specs.Prelude.{◌≡◌, IfOk, IfErr, option_map};
+ghost use Rattle.zf_engine.specs.Prelude.{environment_of, schema_of, AreClear, spellings};
 ghost use Rattle.zf_engine.specs.{IfAnswered, IsLineOf, IsNamedRow, TellsNoRow, TellsPlace};
-ghost use Rattle.zf_meaning.specs.{environment_of};
-ghost use Rattle.zf_term.specs.{schema_of};
-ghost use Rattle.zf_print.specs.{AreClear, spellings};
 
 use crate::stop::Stop;
 use std::alloc::Global;

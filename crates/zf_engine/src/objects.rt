@@ -1,8 +1,7 @@
 //! The objects that say why a schema has no binding, each with its newline.
 ghost use Rattle.std.specs.Prelude.{◌≡◌, ◌++◌, OnOk, codes};
+ghost use Rattle.zf_engine.specs.Prelude.{comp_of, comma_before};
 ghost use Rattle.zf_engine.specs.Objects as spec;
-ghost use Rattle.zf_term.specs.{comp_of};
-ghost use Rattle.zf_print.specs.{comma_before};
 
 use crate::lines::trimmed_line;
 use itoa::Buffer;

@@ -1,9 +1,8 @@
 //! The components that alone are shown.
 ghost use Rattle.std.specs.Prelude.{◌≡◌, IfErr, IfOk, OnOk, Some, map};
-ghost use Rattle.std.specs.List.{before_first};
+ghost use Rattle.zf_engine.specs.Prelude.{before_first, comp_of};
 ghost use Rattle.zf_engine.specs.Only as spec;
 ghost use Rattle.zf_engine.specs.{IfAnswered, IsAdded, IsMisnamed, NamesParts, TellsNoParts, TellsPlaceMisnamed};
-ghost use Rattle.zf_term.specs.{comp_of};
 
 use crate::stop::Stop;
 use std::alloc::Global;

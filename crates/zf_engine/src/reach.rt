@@ -1,16 +1,10 @@
 //! What can be reached from the initial states, or a shortest way to a state that is sought.
 ghost use Rattle.std.specs.Prelude.{◌≡◌, ◌≤◌, [], IfErr, IfOk, OnOk, map, option_map, option_to_list};
-ghost use Rattle.std.specs.List.{AllByRecursion, AllZip};
+ghost use Rattle.zf_engine.specs.Prelude.{AllByRecursion, AllZip, IsFinite, device_of, failures_of, HasLimit, read_failures, write_failures, all_of, FirstFails, HasShape, named_of, schemas_of, environment_of, IsNoneOut, globals_of, schema_of};
 ghost use Rattle.zf_engine.specs.Explorations as spec;
 ghost use Rattle.zf_engine.specs.{AnswersExploration, AreSchemasOf, Checks, HasInfinite, HasLacking, HasOut, IfAnswered, IsSchemaOf, IsSearchable, LacksSchema, Reaches, TellsInfinite, TellsNoSchema, TellsOut};
 ghost use Rattle.zf_engine.specs.Explorations.{IsOfSchema};
-ghost use Rattle.zf_finite.specs.{IsFinite};
-ghost use Rattle.zf_lines.specs.{device_of, failures_of, HasLimit, read_failures, write_failures};
-ghost use Rattle.zf_machines.specs.{all_of, FirstFails, HasShape, named_of, schemas_of};
-ghost use Rattle.zf_meaning.specs.{environment_of};
-ghost use Rattle.zf_ranges.specs.{IsNoneOut};
 ghost use Rattle.zf_reach.specs.{ending_of, result_of};
-ghost use Rattle.zf_term.specs.{globals_of, schema_of};
 
 use crate::asked::{check_finite, env_in, schema_named};
 use crate::begin::not_begun;

@@ -1,11 +1,9 @@
 //! The lines that say why a schema has no binding.
 ghost use Rattle.std.specs.Prelude.{◌≡◌, ◌++◌, IfOk, OnOk, length, map};
-ghost use Rattle.zf_cores.specs.{chosen_of};
+ghost use Rattle.zf_engine.specs.Prelude.{chosen_of, Lines, comp_of, schema_of};
 ghost use Rattle.zf_engine.specs.Reasons as spec;
 ghost use Rattle.zf_engine.specs.{cause_lines};
 ghost use Rattle.zf_engine.specs.Subjects.{IsOfSchema};
-ghost use Rattle.zf_format.specs.declared.format.Format.TheVariants.{Lines};
-ghost use Rattle.zf_term.specs.{comp_of, schema_of};
 
 use crate::lines::trimmed_line;
 use crate::objects::{append_empty_object, append_told_object};

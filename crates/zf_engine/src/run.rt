@@ -1,9 +1,7 @@
 //! A run: it reads a source, and writes the answer of a job.
 ghost use Rattle.std.specs.Prelude.{◌≡◌, ◌+◌, OnErr, IfOk, IsErrOf};
-ghost use Rattle.std.specs.Io.KnownBytes.{Keeps};
+ghost use Rattle.zf_engine.specs.Prelude.{Keeps, device_of, failures_of, read_failures, write_failures, SOURCE_MAX};
 ghost use Rattle.zf_engine.specs.{AnswersReader, GaveAtMost, IsLimited, StopsInReader};
-ghost use Rattle.zf_lines.specs.{device_of, failures_of, read_failures, write_failures};
-ghost use Rattle.zf_scan.specs.declared.scan.TheConstants.{SOURCE_MAX};
 
 use crate::answer::answer;
 use crate::reading::read_source;

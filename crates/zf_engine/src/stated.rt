@@ -1,10 +1,7 @@
 //! The sizes that are stated.
 ghost use Rattle.std.specs.Prelude.{◌≡◌, ◌++◌, ◌∷◌, [], IfOk, OnOk, Some, map};
-ghost use Rattle.std.specs.List.{list_any};
-ghost use Rattle.std.specs.Str.{bytes_eq};
+ghost use Rattle.zf_engine.specs.Prelude.{list_any, bytes_eq, given_sets, globals_of};
 ghost use Rattle.zf_engine.specs.Settings as spec;
-ghost use Rattle.zf_meaning.specs.{given_sets};
-ghost use Rattle.zf_term.specs.{globals_of};
 
 use std::alloc::{AllocError, Global};
 use zf_command::{Setting, Size};

@@ -1,7 +1,7 @@
 //! What a well typed source defines.
 ghost use Rattle.std.specs.Prelude.{[], IfOk, IfErr};
+ghost use Rattle.zf_engine.specs.Prelude.{globals_of};
 ghost use Rattle.zf_engine.specs.{Checks, IfAnswered, IsUnfit};
-ghost use Rattle.zf_term.specs.{globals_of};
 
 use crate::check::{check_source, fault_lines};
 use crate::stop::Stop;

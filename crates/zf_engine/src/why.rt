@@ -1,11 +1,7 @@
 //! The first binding of a schema, or why it has none.
 ghost use Rattle.std.specs.Prelude.{◌≡◌, ◌++◌, [], IfOk, IfErr, MatchOption, OnOk};
-ghost use Rattle.zf_command.specs.{IsBare};
-ghost use Rattle.zf_command.specs.declared.job.Job.TheVariants.{Why};
+ghost use Rattle.zf_engine.specs.Prelude.{IsBare, Why, IsNoneOut, environment_of, globals_of, schema_of};
 ghost use Rattle.zf_engine.specs.{Answer, AnswersRequest, CanBeSearched, Checks, environment_in, HasNone, IfAnswered, IsAsked, IsBegunOf, line_in, no_binding_line, out_line_in, satisfied_line, schema_in, TellsFirst, TellsNone, TellsOf, TellsOut};
-ghost use Rattle.zf_ranges.specs.{IsNoneOut};
-ghost use Rattle.zf_meaning.specs.{environment_of};
-ghost use Rattle.zf_term.specs.{globals_of, schema_of};
 
 use crate::asked::find_schema;
 use crate::begin::begin;

@@ -1,7 +1,6 @@
 -- A search that begins is, for what writes its lines, at its beginning.
-use Rattle.zf_lines.proofs.Prelude.{subst, sym, AreAllAhead, Stage, value_order, Value, Schema, Environment, property, conjuncts_of, counted_goal, Goal, Bindings, IsAtStart, IsCountingAtStart}
+use Rattle.zf_lines.proofs.Prelude.{subst, sym, AreAllAhead, Stage, value_order, Value, Schema, Environment, property, conjuncts_of, counted_goal, Goal, Bindings, IsAtStart, IsCountingAtStart, Begins, BeginsCounting, Portion}
 use Rattle.zf_plan.specs.{SayTheSame}
-use Rattle.zf_enum.specs.{Begins, BeginsCounting, Portion}
 
 pub at_start : (e : Environment) (s : Schema) (p : Portion) (g : Goal) (b : Stage Value) → Begins e s p g b → IsAtStart s g b
 at_start e s p g b h = record {

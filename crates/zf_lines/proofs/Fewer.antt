@@ -1,7 +1,6 @@
 -- A search ends: with each event that is taken fewer rows are ahead.
-use Rattle.zf_lines.proofs.Prelude.{if◌then◌else◌, ◌++◌, ◌<◌, ◌∙◌, ◌∷◌, ◌≡◌, ◌≤◌, [], ap, arith, Bool, false, inl, inr, length, List, map, Option, refl, subst, suc, sym, take, true, ℕ, false≢true, IsTotalOrder, slice_cmp, ordering_then, Contains, Ordering, Equal, Greater, Less, Contains-cases, Contains-head, Contains-later, Contains-left, Contains-nil, Contains-right, Conjuncts, Event, Ahead, IsAhead, Takes, IsRowOf}
+use Rattle.zf_lines.proofs.Prelude.{if◌then◌else◌, ◌++◌, ◌<◌, ◌∙◌, ◌∷◌, ◌≡◌, ◌≤◌, [], ap, arith, Bool, false, inl, inr, length, List, map, Option, refl, subst, suc, sym, take, true, ℕ, false≢true, IsTotalOrder, slice_cmp, ordering_then, Contains, Ordering, Equal, Greater, Less, Contains-cases, Contains-head, Contains-later, Contains-left, Contains-nil, Contains-right, Conjuncts, Event, Ahead, IsAhead, Takes, IsRowOf, first_of, reaches}
 use Rattle.std.proofs.lemmas.Cmp.{tied_itself, alike_right}
-use Rattle.zf_walk.specs.{first_of, reaches}
 
 -- ---- how many pass a test
 

@@ -1,11 +1,9 @@
 -- The line of a row, up to so many of its parts.
-use Rattle.zf_lines.proofs.Prelude.{◌++◌, ◌+◌, ◌-◌, ◌<◌, ◌∙◌, ◌∷◌, ◌≡◌, ◌≤◌, [], ap, append-nil, append_assoc, arith, codes, get_or, inl, inr, length, length-take-le, List, map, None, refl, Some, subst, suc, sym, take, zero, ℕ, slice_get, slice_get_read, slice_index_or, take_all, Value, Comp, comp_of, comma_before, component_in, components_in, later_parts, parted, Format, Spelling, AreColumns, AreParts, front, IsFront, IsPrinted, opening, part_at}
-use Rattle.zf_term.specs.declared.schema.Component.{Component}
-use Rattle.zf_lines.specs.declared.column.Column.{Column}
-use Rattle.zf_lines.specs.declared.printed.Part.{Part}
+use Rattle.zf_lines.proofs.Prelude.{◌++◌, ◌+◌, ◌-◌, ◌<◌, ◌∙◌, ◌∷◌, ◌≡◌, ◌≤◌, [], ap, append-nil, append_assoc, arith, codes, get_or, inl, inr, length, length-take-le, List, map, None, refl, Some, subst, suc, sym, take, zero, ℕ, slice_get, slice_get_read, slice_index_or, take_all, Value, Comp, comp_of, comma_before, component_in, components_in, later_parts, parted, Format, Spelling, AreColumns, AreParts, front, IsFront, IsPrinted, opening, part_at, Component, Column, Part}
+use Rattle.std.proofs.lemmas.Option.{slice_get_within}
 use Rattle.zf_lines.specs.declared.printed.Printed.{Printed}
 use Rattle.zf_lines.proofs.Keeping.{at_push}
-use Rattle.zf_lines.proofs.Parts.{at_length, at_map, at_some, part_of_component}
+use Rattle.zf_lines.proofs.Parts.{at_map, at_some, part_of_component}
 
 -- ---- one part more
 
@@ -47,10 +45,8 @@ take_front (x ∷ a) b = ap (λ l. x ∷ l) (take_front a b)
 module _ (f : Format) (ss : List Spelling) where
   component_at : (cs : List Comp) (vs : List Value) (i : ℕ) (c : Comp) (v : Value) → slice_get cs i ≡ Some c → slice_get vs i ≡ Some v
       → slice_get (components_in f ss cs vs) i ≡ Some (component_in f ss c v)
-  component_at [] vs zero c v at is = (cc)
-  component_at [] vs (suc i) c v at is = (cc)
-  component_at (d ∷ cs) [] zero c v at is = (cc)
-  component_at (d ∷ cs) [] (suc i) c v at is = (cc)
+  component_at [] vs i c v at is = (cc)
+  component_at cs [] i c v at is = (cc)
   component_at (d ∷ cs) (w ∷ vs) zero c v at is =
       let same : d ≡ c = (cc) in
       let like : w ≡ v = (cc) in
@@ -101,7 +97,7 @@ module _ (f : Format) (ss : List Spelling) (cs : List Comp) where
     pub cut_there : (line rest : List ℕ) (m : ℕ) (part : Part) → slice_get parts m ≡ Some part → line ≡ front f ss cs row (length parts) ++ rest
         → take part.end line ≡ front f ss cs row (m + 1)
     cut_there line rest m part at is =
-        let deep : m < length parts = at_length parts m part at in
+        let deep : m < length parts = slice_get_within parts m part at in
         let more = parts_grow (m + 1) (length parts) (components_in f ss cs row) (omega (arith, deep)) in
         let before = front f ss cs row (m + 1) in
         let split : line ≡ before ++ (more.0 ++ rest) =
@@ -151,9 +147,9 @@ module _ (f : Format) (ss : List Spelling) (cs : List Comp) where
   pub parts_alike : (ranges : List (List Value)) (old new : List Value) (parts : List Part) → AreParts f ss cs ranges old parts
       → ((i : ℕ) → i < length parts → slice_get new i ≡ slice_get old i) → AreParts f ss cs ranges new parts
   parts_alike ranges old new parts h same = record {
-    places = λ i part at. same i (at_length parts i part at) ∙ h.places i part at;
+    places = λ i part at. same i (slice_get_within parts i part at) ∙ h.places i part at;
     ends = λ i part at.
-        let deep : i < length parts = at_length parts i part at in
+        let deep : i < length parts = slice_get_within parts i part at in
         h.ends i part at ∙ ap length (front_alike (i + 1) old new (λ j l. same j (omega (arith, l, deep))));
   }
 

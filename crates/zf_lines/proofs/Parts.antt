@@ -1,8 +1,6 @@
 -- Parts of lines, and columns of them.
-use Rattle.zf_lines.proofs.Prelude.{◌++◌, ◌+◌, ◌<◌, ◌∙◌, ◌∷◌, ◌≡◌, ◌≤◌, [], ap, append_assoc, arith, get_or, inl, inr, length, length-append, List, map, Option, refl, Some, subst, suc, sym, take, zero, ℕ, set, length-map, length-set, length-take-le, map_more, take_all, slice_get_read, option_map, slice_get, slice_index_or, unwrap_or, Value, Comp, comp_of, comma_before, component_in, Format, name_in, Spelling, AreColumns, head_of, Keeps, part_at}
-use Rattle.zf_term.specs.declared.schema.Component.{Component}
-use Rattle.zf_print.specs.{value_in}
-use Rattle.zf_lines.specs.declared.column.Column.{Column}
+use Rattle.zf_lines.proofs.Prelude.{◌++◌, ◌+◌, ◌<◌, ◌∙◌, ◌∷◌, ◌≡◌, ◌≤◌, [], ap, append_assoc, arith, get_or, inl, inr, length, length-append, List, map, Option, refl, Some, subst, suc, sym, take, zero, ℕ, set, length-map, length-set, length-take-le, map_more, take_all, slice_get_read, option_map, slice_get, slice_index_or, unwrap_or, Value, Comp, comp_of, comma_before, component_in, Format, name_in, Spelling, AreColumns, head_of, Keeps, part_at, Component, value_in, Column}
+use Rattle.std.proofs.lemmas.Option.{slice_get-map, slice_get_within}
 use Rattle.zf_lines.proofs.Keeping.{at_push, at_set}
 
 module _ (head : List ℕ) (f : Format) (ss : List Spelling) (row : List Value) (i : ℕ) where
@@ -18,22 +16,13 @@ part_of_component f ss n c values i v head is at =
     let begun : head ++ value_in f ss v ≡ (comma_before n ++ name_in f c.name) ++ value_in f ss v = ap (λ h. h ++ value_in f ss v) is in
     worked ∙ begun ∙ append_assoc (comma_before n) (name_in f c.name) (value_in f ss v)
 
-pub at_length : {A : Type 0} (xs : List A) (i : ℕ) (x : A) → slice_get xs i ≡ Some x → i < length xs
-at_length [] zero x e = (cc)
-at_length [] (suc i) x e = (cc)
-at_length (y ∷ xs) zero x e = omega arith
-at_length (y ∷ xs) (suc i) x e = let l = at_length xs i x e in omega (arith, l)
-
 pub at_some : {A : Type 0} (xs : List A) (i : ℕ) → i < length xs → (x : A) × (slice_get xs i ≡ Some x)
 at_some [] i l = absurd (omega (arith, l))
 at_some (x ∷ xs) zero l = (x, refl)
 at_some (x ∷ xs) (suc i) l = at_some xs i (omega (arith, l))
 
 pub at_map : {A B : Type 0} (f : A → B) (xs : List A) (i : ℕ) (x : A) → slice_get xs i ≡ Some x → slice_get (map f xs) i ≡ Some (f x)
-at_map f [] zero x e = (cc)
-at_map f [] (suc i) x e = (cc)
-at_map f (y ∷ xs) zero x e = let s : y ≡ x = (cc) in ap (λ z. Some (f z)) s
-at_map f (y ∷ xs) (suc i) x e = at_map f xs i x e
+at_map f xs i x e = slice_get-map f xs i ∙ ap (option_map f) e
 
 module _ (f : Format) (ss : List Spelling) (ranges : List (List Value)) where
   -- one component more
@@ -52,10 +41,10 @@ module _ (f : Format) (ss : List Spelling) (ranges : List (List Value)) where
     heads i b d at here = elim (at_push cs c b i at) [
       | inl before ↦ elim (at_push columns column d i here) [
         | inl stays ↦ h.heads i b d before stays
-        | inr last ↦ let l : i < length cs = at_length cs i b before in absurd (omega (arith, l, last.0, h.all))
+        | inr last ↦ let l : i < length cs = slice_get_within cs i b before in absurd (omega (arith, l, last.0, h.all))
       ]
       | inr last ↦ elim (at_push columns column d i here) [
-        | inl before ↦ let l : i < length columns = at_length columns i d before in absurd (omega (arith, l, last.0, h.all))
+        | inl before ↦ let l : i < length columns = slice_get_within columns i d before in absurd (omega (arith, l, last.0, h.all))
         | inr here ↦ ap (λ (x : Column). x.head) (sym here.1) ∙ head ∙ ap (λ m. head_of f m c) (sym long ∙ sym last.0) ∙ ap (head_of f i) last.1
       ]
     ]

@@ -14,19 +14,22 @@ pub use Rattle.std.specs.declared.cmp.Ordering.{Ordering}
 pub use Rattle.std.specs.declared.cmp.Ordering.TheVariants.{Equal, Greater, Less}
 pub use Rattle.zf_walk.proofs.Lists.{AllPairs-across, AllPairs-cons, AllPairs-head, AllPairs-nil, AllPairs-tail, Contains-cases, Contains-either, Contains-head, Contains-later, Contains-left, Contains-nil, Contains-right}
 pub use Rattle.zf_walk.specs.Conjuncts.{Conjuncts}
-pub use Rattle.zf_walk.specs.{Advances, Ahead, AreAllAhead, ComesAfter, Event, IsAhead, IsEvent, IsNoneAhead, IsRowOf, past, SameAhead, SameRanges, Stage, Takes}
+pub use Rattle.zf_walk.specs.{Advances, Ahead, AreAllAhead, ComesAfter, Event, IsAhead, IsEvent, IsNoneAhead, IsRowOf, past, SameAhead, SameRanges, Stage, Takes, first_of, reaches, IsNumberOfTests}
 pub use Rattle.zf_walk.specs.Progress.{Progress}
 pub use Rattle.zf_walk.specs.declared.judge.Truth.TheVariants.{Out, True}
 pub use Rattle.zf_walk.specs.declared.step.Step.TheVariants.{Breaks, End, Holds}
 pub use Rattle.zf_value.specs.{value_order}
 pub use Rattle.zf_value.specs.declared.plain.Value.{Value}
-pub use Rattle.zf_term.specs.{Comp, comp_of, Schema, schema_of}
+pub use Rattle.zf_term.specs.{Comp, comp_of, Schema, schema_of, ResolvedTree}
 pub use Rattle.zf_meaning.specs.{Environment}
-pub use Rattle.zf_print.specs.{comma_before, component_in, components_in, later_parts, name_in, parted, row_text}
+pub use Rattle.zf_print.specs.{comma_before, component_in, components_in, later_parts, name_in, parted, row_text, value_in}
 pub use Rattle.zf_print.specs.declared.spelling.Spelling.{Spelling}
-pub use Rattle.zf_enum.specs.{conjuncts_of, counted_goal, Goal, judged, property}
+pub use Rattle.zf_enum.specs.{conjuncts_of, counted_goal, Goal, judged, property, Begins, BeginsCounting, Portion}
 pub use Rattle.zf_enum.specs.declared.bindings.Bindings.{Bindings}
-pub use Rattle.zf_lines.specs.{AppendsFront, AreColumns, AreEventsUpTo, AreParts, device_of, ending_status, EndsBy, failures_of, FindsEvents, front, HasLimit, head_of, Hold, IsAtStart, IsBegun, IsBelow, IsCountingAtStart, IsEnd, IsNotAbove, IsPrinted, IsWritten, Keeps, last_text, lines, opening, part_at, row_line, row_wording, StopsLines, TellsTests, tests_line, Wording, WritesAll}
+pub use Rattle.zf_lines.specs.{AppendsFront, AreColumns, AreEventsUpTo, AreParts, device_of, ending_status, EndsBy, failures_of, FindsEvents, front, HasLimit, head_of, Hold, IsAtStart, IsBegun, IsBelow, IsCountingAtStart, IsEnd, IsNotAbove, IsPrinted, IsWritten, Keeps, last_text, lines, opening, part_at, row_line, row_wording, StopsLines, TellsTests, tests_line, Wording, WritesAll, out_line}
 unfoldable pub use Rattle.zf_lines.specs.{AreTexts}
 pub use Rattle.zf_lines.specs.LastLine.{IsFront}
 pub use Rattle.zf_format.specs.declared.format.Format.{Format}
+pub use Rattle.zf_term.specs.declared.schema.Component.{Component}
+pub use Rattle.zf_lines.specs.declared.column.Column.{Column}
+pub use Rattle.zf_lines.specs.declared.printed.Part.{Part}

@@ -1,8 +1,6 @@
 -- What a walk says of its tests is what an answer says of them.
-use Rattle.zf_lines.proofs.Prelude.{◌≡◌, ap, List, Option, subst, true, Progress, SameRanges, Stage, value_order, Value, Schema, Environment, property, counted_goal, Goal, judged, Bindings, IsCountingAtStart, TellsTests, Wording}
-use Rattle.zf_term.specs.{ResolvedTree}
+use Rattle.zf_lines.proofs.Prelude.{◌≡◌, ap, List, Option, subst, true, Progress, SameRanges, Stage, value_order, Value, Schema, Environment, property, counted_goal, Goal, judged, Bindings, IsCountingAtStart, TellsTests, Wording, ResolvedTree, IsNumberOfTests}
 use Rattle.zf_walk.specs.Progress as walk
-use Rattle.zf_walk.specs.{IsNumberOfTests}
 
 -- the number that the walk has counted is that of the stated pairs
 tests_told : {J : Type 0} (words : Wording Value) (e : Environment) (a : Schema) (b : Stage Value) (c : Progress Value J) (whole : Option (List Value)) → SameRanges b c.stage

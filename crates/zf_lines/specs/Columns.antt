@@ -1,10 +1,6 @@
 -- What is kept of the lines that were printed. No public clause rests on this file.
 use Rattle.std.specs.Prelude.{◌≡◌, ℕ, List, [], ◌++◌, length, Option, Some, option_map, slice_get, slice_index_or, unwrap_or}
-use Rattle.zf_format.specs.declared.format.Format.{Format}
-use Rattle.zf_term.specs.{Comp}
-use Rattle.zf_value.specs.declared.plain.Value.{Value}
-use Rattle.zf_print.specs.declared.spelling.Spelling.{Spelling}
-use Rattle.zf_print.specs.{comma_before, name_in, value_in}
+use Rattle.zf_lines.specs.Prelude.{Format, Comp, Value, Spelling, comma_before, name_in, value_in}
 use Rattle.zf_lines.specs.declared.column.Column.{Column}
 use Rattle.zf_lines.specs.declared.column.Kept.{Kept}
 

@@ -1,11 +1,6 @@
 -- How the lines of a search end. No public clause rests on this file.
 use Rattle.std.specs.Prelude.{◌≡◌, ℕ, List, ◌∷◌, [], ◌++◌, length, Option, Some, None}
-use Rattle.std.specs.Io.KnownBytes.{Appends}
-use Rattle.zf_term.specs.{Schema}
-use Rattle.zf_value.specs.declared.plain.Value.{Value}
-use Rattle.zf_walk.specs.declared.judge.Truth.TheVariants.{Out}
-use Rattle.zf_walk.specs.{Event, Stage}
-use Rattle.zf_meaning.specs.{Environment}
+use Rattle.zf_lines.specs.Prelude.{Appends, Schema, Value, Out, Event, Stage, Environment}
 use Rattle.zf_lines.specs.declared.ending.Ending as ending
 use Rattle.zf_lines.specs.declared.ending.Ending.TheVariants as endings
 use Rattle.zf_lines.specs.declared.fault.Status.{Status}

@@ -1,6 +1,6 @@
 -- The number of a status, and what a write leaves of a text.
 use Rattle.std.specs.Prelude.{ℕ, List, Option}
-use Rattle.std.specs.Io.KnownBytes.{Appends}
+use Rattle.zf_lines.specs.Prelude.{Appends}
 use Rattle.zf_lines.specs.declared.fault.Status.{Status}
 use Rattle.zf_lines.specs.declared.fault.Status.TheVariants.{Done, BadSpec, BadRequest, PastBounds}
 use Rattle.zf_lines.specs.Faults.{IsFront}

@@ -1,11 +1,6 @@
 -- The line that was printed last, and its parts. No public clause but those of printing rests on this file.
 use Rattle.std.specs.Prelude.{◌≡◌, ◌+◌, ℕ, List, [], ◌++◌, codes, length, Some, slice_get, slice_index_or, take}
-use Rattle.zf_format.specs.declared.format.Format.{Format}
-use Rattle.zf_format.specs.declared.format.Format.TheVariants.{Lines, Objects}
-use Rattle.zf_term.specs.{Comp}
-use Rattle.zf_value.specs.declared.plain.Value.{Value}
-use Rattle.zf_print.specs.declared.spelling.Spelling.{Spelling}
-use Rattle.zf_print.specs.{components_in, parted}
+use Rattle.zf_lines.specs.Prelude.{Format, Lines, Objects, Comp, Value, Spelling, components_in, parted}
 use Rattle.zf_lines.specs.Columns.{AreColumns}
 use Rattle.zf_lines.specs.declared.printed.Part.{Part}
 use Rattle.zf_lines.specs.declared.printed.Printed.{Printed}

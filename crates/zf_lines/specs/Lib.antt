@@ -1,3 +1,4 @@
+pub mod Prelude
 pub mod Counts
 pub mod CountViews
 pub mod Faults

@@ -1,18 +1,10 @@
 -- What is written of a search for bindings: the lines of its events up to the last one that is written, and how it ends there.
 use Rattle.std.specs.Prelude.{◌≡◌, ◌↔◌, ℕ, Bool, true, false, ◌<◌, ◌≤◌, List, [], ◌∷◌, ◌++◌, length, Option, Some, None, Contains, All, AllPairs, IfSome}
+use Rattle.zf_lines.specs.Prelude.{True, Out, ComesAfter, cut, Event, IsEvent, IsUpTo, Value, value_order, Environment, AreTests, Portion, property, Format, Comp, Schema, Spelling}
 use Rattle.std.specs.List.{flat_map}
 use Rattle.std.specs.declared.cmp.Ordering.{Ordering}
-use Rattle.zf_walk.specs.declared.judge.Truth.TheVariants.{True, Out}
 use Rattle.zf_walk.specs.Conjuncts.{Conjuncts}
-use Rattle.zf_walk.specs.{ComesAfter, cut, Event, IsEvent, IsUpTo}
-use Rattle.zf_value.specs.declared.plain.Value.{Value}
-use Rattle.zf_value.specs.{value_order}
-use Rattle.zf_meaning.specs.{Environment}
-use Rattle.zf_enum.specs.{AreTests, Portion, property}
 use Rattle.zf_ranges.specs.{AreRanges}
-use Rattle.zf_format.specs.declared.format.Format.{Format}
-use Rattle.zf_term.specs.{Comp, Schema}
-use Rattle.zf_print.specs.declared.spelling.Spelling.{Spelling}
 use Rattle.zf_lines.specs.Texts.{end_line, more_line, out_line, row_line, tests_line}
 use Rattle.zf_lines.specs.declared.fault.Status.{Status}
 use Rattle.zf_lines.specs.declared.fault.Status.TheVariants.{Done, PastBounds}

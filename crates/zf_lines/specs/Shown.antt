@@ -1,13 +1,8 @@
 -- What is written of a search that stands at its beginning.
 use Rattle.std.specs.Prelude.{◌≡◌, ◌⊎◌, ℕ, Bool, true, false, List, [], ◌++◌, map, Option, None}
-use Rattle.zf_term.specs.{resolved_of, Schema}
-use Rattle.zf_value.specs.declared.plain.Value.{Value}
-use Rattle.zf_walk.specs.{AreAllAhead, cut, Event, IsNumberOfTests, Stage}
-use Rattle.zf_value.specs.{value_order}
+use Rattle.zf_lines.specs.Prelude.{resolved_of, Schema, Value, AreAllAhead, cut, Event, IsNumberOfTests, Stage, value_order, Environment, conjuncts_of, counted_goal, Goal, property}
 use Rattle.zf_plan.specs.{SayTheSame}
-use Rattle.zf_meaning.specs.{Environment}
 use Rattle.zf_enum.specs.declared.bindings.Bindings.{Bindings}
-use Rattle.zf_enum.specs.{conjuncts_of, counted_goal, Goal, property}
 use Rattle.zf_lines.specs.declared.fault.Status.{Status}
 use Rattle.zf_lines.specs.FaultViews.{AppendsFront}
 use Rattle.zf_lines.specs.Searches.{AreEventsUpTo, IsBegun, IsWritten, Wording}

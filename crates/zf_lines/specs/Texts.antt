@@ -1,11 +1,6 @@
 -- The lines of a search, in each format. Each ends in a newline byte.
 use Rattle.std.specs.Prelude.{ℕ, List, ◌++◌, codes, decimal}
-use Rattle.zf_format.specs.declared.format.Format.{Format}
-use Rattle.zf_format.specs.declared.format.Format.TheVariants.{Lines, Objects}
-use Rattle.zf_term.specs.{Comp}
-use Rattle.zf_value.specs.declared.plain.Value.{Value}
-use Rattle.zf_print.specs.declared.spelling.Spelling.{Spelling}
-use Rattle.zf_print.specs.{row_text}
+use Rattle.zf_lines.specs.Prelude.{Format, Lines, Objects, Comp, Value, Spelling, row_text}
 
 abbrev pub row_line : Format → List Spelling → List Comp → List Value → List ℕ
 row_line f ss comps row = row_text f ss comps row ++ codes "\n"

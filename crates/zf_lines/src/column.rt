@@ -1,8 +1,7 @@
 //! The parts of lines that were printed, so that each is worked out once.
 ghost use Rattle.std.specs.Prelude.{◌≡◌, ◌<◌, ◌++◌, ℕ, List, length, IfOk, OnOk, IfSome};
+ghost use Rattle.zf_lines.specs.Prelude.{schema_of, comma_before, name_in};
 ghost use Rattle.zf_lines.specs.{AreColumns, Keeps};
-ghost use Rattle.zf_term.specs.{schema_of};
-ghost use Rattle.zf_print.specs.{comma_before, name_in};
 ghost use Rattle.zf_value.specs.declared.plain.Value as value;
 
 use crate::style::Style;

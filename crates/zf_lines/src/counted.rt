@@ -1,7 +1,7 @@
 //! A reader or a writer that counts its failures.
 ghost use Rattle.std.specs.Prelude.{◌≡◌, is_err};
+ghost use Rattle.zf_lines.specs.Prelude.{Keeps, ReadConsumes, WriteAppends};
 ghost use Rattle.std.specs.Io.{ReadsAtMost, WritesAtMost};
-ghost use Rattle.std.specs.Io.KnownBytes.{Keeps, ReadConsumes, WriteAppends};
 ghost use Rattle.zf_lines.specs.{count_after, device_of, failures_of, is_failed_write};
 
 use std::io;

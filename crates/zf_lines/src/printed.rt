@@ -1,10 +1,8 @@
 //! The line of a row, printed over that of the row before, with the parts that both have in front.
 ghost use Rattle.std.specs.Prelude.{◌≡◌, ◌<◌, ◌≤◌, ◌++◌, ℕ, List, [], length, take, IfOk, OnOk, Some, slice_get, slice_index_or};
+ghost use Rattle.zf_lines.specs.Prelude.{Comp, schema_of, components_in, parted, Spelling};
 ghost use Rattle.zf_lines.specs.{AreParts, front, IsPrinted, Keeps, opening, part_at, row_line};
 ghost use Rattle.zf_lines.specs.LastLine.{IsFront};
-ghost use Rattle.zf_term.specs.{Comp, schema_of};
-ghost use Rattle.zf_print.specs.{components_in, parted};
-ghost use Rattle.zf_print.specs.declared.spelling.Spelling.{Spelling};
 ghost use Rattle.zf_value.specs.declared.plain.Value as value;
 
 use crate::column::{Column, columns_of};

@@ -1,10 +1,7 @@
 //! The lines of the bindings, each written before the next is looked for.
 ghost use Rattle.std.specs.Prelude.{◌≡◌, ◌++◌, ℕ, List, true, false, IfOk, OnOk, OnErr};
-ghost use Rattle.std.specs.Io.KnownBytes.{Appends};
-ghost use Rattle.zf_enum.specs.{counted_goal};
+ghost use Rattle.zf_lines.specs.Prelude.{Appends, counted_goal, schema_of, SameRanges};
 ghost use Rattle.zf_lines.specs.{AppendsFront, device_of, EndsBy, failures_of, HasLimit, IsAtStart, IsCountingAtStart, IsPrinted, last_text, read_failures, row_line, row_wording, StopsLines, StopsShown, write_failures, WritesAll};
-ghost use Rattle.zf_term.specs.{schema_of};
-ghost use Rattle.zf_walk.specs.{SameRanges};
 
 use crate::counted::Counted;
 use crate::ending::Ending;

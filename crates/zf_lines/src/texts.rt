@@ -1,7 +1,7 @@
 //! The lines of rows, the last lines of a search, and that of the number of tests, each with its newline.
 ghost use Rattle.std.specs.Prelude.{◌≡◌, ◌++◌, OnOk};
+ghost use Rattle.zf_lines.specs.Prelude.{schema_of};
 ghost use Rattle.zf_lines.specs.Texts as spec;
-ghost use Rattle.zf_term.specs.{schema_of};
 
 use itoa::Buffer;
 use std::alloc::AllocError;

@@ -1,6 +1,6 @@
 //! The loop that writes a text.
 ghost use Rattle.std.specs.Prelude.{◌≡◌, OnOk, OnErr, IsOkUnless};
-ghost use Rattle.std.specs.Io.KnownBytes.{Appends};
+ghost use Rattle.zf_lines.specs.Prelude.{Appends};
 ghost use Rattle.zf_lines.specs.{AppendsFront, device_of, failures_of, write_failures};
 
 use crate::counted::Counted;

@@ -1,5 +1,4 @@
-use Rattle.zf_engine.proofs.Prelude.{sym, true, option_copied, portion, counted_goal, counting_at_start}
-use Rattle.zf_engine.specs.{environment_in, schema_in}
+use Rattle.zf_engine.proofs.Prelude.{sym, true, option_copied, portion, counted_goal, counting_at_start, environment_in, schema_in}
 use Rattle.zf_engine.proofs.NamedRows.{named_length}
 use Rattle.zf_engine.proofs.Parts.{shown}
 use Rattle.zf_engine.proofs.Refusing.{all_shown, out_answers}

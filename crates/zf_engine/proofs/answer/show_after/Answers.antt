@@ -1,5 +1,4 @@
-use Rattle.zf_engine.proofs.Prelude.{false, rules, option_copied, portion, planted_goal, at_start}
-use Rattle.zf_engine.specs.{environment_in, schema_in}
+use Rattle.zf_engine.proofs.Prelude.{false, rules, option_copied, portion, planted_goal, at_start, environment_in, schema_in}
 use Rattle.zf_engine.proofs.NamedRows.{named_length}
 use Rattle.zf_engine.proofs.Parts.{shown}
 use Rattle.zf_engine.proofs.Refusing.{all_shown, out_answers}

@@ -1,5 +1,4 @@
-use Rattle.zf_engine.proofs.Prelude.{arith, comp_of, length-map, None, subst, option_copied, portion, planted_goal, at_start, IsNamedRow}
-use Rattle.zf_engine.specs.{environment_in, schema_in}
+use Rattle.zf_engine.proofs.Prelude.{arith, comp_of, length-map, None, subst, option_copied, portion, planted_goal, at_start, IsNamedRow, environment_in, schema_in}
 use Rattle.zf_engine.proofs.Parts.{parts_shown}
 use Rattle.zf_engine.proofs.Refusing.{out_answers, some_shown}
 use Rattle.zf_engine.proofs.Subjects.{can_be_searched, chosen_by, part_worded, searched_some}

@@ -1,7 +1,5 @@
-use Rattle.zf_engine.proofs.Prelude.{subst, sym, schema_of, IsNamedRow, Value}
+use Rattle.zf_engine.proofs.Prelude.{subst, sym, schema_of, IsNamedRow, Value, option_map, environment_in, IsChosenBy, schema_in, shown_in}
 use Rattle.std.proofs.Common.{Global, Vec}
-use Rattle.std.specs.Prelude.{option_map}
-use Rattle.zf_engine.specs.{environment_in, IsChosenBy, schema_in, shown_in}
 use Rattle.zf_engine.proofs.Subjects.{none_chosen}
 use Rattle.zf_engine.proofs.answer.show_within.Goals as goal
 

@@ -1,8 +1,5 @@
-use Rattle.zf_engine.proofs.Prelude.{inl, inr, rules, subst, schema_of, environment_of, IfAnswered, IsNamedRow, TellsMisnamed, TellsNoParts, TellsNoRow, TellsNoValues, Value}
-use Rattle.zf_print.specs.{AreClear}
-use Rattle.zf_read.specs.{HaveClearNames}
+use Rattle.zf_engine.proofs.Prelude.{inl, inr, rules, subst, schema_of, environment_of, IfAnswered, IsNamedRow, TellsMisnamed, TellsNoParts, TellsNoRow, TellsNoValues, Value, AreClear, HaveClearNames, option_map}
 use Rattle.std.proofs.Common.{Global, Vec}
-use Rattle.std.specs.Prelude.{option_map}
 use Rattle.zf_engine.proofs.Refusing.{weaker, weaker_err}
 use Rattle.zf_engine.proofs.Subjects.{are_shown_as}
 use Rattle.zf_engine.proofs.bounds.bounds_in.Goals as goal

@@ -1,6 +1,4 @@
-use Rattle.zf_engine.proofs.Prelude.{◌++◌, ◌≡◌, take}
-use Rattle.std.specs.Prelude.{drop}
-use Rattle.zf_engine.specs.{first_line}
+use Rattle.zf_engine.proofs.Prelude.{◌++◌, ◌≡◌, take, drop, first_line}
 use Rattle.zf_engine.proofs.lines.first_line.Given as goal
 
 abbrev pub invariant-loop-place : goal.invariant-loop-place

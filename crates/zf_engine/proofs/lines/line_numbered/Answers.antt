@@ -1,5 +1,4 @@
-use Rattle.zf_engine.proofs.Prelude.{◌+◌, ◌-◌, ◌∙◌, ap, sym}
-use Rattle.zf_engine.specs.{first_line, lines_behind}
+use Rattle.zf_engine.proofs.Prelude.{◌+◌, ◌-◌, ◌∙◌, ap, sym, first_line, lines_behind}
 use Rattle.zf_engine.proofs.SourceLines.{no_line_on, one_line_on}
 use Rattle.zf_engine.proofs.lines.line_numbered.Goals as goal
 

@@ -1,5 +1,4 @@
-use Rattle.zf_engine.proofs.Prelude.{◌-◌, ◌≡◌}
-use Rattle.zf_engine.specs.{lines_behind}
+use Rattle.zf_engine.proofs.Prelude.{◌-◌, ◌≡◌, lines_behind}
 use Rattle.zf_engine.proofs.lines.line_numbered.Given as goal
 
 abbrev pub invariant-loop : goal.invariant-loop

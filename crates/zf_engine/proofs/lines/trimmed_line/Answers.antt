@@ -1,6 +1,4 @@
-use Rattle.zf_engine.proofs.Prelude.{◌∙◌, ap}
-use Rattle.std.proofs.lemmas.Str.Ascii.{trim_ascii_end_is, trim_ascii_start_is}
-use Rattle.zf_engine.specs.{without_end, without_start}
+use Rattle.zf_engine.proofs.Prelude.{◌∙◌, ap, trim_ascii_end_is, trim_ascii_start_is, without_end, without_start}
 use Rattle.zf_engine.proofs.lines.trimmed_line.Goals as goal
 
 pub returns : goal.returns

@@ -1,7 +1,5 @@
-use Rattle.zf_engine.proofs.Prelude.{◌++◌, ◌∙◌, ap, arith, append-nil, map, refl, sym}
-use Rattle.zf_print.specs.{goes_on}
+use Rattle.zf_engine.proofs.Prelude.{◌++◌, ◌∙◌, ap, arith, append-nil, map, refl, sym, goes_on, source_object}
 use Rattle.zf_print.proofs.Printing.{ahead-further, drop-end, goes_on-nil}
-use Rattle.zf_engine.specs.{source_object}
 use Rattle.zf_engine.proofs.ToldLines.{read_ahead}
 use Rattle.zf_engine.proofs.objects.append_side_objects.Goals as goal
 

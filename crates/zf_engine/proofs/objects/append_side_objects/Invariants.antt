@@ -1,7 +1,4 @@
-use Rattle.zf_engine.proofs.Prelude.{◌++◌, ◌≡◌, map}
-use Rattle.std.specs.Prelude.{drop}
-use Rattle.zf_print.specs.{goes_on}
-use Rattle.zf_engine.specs.{side_objects, source_object}
+use Rattle.zf_engine.proofs.Prelude.{◌++◌, ◌≡◌, map, drop, goes_on, side_objects, source_object}
 use Rattle.zf_engine.proofs.objects.append_side_objects.Given as goal
 
 abbrev pub invariant-loop-place : goal.invariant-loop-place

@@ -1,6 +1,4 @@
-use Rattle.zf_engine.proofs.Prelude.{◌∙◌, ap, inl, inr, map, sym, comp_of}
-use Rattle.std.proofs.lemmas.Str.Ascii.{trim_ascii_end_is, trim_ascii_start_is}
-use Rattle.zf_engine.specs.{without_end}
+use Rattle.zf_engine.proofs.Prelude.{◌∙◌, ap, inl, inr, map, sym, comp_of, trim_ascii_end_is, trim_ascii_start_is, without_end}
 use Rattle.zf_engine.proofs.NamedParts.{component_at, is_among, is_not_among, no_component}
 use Rattle.zf_engine.proofs.Refusing.{weaker}
 use Rattle.zf_engine.proofs.only.add_place.Goals as goal

@@ -1,6 +1,5 @@
 -- No comma stands before the place.
-use Rattle.zf_engine.proofs.Prelude.{◌<◌, ◌≡◌, false, get_or, ℕ}
-use Rattle.zf_engine.specs.{is_comma}
+use Rattle.zf_engine.proofs.Prelude.{◌<◌, ◌≡◌, false, get_or, ℕ, is_comma}
 use Rattle.zf_engine.proofs.only.name_before.Given as goal
 
 abbrev pub invariant-loop-place : goal.invariant-loop-place

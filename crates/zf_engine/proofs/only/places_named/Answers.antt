@@ -1,6 +1,4 @@
-use Rattle.zf_engine.proofs.Prelude.{◌+◌, ap, arith, length, map, rules, subst, sym, comp_of, IfAnswered, Some, TellsNoParts}
-use Rattle.std.proofs.lemmas.List.{length-drop}
-use Rattle.zf_engine.specs.{IsMisnamed}
+use Rattle.zf_engine.proofs.Prelude.{◌+◌, ap, arith, length, map, rules, subst, sym, comp_of, IfAnswered, Some, TellsNoParts, length-drop, IsMisnamed}
 use Rattle.zf_engine.proofs.NamedParts.{all_read, none_named, none_yet, one_more, SoFar}
 use Rattle.zf_engine.proofs.Refusing.{weaker, weaker_err}
 use Rattle.zf_engine.proofs.only.places_named.Goals as goal

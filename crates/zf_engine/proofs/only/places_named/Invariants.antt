@@ -1,7 +1,5 @@
 -- The places of the names before the rest.
-use Rattle.zf_engine.proofs.Prelude.{◌≡◌, ◌≤◌, length, map, comp_of}
-use Rattle.std.specs.List.{before_first}
-use Rattle.zf_engine.specs.{is_comma}
+use Rattle.zf_engine.proofs.Prelude.{◌≡◌, ◌≤◌, length, map, comp_of, before_first, is_comma}
 use Rattle.zf_engine.proofs.NamedParts.{SoFar}
 use Rattle.zf_engine.proofs.only.places_named.Given as goal
 

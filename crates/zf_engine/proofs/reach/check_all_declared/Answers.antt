@@ -1,9 +1,4 @@
-use Rattle.zf_engine.proofs.Prelude.{inl, inr, map, rules, subst, environment_of, IfAnswered, schema_of, TellsOut}
-use Rattle.std.specs.List.{AllByRecursion}
-use Rattle.std.specs.Prelude.{OnOk, option_to_list}
-use Rattle.zf_machines.specs.{FirstFails, Named, named_of, schemas_of}
-use Rattle.zf_ranges.specs.{IsNoneOut}
-use Rattle.zf_engine.specs.{HasOut}
+use Rattle.zf_engine.proofs.Prelude.{inl, inr, map, rules, subst, environment_of, IfAnswered, schema_of, TellsOut, AllByRecursion, OnOk, option_to_list, FirstFails, Named, named_of, schemas_of, IsNoneOut, HasOut}
 use Rattle.zf_engine.proofs.Reaching.{all_on_ok, fails_before, fails_behind, listed}
 use Rattle.zf_engine.proofs.Refusing.{weaker, weaker_err}
 use Rattle.zf_engine.proofs.reach.check_all_declared.Goals as goal

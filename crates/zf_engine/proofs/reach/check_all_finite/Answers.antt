@@ -1,9 +1,4 @@
-use Rattle.zf_engine.proofs.Prelude.{inl, inr, map, rules, subst, environment_of, IfAnswered, schema_of, TellsInfinite}
-use Rattle.zf_finite.specs.{IsFinite}
-use Rattle.std.specs.List.{AllByRecursion}
-use Rattle.std.specs.Prelude.{OnOk, option_to_list}
-use Rattle.zf_machines.specs.{FirstFails, Named, named_of, schemas_of}
-use Rattle.zf_engine.specs.{HasInfinite}
+use Rattle.zf_engine.proofs.Prelude.{inl, inr, map, rules, subst, environment_of, IfAnswered, schema_of, TellsInfinite, IsFinite, AllByRecursion, OnOk, option_to_list, FirstFails, Named, named_of, schemas_of, HasInfinite}
 use Rattle.zf_engine.proofs.Reaching.{all_on_ok, fails_before, fails_behind, listed}
 use Rattle.zf_engine.proofs.Refusing.{weaker, weaker_err}
 use Rattle.zf_engine.proofs.reach.check_all_finite.Goals as goal

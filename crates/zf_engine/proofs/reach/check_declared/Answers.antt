@@ -1,9 +1,4 @@
-use Rattle.zf_engine.proofs.Prelude.{IfErr, List, map, Result, subst, sym, comp_of, environment_of, IfAnswered, schema_of, Stop, TellsOut}
-use Rattle.std.specs.List.{AllByRecursion}
-use Rattle.std.specs.Prelude.{IsTrue, OnOk}
-use Rattle.zf_finite.specs.{one_bounds}
-use Rattle.zf_ranges.specs.{IsNoneOut, RefusesStart}
-use Rattle.zf_term.specs.{sets_of}
+use Rattle.zf_engine.proofs.Prelude.{IfErr, List, map, Result, subst, sym, comp_of, environment_of, IfAnswered, schema_of, Stop, TellsOut, AllByRecursion, IsTrue, OnOk, one_bounds, IsNoneOut, RefusesStart, sets_of}
 use Rattle.zf_term.specs.declared.schema.Component.{Component}
 use Rattle.zf_engine.proofs.reach.check_declared.Goals.{in-Err, in-Ok}
 use Rattle.zf_engine.proofs.reach.check_declared.Goals as goal

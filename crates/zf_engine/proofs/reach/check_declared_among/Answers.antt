@@ -1,9 +1,4 @@
-use Rattle.zf_engine.proofs.Prelude.{List, map, rules, subst, ℕ, environment_of, IfAnswered, schema_of, Status, TellsOut}
-use Rattle.std.specs.List.{AllByRecursion}
-use Rattle.zf_finite.specs.{IsFinite}
-use Rattle.zf_machines.proofs.Firsts.{all_passed, at_first, failed, mapped_ahead, mapped_end, passed}
-use Rattle.zf_machines.specs.{FirstFails, Named, named_of}
-use Rattle.zf_ranges.specs.{IsNoneOut}
+use Rattle.zf_engine.proofs.Prelude.{List, map, rules, subst, ℕ, environment_of, IfAnswered, schema_of, Status, TellsOut, AllByRecursion, IsFinite, all_passed, at_first, failed, mapped_ahead, mapped_end, passed, FirstFails, Named, named_of, IsNoneOut}
 use Rattle.zf_engine.proofs.Refusing.{weaker, weaker_err}
 use Rattle.zf_engine.proofs.reach.check_declared_among.Goals as goal
 

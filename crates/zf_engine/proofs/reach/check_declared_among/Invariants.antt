@@ -1,11 +1,5 @@
 -- What is still ahead decides which of the schemas is refused first; what is ahead is finite.
-use Rattle.zf_engine.proofs.Prelude.{List, map, ℕ, environment_of, Status, TellsOut}
-use Rattle.std.proofs.Common.{drop}
-use Rattle.std.specs.List.{AllByRecursion}
-use Rattle.zf_finite.specs.{IsFinite}
-use Rattle.zf_machines.proofs.Firsts.{IsAhead}
-use Rattle.zf_machines.specs.{named_of}
-use Rattle.zf_ranges.specs.{IsNoneOut}
+use Rattle.zf_engine.proofs.Prelude.{List, map, ℕ, environment_of, Status, TellsOut, drop, AllByRecursion, IsFinite, IsAhead, named_of, IsNoneOut}
 use Rattle.zf_engine.proofs.reach.check_declared_among.Given as goal
 
 abbrev pub invariant-loop-named : goal.invariant-loop-named

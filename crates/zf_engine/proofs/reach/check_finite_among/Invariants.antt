@@ -1,9 +1,5 @@
 -- What is still ahead decides which of the schemas is refused first.
-use Rattle.zf_engine.proofs.Prelude.{List, map, ℕ, environment_of, Status, TellsInfinite}
-use Rattle.std.proofs.Common.{drop}
-use Rattle.zf_finite.specs.{IsFinite}
-use Rattle.zf_machines.proofs.Firsts.{IsAhead}
-use Rattle.zf_machines.specs.{named_of}
+use Rattle.zf_engine.proofs.Prelude.{List, map, ℕ, environment_of, Status, TellsInfinite, drop, IsFinite, IsAhead, named_of}
 use Rattle.zf_engine.proofs.reach.check_finite_among.Given as goal
 
 abbrev pub invariant-loop-named : goal.invariant-loop-named

@@ -1,10 +1,4 @@
-use Rattle.zf_engine.proofs.Prelude.{◌+◌, ◌∷◌, [], List, map, rules, subst, sym, take, ℕ, globals_of, IfAnswered, Status, TellsNoSchema}
-use Rattle.std.specs.List.{AllZip}
-use Rattle.std.proofs.lemmas.List.{map-append, take_all}
-use Rattle.zf_machines.proofs.Firsts.{ahead_at, at_first, failed, passed}
-use Rattle.zf_machines.specs.{FirstFails, named_of}
-use Rattle.zf_engine.specs.{IsSchemaOf}
-use Rattle.zf_engine.specs.Explorations.{IsOfSchema}
+use Rattle.zf_engine.proofs.Prelude.{◌+◌, ◌∷◌, [], List, map, rules, subst, sym, take, ℕ, globals_of, IfAnswered, Status, TellsNoSchema, AllZip, map-append, take_all, ahead_at, at_first, failed, passed, FirstFails, named_of, IsSchemaOf, IsOfSchema}
 use Rattle.zf_engine.proofs.Reaching.{zip_more}
 use Rattle.zf_engine.proofs.Refusing.{weaker, weaker_err}
 use Rattle.zf_engine.proofs.reach.operations_in.Goals as goal

@@ -1,11 +1,5 @@
 -- The schemas of the names so far; what is still ahead decides which is the first without one.
-use Rattle.zf_engine.proofs.Prelude.{List, map, take, ℕ, globals_of, Status, TellsNoSchema}
-use Rattle.std.proofs.Common.{drop}
-use Rattle.std.specs.List.{AllZip}
-use Rattle.zf_machines.proofs.Firsts.{IsAhead}
-use Rattle.zf_machines.specs.{named_of}
-use Rattle.zf_engine.specs.{IsSchemaOf}
-use Rattle.zf_engine.specs.Explorations.{IsOfSchema}
+use Rattle.zf_engine.proofs.Prelude.{List, map, take, ℕ, globals_of, Status, TellsNoSchema, drop, AllZip, IsAhead, named_of, IsSchemaOf, IsOfSchema}
 use Rattle.zf_engine.proofs.reach.operations_in.Given as goal
 
 abbrev pub invariant-loop-name : goal.invariant-loop-name

@@ -1,9 +1,4 @@
-use Rattle.zf_engine.proofs.Prelude.{inl, inr, map, rules, subst, globals_of, IfAnswered, TellsNoSchema}
-use Rattle.std.specs.List.{AllZip}
-use Rattle.std.specs.Prelude.{option_to_list}
-use Rattle.zf_machines.specs.{FirstFails, named_of}
-use Rattle.zf_engine.specs.{IsSchemaOf, LacksSchema}
-use Rattle.zf_engine.specs.Explorations.{IsOfSchema}
+use Rattle.zf_engine.proofs.Prelude.{inl, inr, map, rules, subst, globals_of, IfAnswered, TellsNoSchema, AllZip, option_to_list, FirstFails, named_of, IsSchemaOf, LacksSchema, IsOfSchema}
 use Rattle.zf_engine.proofs.Reaching.{all_named, fails_before, fails_behind}
 use Rattle.zf_engine.proofs.Refusing.{weaker, weaker_err}
 use Rattle.zf_engine.proofs.reach.schemas_in.Goals as goal

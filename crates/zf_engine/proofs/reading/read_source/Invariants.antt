@@ -1,6 +1,5 @@
 -- What the vector holds was consumed, and no call failed.
-use Rattle.zf_engine.proofs.Prelude.{◌+◌, ◌-◌, ◌≡◌, ◌≤◌, vec_len, Consumes}
-use Rattle.zf_lines.specs.{device_of, failures_of}
+use Rattle.zf_engine.proofs.Prelude.{◌+◌, ◌-◌, ◌≡◌, ◌≤◌, vec_len, Consumes, device_of, failures_of}
 use Rattle.zf_scan.specs.declared.scan.TheConstants.{SOURCE_MAX}
 use Rattle.zf_engine.proofs.reading.read_source.Given as goal
 

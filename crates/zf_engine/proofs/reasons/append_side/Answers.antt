@@ -1,7 +1,4 @@
-use Rattle.zf_engine.proofs.Prelude.{◌++◌, ◌∙◌, ap, arith, get_or, List, ℕ}
-use Rattle.std.proofs.Common.{append_assoc}
-use Rattle.std.specs.Prelude.{codes}
-use Rattle.zf_engine.specs.{source_line}
+use Rattle.zf_engine.proofs.Prelude.{◌++◌, ◌∙◌, ap, arith, get_or, List, ℕ, append_assoc, codes, source_line}
 use Rattle.zf_engine.proofs.ToldLines.{no_more, one_read}
 use Rattle.zf_engine.proofs.reasons.append_side.Goals as goal
 

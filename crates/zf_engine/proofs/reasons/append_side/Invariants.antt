@@ -1,6 +1,4 @@
-use Rattle.zf_engine.proofs.Prelude.{◌++◌, ◌≡◌}
-use Rattle.std.specs.Prelude.{drop}
-use Rattle.zf_engine.specs.{side_lines}
+use Rattle.zf_engine.proofs.Prelude.{◌++◌, ◌≡◌, drop, side_lines}
 use Rattle.zf_engine.proofs.reasons.append_side.Given as goal
 
 abbrev pub invariant-loop-number : goal.invariant-loop-number

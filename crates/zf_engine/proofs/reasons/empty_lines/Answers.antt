@@ -1,10 +1,6 @@
-use Rattle.zf_engine.proofs.Prelude.{◌+◌, ◌∙◌, ◌≡◌, ap, arith, Some, subst, sym, ℕ}
+use Rattle.zf_engine.proofs.Prelude.{◌+◌, ◌∙◌, ◌≡◌, ap, arith, Some, subst, sym, ℕ, slice_get, comp_of, read_at, empty_line}
 use Rattle.std.proofs.Common.{Global, Vec}
-use Rattle.std.specs.Prelude.{slice_get}
-use Rattle.zf_term.specs.{comp_of}
 use Rattle.zf_term.specs.declared.schema.Component.{Component}
-use Rattle.zf_why.proofs.Lists.{read_at}
-use Rattle.zf_engine.specs.{empty_line}
 use Rattle.zf_engine.proofs.ChosenLines.{all_told, AreToldTo, none_told, one_left, one_told, seen_told}
 use Rattle.zf_engine.proofs.reasons.empty_lines.Goals.{then-chosen-place+in_ok-append_empty, else-chosen-place}
 use Rattle.zf_engine.proofs.reasons.empty_lines.Goals as goal

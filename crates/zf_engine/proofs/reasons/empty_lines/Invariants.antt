@@ -1,6 +1,5 @@
-use Rattle.zf_term.specs.{comp_of}
+use Rattle.zf_engine.proofs.Prelude.{comp_of, empty_line}
 use Rattle.zf_term.specs.declared.schema.Component.{Component}
-use Rattle.zf_engine.specs.{empty_line}
 use Rattle.zf_engine.proofs.ChosenLines.{AreToldTo}
 use Rattle.zf_engine.proofs.reasons.empty_lines.Given as goal
 

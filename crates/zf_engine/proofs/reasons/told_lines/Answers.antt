@@ -1,5 +1,4 @@
-use Rattle.zf_engine.proofs.Prelude.{◌++◌, ap, arith, List, ℕ}
-use Rattle.zf_engine.specs.{told_line, told_lines}
+use Rattle.zf_engine.proofs.Prelude.{◌++◌, ap, arith, List, ℕ, told_line, told_lines}
 use Rattle.zf_engine.proofs.ToldLines.{no_more, one_more}
 use Rattle.zf_engine.proofs.reasons.told_lines.Goals as goal
 

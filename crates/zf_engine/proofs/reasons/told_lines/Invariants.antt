@@ -1,6 +1,4 @@
-use Rattle.zf_engine.proofs.Prelude.{◌++◌, ◌≡◌}
-use Rattle.std.specs.Prelude.{drop}
-use Rattle.zf_engine.specs.{told_lines}
+use Rattle.zf_engine.proofs.Prelude.{◌++◌, ◌≡◌, drop, told_lines}
 use Rattle.zf_engine.proofs.reasons.told_lines.Given as goal
 
 abbrev pub invariant-loop-one : goal.invariant-loop-one

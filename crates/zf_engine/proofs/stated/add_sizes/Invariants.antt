@@ -1,6 +1,5 @@
 -- The sets up to the place have their size.
-use Rattle.std.proofs.Common.{◌++◌, ◌≡◌, Some, take}
-use Rattle.zf_engine.specs.{with_size}
+use Rattle.zf_engine.proofs.Prelude.{◌++◌, ◌≡◌, Some, take, with_size}
 use Rattle.zf_engine.proofs.stated.add_sizes.Given as goal
 
 abbrev pub invariant-loop-set : goal.invariant-loop-set

@@ -1,7 +1,5 @@
 -- No size before the place is that of the set.
-use Rattle.std.proofs.Common.{◌≡◌, drop}
-use Rattle.std.specs.List.{list_any}
-use Rattle.std.specs.Str.{bytes_eq}
+use Rattle.zf_engine.proofs.Prelude.{◌≡◌, drop, list_any, bytes_eq}
 use Rattle.zf_engine.proofs.stated.is_sized.Given as goal
 
 abbrev pub invariant-loop-size : goal.invariant-loop-size

@@ -1,6 +1,5 @@
 -- The sets up to the place that have no size are listed.
-use Rattle.zf_engine.proofs.Prelude.{◌++◌, ◌≡◌, without_size}
-use Rattle.std.proofs.Common.{drop}
+use Rattle.zf_engine.proofs.Prelude.{◌++◌, ◌≡◌, without_size, drop}
 use Rattle.zf_engine.proofs.stated.unsized_of.Given as goal
 
 abbrev pub invariant-loop-set : goal.invariant-loop-set

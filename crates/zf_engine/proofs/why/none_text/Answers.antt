@@ -1,5 +1,4 @@
-use Rattle.zf_engine.proofs.Prelude.{◌++◌, ◌∙◌, ap}
-use Rattle.zf_engine.specs.{no_binding_line}
+use Rattle.zf_engine.proofs.Prelude.{◌++◌, ◌∙◌, ap, no_binding_line}
 use Rattle.zf_engine.proofs.why.none_text.Goals as goal
 
 pub returns : goal.returns

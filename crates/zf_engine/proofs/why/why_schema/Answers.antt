@@ -1,6 +1,4 @@
-use Rattle.zf_engine.proofs.Prelude.{◌∙◌, ap, None, rules, subst, sym, schema_of, environment_of, spellings, AnswersRequest, AreHeld, IfAnswered, TellsNoValues, TellsOut}
-use Rattle.zf_print.specs.{AreClear}
-use Rattle.zf_read.specs.{HaveClearNames}
+use Rattle.zf_engine.proofs.Prelude.{◌∙◌, ap, None, rules, subst, sym, schema_of, environment_of, spellings, AnswersRequest, AreHeld, IfAnswered, TellsNoValues, TellsOut, AreClear, HaveClearNames}
 use Rattle.zf_engine.proofs.DueWithin.{due_within}
 use Rattle.zf_engine.proofs.Refusing.{all_shown, clear_of, names_of, no_values_answers, weaker_err, well_typed}
 use Rattle.zf_engine.proofs.WhyAnswers.{none_named, why_found, why_out}

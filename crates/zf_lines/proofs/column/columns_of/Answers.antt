@@ -1,6 +1,4 @@
-use Rattle.zf_print.specs.{comma_before, name_in}
-use Rattle.zf_term.specs.declared.schema.Component.{Component}
-use Rattle.std.proofs.Common.{◌++◌, sym, ◌<◌, length, get_or, ap, ◌∙◌, subst, arith}
+use Rattle.zf_lines.proofs.Prelude.{comma_before, name_in, Component, ◌++◌, sym, ◌<◌, length, get_or, ap, ◌∙◌, subst, arith}
 use Rattle.zf_lines.proofs.Parts.{all_columns, more_columns}
 use Rattle.zf_lines.proofs.column.columns_of.Goals as goal
 

@@ -1,6 +1,5 @@
 -- What is written is the lines, the end, and the number of tests.
-use Rattle.zf_lines.proofs.Prelude.{◌++◌, ◌∙◌, ap, inr, List, refl, sym, true, ℕ, Appends-trans, schema_of, last_text, row_wording, tests_line}
-use Rattle.std.specs.Prelude.{unwrap_or, []}
+use Rattle.zf_lines.proofs.Prelude.{◌++◌, ◌∙◌, ap, inr, List, refl, sym, true, ℕ, Appends-trans, schema_of, last_text, row_wording, tests_line, unwrap_or, []}
 use Rattle.zf_lines.proofs.Fronts.{always_on_err, front_behind, front_longer, front_whole}
 use Rattle.zf_lines.proofs.Searching.{all_text}
 use Rattle.zf_lines.proofs.Telling.{number_told}

@@ -1,5 +1,4 @@
-use Rattle.zf_lines.proofs.Prelude.{◌++◌, ◌∙◌, ap, append_assoc, codes, sym, schema_of, row_line}
-use Rattle.zf_lines.specs.{out_line}
+use Rattle.zf_lines.proofs.Prelude.{◌++◌, ◌∙◌, ap, append_assoc, codes, sym, schema_of, row_line, out_line}
 use Rattle.zf_format.specs.declared.format.Format.TheVariants.{Lines}
 use Rattle.zf_lines.proofs.Fronts.{weaker_on_ok}
 use Rattle.zf_lines.proofs.texts.append_out_line.Goals as goal

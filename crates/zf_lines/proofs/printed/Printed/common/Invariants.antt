@@ -1,6 +1,5 @@
 -- The parts before this one are those of the row.
-use Rattle.zf_lines.proofs.Prelude.{◌<◌, ◌≡◌, ℕ, [], Some, slice_get, slice_index_or}
-use Rattle.zf_lines.specs.declared.printed.Part.{Part}
+use Rattle.zf_lines.proofs.Prelude.{◌<◌, ◌≡◌, ℕ, [], Some, slice_get, slice_index_or, Part}
 use Rattle.zf_lines.proofs.printed.Printed.common.Given as goal
 
 abbrev pub invariant-loop-i : goal.invariant-loop-i
