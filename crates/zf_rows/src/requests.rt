@@ -18,7 +18,8 @@
 //! | `-` | a number: so many bytes at the end of the next source are left out |
 //! | `?` | the last line of the next source: the row is run |
 //! | `.` | the row is run |
-use std::alloc::{AllocError, Global};
+use crate::texts::{number_in, push_line, push_line_or_clear, push_times, replace, split_number};
+use std::alloc::Global;
 use std::io::ErrorKind;
 use std::rt::Files;
 use std::{fs, io};
@@ -84,7 +85,10 @@ impl Rows {
             ")" => push_line_or_clear(&mut self.behind, rest)?,
             "|" => push_line(&mut self.source, rest)?,
             "<" => push_file(&mut self.source, rt, rest)?,
-            "*" => push_often(&mut self.source, rest)?,
+            "*" => {
+                let (times, words) = split_number(rest)?;
+                push_times(&mut self.source, words, times)?;
+            }
             "-" => self.left_out = number_in(rest)?,
             "?" => {
                 push_line(&mut self.source, rest)?;
@@ -120,46 +124,10 @@ impl Rows {
     }
 }
 
-fn replace(text: &mut String, new: &str) -> Result<(), AllocError> {
-    text.clear();
-    text.push_str(new)
-}
-
-fn push_line(text: &mut String, line: &str) -> Result<(), AllocError> {
-    text.push_str(line)?;
-    text.push_str("\n")
-}
-
-fn push_line_or_clear(text: &mut String, line: &str) -> Result<(), AllocError> {
-    if line.is_empty() {
-        text.clear();
-        return Ok(());
-    }
-    push_line(text, line)
-}
-
 fn push_file<R: Files + AllocGlobal>(text: &mut String, rt: &R, file: &str) -> io::Result<()> {
     let of_file = fs::read_to_string(rt, file)?;
     text.push_str(of_file.as_str())?;
     Ok(())
-}
-
-/// Pushes words after a number so many times.
-fn push_often(text: &mut String, often: &str) -> io::Result<()> {
-    let Some((number, words)) = often.split_once(' ') else {
-        return Err(io::Error::from(ErrorKind::InvalidData));
-    };
-    for _turn in 0..number_in(number)? {
-        text.push_str(words)?;
-    }
-    Ok(())
-}
-
-fn number_in(text: &str) -> io::Result<usize> {
-    match text.parse::<usize>() {
-        Ok(number) => Ok(number),
-        Err(_) => Err(io::Error::from(ErrorKind::InvalidData)),
-    }
 }
 
 /// What the words write over the source. The answer is the status.

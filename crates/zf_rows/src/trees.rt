@@ -21,6 +21,7 @@
 //! The forms stand in their order, the loosest first. At the `..` of a source one stands in brackets where it is looser
 //! than the source's level, or begins with a minus after a separator, which would be dropped.
 use crate::printed::printed;
+use crate::texts::{push_line, push_line_or_clear, push_times, replace, split_number};
 use bumpalo::Bump;
 use std::alloc::{AllocError, Global};
 use std::io;
@@ -235,41 +236,13 @@ fn within(alloc: Global, round: &str, text: &str) -> Result<String, AllocError> 
     Ok(whole)
 }
 
-fn replace(text: &mut String, new: &str) -> Result<(), AllocError> {
-    text.clear();
-    text.push_str(new)
-}
-
-fn push_line(text: &mut String, line: &str) -> Result<(), AllocError> {
-    text.push_str(line)?;
-    text.push_str("\n")
-}
-
-fn push_line_or_clear(text: &mut String, line: &str) -> Result<(), AllocError> {
-    if line.is_empty() {
-        text.clear();
-        return Ok(());
-    }
-    push_line(text, line)
-}
-
 /// Pushes words after a number so many times; without words, the text stands so many times.
 fn push_often(text: &mut String, often: &str) -> io::Result<()> {
-    let (number, words) = often.split_once(' ').unwrap_or((often, ""));
-    let Ok(times) = number.parse::<usize>() else {
-        return Err(io::Error::from(ErrorKind::InvalidData));
-    };
+    let (times, words) = split_number(often)?;
     if words.is_empty() {
         let so_far = text.clone()?;
         text.clear();
         return Ok(push_times(text, so_far.as_str(), times)?);
     }
     Ok(push_times(text, words, times)?)
-}
-
-fn push_times(text: &mut String, words: &str, times: usize) -> Result<(), AllocError> {
-    for _turn in 0..times {
-        text.push_str(words)?;
-    }
-    Ok(())
 }

@@ -136,7 +136,7 @@ impl Printer {
         let Term::Comprehension(line, decls, filter, term) = term else {
             return Ok(());
         };
-        self.word("(Builder", *line)?;
+        self.word("(Comprehension", *line)?;
         self.bound(decls.as_slice())?;
         self.optional("|", filter)?;
         self.optional("@", term)?;
