@@ -1,10 +1,9 @@
 -- What a parse reads of a command with one more argument, or with a text for help.
-use Rattle.zf_command.proofs.Prelude.{◌||◌, ◌+◌, ◌<◌, ◌∙◌, ◌≡◌, ap, ap₂, Bor, get_or, length, List, Option, subst, sym, take, ℕ, AddsArg, AddsSubcommand, App, Rule, with_rule, with_subcommand, IsArg, IsCommand}
+use Rattle.zf_command.proofs.Prelude.{◌||◌, ◌+◌, ◌<◌, ◌∙◌, ◌≡◌, ap, ap₂, Bor, get_or, length, List, Option, subst, sym, take, ℕ, AddsArg, AddsSubcommand, App, Rule, with_rule, with_subcommand, IsArg, IsCommand, parameter_rule, with_parameters}
 use Rattle.std.proofs.lemmas.List.Sums.{fold_more}
 use Rattle.clap.specs.declared.builder.Arg.{Arg}
 use Rattle.clap.specs.declared.builder.command.Command.{Command}
 use Rattle.clap.specs.declared.builder.command.Command.TheViews.{out-Command}
-use Rattle.zf_command.specs.{parameter_rule, with_parameters}
 use Rattle.zf_command.specs.declared.command.Parameter.{Parameter}
 
 pub with_one_more : (old new : Command) (a : Arg) (app : App) (r : Rule) → IsCommand old app → IsArg a r → AddsArg old a new → IsCommand new (with_rule app r)

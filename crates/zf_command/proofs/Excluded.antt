@@ -1,6 +1,5 @@
 -- Words that are refused ask for no work.
-use Rattle.zf_command.proofs.Prelude.{◌∙◌, ◌∷◌, ◌≡◌, [], arith, codes, inl, inr, List, None, Option, Some, subst, suc, sym, zero, ℕ, AllZip, Contains, first_of, IsAmong, Row, Text, HasBadLimit, HasBadNumber, HasBadNumbers, HasBadSetting, IsAsked, IsExploration, IsJob, IsLimit, IsNumberOf, IsRefused, IsSetting, IsShown, ReadsSize, Refuses, RefusesExploration, RefusesShown, size_words, values_of, words_after, Work, Size}
-use Rattle.std.proofs.Common.{Bool, false, refl, true}
+use Rattle.zf_command.proofs.Prelude.{◌∙◌, ◌∷◌, ◌≡◌, [], arith, codes, inl, inr, List, None, Option, Some, subst, suc, sym, zero, ℕ, AllZip, Contains, first_of, IsAmong, Row, Text, HasBadLimit, HasBadNumber, HasBadNumbers, HasBadSetting, IsAsked, IsExploration, IsJob, IsLimit, IsNumberOf, IsRefused, IsSetting, IsShown, ReadsSize, Refuses, RefusesExploration, RefusesShown, size_words, values_of, words_after, Work, Size, Bool, false, refl, true}
 use Rattle.std.proofs.lemmas.Bool.{true≢false}
 use Rattle.std.proofs.lemmas.Option.{same_Some}
 use Rattle.std.proofs.lemmas.Slice.Eq.{bytes_eq-Decides}

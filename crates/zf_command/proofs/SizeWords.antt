@@ -1,10 +1,7 @@
 -- What `split_once` makes of a size word, and what a loop over size words has read.
-use Rattle.zf_command.proofs.Prelude.{◌++◌, ◌+◌, ◌<◌, ◌∙◌, ◌∷◌, ◌≡◌, ◌≢◌, [], ap, append_assoc, Bor, get_or, length, List, lit<, map, MatchOption, None, Option, Some, subst, sym, take, ℕ, AllZip, IsNumeral, HasBadSize, IsBadSize, ReadsNumber, ReadsSize, Size}
-use Rattle.std.proofs.Common.{append-nil, Bool, cond, false, true}
-use Rattle.std.proofs.lemmas.List.{get_or-map, get_or_default, length-map, map_more}
+use Rattle.zf_command.proofs.Prelude.{◌++◌, ◌+◌, ◌<◌, ◌∙◌, ◌∷◌, ◌≡◌, ◌≢◌, [], ap, append_assoc, Bor, get_or, length, List, lit<, map, MatchOption, None, Option, Some, subst, sym, take, ℕ, AllZip, IsNumeral, HasBadSize, IsBadSize, ReadsNumber, ReadsSize, Size, append-nil, Bool, cond, false, true, get_or-map, get_or_default, length-map, map_more, filter}
 use Rattle.std.proofs.lemmas.List.Elements.{filter_more}
 use Rattle.std.proofs.lemmas.Slice.Zip.{all_zipped_more}
-use Rattle.std.specs.List.{filter}
 use Rattle.std.proofs.lemmas.Str.Pattern.{IsSplitOnceResult, split_after, split_parts}
 
 -- where a word is read as a size, it is parted into the name and the digits

@@ -1,7 +1,5 @@
 -- Choices, one of which is left out: which places are chosen then, and what is chosen.
-use Rattle.zf_cores.proofs.Prelude.{◌++◌, ◌+◌, ◌<◌, ◌≤◌, ◌∙◌, ◌∷◌, ◌≡◌, [], add-one, ap, append-nil, append_assoc, arith, drop, map, sym, AllByRecursion, Bool, true, false, length, List, refl, Some, suc, zero, ℕ, slice_get, slice_set, chosen_of, IsChosen, IsFewer}
-use Rattle.std.proofs.lemmas.List.{drop_all}
-use Rattle.std.specs.Prelude.{replicate}
+use Rattle.zf_cores.proofs.Prelude.{◌++◌, ◌+◌, ◌<◌, ◌≤◌, ◌∙◌, ◌∷◌, ◌≡◌, [], add-one, ap, append-nil, append_assoc, arith, drop, map, sym, AllByRecursion, Bool, true, false, length, List, refl, Some, suc, zero, ℕ, slice_get, slice_set, chosen_of, IsChosen, IsFewer, drop_all, replicate}
 
 -- ---- a place that is left out
 

@@ -1,8 +1,6 @@
 -- A set that is left smaller and smaller, one member after another, as long as nothing is possible: what stays in it is minimal.
-use Rattle.zf_cores.proofs.Prelude.{◌+◌, ◌<◌, ◌∷◌, ◌≡◌, ◌≤◌, arith, Bool, true, false, [], length, List, subst, suc, zero, sym, ℕ, slice_set, IsChosen, IsFewer, IsMinimal}
+use Rattle.zf_cores.proofs.Prelude.{◌+◌, ◌<◌, ◌∷◌, ◌≡◌, ◌≤◌, arith, Bool, true, false, [], length, List, subst, suc, zero, sym, ℕ, slice_set, IsChosen, IsFewer, IsMinimal, length-replicate, length-set, replicate}
 use Rattle.zf_cores.proofs.Choosing.{left_out, both_left_out, put_back, elsewhere, is_out, chosen_all}
-use Rattle.std.proofs.lemmas.List.{length-replicate, length-set}
-use Rattle.std.specs.Prelude.{replicate}
 use borrow.Author.Count.{below_more}
 
 -- Nothing is possible with what is left; those before place i that are left are needed, and those from there on are all left.

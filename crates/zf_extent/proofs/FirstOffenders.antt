@@ -1,16 +1,9 @@
 -- The first of several that offend, and how it is found from the front.
-use Rattle.std.proofs.Common.{◌≡◌, ℕ, ◌+◌, ◌-◌, ◌<◌, ◌==◌, Bool, Option, List, [], ◌∷◌, ◌++◌, length, map, take, drop, get_or, refl, sym, ap, ◌∙◌}
-use Rattle.std.proofs.lemmas.List.{take_rest}
+use Rattle.zf_extent.proofs.Prelude.{◌≡◌, ℕ, ◌+◌, ◌-◌, ◌<◌, ◌==◌, Bool, Option, List, [], ◌∷◌, ◌++◌, length, map, take, drop, get_or, refl, sym, ap, ◌∙◌, take_rest, Resolved, Defined, links, part_of, range_of, ranges, resolved_link_of, resolved_of, terms, Offender, all_offending, first, is_last, links_offending, offending, part_offending, ranges_offending, tested, unless, option_or, or_else_assoc}
 use Rattle.std.proofs.Math.Dec.{eqb-suc-zero}
 use Rattle.zf_term.specs.declared.resolved.Range.{Range}
-use Rattle.zf_term.specs.declared.resolved.Resolved.{Resolved}
 use Rattle.zf_term.specs.declared.resolved.Resolved.TheVariants as v
 use Rattle.zf_term.specs.declared.resolved.ResolvedLink.{ResolvedLink}
-use Rattle.zf_term.specs.{Defined, links, part_of, range_of, ranges, resolved_link_of, resolved_of, terms}
-use Rattle.zf_extent.specs.declared.offender.Offender.{Offender}
-use Rattle.zf_extent.specs.{all_offending, first, is_last, links_offending, offending, part_offending, ranges_offending, tested, unless}
-use Rattle.std.specs.Option.{option_or}
-use Rattle.zf_term.proofs.Choices.{or_else_assoc}
 use Rattle.zf_term.proofs.Walk.{dropped}
 use Rattle.zf_term.proofs.ResolvedSeen.{of-Comprehension, link-seen, range-seen}
 

@@ -1,6 +1,5 @@
 -- What offends in conjuncts: in terms that are joined, what offends in each of them.
-use Rattle.std.proofs.Common.{◌≡◌, ℕ, ◌+◌, ◌<◌, Option, List, [], ◌∷◌, ◌++◌, length, map, drop, get_or, refl, sym, ap, ◌∙◌}
-use Rattle.std.proofs.lemmas.List.{append_assoc, append-nil}
+use Rattle.zf_extent.proofs.Prelude.{◌≡◌, ℕ, ◌+◌, ◌<◌, Option, List, [], ◌∷◌, ◌++◌, length, map, drop, get_or, refl, sym, ap, ◌∙◌, append_assoc, append-nil, Resolved, all_joined, batch_of, both_hold, conjunct_of, Defined, is_member, joined, moved, numbering, one_holds, resolved_of, ResolvedTree, option_or, or_else_assoc, Offender, direct, first, offending, offending_within, unless}
 use Rattle.std.proofs.lemmas.Grind.{flat_map-append}
 use Rattle.std.proofs.lemmas.List.Concat.{flat_map-cons}
 use Rattle.std.specs.List.{flat_map}
@@ -8,13 +7,7 @@ use Rattle.zf_data.specs.{all_of}
 use Rattle.zf_term.specs.declared.conjunct.Batch.{Batch}
 use Rattle.zf_term.specs.declared.conjunct.Conjunct.{Conjunct}
 use Rattle.zf_term.specs.declared.conjunct.Conjunct.TheVariants as v
-use Rattle.zf_term.specs.declared.resolved.Resolved.{Resolved}
-use Rattle.zf_term.specs.{all_joined, batch_of, both_hold, conjunct_of, Defined, is_member, joined, moved, numbering, one_holds, resolved_of, ResolvedTree}
-use Rattle.std.specs.Option.{option_or}
-use Rattle.zf_term.proofs.Choices.{or_else_assoc}
 use Rattle.zf_term.proofs.ConjunctsSeen.{batch-seen, of-Either, of-Member, of-Term}
-use Rattle.zf_extent.specs.declared.offender.Offender.{Offender}
-use Rattle.zf_extent.specs.{direct, first, offending, offending_within, unless}
 use Rattle.zf_extent.proofs.FirstOffenders.{first_of_both, first_step}
 use Rattle.zf_extent.proofs.SameOffences.{same_offences}
 

@@ -1,3 +1,4 @@
+pub mod Prelude
 pub mod FirstOffenders
 pub mod JoinedOffences
 pub mod SameOffences

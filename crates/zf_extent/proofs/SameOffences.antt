@@ -1,10 +1,8 @@
 -- In a term whose components are numbered anew the same offends.
-use Rattle.std.proofs.Common.{◌≡◌, ℕ, List, None, ◌&&◌, if◌then◌else◌, refl, ap, ◌∙◌}
+use Rattle.zf_extent.proofs.Prelude.{◌≡◌, ℕ, List, None, ◌&&◌, if◌then◌else◌, refl, ap, ◌∙◌, absent, all_moved, binary, bracket, comprehension, chain, constant, Defined, empty_set, link, links_moved, listed, moved, no_links, no_ranges, no_terms, number, part_moved, present, quantified, range, Ranges, ranges_moved, reference, ResolvedLinks, ResolvedPart, ResolvedTree, term, unary, all_offending, direct, extent_named, extent_set, is_last, is_membership, links_offending, name_offenders, offending, part_offending, ranges_offending, tested}
 use Rattle.zf_tree.specs.declared.symbol.Relation.{Relation}
 use Rattle.zf_reference.specs.declared.reference.Reference.{Reference}
 use Rattle.zf_reference.specs.declared.reference.Reference.TheVariants.{Component, Local, Global}
-use Rattle.zf_term.specs.{absent, all_moved, binary, bracket, comprehension, chain, constant, Defined, empty_set, link, links_moved, listed, moved, no_links, no_ranges, no_terms, number, part_moved, present, quantified, range, Ranges, ranges_moved, reference, ResolvedLinks, ResolvedPart, ResolvedTree, term, unary}
-use Rattle.zf_extent.specs.{all_offending, direct, extent_named, extent_set, is_last, is_membership, links_offending, name_offenders, offending, part_offending, ranges_offending, tested}
 use Rattle.zf_term.specs.ResolvedTrees.{ResolvedTrees}
 use Rattle.zf_reference.specs.{renumbered}
 

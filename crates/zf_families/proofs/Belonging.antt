@@ -1,6 +1,5 @@
 -- What the tests of pairs say of functions and injections.
-use Rattle.zf_families.proofs.Prelude.{◌↔◌, ◌∙◌, ◌∷◌, ◌≡◌, [], ap, Bool, Equal, false, Greater, inl, inr, Less, List, Ordering, refl, subst, sym, true, ⊎_elim, and_from, and_parts, both_ways, false≢true, is_lt, ordering_reverse, IsTrue, every_at, not_below_itself, exact, members-SetOf, IsBetween, IsFunctional, IsInjective, IsRelationThat, IsSubset, IsTotal, pair, IsAscending, IsMember, members, value_order, AreAmong, SetOf, Value, outs-Tuple, fits_any, fits_apart, pairs, first, first_at, firsts_rise, IsGraph, seconds_apart, IsFunctionFrom, IsInjectionFrom, IsPairOn, AllByRecursion}
-use Rattle.zf_value.specs.contracts.plain.ValueOrd.TheImpl.Laws.{total-law}
+use Rattle.zf_families.proofs.Prelude.{◌↔◌, ◌∙◌, ◌∷◌, ◌≡◌, [], ap, Bool, Equal, false, Greater, inl, inr, Less, List, Ordering, refl, subst, sym, true, ⊎_elim, and_from, and_parts, both_ways, false≢true, is_lt, ordering_reverse, IsTrue, every_at, not_below_itself, exact, members-SetOf, IsBetween, IsFunctional, IsInjective, IsRelationThat, IsSubset, IsTotal, pair, IsAscending, IsMember, members, value_order, AreAmong, SetOf, Value, outs-Tuple, fits_any, fits_apart, pairs, first, first_at, firsts_rise, IsGraph, seconds_apart, IsFunctionFrom, IsInjectionFrom, IsPairOn, AllByRecursion, total-law}
 use Rattle.zf_families.proofs.Comparisons.{not_both, below_rest, pair_parts, first_below, member_map, from_member_map}
 use Rattle.zf_families.proofs.Functions.{GoesAll, none_all, all_to, all_from}
 use Rattle.zf_families.proofs.FunctionLaws.{functions, IsUnused, unused_from, unused_to, injective_more}

@@ -1,7 +1,5 @@
 -- The order of values, and lists that ascend in it.
-use Rattle.zf_families.proofs.Prelude.{tied_itself, is_eq, ordering_reverse, ordering_then, every_at, every_from, ties, parts-Tuple, pair, IsAscending, IsMember, parts, row_order, value_order, Value, AllByRecursion}
-use Rattle.std.proofs.Common.{◌≡◌, ◌↔◌, Bool, true, false, IsTrue, ap₂, List, [], ◌∷◌, map, refl, sym, ap, ◌∙◌, inl, inr, ⊎_elim, Less}
-use Rattle.zf_value.specs.contracts.plain.ValueOrd.TheImpl.Laws.{total-law}
+use Rattle.zf_families.proofs.Prelude.{tied_itself, is_eq, ordering_reverse, ordering_then, every_at, every_from, ties, parts-Tuple, pair, IsAscending, IsMember, parts, row_order, value_order, Value, AllByRecursion, ◌≡◌, ◌↔◌, Bool, true, false, IsTrue, ap₂, List, [], ◌∷◌, map, refl, sym, ap, ◌∙◌, inl, inr, ⊎_elim, Less, total-law}
 use Rattle.zf_families.proofs.Told.{tuple_order}
 
 pub every_map : (P : Value → Type 0) (f : Value → Value) (xs : List Value) → AllByRecursion (λ x. P (f x)) xs → AllByRecursion P (map f xs)

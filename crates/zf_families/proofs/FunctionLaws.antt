@@ -1,6 +1,5 @@
 -- The laws of functions and of injections, and which pairs fit.
-use Rattle.zf_families.proofs.Prelude.{◌∙◌, ◌∷◌, ◌≡◌, [], ap, Equal, Greater, inl, inr, Less, List, not, Ordering, refl, subst, sym, true, ⊎_elim, and_from, and_parts, false≢true, tied_itself, is_eq, exact, IsBetween, IsFunctional, IsInjective, pair, Relates, IsMember, value_order, Value, outs-Tuple, fits_any, fits_apart, second, second_at}
-use Rattle.zf_value.specs.contracts.plain.ValueOrd.TheImpl.Laws.{total-law}
+use Rattle.zf_families.proofs.Prelude.{◌∙◌, ◌∷◌, ◌≡◌, [], ap, Equal, Greater, inl, inr, Less, List, not, Ordering, refl, subst, sym, true, ⊎_elim, and_from, and_parts, false≢true, tied_itself, is_eq, exact, IsBetween, IsFunctional, IsInjective, pair, Relates, IsMember, value_order, Value, outs-Tuple, fits_any, fits_apart, second, second_at, total-law}
 use Rattle.zf_families.proofs.Comparisons.{pair_parts}
 use Rattle.zf_families.proofs.Functions.{IsFree, IsLaw}
 

@@ -1,6 +1,5 @@
 -- The rows that are listed are ascending, and are those that take their items of the layers.
-use Rattle.zf_families.proofs.Prelude.{◌∙◌, ◌∷◌, ◌≡◌, [], ap, Bool, Less, List, refl, tied_itself, filter, ordering_then, every_also, IsAscending, row_order, value_order, Value, extended, extensions, some, whole, AllByRecursion}
-use Rattle.zf_value.specs.contracts.plain.ValueOrd.TheImpl.Laws.{total-law}
+use Rattle.zf_families.proofs.Prelude.{◌∙◌, ◌∷◌, ◌≡◌, [], ap, Bool, Less, List, refl, tied_itself, filter, ordering_then, every_also, IsAscending, row_order, value_order, Value, extended, extensions, some, whole, AllByRecursion, total-law}
 use Rattle.zf_families.proofs.Lists.{Each, IsOrdered, each_append, each_map, each_weaker, ordered_append, ordered_filter, ordered_map}
 
 abbrev pub Below : List Value → List Value → Type 0

@@ -1,7 +1,6 @@
 -- How many injections there are.
-use Rattle.zf_families.proofs.Prelude.{◌&&◌, ◌*◌, ◌++◌, ◌+◌, ◌-◌, ◌∙◌, ◌∷◌, ◌≡◌, [], ap, arith, Bool, cond, Equal, false, Greater, inl, inr, length, Less, List, map, not, Ordering, refl, subst, suc, true, ℕ, ⊎_elim, tied_itself, length-append, length-map, filter, is_eq, ordering_reverse, pair, IsAscending, IsMember, value_order, Value, falling, partial_injection_count, extended, extensions, fits_apart, pairs, second, some, whole, AllByRecursion}
+use Rattle.zf_families.proofs.Prelude.{◌&&◌, ◌*◌, ◌++◌, ◌+◌, ◌-◌, ◌∙◌, ◌∷◌, ◌≡◌, [], ap, arith, Bool, cond, Equal, false, Greater, inl, inr, length, Less, List, map, not, Ordering, refl, subst, suc, true, ℕ, ⊎_elim, tied_itself, length-append, length-map, filter, is_eq, ordering_reverse, pair, IsAscending, IsMember, value_order, Value, falling, partial_injection_count, extended, extensions, fits_apart, pairs, second, some, whole, AllByRecursion, total-law}
 use Rattle.std.proofs.lemmas.List.Elements.{filter-append}
-use Rattle.zf_value.specs.contracts.plain.ValueOrd.TheImpl.Laws.{total-law}
 use Rattle.zf_families.proofs.FunctionLaws.{second-pair}
 use Rattle.zf_families.proofs.Comparisons.{below_rest}
 

@@ -1,5 +1,5 @@
 -- What the proofs of this crate take from elsewhere, passed on from one place.
-pub use Rattle.std.proofs.Common.{◌&&◌, ◌*◌, ◌++◌, ◌+◌, ◌-◌, ◌<◌, ◌^◌, ◌↔◌, ◌∙◌, ◌∷◌, ◌≡◌, ◌≤◌, ◌⊎◌, [], add-one, ap, arith, Bool, cond, drop, Equal, false, get_or, Greater, inl, inr, length, Less, List, ltb, map, min, not, Ordering, refl, Result, subst, suc, sym, take, true, zero, ℕ, ⊎_elim}
+pub use Rattle.std.proofs.Common.{◌&&◌, ◌*◌, ◌++◌, ◌+◌, ◌-◌, ◌<◌, ◌^◌, ◌↔◌, ◌∙◌, ◌∷◌, ◌≡◌, ◌≤◌, ◌⊎◌, [], add-one, ap, arith, Bool, cond, drop, Equal, false, get_or, Greater, inl, inr, length, Less, List, ltb, map, min, not, Ordering, refl, Result, subst, suc, sym, take, true, zero, ℕ, ⊎_elim, ap₂}
 pub use Rattle.std.proofs.Math.Nat.{mul-le-mul_left, mul_assoc, mul_comm, pow-succ', pow-zero}
 pub use Rattle.std.proofs.lemmas.Bool.{and_from, and_parts, both_ways, cases_lt, false≢true, iff_false, lt-ltb, ltb-true}
 pub use Rattle.std.proofs.lemmas.Cmp.{tied_itself}
@@ -14,7 +14,7 @@ pub use Rattle.std.specs.declared.alloc.AllocError.{AllocError}
 pub use Rattle.zf_value.proofs.Among.{every_also, every_at, every_from, member_at, members-append, members-take_more, not_below_itself, take_all}
 pub use Rattle.zf_value.proofs.Exact.{cmp_is, exact, ties}
 pub use Rattle.zf_value.proofs.Seen.{members-SetOf, parts-Tuple}
-pub use Rattle.zf_value.specs.{AreFrom, IsAscending, IsBetween, IsFunctional, IsInjective, IsMember, IsRelationThat, IsSetOf, IsSubset, IsTotal, members, pair, parts, Relates, row_order, value_order}
+pub use Rattle.zf_value.specs.{AreFrom, IsAscending, IsBetween, IsFunctional, IsInjective, IsMember, IsRelationThat, IsSetOf, IsSubset, IsTotal, members, pair, parts, Relates, row_order, value_order, level_order}
 unfoldable pub use Rattle.zf_value.specs.{AreAmong, ArePartialFunctions, ArePartialInjections, AreRelations, AreTotalFunctions, AreTotalInjections, IsCross, IsPower}
 pub use Rattle.zf_value.specs.declared.TheConstants.{SET_MAX}
 pub use Rattle.zf_value.specs.declared.plain.Value.{out-Value, SetOf, Tuple, Value}
@@ -24,3 +24,4 @@ pub use Rattle.zf_value.specs.declared.value.Outcome.{Outcome}
 pub use Rattle.zf_value.specs.declared.value.Outcome.TheVariants.{Is, Out}
 pub use Rattle.zf_families.specs.{AllAscend, AreSets, extended, extensions, falling, first, first_at, firsts_rise, fits_any, fits_apart, fitting, IsGraph, pairs, partial_injection_count, second, second_at, seconds_apart, singles, sizes, some, stepped, whole}
 unfoldable pub use Rattle.zf_families.specs.{IsFunctionFrom, IsInjectionFrom, IsPairFrom, IsPairOn, IsPartialFunction, IsPartialInjection, IsRelation, IsTotalFunction, IsTotalInjection, IsTupleFrom}
+pub use Rattle.zf_value.specs.contracts.plain.ValueOrd.TheImpl.Laws.{total-law}

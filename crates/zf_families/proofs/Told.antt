@@ -1,6 +1,5 @@
 -- A test that a list of rows answers makes the set of these rows, or is out where they are too many.
-use Rattle.zf_families.proofs.Prelude.{◌+◌, ◌↔◌, ◌∙◌, ◌∷◌, ◌≡◌, ◌≤◌, ◌⊎◌, [], ap, arith, Bool, inl, inr, length, Less, List, ltb, map, min, refl, Result, subst, suc, sym, take, zero, ℕ, ⊎_elim, cases_lt, lt-ltb, ltb-true, length-map, length-take-le, IfOk-weaker, IsTrue, IfOk, AllocError, cmp_is, members-SetOf, IsAscending, IsMember, IsSetOf, members, row_order, value_order, SET_MAX, out-Value, SetOf, Tuple, Value, Value-F, outs-SetOf, outs-Tuple, Outcome, Is, Out, AllAscend, AreSets, AllByRecursion}
-use Rattle.zf_value.specs.{level_order}
+use Rattle.zf_families.proofs.Prelude.{◌+◌, ◌↔◌, ◌∙◌, ◌∷◌, ◌≡◌, ◌≤◌, ◌⊎◌, [], ap, arith, Bool, inl, inr, length, Less, List, ltb, map, min, refl, Result, subst, suc, sym, take, zero, ℕ, ⊎_elim, cases_lt, lt-ltb, ltb-true, length-map, length-take-le, IfOk-weaker, IsTrue, IfOk, AllocError, cmp_is, members-SetOf, IsAscending, IsMember, IsSetOf, members, row_order, value_order, SET_MAX, out-Value, SetOf, Tuple, Value, Value-F, outs-SetOf, outs-Tuple, Outcome, Is, Out, AllAscend, AreSets, AllByRecursion, level_order}
 use Rattle.zf_value.proofs.Once.{one_set}
 use Rattle.zf_families.proofs.Lists.{Each, In, IsOrdered, ordered_map, ordered_take, in_map, in_from_map}
 use Rattle.zf_families.proofs.InOrder.{Below}

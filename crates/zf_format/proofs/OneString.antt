@@ -1,10 +1,5 @@
 -- A text begins with one string alone.
-use Rattle.std.proofs.Common.{◌++◌, ◌∙◌, ◌∷◌, ◌≡◌, [], ap, arith, Bool, false, List, refl, sym, true, ℕ, ◌/◌, ◌%◌}
-use Rattle.std.proofs.lemmas.List.{append_assoc}
-use Rattle.std.specs.Char.{digit_char}
-use Rattle.std.specs.List.{flat_map}
-use Rattle.std.specs.Str.{is_utf8}
-use Rattle.zf_format.specs.{hidden_text, is_hidden, is_marked, string_byte}
+use Rattle.zf_format.proofs.Prelude.{◌++◌, ◌∙◌, ◌∷◌, ◌≡◌, [], ap, arith, Bool, false, List, refl, sym, true, ℕ, ◌/◌, ◌%◌, append_assoc, digit_char, flat_map, is_utf8, hidden_text, is_hidden, is_marked, string_byte}
 unfoldable use Rattle.zf_format.specs.{string_text}
 
 -- ---- a byte of a string

@@ -1,11 +1,7 @@
 -- Bytes, lines and colons of a text, one after another.
 use Rattle.std.proofs.Common.{◌++◌, ◌+◌, ◌<◌, ◌∙◌, ◌∷◌, ◌≡◌, ◌≤◌, [], ap, add-one, append_assoc, arith, Bool, codes, drop, Err, false, length, List, None, Ok, Option, refl, Result, Some, suc, sym, take, true, zero, ℕ}
-use Rattle.std.proofs.lemmas.List.{length-drop}
+use Rattle.zf_format.proofs.Prelude.{length-drop, after_first, before_first, flat_map, onto_first, position_or_len, starts_with, is_ok, IsUtf8, MatchResult, nat_eq, option_map, is_utf8, colon_place, further, is_newline, message_members, objects_of, text_lines}
 use Rattle.std.proofs.lemmas.Str.{is_utf8-from_IsUtf8, IsUtf8-from_is_utf8}
-use Rattle.std.specs.List.{after_first, before_first, flat_map, onto_first, position_or_len, starts_with}
-use Rattle.std.specs.Prelude.{is_ok, IsUtf8, MatchResult, nat_eq, option_map}
-use Rattle.std.specs.Str.{is_utf8}
-use Rattle.zf_format.specs.{colon_place, further, is_newline, message_members, objects_of, text_lines}
 
 -- ---- whether a text is UTF-8
 

@@ -1,11 +1,9 @@
 -- Where a search ends: the first new node that is sought, or of which it can't be decided, or that is one more than are asked for.
-use Rattle.std.proofs.lemmas.Bool.{cond-false}
-use Rattle.zf_graph.proofs.Prelude.{◌++◌, ◌<◌, ◌∙◌, ◌∷◌, ◌≡◌, ◌≤◌, ◌⊎◌, [], ap, arith, Bool, false, inl, inr, length, List, refl, Some, subst, sym, ℕ, slice_get, Edge, Explored, Met, IsMet, is_met, beyond, arrive_all}
+use Rattle.zf_graph.proofs.Prelude.{◌++◌, ◌<◌, ◌∙◌, ◌∷◌, ◌≡◌, ◌≤◌, ◌⊎◌, [], ap, arith, Bool, false, inl, inr, length, List, refl, Some, subst, sym, ℕ, slice_get, Edge, Explored, Met, IsMet, is_met, beyond, arrive_all, cond-false, AreOthers, found, IsDecisive, open_ended, Result, Sought, untold}
 use Rattle.zf_graph.proofs.Places.{at_last}
 use Rattle.zf_graph.proofs.Growing.{at-arrive_all, longer-arrive_all, longer-more}
 use Rattle.zf_graph.proofs.OneWay.{one_more}
 use Rattle.zf_graph.proofs.Writing.{arrive_all-push}
-use Rattle.zf_graph.specs.{AreOthers, found, IsDecisive, open_ended, Result, Sought, untold}
 
 module _ {N L : Type 0} (eq : N → N → Bool) (a : Met N L) (met : List (Met N L)) where
   -- what is met stays, with further edges

@@ -1,12 +1,9 @@
 -- Each exploration has a text.
-use Rattle.std.proofs.lemmas.Bool.{cond-true, cond-false}
 use Rattle.std.proofs.lemmas.List.{length-append}
-use Rattle.std.specs.Prelude.{◌-◌}
-use Rattle.zf_graph.proofs.Prelude.{◌++◌, ◌+◌, ◌<◌, ◌∙◌, ◌∷◌, ◌≡◌, ◌≤◌, ◌⊎◌, [], ap, arith, Bool, cases_Bool, cases_lt, false, inl, inr, length, List, refl, Some, subst, suc, sym, true, zero, ℕ, slice_get, slice_get_within, Edge, Turn, Explored, Met, at_first, is_met, beyond, arrive_all, Explores, with_edge, append_assoc}
+use Rattle.zf_graph.proofs.Prelude.{◌++◌, ◌+◌, ◌<◌, ◌∙◌, ◌∷◌, ◌≡◌, ◌≤◌, ◌⊎◌, [], ap, arith, Bool, cases_Bool, cases_lt, false, inl, inr, length, List, refl, Some, subst, suc, sym, true, zero, ℕ, slice_get, slice_get_within, Edge, Turn, Explored, Met, at_first, is_met, beyond, arrive_all, Explores, with_edge, append_assoc, cond-true, cond-false, ◌-◌, Begins, broken, EachNodeHasTurn, ended, ends, inner_edges, IsSomehowWritten, no_turn, paused, text_up_to, Words}
 use Rattle.zf_graph.proofs.Growing.{longer-arrive_all}
 use Rattle.zf_graph.proofs.Places.{some_at}
 use Rattle.zf_graph.proofs.Writing.{arrive_all-push, Explores-push}
-use Rattle.zf_graph.specs.{Begins, broken, EachNodeHasTurn, ended, ends, inner_edges, IsSomehowWritten, no_turn, paused, text_up_to, Words}
 use Rattle.zf_graph.specs.Texts.{breaks, pauses}
 
 module _ {N L : Type 0} (eq : N → N → Bool) (a : Met N L) (met : List (Met N L)) (limit : ℕ) where

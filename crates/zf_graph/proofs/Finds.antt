@@ -1,9 +1,5 @@
 -- What is found first, and all that is found: ordered lists of which one is a front of the other.
-use Rattle.std.proofs.Common.{◌++◌, ◌∙◌, ◌∷◌, ◌≡◌, ◌⊎◌, [], ap, inl, inr, List, refl, subst, sym}
-use Rattle.std.proofs.lemmas.List.{append-nil}
-use Rattle.std.specs.Prelude.{AllPairs, Contains}
-use Rattle.zf_walk.proofs.Lists.{AllPairs-across, AllPairs-head, AllPairs-tail, Contains-cases, Contains-head, Contains-later, Contains-right}
-use Rattle.zf_graph.specs.{AreFinds, AreFirst, EachHolds, IsOrderly, Searched}
+use Rattle.zf_graph.proofs.Prelude.{◌++◌, ◌∙◌, ◌∷◌, ◌≡◌, ◌⊎◌, [], ap, inl, inr, List, refl, subst, sym, append-nil, AllPairs, Contains, AllPairs-across, AllPairs-head, AllPairs-tail, Contains-cases, Contains-head, Contains-later, Contains-right, AreFinds, AreFirst, EachHolds, IsOrderly, Searched}
 
 abbrev pub IsFront : {X : Type 0} → List X → List X → Type 0
 IsFront {X} xs ys = (more : List X) × (ys ≡ xs ++ more)

@@ -1,10 +1,8 @@
 -- What is written of an exploration that stops early is the front of its text.
-use Rattle.std.specs.Prelude.{◌-◌}
-use Rattle.zf_graph.proofs.Prelude.{◌++◌, ◌+◌, ◌∙◌, ◌∷◌, ◌≡◌, ◌⊎◌, [], ap, arith, Bool, false, cond, inl, inr, length, List, refl, Some, subst, suc, sym, ℕ, slice_get, Edge, Turn, Explored, Met, is_met, nodes_of, at_first, arrive_all, Explores, with_edge, with_ends, with_node, append_assoc, append-nil}
+use Rattle.zf_graph.proofs.Prelude.{◌++◌, ◌+◌, ◌∙◌, ◌∷◌, ◌≡◌, ◌⊎◌, [], ap, arith, Bool, false, cond, inl, inr, length, List, refl, Some, subst, suc, sym, ℕ, slice_get, Edge, Turn, Explored, Met, is_met, nodes_of, at_first, arrive_all, Explores, with_edge, with_ends, with_node, append_assoc, append-nil, ◌-◌, begun_text, broken, edge_text, edges_text, Ending, inner_edges, IsExplored, IsFrontTurn, IsPartlyExplored, IsSure, no_turn, PartsAreFronts, paused, stuck_text, text_up_to, turns_text, Words}
 use Rattle.zf_graph.proofs.Places.{one_at}
 use Rattle.zf_graph.proofs.Writing.{nodes_of-arrive_all}
 use Rattle.zf_graph.proofs.OneWay.{all, compare, full, IsCompared, IsLonger, last_of, longer, not_longer, one_way, open_after, out, same, shorter, Stop, stop_of, Tail, too_many}
-use Rattle.zf_graph.specs.{begun_text, broken, edge_text, edges_text, Ending, inner_edges, IsExplored, IsFrontTurn, IsPartlyExplored, IsSure, no_turn, PartsAreFronts, paused, stuck_text, text_up_to, turns_text, Words}
 
 -- the second text is the front of the first
 abbrev IsTextFront : List ℕ → List ℕ → Type 0

@@ -1,8 +1,5 @@
 -- A search goes on in a part: what it has passed begins a turn, whole parts make one.
-use Rattle.std.proofs.Common.{◌++◌, ◌+◌, ◌∙◌, ◌∷◌, ◌≡◌, [], ap, arith, inl, inr, List, map, refl, Some, subst, suc, sym, take, zero, ℕ}
-use Rattle.std.proofs.lemmas.List.{append-nil, append_assoc}
-use Rattle.std.specs.Prelude.{Contains, slice_get}
-use Rattle.zf_graph.specs.{AreFinds, AreFirst, BeginsParts, BreaksParts, EachHolds, Edge, HasParts, Searched}
+use Rattle.zf_graph.proofs.Prelude.{◌++◌, ◌+◌, ◌∙◌, ◌∷◌, ◌≡◌, [], ap, arith, inl, inr, List, map, refl, Some, subst, suc, sym, take, zero, ℕ, append-nil, append_assoc, Contains, slice_get, AreFinds, AreFirst, BeginsParts, BreaksParts, EachHolds, Edge, HasParts, Searched}
 use Rattle.zf_graph.proofs.Places.{none_some, one_some}
 
 module _ {N L O X : Type 0} (s : Searched N L O X) (a : N) where

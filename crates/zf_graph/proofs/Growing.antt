@@ -1,7 +1,6 @@
 -- What is met stays met.
-use Rattle.std.proofs.lemmas.Bool.{cond-true, cond-false}
 use Rattle.std.proofs.lemmas.List.{length-append}
-use Rattle.zf_graph.proofs.Prelude.{◌++◌, ◌+◌, ◌∷◌, ◌≡◌, ◌≤◌, ◌⊎◌, [], ap, arith, Bool, false, inl, inr, length, List, Some, subst, sym, true, ℕ, cases_Bool, slice_get, Edge, Explored, Explores, Met, Turn, is_met, beyond, arrive, arrive_all}
+use Rattle.zf_graph.proofs.Prelude.{◌++◌, ◌+◌, ◌∷◌, ◌≡◌, ◌≤◌, ◌⊎◌, [], ap, arith, Bool, false, inl, inr, length, List, Some, subst, sym, true, ℕ, cases_Bool, slice_get, Edge, Explored, Explores, Met, Turn, is_met, beyond, arrive, arrive_all, cond-true, cond-false}
 use Rattle.zf_graph.proofs.Places.{at_left}
 
 module _ {N L : Type 0} (eq : N → N → Bool) where

@@ -1,10 +1,6 @@
 -- Each node has a turn, where what is found in its parts is listed.
-use Rattle.std.proofs.Common.{◌++◌, ◌+◌, ◌∙◌, ◌∷◌, ◌≡◌, ◌⊎◌, [], ap, Bool, inl, inr, List, map, refl, subst, sym, ℕ}
-use Rattle.std.proofs.lemmas.List.{append_assoc}
-use Rattle.std.specs.Prelude.{AllPairs, Contains}
-use Rattle.zf_walk.proofs.Lists.{AllPairs-across, AllPairs-cons, AllPairs-head, AllPairs-nil, AllPairs-tail, Contains-cases, Contains-either, Contains-head, Contains-later, Contains-left, Contains-nil}
+use Rattle.zf_graph.proofs.Prelude.{◌++◌, ◌+◌, ◌∙◌, ◌∷◌, ◌≡◌, ◌⊎◌, [], ap, Bool, inl, inr, List, map, refl, subst, sym, ℕ, append_assoc, AllPairs, Contains, AllPairs-across, AllPairs-cons, AllPairs-head, AllPairs-nil, AllPairs-tail, Contains-cases, Contains-either, Contains-head, Contains-later, Contains-left, Contains-nil, AreFinds, AreFirst, Begins, BeginsParts, BreaksParts, BreaksTurn, EachHolds, EachNodeHasTurn, Edge, explored_of, HasParts, HasTurn, IsOrderly, no_turn, Searched, Turn}
 use Rattle.zf_graph.proofs.Finds.{first_of_all}
-use Rattle.zf_graph.specs.{AreFinds, AreFirst, Begins, BeginsParts, BreaksParts, BreaksTurn, EachHolds, EachNodeHasTurn, Edge, explored_of, HasParts, HasTurn, IsOrderly, no_turn, Searched, Turn}
 
 -- ---- fronts of lists
 

@@ -1,6 +1,5 @@
 -- What an exploration meets, and along which ways.
-use Rattle.zf_graph.proofs.Prelude.{arrive_all, Edge, Explored, Explores, ExploresAll, Follows, Graph, IsMet, IsOf, IsReachable, IsWay, List, Met, Some, Turn, [], along, arith, at_first, at_root, beyond, cases_lt, end_of, inl, inr, length, refl, slice_get, slice_get_within, subst, suc, sym, with_edge, zero, ℕ, ◌++◌, ◌+◌, ◌<◌, ◌∙◌, ◌∷◌, ◌≡◌, ◌≤◌}
-use Rattle.zf_graph.specs.{FindsShortest, HasEachStep, MeetsOnce, MeetsReachable, MeetsShortly}
+use Rattle.zf_graph.proofs.Prelude.{arrive_all, Edge, Explored, Explores, ExploresAll, Follows, Graph, IsMet, IsOf, IsReachable, IsWay, List, Met, Some, Turn, [], along, arith, at_first, at_root, beyond, cases_lt, end_of, inl, inr, length, refl, slice_get, slice_get_within, subst, suc, sym, with_edge, zero, ℕ, ◌++◌, ◌+◌, ◌<◌, ◌∙◌, ◌∷◌, ◌≡◌, ◌≤◌, FindsShortest, HasEachStep, MeetsOnce, MeetsReachable, MeetsShortly}
 use Rattle.zf_graph.proofs.Places.{at_last, in_place, none_some, one_at, one_some}
 use Rattle.zf_graph.proofs.Standing.{IsMetWithin, IsWay-beyond, length-beyond, Stands, Stands-from_root}
 use Rattle.zf_graph.proofs.Growing.{at-arrive_all, at-Explores}

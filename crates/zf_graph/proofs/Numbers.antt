@@ -1,11 +1,7 @@
 -- What is met by its number, and the lines of the way to it.
-use Rattle.std.proofs.lemmas.Bool.{cond-false, cond-true}
-use Rattle.std.specs.List.{position_or_len}
-use Rattle.std.specs.Prelude.{not}
-use Rattle.zf_graph.proofs.Prelude.{◌++◌, ◌+◌, ◌<◌, ◌∙◌, ◌∷◌, ◌≡◌, ◌⊎◌, [], ap, append-nil, append_assoc, arith, arrive_all, Bool, cases_Bool, Edge, end_of, Explored, ExploresUpTo, false, Graph, inl, inr, IsOf, length, List, Met, nodes_of, number_in, refl, slice_get, Some, subst, suc, sym, true, Turn, zero, ℕ}
+use Rattle.zf_graph.proofs.Prelude.{◌++◌, ◌+◌, ◌<◌, ◌∙◌, ◌∷◌, ◌≡◌, ◌⊎◌, [], ap, append-nil, append_assoc, arith, arrive_all, Bool, cases_Bool, Edge, end_of, Explored, ExploresUpTo, false, Graph, inl, inr, IsOf, length, List, Met, nodes_of, number_in, refl, slice_get, Some, subst, suc, sym, true, Turn, zero, ℕ, cond-false, cond-true, position_or_len, not, IsNumbered, way_text, Words}
 use Rattle.zf_graph.proofs.Places.{map_at, none_some, one_some}
 use Rattle.zf_graph.proofs.Standing.{Stands, Stands-arrive_all, Stands-from_root}
-use Rattle.zf_graph.specs.{IsNumbered, way_text, Words}
 
 -- the first that passes
 position_at : {X : Type 0} (test : X → Bool) (xs : List X) (i : ℕ) (b : X) → slice_get xs i ≡ Some b → test b ≡ true

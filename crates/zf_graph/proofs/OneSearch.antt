@@ -1,13 +1,9 @@
 -- Two searches of one graph are one.
-use Rattle.std.proofs.lemmas.List.{same_from_push}
-use Rattle.std.specs.Prelude.{◌-◌}
-use Rattle.zf_graph.proofs.Prelude.{◌++◌, ◌+◌, ◌∙◌, ◌∷◌, ◌≡◌, ◌⊎◌, [], ap, arith, false, inl, inr, length, List, Some, subst, sym, ℕ, slice_get, slice_get_within, Edge, Turn, Explored, Met, IsMet, nodes_of, at_first, is_met, beyond, arrive_all, Explores, with_edge, append_assoc, append-nil}
+use Rattle.zf_graph.proofs.Prelude.{◌++◌, ◌+◌, ◌∙◌, ◌∷◌, ◌≡◌, ◌⊎◌, [], ap, arith, false, inl, inr, length, List, Some, subst, sym, ℕ, slice_get, slice_get_within, Edge, Turn, Explored, Met, IsMet, nodes_of, at_first, is_met, beyond, arrive_all, Explores, with_edge, append_assoc, append-nil, same_from_push, ◌-◌, doubts, finds, found, inner_edges, IsDecisive, IsFrontTurn, IsSearched, IsSearchedInOneWay, IsSure, misses, missing, no_turn, open_ended, Result, Sought, untold, way_text, Words, breaks, pauses}
 use Rattle.zf_graph.proofs.Places.{one_at}
 use Rattle.zf_graph.proofs.Growing.{at-Explores, longer-Explores}
 use Rattle.zf_graph.proofs.Deciding.{at-more, Decides, decides_once, IsClear, IsClear-before, is_full, is_sought, is_untold, new_is_met, none_behind}
 use Rattle.zf_graph.proofs.OneWay.{compare, IsCompared, IsLonger, last_of, longer, same, shorter}
-use Rattle.zf_graph.specs.{doubts, finds, found, inner_edges, IsDecisive, IsFrontTurn, IsSearched, IsSearchedInOneWay, IsSure, misses, missing, no_turn, open_ended, Result, Sought, untold, way_text, Words}
-use Rattle.zf_graph.specs.Seeking.{breaks, pauses}
 
 module _ {N L : Type 0} (p : Explored N L) (s : Sought N) (w : Words N L) (last : Result → (nodes edges : ℕ) → List ℕ) (limit : ℕ) where
   -- what is written before the last words of a search that ends with this edge

@@ -1,12 +1,9 @@
 -- Two explorations of one graph are one.
-use Rattle.std.proofs.lemmas.Bool.{cond-false}
 use Rattle.std.proofs.lemmas.List.{length-append, same_from_push}
-use Rattle.std.specs.Prelude.{◌-◌}
-use Rattle.zf_graph.proofs.Prelude.{◌++◌, ◌+◌, ◌∙◌, ◌∷◌, ◌≡◌, ◌≤◌, ◌⊎◌, [], ap, arith, Bool, false, inl, inr, length, List, refl, Some, subst, suc, sym, ℕ, slice_get, slice_get_within, Edge, Turn, Explored, Met, at_first, is_met, beyond, arrive_all, Explores, with_edge, append_assoc, append-nil}
+use Rattle.zf_graph.proofs.Prelude.{◌++◌, ◌+◌, ◌∙◌, ◌∷◌, ◌≡◌, ◌≤◌, ◌⊎◌, [], ap, arith, Bool, false, inl, inr, length, List, refl, Some, subst, suc, sym, ℕ, slice_get, slice_get_within, Edge, Turn, Explored, Met, at_first, is_met, beyond, arrive_all, Explores, with_edge, append_assoc, append-nil, cond-false, ◌-◌, broken, ended, Ending, ends, inner_edges, IsExplored, IsFrontTurn, IsSure, IsWrittenInOneWay, no_turn, paused, text_up_to, Words}
 use Rattle.zf_graph.proofs.Places.{one_at}
 use Rattle.zf_graph.proofs.Growing.{longer-arrive_all, longer-Explores, longer-more}
 use Rattle.zf_graph.proofs.Writing.{arrive_all-push}
-use Rattle.zf_graph.specs.{broken, ended, Ending, ends, inner_edges, IsExplored, IsFrontTurn, IsSure, IsWrittenInOneWay, no_turn, paused, text_up_to, Words}
 use Rattle.zf_graph.specs.Texts.{breaks, pauses}
 
 module _ {N L : Type 0} where

@@ -1,6 +1,5 @@
 -- Items of lists by their places.
-use Rattle.std.proofs.lemmas.Option.{get_or_from_slice_get, slice_get-get_or}
-use Rattle.zf_graph.proofs.Prelude.{◌++◌, ◌<◌, ◌∷◌, ◌≡◌, ◌⊎◌, ◌∙◌, [], arith, ap, inl, inr, length, List, map, None, Option, refl, Some, subst, suc, sym, zero, ℕ, slice_get, slice_get_within, Contains}
+use Rattle.zf_graph.proofs.Prelude.{◌++◌, ◌<◌, ◌∷◌, ◌≡◌, ◌⊎◌, ◌∙◌, [], arith, ap, inl, inr, length, List, map, None, Option, refl, Some, subst, suc, sym, zero, ℕ, slice_get, slice_get_within, Contains, get_or_from_slice_get, slice_get-get_or}
 
 module _ {X : Type 0} where
   -- what an option has

@@ -1,15 +1,11 @@
 -- How a search goes on, and how it ends.
-use Rattle.std.proofs.lemmas.Bool.{cond-true}
 use Rattle.std.proofs.lemmas.List.{length-append}
-use Rattle.std.specs.Prelude.{◌-◌}
-use Rattle.zf_graph.proofs.Prelude.{◌++◌, ◌+◌, ◌<◌, ◌∙◌, ◌∷◌, ◌≡◌, ◌≤◌, [], ap, arith, arrive_all, at_first, beyond, Bool, Edge, Explored, Explores, false, inr, is_met, length, List, Met, nodes_of, refl, slice_get, slice_get_within, Some, subst, sym, true, Turn, with_edge, ℕ}
+use Rattle.zf_graph.proofs.Prelude.{◌++◌, ◌+◌, ◌<◌, ◌∙◌, ◌∷◌, ◌≡◌, ◌≤◌, [], ap, arith, arrive_all, at_first, beyond, Bool, Edge, Explored, Explores, false, inr, is_met, length, List, Met, nodes_of, refl, slice_get, slice_get_within, Some, subst, sym, true, Turn, with_edge, ℕ, cond-true, ◌-◌, AreOthers, doubts, finds, found, inner_edges, IsSearched, misses, missing, open_ended, Result, SeeksBefore, SeeksIn, Sought, untold, way_text, Words, breaks, pauses}
 use Rattle.zf_graph.proofs.Deciding.{new_behind}
 use Rattle.zf_graph.proofs.Growing.{at-arrive_all}
 use Rattle.zf_graph.proofs.SomeSearch.{others-push, others_first}
 use Rattle.zf_graph.proofs.Stages.{inner_edges-edge, inner_edges-none, inner_edges-push}
 use Rattle.zf_graph.proofs.Writing.{arrive_all-push, Explores-push}
-use Rattle.zf_graph.specs.{AreOthers, doubts, finds, found, inner_edges, IsSearched, misses, missing, open_ended, Result, SeeksBefore, SeeksIn, Sought, untold, way_text, Words}
-use Rattle.zf_graph.specs.Seeking.{breaks, pauses}
 
 module _ {N L : Type 0} (p : Explored N L) (s : Sought N) (limit : ℕ) where
   -- at first

@@ -1,8 +1,6 @@
 -- What a search for a node finds, and what it means that it finds none.
-use Rattle.zf_graph.proofs.Prelude.{◌++◌, ◌∷◌, ◌≡◌, ◌⊎◌, [], inl, inr, length, List, subst, ℕ, Graph, Explored, Met, nodes_of, IsMet, beyond, arrive_all, with_edge, IsOf}
+use Rattle.zf_graph.proofs.Prelude.{◌++◌, ◌∷◌, ◌≡◌, ◌⊎◌, [], inl, inr, length, List, subst, ℕ, Graph, Explored, Met, nodes_of, IsMet, beyond, arrive_all, with_edge, IsOf, AreOthers, doubts, finds, found, FoundIsShortest, inner_edges, IsDecisive, misses, missing, MissingIsNowhere, open_ended, Result, Sought, untold, Words, breaks, pauses}
 use Rattle.zf_graph.proofs.Meeting.{finds_shortest, meets_reachable}
-use Rattle.zf_graph.specs.{AreOthers, doubts, finds, found, FoundIsShortest, inner_edges, IsDecisive, misses, missing, MissingIsNowhere, open_ended, Result, Sought, untold, Words}
-use Rattle.zf_graph.specs.Seeking.{breaks, pauses}
 
 -- the results are four
 is_found : Result → Type 0

@@ -1,14 +1,10 @@
 -- Each search has a text.
-use Rattle.std.proofs.lemmas.Bool.{cond-true}
 use Rattle.std.proofs.lemmas.List.{length-append}
-use Rattle.std.specs.Prelude.{◌-◌}
-use Rattle.zf_graph.proofs.Prelude.{◌++◌, ◌+◌, ◌<◌, ◌∙◌, ◌∷◌, ◌≡◌, ◌≤◌, ◌⊎◌, [], ap, append-nil, append_assoc, arith, arrive_all, at_first, beyond, cases_Bool, cases_lt, Edge, Explored, Explores, false, inl, inr, is_met, length, List, Met, nodes_of, refl, slice_get, slice_get_within, Some, subst, suc, sym, true, Turn, with_edge, zero, ℕ}
+use Rattle.zf_graph.proofs.Prelude.{◌++◌, ◌+◌, ◌<◌, ◌∙◌, ◌∷◌, ◌≡◌, ◌≤◌, ◌⊎◌, [], ap, append-nil, append_assoc, arith, arrive_all, at_first, beyond, cases_Bool, cases_lt, Edge, Explored, Explores, false, inl, inr, is_met, length, List, Met, nodes_of, refl, slice_get, slice_get_within, Some, subst, suc, sym, true, Turn, with_edge, zero, ℕ, cond-true, ◌-◌, AreOthers, Begins, doubts, EachIsTold, EachNodeHasTurn, finds, found, inner_edges, IsSomehowSearched, misses, missing, no_turn, open_ended, Result, Sought, untold, way_text, Words, breaks, pauses}
 use Rattle.zf_graph.proofs.Deciding.{Decides, IsClear, is_full, is_sought, is_untold, new_behind}
 use Rattle.zf_graph.proofs.Growing.{longer-arrive_all}
 use Rattle.zf_graph.proofs.Places.{at_push, none_some, one_some, some_at}
 use Rattle.zf_graph.proofs.Writing.{arrive_all-push, Explores-push}
-use Rattle.zf_graph.specs.{AreOthers, Begins, doubts, EachIsTold, EachNodeHasTurn, finds, found, inner_edges, IsSomehowSearched, misses, missing, no_turn, open_ended, Result, Sought, untold, way_text, Words}
-use Rattle.zf_graph.specs.Seeking.{breaks, pauses}
 
 module _ {N L : Type 0} (p : Explored N L) (s : Sought N) where
   -- one more that is another, or the root

@@ -1,9 +1,6 @@
 -- How an exploration that is written goes on, and how it ends.
 use Rattle.std.proofs.lemmas.List.{length-append, length-map, same_from_push}
-use Rattle.zf_graph.proofs.Prelude.{◌++◌, ◌+◌, ◌<◌, ◌∙◌, ◌∷◌, ◌≡◌, ◌≤◌, ◌⊎◌, [], ap, arith, Bool, cond, false, inl, inr, length, List, refl, Some, subst, sym, ℕ, append_assoc, append-nil, slice_get, slice_get_within, Edge, Turn, Explored, with_node, Met, nodes_of, at_first, is_met, arrive_all, with_edge}
-use Rattle.std.specs.Prelude.{◌-◌}
-use Rattle.std.specs.List.{list_any}
-use Rattle.zf_graph.specs.{begun_text, broken, edge_text, edges_in, ended, ends, inner_edges, IsExplored, IsPartlyExplored, no_turn, paused, StandsBefore, StandsIn, stuck_text, text_up_to, turns_text, Words}
+use Rattle.zf_graph.proofs.Prelude.{◌++◌, ◌+◌, ◌<◌, ◌∙◌, ◌∷◌, ◌≡◌, ◌≤◌, ◌⊎◌, [], ap, arith, Bool, cond, false, inl, inr, length, List, refl, Some, subst, sym, ℕ, append_assoc, append-nil, slice_get, slice_get_within, Edge, Turn, Explored, with_node, Met, nodes_of, at_first, is_met, arrive_all, with_edge, ◌-◌, list_any, begun_text, broken, edge_text, edges_in, ended, ends, inner_edges, IsExplored, IsPartlyExplored, no_turn, paused, StandsBefore, StandsIn, stuck_text, text_up_to, turns_text, Words}
 use Rattle.zf_graph.specs.Texts.{breaks, pauses}
 use Rattle.zf_graph.proofs.Places.{at_map, map_at}
 use Rattle.zf_graph.proofs.Growing.{at-arrive_all, longer-arrive_all, longer-more}

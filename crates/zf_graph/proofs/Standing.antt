@@ -1,7 +1,6 @@
 -- Where an exploration stands: in the turn of the node at a place, some edges of which are passed.
-use Rattle.std.proofs.lemmas.Bool.{cond-true, cond-false, or_cases, or_left, or_right}
 use Rattle.std.proofs.lemmas.List.Elements.{Contains-push_cases}
-use Rattle.zf_graph.proofs.Prelude.{◌++◌, ◌+◌, ◌<◌, ◌∙◌, ◌∷◌, ◌≡◌, ◌≤◌, ◌⊎◌, [], ap, arith, Bool, false, inl, inr, length, length-append, List, refl, Some, subst, suc, sym, true, zero, ℕ, cases_Bool, cases_lt, false≢true, append_assoc, append-nil, Contains, slice_get, slice_get_within, Edge, Graph, Follows, end_of, IsWay, Turn, Met, Explored, at_first, IsMet, is_met, beyond, arrive, arrive_all, Explores, IsOf}
+use Rattle.zf_graph.proofs.Prelude.{◌++◌, ◌+◌, ◌<◌, ◌∙◌, ◌∷◌, ◌≡◌, ◌≤◌, ◌⊎◌, [], ap, arith, Bool, false, inl, inr, length, length-append, List, refl, Some, subst, suc, sym, true, zero, ℕ, cases_Bool, cases_lt, false≢true, append_assoc, append-nil, Contains, slice_get, slice_get_within, Edge, Graph, Follows, end_of, IsWay, Turn, Met, Explored, at_first, IsMet, is_met, beyond, arrive, arrive_all, Explores, IsOf, cond-true, cond-false, or_cases, or_left, or_right}
 use Rattle.zf_graph.proofs.Growing.{at-arrive, at-arrive_all}
 use Rattle.zf_graph.proofs.Places.{at_last, at_left, at_push, one_at, none_some, one_some, place_in, in_place}
 

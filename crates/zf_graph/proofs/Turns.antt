@@ -1,10 +1,6 @@
 -- A node has one turn, or one place at which it breaks off, and its edges are those of its graph.
-use Rattle.std.proofs.Common.{◌++◌, ◌+◌, ◌∙◌, ◌∷◌, ◌≡◌, ◌⊎◌, [], ap, ap₂, arith, inl, inr, List, map, refl, Some, subst, suc, sym, zero, ℕ}
-use Rattle.std.proofs.lemmas.List.{append-nil, append_assoc, map-append}
-use Rattle.std.specs.Prelude.{Contains, slice_get}
-use Rattle.zf_graph.specs.{AreFirst, BeginsParts, BreaksParts, EachHolds, Edge, explored_of, graph_of, HasParts, IsFound, IsFrontTurn, IsOf, IsOrderly, IsSure, Searched, Turn}
+use Rattle.zf_graph.proofs.Prelude.{◌++◌, ◌+◌, ◌∙◌, ◌∷◌, ◌≡◌, ◌⊎◌, [], ap, ap₂, arith, inl, inr, List, map, refl, Some, subst, suc, sym, zero, ℕ, append-nil, append_assoc, map-append, Contains, slice_get, AreFirst, BeginsParts, BreaksParts, EachHolds, Edge, explored_of, graph_of, HasParts, IsFound, IsFrontTurn, IsOf, IsOrderly, IsSure, Searched, Turn, Contains-cases, Contains-either, Contains-head, Contains-later, Contains-left, Contains-nil, Contains-right}
 use Rattle.zf_graph.proofs.Places.{none_some, one_some}
-use Rattle.zf_walk.proofs.Lists.{Contains-cases, Contains-either, Contains-head, Contains-later, Contains-left, Contains-nil, Contains-right}
 use Rattle.zf_graph.proofs.Finds.{all_or_out, before_out, first_in_all, IsFront, one_all, one_first}
 
 -- ---- lists

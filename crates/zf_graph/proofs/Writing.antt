@@ -1,8 +1,5 @@
 -- The text of an exploration, as it grows.
-use Rattle.std.proofs.lemmas.Bool.{cond-true, cond-false}
-use Rattle.std.proofs.lemmas.List.{map-append}
-use Rattle.zf_graph.proofs.Prelude.{◌++◌, ◌+◌, ◌∙◌, ◌∷◌, ◌≡◌, ◌⊎◌, [], ap, arith, Bool, cond, false, inl, inr, length, List, refl, Some, subst, suc, sym, true, ℕ, cases_Bool, append_assoc, append-nil, slice_get, Edge, Turn, Explored, with_node, with_ends, Met, nodes_of, is_met, beyond, arrive, arrive_all, Explores, with_edge}
-use Rattle.zf_graph.specs.{begun_text, edge_text, edges_text, stuck_text, turns_text, Words}
+use Rattle.zf_graph.proofs.Prelude.{◌++◌, ◌+◌, ◌∙◌, ◌∷◌, ◌≡◌, ◌⊎◌, [], ap, arith, Bool, cond, false, inl, inr, length, List, refl, Some, subst, suc, sym, true, ℕ, cases_Bool, append_assoc, append-nil, slice_get, Edge, Turn, Explored, with_node, with_ends, Met, nodes_of, is_met, beyond, arrive, arrive_all, Explores, with_edge, cond-true, cond-false, map-append, begun_text, edge_text, edges_text, stuck_text, turns_text, Words}
 
 module _ {N L : Type 0} where
   -- ---- nodes

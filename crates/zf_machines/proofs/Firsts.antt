@@ -1,8 +1,5 @@
 -- A loop over some things up to the first that does not pass a test.
-use Rattle.std.proofs.Common.{◌+◌, ◌<◌, ◌∙◌, ◌≡◌, ◌≤◌, ◌∷◌, [], ap, drop, get_or, inl, inr, length, List, map, subst, sym, ℕ}
-use Rattle.std.proofs.lemmas.List.{drop_all, drop_more}
-use Rattle.std.specs.List.{AllByRecursion}
-use Rattle.zf_machines.specs.{FirstFails}
+use Rattle.zf_machines.proofs.Prelude.{◌+◌, ◌<◌, ◌∙◌, ◌≡◌, ◌≤◌, ◌∷◌, [], ap, drop, get_or, inl, inr, length, List, map, subst, sym, ℕ, drop_all, drop_more, AllByRecursion, FirstFails}
 
 -- what is still ahead decides; of the first that fails an answer is reported
 pub record IsAhead {A B : Type 0} (Passes : A → Type 0) (Fails : B → A → Type 0) (all rest : List A) : Type 0 where

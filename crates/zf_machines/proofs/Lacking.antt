@@ -1,11 +1,6 @@
 -- Which schemas make a machine.
-use Rattle.std.proofs.Common.{◌≡◌, ◌∷◌, [], ap, inr, List, map, None, Option, refl, Some, ℕ}
-use Rattle.std.specs.List.{AllByRecursion}
-use Rattle.std.specs.Prelude.{MatchOption}
+use Rattle.zf_machines.proofs.Prelude.{◌≡◌, ◌∷◌, [], ap, inr, List, map, None, Option, refl, Some, ℕ, AllByRecursion, MatchOption, AllowsSought, CanBeInitial, CanStep, HasShape, LacksBehind, LacksFirst, Named, Schemas, SoughtLacks, state_of, LacksStep, Comp}
 use Rattle.zf_machines.specs.declared.shape.Lack.{Lack}
-use Rattle.zf_machines.specs.{AllowsSought, CanBeInitial, CanStep, HasShape, LacksBehind, LacksFirst, Named, Schemas, SoughtLacks, state_of}
-use Rattle.zf_steps.specs.{LacksStep}
-use Rattle.zf_term.specs.{Comp}
 
 -- an operation of the first name lacks the component of the second one
 abbrev pub LacksIt : List Comp → List ℕ × List ℕ → Named → Type 0

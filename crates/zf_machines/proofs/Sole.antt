@@ -1,13 +1,7 @@
 -- Schemas make one machine, and where each can be searched, so can it.
-use Rattle.std.proofs.Common.{◌++◌, ◌∙◌, ◌∷◌, ◌≡◌, [], ap, inl, inr, List, map, None, Option, Some, subst, sym, ℕ}
-use Rattle.std.specs.List.{AllByRecursion}
-use Rattle.std.specs.Prelude.{option_to_list, unwrap_or}
-use Rattle.zf_meaning.specs.{Environment}
+use Rattle.zf_machines.proofs.Prelude.{◌++◌, ◌∙◌, ◌∷◌, ◌≡◌, [], ap, inl, inr, List, map, None, Option, Some, subst, sym, ℕ, AllByRecursion, option_to_list, unwrap_or, Environment, CanSearch, CanSearchAll, IsInit, Operation, operation_in, System, Comp, Schema, all_of, IsMachineOf, Named, Schemas, state_of, test_of}
 use Rattle.zf_steps.specs.declared.form.Form.{Form}
-use Rattle.zf_steps.specs.{CanSearch, CanSearchAll, IsInit, Operation, operation_in, System}
-use Rattle.zf_term.specs.{Comp, Schema}
 use Rattle.zf_print.specs.declared.spelling.Spelling.{Spelling}
-use Rattle.zf_machines.specs.{all_of, IsMachineOf, Named, Schemas, state_of, test_of}
 
 one_init : (state : List Comp) (name : List ℕ) (a : Schema) (o u : Operation) → IsInit state name a o → IsInit state name a u → o ≡ u
 one_init state name a o u (inl x) (inl y) = x.1 ∙ sym y.1

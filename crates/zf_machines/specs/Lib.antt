@@ -1,3 +1,4 @@
+pub mod Prelude
 pub mod Firsts
 pub mod Machines
 pub mod SchemaViews

@@ -1,10 +1,7 @@
 -- The machine that schemas make: that of the state, that of the initial states, the operations, and what is sought among the states, if something is.
 use Rattle.std.specs.Prelude.{◌≡◌, ◌⊎◌, ℕ, List, ◌∷◌, ◌++◌, map, None, Option, option_to_list, Some, unwrap_or}
-use Rattle.std.specs.List.{AllByRecursion}
-use Rattle.zf_meaning.specs.{Environment}
+use Rattle.zf_machines.specs.Prelude.{AllByRecursion, Environment, both_states, CanBeSought, HasAll, IsInit, LacksInit, LacksSought, LacksStep, operation_in, System, test_in, with_strokes, Comp, Schema}
 use Rattle.zf_steps.specs.declared.form.Form.{Form}
-use Rattle.zf_steps.specs.{both_states, CanBeSought, HasAll, IsInit, LacksInit, LacksSought, LacksStep, operation_in, System, test_in, with_strokes}
-use Rattle.zf_term.specs.{Comp, Schema}
 use Rattle.zf_print.specs.declared.spelling.Spelling.{Spelling}
 use Rattle.zf_machines.specs.Firsts.{FirstFails}
 

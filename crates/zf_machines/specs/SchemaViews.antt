@@ -1,6 +1,6 @@
 -- Schemas as the program has them.
 use Rattle.std.specs.Prelude.{map, option_map}
-use Rattle.zf_term.specs.{schema_of}
+use Rattle.zf_machines.specs.Prelude.{schema_of}
 use Rattle.zf_machines.specs.Machines.{Named, Schemas}
 use Rattle.zf_machines.specs.declared.schemas.Named as code
 use Rattle.zf_machines.specs.declared.schemas.Schemas as codes

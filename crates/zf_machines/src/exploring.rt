@@ -1,13 +1,7 @@
 //! What the machine that schemas make can reach.
 ghost use Rattle.std.specs.Prelude.{◌≡◌, ◌≤◌, ◌⊎◌, ℕ, List, [], IfOk, OnErr};
-ghost use Rattle.std.specs.List.{AllByRecursion};
-ghost use Rattle.std.specs.Io.KnownBytes.{Appends};
-ghost use Rattle.zf_graph.specs.{IsExplored};
-ghost use Rattle.zf_lines.specs.{device_of, failures_of, read_failures, write_failures};
+ghost use Rattle.zf_machines.specs.Prelude.{AllByRecursion, Appends, IsExplored, device_of, failures_of, read_failures, write_failures, environment_of, ending_of, StopsEarly, CanSearch, explored_in, System, words};
 ghost use Rattle.zf_machines.specs.{all_of, HasShape, IsMachineOf, schemas_of};
-ghost use Rattle.zf_meaning.specs.{environment_of};
-ghost use Rattle.zf_reach.specs.{ending_of, StopsEarly};
-ghost use Rattle.zf_steps.specs.{CanSearch, explored_in, System, words};
 
 use crate::making::machine_of;
 use crate::schemas::Schemas;

@@ -1,10 +1,8 @@
 //! The machine that schemas make.
 ghost use Rattle.std.specs.Prelude.{◌≡◌, IfOk, map};
+ghost use Rattle.zf_machines.specs.Prelude.{Environment, AreStates, before_of, operation_of, system_of, schema_of};
 ghost use Rattle.zf_machines.specs.{HasShape, IsMachineOf, named_of, schemas_of, test_of};
-ghost use Rattle.zf_meaning.specs.{Environment};
 ghost use Rattle.zf_steps.specs.Shapes as shapes;
-ghost use Rattle.zf_steps.specs.{AreStates, before_of, operation_of, system_of};
-ghost use Rattle.zf_term.specs.{schema_of};
 
 use crate::schemas::{Named, Schemas};
 use bumpalo::Bump;

@@ -1,13 +1,7 @@
 //! A search for a state of the machine that schemas make.
 ghost use Rattle.std.specs.Prelude.{◌≡◌, ◌≤◌, ◌⊎◌, ℕ, List, [], IfOk, OnErr};
-ghost use Rattle.std.specs.List.{AllByRecursion};
-ghost use Rattle.std.specs.Io.KnownBytes.{Appends};
-ghost use Rattle.zf_graph.specs.{IsSearched};
-ghost use Rattle.zf_lines.specs.{device_of, failures_of, read_failures, write_failures};
+ghost use Rattle.zf_machines.specs.Prelude.{AllByRecursion, Appends, IsSearched, device_of, failures_of, read_failures, write_failures, environment_of, result_of, StopsSearch, CanSearch, explored_in, sought_in, System, verdict, words};
 ghost use Rattle.zf_machines.specs.{all_of, HasShape, IsMachineOf, schemas_of};
-ghost use Rattle.zf_meaning.specs.{environment_of};
-ghost use Rattle.zf_reach.specs.{result_of, StopsSearch};
-ghost use Rattle.zf_steps.specs.{CanSearch, explored_in, sought_in, System, verdict, words};
 
 use crate::exploring::Specification;
 use crate::making::machine_of;

@@ -1,8 +1,7 @@
 //! Whether schemas make a machine.
 ghost use Rattle.std.specs.Prelude.{IfOk, MatchOption, map, option_map};
-ghost use Rattle.std.specs.List.{AllByRecursion};
+ghost use Rattle.zf_machines.specs.Prelude.{AllByRecursion, AreStates, before_of};
 ghost use Rattle.zf_machines.specs.{AllowsSought, CanStep, HasShape, LacksBehind, LacksFirst, LacksStepFirst, named_of, schemas_of, SoughtLacks};
-ghost use Rattle.zf_steps.specs.{AreStates, before_of};
 
 use crate::schemas::{Named, Schemas};
 use bumpalo::Bump;

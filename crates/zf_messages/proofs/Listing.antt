@@ -1,7 +1,5 @@
 -- Schemas that are listed by going over the globals.
-use Rattle.std.proofs.Common.{◌++◌, ◌+◌, ◌∙◌, ◌∷◌, ◌≡◌, [], add-one, ap, append_assoc, drop, List, refl, suc, sym, zero, ℕ}
-use Rattle.zf_term.specs.{Defined}
-use Rattle.zf_messages.specs.{schema_at, schemas}
+use Rattle.zf_messages.proofs.Prelude.{◌++◌, ◌+◌, ◌∙◌, ◌∷◌, ◌≡◌, [], add-one, ap, append_assoc, drop, List, refl, suc, sym, zero, ℕ, Defined, schema_at, schemas}
 
 schemas-suc : (g : List Defined) (place : ℕ) → schemas (drop place g) ≡ schema_at place g ++ schemas (drop (suc place) g)
 schemas-suc [] zero = refl

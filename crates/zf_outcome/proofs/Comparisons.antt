@@ -1,9 +1,8 @@
 -- Comparisons of numbers.
-use Rattle.zf_outcome.proofs.Prelude.{if◌then◌else◌, ◌↔◌, ◌∙◌, ◌≡◌, ap, Bool, false, IsTrue, None, of_z, refl, Some, subst, sym, to_z, true, ℤ, FitsSigned, same, is_Int, number_of-Int, number_of, Truth, Int, Value, Tells}
+use Rattle.zf_outcome.proofs.Prelude.{if◌then◌else◌, ◌↔◌, ◌∙◌, ◌≡◌, ap, Bool, false, IsTrue, None, of_z, refl, Some, subst, sym, to_z, true, ℤ, FitsSigned, same, is_Int, number_of-Int, number_of, Truth, Int, Value, Tells, Compares, IsFrom, IsIn}
 use Rattle.std.specs.Int.{w64}
 use Rattle.zf_term.specs.declared.extent.Infinite.{Infinite}
 use Rattle.zf_term.specs.declared.extent.Infinite.TheVariants.{Num, Nat, Nat1}
-use Rattle.zf_outcome.specs.{Compares, IsFrom, IsIn}
 use Rattle.zf_value.specs.declared.value.Truth.TheVariants.{True, False}
 
 -- numbers that were written as words are themselves

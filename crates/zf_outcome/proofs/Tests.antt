@@ -1,14 +1,11 @@
 -- Sets that are described by what they are made of: each that is not out is there, and its members are reported.
-use Rattle.zf_outcome.proofs.Prelude.{cases_lt, ◌+ℤ◌, ◌<ℤ◌, pos, either_way, members-SetOf, OnNumbers, IsBetweenNumbers, IsInterval, AreFrom, IsSubset, ArePartialFunctions, ArePartialInjections, AreRelations, AreTotalFunctions, AreTotalInjections, IsCross, IsPower, IsMember, IsSetOf, members, value_order, Outcome, Is, Out, Undefined, Truth, Int, out-Value, SetOf, Tuple, Value, Value-F, outs-Int, IsPartialFunction, IsPartialInjection, IsRelation, IsTotalFunction, IsTotalInjection, IsTupleFrom, Arrow, Relation, is_membership, IsDescribed, IsOfArrow, IsUnbuilt, told_in, Describes, IsInDescribed, IsTruthIn, found_outcome, one_out, one_undefined, OnOne, OnSeveral, Several, values, ArrowOutcome, Holds, IsAtom, Described, Arrows, Interval, Plain, Power, Product, IsWithin}
-use Rattle.std.proofs.Common.{◌≡◌, ◌↔◌, ◌⊎◌, inl, inr, ◌≤◌, ◌<◌, ℕ, Bool, true, false, ℤ, Option, Some, None, List, [], refl, sym, ap, ◌∙◌, subst, ⊎_elim, Less, arith, IsTrue, Vec, Global}
-use Rattle.std.proofs.lemmas.Bool.{false≢true}
+use Rattle.zf_outcome.proofs.Prelude.{cases_lt, ◌+ℤ◌, ◌<ℤ◌, pos, either_way, members-SetOf, OnNumbers, IsBetweenNumbers, IsInterval, AreFrom, IsSubset, ArePartialFunctions, ArePartialInjections, AreRelations, AreTotalFunctions, AreTotalInjections, IsCross, IsPower, IsMember, IsSetOf, members, value_order, Outcome, Is, Out, Undefined, Truth, Int, out-Value, SetOf, Tuple, Value, Value-F, outs-Int, IsPartialFunction, IsPartialInjection, IsRelation, IsTotalFunction, IsTotalInjection, IsTupleFrom, Arrow, Relation, is_membership, IsDescribed, IsOfArrow, IsUnbuilt, told_in, Describes, IsInDescribed, IsTruthIn, found_outcome, one_out, one_undefined, OnOne, OnSeveral, Several, values, ArrowOutcome, Holds, IsAtom, Described, Arrows, Interval, Plain, Power, Product, IsWithin, ◌≡◌, ◌↔◌, ◌⊎◌, inl, inr, ◌≤◌, ◌<◌, ℕ, Bool, true, false, ℤ, Option, Some, None, List, [], refl, sym, ap, ◌∙◌, subst, ⊎_elim, Less, arith, IsTrue, Vec, Global, false≢true, level_order}
 use Rattle.std.proofs.lemmas.Int.{ints}
 use Rattle.std.specs.Cmp.{int_cmp_is}
 use Rattle.zf_tree.specs.declared.symbol.Arrow.TheVariants as arrow
 use Rattle.zf_tree.specs.declared.symbol.Relation.TheVariants as relation
 use Rattle.zf_value.specs.declared.TheConstants.{SET_MAX}
 use Rattle.zf_value.specs.declared.value.Truth.TheVariants as truth
-use Rattle.zf_value.specs.{level_order}
 use Rattle.zf_value.proofs.Counted.{ascending-first, length-first}
 use Rattle.zf_value.proofs.Exact.{cmp_is}
 use Rattle.zf_value.proofs.Intervals.{number_list, numbers_between, interval_out}

@@ -1,14 +1,7 @@
 -- The symbols between numbers. No public clause rests on this.
 use Rattle.std.specs.Prelude.{◌≡◌, ℤ, pos, ◌≤ℤ◌, ◌<ℤ◌}
-use Rattle.zf_tree.specs.declared.symbol.Infix.{Infix}
-use Rattle.zf_tree.specs.declared.symbol.Infix.TheVariants.{Maplet, UpTo, Plus, Minus, Union, Difference, Times, Div, Mod, Intersection, Composition, Overriding, DomainRestriction, RangeRestriction, DomainSubtraction, RangeSubtraction}
-use Rattle.zf_tree.specs.declared.symbol.Relation.{Relation}
+use Rattle.zf_outcome.specs.Prelude.{Infix, Maplet, UpTo, Plus, Minus, Union, Difference, Times, Div, Mod, Intersection, Composition, Overriding, DomainRestriction, RangeRestriction, DomainSubtraction, RangeSubtraction, Relation, Infinite, Num, Nat, Nat1, Outcome, Undefined, IsDifference, IsInterval, IsModulus, IsProduct, IsQuotient, IsSum}
 use Rattle.zf_tree.specs.declared.symbol.Relation.TheVariants as relation
-use Rattle.zf_term.specs.declared.extent.Infinite.{Infinite}
-use Rattle.zf_term.specs.declared.extent.Infinite.TheVariants.{Num, Nat, Nat1}
-use Rattle.zf_value.specs.declared.value.Outcome.{Outcome}
-use Rattle.zf_value.specs.declared.value.Outcome.TheVariants.{Undefined}
-use Rattle.zf_value.specs.{IsDifference, IsInterval, IsModulus, IsProduct, IsQuotient, IsSum}
 
 -- what the symbol makes of two numbers, if it is one of arithmetic
 abbrev pub NumbersOutcome : Infix → ℤ → ℤ → Outcome → Type 0

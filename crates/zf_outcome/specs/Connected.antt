@@ -1,11 +1,7 @@
 -- The tables of the connectives: the truth that each makes of those of its sides.
 use Rattle.std.specs.Prelude.{Option, Some, None}
-use Rattle.zf_tree.specs.declared.symbol.Connective.{Connective}
+use Rattle.zf_outcome.specs.Prelude.{Connective, Quantifier, ForAll, Exists, ExistsOne, Truth, True, False, Out}
 use Rattle.zf_tree.specs.declared.symbol.Connective.TheVariants.{And, Or, Implies, Iff}
-use Rattle.zf_tree.specs.declared.symbol.Quantifier.{Quantifier}
-use Rattle.zf_tree.specs.declared.symbol.Quantifier.TheVariants.{ForAll, Exists, ExistsOne}
-use Rattle.zf_value.specs.declared.value.Truth.{Truth}
-use Rattle.zf_value.specs.declared.value.Truth.TheVariants.{True, False, Out}
 use Rattle.zf_outcome.specs.Truths.{opposite}
 
 abbrev pub conjunction : Truth → Truth → Truth

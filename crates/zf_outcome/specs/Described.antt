@@ -1,16 +1,10 @@
 -- Sets that are described by what they are made of, so that they can be tested for members without being built.
 use Rattle.std.specs.Prelude.{◌≡◌, Bool, true, false}
-use Rattle.zf_tree.specs.declared.symbol.Arrow.{Arrow}
+use Rattle.zf_outcome.specs.Prelude.{Arrow, Relation, Value, Outcome, Truth, True, False, IsCross, IsInterval, IsMember, IsPower, members}
 use Rattle.zf_tree.specs.declared.symbol.Arrow.TheVariants as arrow
-use Rattle.zf_tree.specs.declared.symbol.Relation.{Relation}
 use Rattle.zf_tree.specs.declared.symbol.Relation.TheVariants.{NotMember}
 use Rattle.zf_families.specs.{IsPartialFunction, IsPartialInjection, IsRelation, IsTotalFunction, IsTotalInjection}
-use Rattle.zf_value.specs.declared.plain.Value.{Value}
-use Rattle.zf_value.specs.declared.value.Outcome.{Outcome}
 use Rattle.zf_value.specs.declared.value.Outcome.TheVariants.{Is, Out}
-use Rattle.zf_value.specs.declared.value.Truth.{Truth}
-use Rattle.zf_value.specs.declared.value.Truth.TheVariants.{True, False}
-use Rattle.zf_value.specs.{IsCross, IsInterval, IsMember, IsPower, members}
 use Rattle.zf_outcome.specs.declared.described.Described.{Described}
 use Rattle.zf_outcome.specs.declared.described.Described.TheVariants.{Plain, Power, Arrows, Interval, Product}
 use Rattle.zf_outcome.specs.Found.{found_outcome}

@@ -1,8 +1,7 @@
 -- Outcomes that are lent, as outcomes. No public clause rests on this.
 use Rattle.std.specs.Prelude.{Option, Some, None}
+use Rattle.zf_outcome.specs.Prelude.{Value, Outcome}
 use denote.Bor.{Bor}
-use Rattle.zf_value.specs.declared.plain.Value.{Value}
-use Rattle.zf_value.specs.declared.value.Outcome.{Outcome}
 use Rattle.zf_value.specs.declared.value.Outcome.TheVariants as outcome
 use Rattle.zf_outcome.specs.declared.found.Found.{Found}
 use Rattle.zf_outcome.specs.declared.found.Found.TheVariants.{Is, Undefined, Out}

@@ -1,7 +1,6 @@
 -- The values of several terms, one after another. No public clause rests on this.
 use Rattle.std.specs.Prelude.{◌≡◌, List, [], ◌∷◌, ◌++◌}
-use Rattle.zf_value.specs.declared.plain.Value.{Value}
-use Rattle.zf_value.specs.declared.value.Outcome.{Outcome}
+use Rattle.zf_outcome.specs.Prelude.{Value, Outcome}
 use Rattle.zf_value.specs.declared.value.Outcome.TheVariants as outcome
 use Rattle.zf_outcome.specs.declared.gathered.Gathered.{Gathered}
 use Rattle.zf_outcome.specs.declared.gathered.Lack.{Lack}

@@ -1,7 +1,6 @@
 -- The outcome of an operation by those of its operands: out where one is out, else undefined where one is, else as the operation says.
 use Rattle.std.specs.Prelude.{◌≡◌, ℕ, List, ◌++◌, replicate}
-use Rattle.zf_value.specs.declared.plain.Value.{Value}
-use Rattle.zf_value.specs.declared.value.Outcome.{Outcome}
+use Rattle.zf_outcome.specs.Prelude.{Value, Outcome}
 use Rattle.zf_value.specs.declared.value.Outcome.TheVariants.{Is, Undefined, Out}
 
 abbrev pub OnOne : Outcome → (Value → Outcome → Type 0) → Outcome → Type 0

@@ -1,9 +1,6 @@
 -- Which truths a quantifier has met, and what they settle. No public clause rests on this.
 use Rattle.std.specs.Prelude.{Bool, true, false, if◌then◌else◌}
-use Rattle.zf_tree.specs.declared.symbol.Quantifier.{Quantifier}
-use Rattle.zf_tree.specs.declared.symbol.Quantifier.TheVariants.{ForAll, Exists, ExistsOne}
-use Rattle.zf_value.specs.declared.value.Truth.{Truth}
-use Rattle.zf_value.specs.declared.value.Truth.TheVariants.{True, False, Out}
+use Rattle.zf_outcome.specs.Prelude.{Quantifier, ForAll, Exists, ExistsOne, Truth, True, False, Out}
 use Rattle.zf_outcome.specs.declared.tally.Tally.{Tally}
 
 abbrev pub none : Tally

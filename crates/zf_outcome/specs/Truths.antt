@@ -1,17 +1,9 @@
 -- Truth in three values: atoms, connectives and quantifiers, with no order among their parts.
 use Rattle.std.specs.Prelude.{◌≡◌, ◌⊎◌, List, Option, Some, None}
-use Rattle.zf_tree.specs.declared.symbol.Connective.{Connective}
+use Rattle.zf_outcome.specs.Prelude.{Connective, Quantifier, Relation, Infinite, Value, Outcome, Truth, True, False, Out, AreFrom}
 use Rattle.zf_tree.specs.declared.symbol.Connective.TheVariants as connective
-use Rattle.zf_tree.specs.declared.symbol.Quantifier.{Quantifier}
 use Rattle.zf_tree.specs.declared.symbol.Quantifier.TheVariants as quantifier
-use Rattle.zf_tree.specs.declared.symbol.Relation.{Relation}
-use Rattle.zf_term.specs.declared.extent.Infinite.{Infinite}
-use Rattle.zf_value.specs.declared.plain.Value.{Value}
-use Rattle.zf_value.specs.declared.value.Outcome.{Outcome}
 use Rattle.zf_value.specs.declared.value.Outcome.TheVariants as outcome
-use Rattle.zf_value.specs.declared.value.Truth.{Truth}
-use Rattle.zf_value.specs.declared.value.Truth.TheVariants.{True, False, Out}
-use Rattle.zf_value.specs.{AreFrom}
 use Rattle.zf_outcome.specs.Outcomes.{Several, values, one_undefined, one_out}
 use Rattle.zf_outcome.specs.Symbols.{Holds, HoldsOf}
 

@@ -1,10 +1,10 @@
 //! Sets that are tested for members without being built.
 ghost use Rattle.std.specs.Prelude.{◌≡◌, ◌↔◌, ◌⊎◌, IsTrue, IfOk};
+ghost use Rattle.zf_outcome.specs.Prelude.{IsCross, IsInterval, IsPower, members, number_of, OnNumbers};
 ghost use Rattle.zf_extent.specs.{is_membership};
 ghost use Rattle.zf_value.specs.declared.value.Outcome.TheVariants as outcome;
 ghost use Rattle.zf_value.specs.declared.plain.Value as value;
 ghost use Rattle.zf_outcome.specs.declared.described.Described.TheVariants as form;
-ghost use Rattle.zf_value.specs.{IsCross, IsInterval, IsPower, members, number_of, OnNumbers};
 ghost use Rattle.zf_outcome.specs.{ArrowOutcome, Describes, found_outcome, IsDescribed, IsInDescribed, IsOfArrow, IsTruthIn, IsUnbuilt, IsWithin, OnOne, OnSeveral, several_of, told_in};
 
 use crate::found::Found;

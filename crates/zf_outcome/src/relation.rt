@@ -1,8 +1,6 @@
 //! What relations say of the outcomes of their sides.
 ghost use Rattle.std.specs.Prelude.{◌≡◌, ◌↔◌, if◌then◌else◌, IfSome, IsTrue};
-ghost use Rattle.zf_value.specs.declared.value.Outcome.TheVariants.{Is};
-ghost use Rattle.zf_value.specs.declared.plain.Value.{Int};
-ghost use Rattle.zf_value.specs.{AreAmong, members, pair};
+ghost use Rattle.zf_outcome.specs.Prelude.{Is, Int, AreAmong, members, pair};
 ghost use Rattle.zf_outcome.specs.{AreOrdered, Compares, found_outcome, Holds, HoldsOf, IsAtom, IsFrom, IsIn, IsLink, IsTest};
 
 use crate::found::Found;

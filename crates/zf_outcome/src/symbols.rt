@@ -1,6 +1,6 @@
 //! What each symbol makes of the outcomes of its operands.
 ghost use Rattle.std.specs.Prelude.{◌≡◌, IfOk};
-ghost use Rattle.zf_value.specs.{IsCross, number_of, OnNumbers};
+ghost use Rattle.zf_outcome.specs.Prelude.{IsCross, number_of, OnNumbers};
 ghost use Rattle.zf_outcome.specs.{ArrowOutcome, BinaryOutcome, found_outcome, InfixOutcome, ListedOutcome, NumbersOutcome, OnBoth, OnOne, OnSeveral, PrefixOutcome, several_of, SignOutcome, UnaryOutcome};
 
 use crate::found::Found;

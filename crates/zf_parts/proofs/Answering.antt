@@ -1,14 +1,6 @@
 -- What is written of the parts that a search has, by what is written of those that are kept.
-use Rattle.zf_parts.proofs.Prelude.{inr, List, Option, ℕ, Value}
-use Rattle.std.proofs.Common.{Err, IfOk, Ok, OnErr, Result}
-use Rattle.std.specs.Io.KnownBytes.{Appends}
+use Rattle.zf_parts.proofs.Prelude.{inr, List, Option, ℕ, Value, Err, IfOk, Ok, OnErr, Result, Appends, Status, Wording, Environment, Schema, Stage, AreCollected, StopsKept, StopsParts, WritesKept, WritesParts}
 use Rattle.zf_lines.specs.declared.fault.RunFault.{RunFault}
-use Rattle.zf_lines.specs.declared.fault.Status.{Status}
-use Rattle.zf_lines.specs.{Wording}
-use Rattle.zf_meaning.specs.{Environment}
-use Rattle.zf_term.specs.{Schema}
-use Rattle.zf_walk.specs.{Stage}
-use Rattle.zf_parts.specs.{AreCollected, StopsKept, StopsParts, WritesKept, WritesParts}
 use Rattle.zf_parts.proofs.Keeping.{Entry}
 
 module _ (w : Wording Value) (limit : Option ℕ) (e : Environment) (a : Schema) (b : Stage Value) (places : List ℕ) (after : Option (List Value)) (entries : List Entry) (old new : Option (List ℕ))

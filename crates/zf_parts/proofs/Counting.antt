@@ -1,13 +1,5 @@
 -- Digits that count numbers: one that changes, and what is carried over from it.
-use Rattle.zf_parts.proofs.Prelude.{◌+◌, ◌<◌, ◌∙◌, ◌∷◌, ◌≡◌, [], ap, arith, inl, inr, length, List, refl, subst, suc, sym, Value, zero, ℕ}
-use Rattle.std.proofs.Common.{◌*◌, ◌-◌, ◌≤◌, add-mul, drop, get_or, mul_assoc, replicate}
-use Rattle.std.proofs.Math.ListN.{set}
-use Rattle.std.proofs.Math.Nat.{mul-le-mul_right}
-use Rattle.std.proofs.lemmas.Bool.{cases_eq, cases_lt}
-use Rattle.std.proofs.lemmas.List.{drop_all, drop_more, get_or-set_other, get_or-set_same, length-set}
-use Rattle.zf_walk.proofs.Picks.{AreWithin-tail, picked-cons, slice_get-nth}
-use Rattle.zf_walk.specs.{AreWithin, picked}
-use Rattle.zf_parts.specs.{counted, IsNumber, ranges_at, total}
+use Rattle.zf_parts.proofs.Prelude.{◌+◌, ◌<◌, ◌∙◌, ◌∷◌, ◌≡◌, [], ap, arith, inl, inr, length, List, refl, subst, suc, sym, Value, zero, ℕ, ◌*◌, ◌-◌, ◌≤◌, add-mul, drop, get_or, mul_assoc, replicate, set, mul-le-mul_right, cases_eq, cases_lt, drop_all, drop_more, get_or-set_other, get_or-set_same, length-set, AreWithin-tail, picked-cons, slice_get-nth, AreWithin, picked, counted, IsNumber, ranges_at, total}
 use Rattle.zf_parts.proofs.Numbering.{length_ranges, range_there, some_rest, within_more}
 
 -- the values at digits have the number that these count

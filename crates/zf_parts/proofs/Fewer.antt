@@ -1,12 +1,7 @@
 -- Fewer rows are ahead where a row that was ahead is passed with all that begin with its first values.
-use Rattle.zf_parts.proofs.Prelude.{◌<◌, ◌∷◌, ◌≡◌, [], false, List, Option, refl, subst, sym, suc, true, zero, ℕ, Ordering, Equal, Greater, Less, Event}
-use Rattle.std.proofs.Common.{take}
-use Rattle.std.proofs.lemmas.Bool.{false≢true}
-use Rattle.std.proofs.lemmas.Cmp.{tied_itself}
+use Rattle.zf_parts.proofs.Prelude.{◌<◌, ◌∷◌, ◌≡◌, [], false, List, Option, refl, subst, sym, suc, true, zero, ℕ, Ordering, Equal, Greater, Less, Event, take, false≢true, tied_itself, Ahead, first_of, past, reaches, Takes, ahead_count, ahead_reached, fewer, in_rows, reached_on, rows_of}
 use Rattle.std.specs.Cmp.{IsTotalOrder}
 use Rattle.zf_walk.specs.Conjuncts.{Conjuncts}
-use Rattle.zf_walk.specs.{Ahead, first_of, past, reaches, Takes}
-use Rattle.zf_lines.proofs.Fewer.{ahead_count, ahead_reached, fewer, in_rows, reached_on, rows_of}
 
 module _ {V : Type 0} (cmp : V → V → Ordering) (o : IsTotalOrder cmp) where
   -- what is greater than the first values is greater

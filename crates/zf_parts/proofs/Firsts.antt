@@ -1,6 +1,5 @@
 -- The first event that has some values.
-use Rattle.zf_parts.proofs.Prelude.{◌++◌, ◌∙◌, ◌∷◌, ◌≡◌, ◌⊎◌, [], inl, inr, List, refl, subst, sym, ℕ, Contains, AllPairs-head, AllPairs-tail, Contains-cases, Contains-either, Contains-head, Contains-later, Contains-left, Contains-nil, Contains-right, Event, ComesAfter, value_order, Value, IsFirstWith, values_at}
-use Rattle.zf_parts.specs.{Ascend}
+use Rattle.zf_parts.proofs.Prelude.{◌++◌, ◌∙◌, ◌∷◌, ◌≡◌, ◌⊎◌, [], inl, inr, List, refl, subst, sym, ℕ, Contains, AllPairs-head, AllPairs-tail, Contains-cases, Contains-either, Contains-head, Contains-later, Contains-left, Contains-nil, Contains-right, Event, ComesAfter, value_order, Value, IsFirstWith, values_at, Ascend}
 use Rattle.zf_parts.proofs.Orders.{never_both, one_or_other}
 
 -- the one event at the end of a list

@@ -1,14 +1,7 @@
 -- The line of a part that is the first values of a row.
-use Rattle.zf_parts.proofs.Prelude.{◌++◌, ◌∙◌, ◌∷◌, ◌≡◌, [], ap, arith, length, List, refl, suc, sym, zero, ℕ, Value, values_at}
-use Rattle.std.proofs.Common.{◌≤◌, take}
-use Rattle.std.specs.Prelude.{codes}
-use Rattle.zf_format.specs.declared.format.Format.{Format}
+use Rattle.zf_parts.proofs.Prelude.{◌++◌, ◌∙◌, ◌∷◌, ◌≡◌, [], ap, arith, length, List, refl, suc, sym, zero, ℕ, Value, values_at, ◌≤◌, take, codes, Format, row_line, Comp, Spelling, AreFirst}
 use Rattle.zf_format.specs.declared.format.Format.TheVariants.{Lines, Objects}
-use Rattle.zf_lines.specs.{row_line}
-use Rattle.zf_term.specs.{Comp}
 use Rattle.zf_print.specs.{component_in, components_in, parted}
-use Rattle.zf_print.specs.declared.spelling.Spelling.{Spelling}
-use Rattle.zf_places.specs.{AreFirst}
 use Rattle.zf_parts.proofs.Fronting.{first_values}
 
 of_front : (f : Format) (ss : List Spelling) (cs : List Comp) (n : ℕ) (row : List Value) → length cs ≤ n → components_in f ss cs row ≡ components_in f ss cs (take n row)

@@ -1,26 +1,7 @@
 -- The loop over parts that are the first values: what is ahead has the parts that are left, and no other one.
-use Rattle.zf_parts.proofs.Prelude.{◌++◌, ◌+◌, ◌<◌, ◌∙◌, ◌∷◌, ◌≡◌, [], ap, append_assoc, arith, Bool, cond, false, inl, inr, length, List, None, Option, refl, Some, subst, suc, sym, true, zero, ℕ, Contains, AllPairs-head, AllPairs-tail, Contains-cases, Contains-either, Contains-head, Contains-nil, Contains-right, option_map, slice_cmp, Ordering, Equal, Greater, Less, Event, ComesAfter, IsLater, Out, True, value_order, Value, Part, values_at}
-use Rattle.std.proofs.Common.{◌≤◌, drop, get_or, take}
-use Rattle.std.proofs.lemmas.Bool.{cases_lt, false≢true}
+use Rattle.zf_parts.proofs.Prelude.{◌++◌, ◌+◌, ◌<◌, ◌∙◌, ◌∷◌, ◌≡◌, [], ap, append_assoc, arith, Bool, cond, false, inl, inr, length, List, None, Option, refl, Some, subst, suc, sym, true, zero, ℕ, Contains, AllPairs-head, AllPairs-tail, Contains-cases, Contains-either, Contains-head, Contains-nil, Contains-right, option_map, slice_cmp, Ordering, Equal, Greater, Less, Event, ComesAfter, IsLater, Out, True, value_order, Value, Part, values_at, ◌≤◌, drop, get_or, take, cases_lt, false≢true, drop_all, drop_more, length-take-le, take_all, Appends, cons_option, filter_map, get_or_from_slice_get, slice_get_past, ordering_then, slice_get, conjuncts_of, Goal, property, Status, Done, PastBounds, AppendsFront, HasLimit, IsAtStart, Wording, Schema, IsRowOf-length, Advances, Ahead, IsAhead, IsEvent, past, SameRanges, Stage, Takes, Step, End, AreFirst, FindsParts, StopsParts, WritesParts}
 use Rattle.std.proofs.Math.Seq.{take-nil}
-use Rattle.std.proofs.lemmas.List.{drop_all, drop_more, length-take-le, take_all}
-use Rattle.std.specs.Io.KnownBytes.{Appends}
-use Rattle.std.specs.List.{cons_option, filter_map}
-use Rattle.std.proofs.lemmas.Option.{get_or_from_slice_get, slice_get_past}
-use Rattle.std.specs.Ordering.{ordering_then}
-use Rattle.std.specs.Prelude.{slice_get}
-use Rattle.zf_enum.specs.{conjuncts_of, Goal, property}
 use Rattle.zf_lines.proofs.Searching as searching
-use Rattle.zf_lines.specs.declared.fault.Status.{Status}
-use Rattle.zf_lines.specs.declared.fault.Status.TheVariants.{Done, PastBounds}
-use Rattle.zf_lines.specs.{AppendsFront, HasLimit, IsAtStart, Wording}
-use Rattle.zf_term.specs.{Schema}
-use Rattle.zf_walk.proofs.Picks.{IsRowOf-length}
-use Rattle.zf_walk.specs.{Advances, Ahead, IsAhead, IsEvent, past, SameRanges, Stage, Takes}
-use Rattle.zf_walk.specs.declared.step.Step.{Step}
-use Rattle.zf_walk.specs.declared.step.Step.TheVariants.{End}
-use Rattle.zf_places.specs.{AreFirst}
-use Rattle.zf_parts.specs.{FindsParts, StopsParts, WritesParts}
 use Rattle.zf_parts.proofs.Keeping.{event_of}
 use Rattle.zf_parts.proofs.Orders.{comes_on, never_both, never_itself, reversed, same_row}
 use Rattle.zf_parts.proofs.Putting.{Ascends, Follows}

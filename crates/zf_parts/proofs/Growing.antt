@@ -1,6 +1,5 @@
 -- The parts of events, with one event more.
-use Rattle.zf_parts.proofs.Prelude.{◌++◌, ◌∙◌, ◌∷◌, ◌≡◌, [], ap, append-nil, append_assoc, inl, inr, List, Option, refl, subst, sym, ℕ, Contains, AllPairs-across, AllPairs-cons, AllPairs-head, AllPairs-nil, AllPairs-tail, AllPairs-unique, Contains-head, Contains-left, Contains-nil, Event, ComesAfter, IsLater, value_order, Value, AreParts, IsFirstWith, Part, values_at}
-use Rattle.zf_parts.specs.{Ascend, HasEachPart, OneListOfParts, SomeListOfParts}
+use Rattle.zf_parts.proofs.Prelude.{◌++◌, ◌∙◌, ◌∷◌, ◌≡◌, [], ap, append-nil, append_assoc, inl, inr, List, Option, refl, subst, sym, ℕ, Contains, AllPairs-across, AllPairs-cons, AllPairs-head, AllPairs-nil, AllPairs-tail, AllPairs-unique, Contains-head, Contains-left, Contains-nil, Event, ComesAfter, IsLater, value_order, Value, AreParts, IsFirstWith, Part, values_at, Ascend, HasEachPart, OneListOfParts, SomeListOfParts}
 use Rattle.zf_parts.proofs.Firsts.{new_first, old_or_new, some_first, still_first}
 use Rattle.zf_parts.proofs.Orders.{later_or_not, never_both}
 use Rattle.zf_parts.proofs.Putting.{has_or_none, HasNone, in_put, put, put_ascends, put_in}

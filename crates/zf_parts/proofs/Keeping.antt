@@ -1,11 +1,7 @@
 -- What is kept of parts, with one event more.
-use Rattle.zf_parts.proofs.Prelude.{◌++◌, ◌∙◌, ◌∷◌, ◌≡◌, [], ap, Bool, cond, false, inl, inr, List, None, Option, refl, Some, subst, sym, true, ℕ, slice_cmp, match_ordering, Contains, Ordering, Equal, Greater, Less, Contains-cases, Contains-head, Contains-later, Contains-nil, Event, ComesAfter, IsLater, Out, True, value_order, Value, Part, values_at}
-use Rattle.std.proofs.lemmas.Bool.{false≢true}
+use Rattle.zf_parts.proofs.Prelude.{◌++◌, ◌∙◌, ◌∷◌, ◌≡◌, [], ap, Bool, cond, false, inl, inr, List, None, Option, refl, Some, subst, sym, true, ℕ, slice_cmp, match_ordering, Contains, Ordering, Equal, Greater, Less, Contains-cases, Contains-head, Contains-later, Contains-nil, Event, ComesAfter, IsLater, Out, True, value_order, Value, Part, values_at, false≢true, is_eq, is_some, AreKeptAs, Ascend, IsKeptAs, KeepParts}
 use Rattle.std.specs.BTreeMap.{insert_entry, is_at}
 use Rattle.std.specs.Map.{lookup}
-use Rattle.std.specs.Ordering.{is_eq}
-use Rattle.std.specs.Prelude.{is_some}
-use Rattle.zf_parts.specs.{AreKeptAs, Ascend, IsKeptAs, KeepParts}
 use Rattle.zf_parts.proofs.Growing.{is_new, not_later, not_new}
 use Rattle.zf_parts.proofs.Orders.{itself, same_row}
 use Rattle.zf_parts.proofs.Putting.{HasNone, put}

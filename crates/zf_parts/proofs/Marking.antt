@@ -1,16 +1,8 @@
 -- Words in pages, and numbers that are marked by entries, or by bits in pages.
-use Rattle.zf_parts.proofs.Prelude.{◌++◌, ◌+◌, ◌<◌, ◌∙◌, ◌∷◌, ◌≡◌, ◌⊎◌, [], ap, arith, Bool, false, inl, inr, length, List, None, Option, refl, Some, suc, sym, true, zero, ℕ}
-use Rattle.std.proofs.Common.{◌-◌, ◌*◌, ◌/◌, ◌%◌, ◌^◌, ◌≤◌, eqb, get_or, replicate, slice_get, w64}
-use Rattle.std.proofs.Math.ListN.{set}
-use Rattle.std.proofs.Math.Nat.{div-le_self, mod-lt}
-use Rattle.std.proofs.lemmas.Bool.{cases_eq, cases_lt, cond-false, cond-true, eq-eqb, ne_eqb}
-use Rattle.std.proofs.lemmas.List.{get_or-set_other, get_or-set_same}
+use Rattle.zf_parts.proofs.Prelude.{◌++◌, ◌+◌, ◌<◌, ◌∙◌, ◌∷◌, ◌≡◌, ◌⊎◌, [], ap, arith, Bool, false, inl, inr, length, List, None, Option, refl, Some, suc, sym, true, zero, ℕ, ◌-◌, ◌*◌, ◌/◌, ◌%◌, ◌^◌, ◌≤◌, eqb, get_or, replicate, slice_get, w64, set, div-le_self, mod-lt, cases_eq, cases_lt, cond-false, cond-true, eq-eqb, ne_eqb, get_or-set_other, get_or-set_same, slice_get_past, slice_get_read, slice_get_within, bit_or, bit_of, counted_page, has_in, IsKept, IsPlaced, IsSight, page_has, page_word, reached, word_in}
 use Rattle.std.proofs.lemmas.Nat.{div-add-mod', shr-shr}
 use Rattle.std.proofs.lemmas.Nat.Bits.{bit_at-trailing_zeros, bit_at-zero, bit_at_above, bit_at_set_other, bit_at_set_same}
-use Rattle.std.proofs.lemmas.Option.{slice_get_past, slice_get_read, slice_get_within}
 use Rattle.std.specs.Int.{bit_at, trailing_zeros}
-use Rattle.std.specs.Prelude.{bit_or}
-use Rattle.zf_parts.specs.{bit_of, counted_page, has_in, IsKept, IsPlaced, IsSight, page_has, page_word, reached, word_in}
 use Rattle.zf_parts.specs.declared.page.Page.{Page}
 use Rattle.zf_parts.specs.declared.page.Sight.{Sight}
 use Rattle.zf_parts.specs.declared.page.Sight.TheVariants.{Free, Marked}

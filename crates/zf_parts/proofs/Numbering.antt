@@ -1,20 +1,7 @@
 -- Numbers of values that stand in ranges: they ascend as the values do.
-use Rattle.zf_parts.proofs.Prelude.{◌+◌, ◌<◌, ◌∙◌, ◌∷◌, ◌≡◌, [], ap, arith, inl, inr, length, List, refl, Some, subst, suc, sym, zero, ℕ, All, slice_cmp, Equal, Less, ComesAfter, value_order, Value, values_at, AllPairs}
-use Rattle.std.proofs.Common.{◌*◌, ◌≤◌, drop, get_or}
-use Rattle.std.proofs.Math.Nat.{mul-le-mul_left, mul-le-mul_right}
-use Rattle.std.proofs.lemmas.Bool.{cases_eq, cases_lt}
-use Rattle.std.proofs.lemmas.Cmp.{tied_itself}
-use Rattle.std.proofs.lemmas.List.Elements.{All-cons, All-head, All-nil, All-tail}
-use Rattle.std.proofs.lemmas.Option.{get_or_from_slice_get, slice_get_within}
-use Rattle.std.specs.List.{cons_option}
-use Rattle.std.specs.Ordering.{ordering_then}
-use Rattle.std.specs.Prelude.{slice_get}
+use Rattle.zf_parts.proofs.Prelude.{◌+◌, ◌<◌, ◌∙◌, ◌∷◌, ◌≡◌, [], ap, arith, inl, inr, length, List, refl, Some, subst, suc, sym, zero, ℕ, All, slice_cmp, Equal, Less, ComesAfter, value_order, Value, values_at, AllPairs, ◌*◌, ◌≤◌, drop, get_or, mul-le-mul_left, mul-le-mul_right, cases_eq, cases_lt, tied_itself, All-cons, All-head, All-nil, All-tail, get_or_from_slice_get, slice_get_within, cons_option, ordering_then, slice_get, IsNth, less-at, nth, slice_get-nth, AreAscending, AreWithin, IsRowOf, IsNumber, ranges_at, total, weights}
 use Rattle.zf_value.specs.contracts.plain.ValueOrd.TheImpl.Laws as order_laws
 use Rattle.zf_walk.proofs.Numbering.{one_digit}
-use Rattle.zf_walk.proofs.Order.{IsNth, less-at, nth}
-use Rattle.zf_walk.proofs.Picks.{slice_get-nth}
-use Rattle.zf_walk.specs.{AreAscending, AreWithin, IsRowOf}
-use Rattle.zf_parts.specs.{IsNumber, ranges_at, total, weights}
 use Rattle.zf_parts.proofs.Orders.{never_itself}
 
 some_one : {X : Type 0} (x y : X) → Some x ≡ Some y → x ≡ y

@@ -1,9 +1,6 @@
 -- The order of rows of values.
-use Rattle.zf_parts.proofs.Prelude.{◌∙◌, ◌≡◌, ◌⊎◌, ap, inl, inr, List, None, Option, refl, Some, subst, sym, lists_total, slice_cmp, ordering_reverse, Ordering, Equal, Greater, Less, ComesAfter, IsLater, value_order, Value}
-use Rattle.std.proofs.lemmas.Cmp.{tied_itself}
-use Rattle.zf_value.proofs.Exact.{exact}
+use Rattle.zf_parts.proofs.Prelude.{◌∙◌, ◌≡◌, ◌⊎◌, ap, inl, inr, List, None, Option, refl, Some, subst, sym, lists_total, slice_cmp, ordering_reverse, Ordering, Equal, Greater, Less, ComesAfter, IsLater, value_order, Value, tied_itself, exact, slice-ties}
 use Rattle.zf_value.specs.contracts.plain.ValueOrd.TheImpl.Laws as order_laws
-use Rattle.zf_walk.proofs.Order.{slice-ties}
 
 -- rows that tie are one
 pub same_row : (a b : List Value) → slice_cmp value_order a b ≡ Equal → a ≡ b

@@ -1,21 +1,7 @@
 -- What is marked of the parts that a search has met, with one event more.
-use Rattle.zf_parts.proofs.Prelude.{◌<◌, ◌∙◌, ◌≡◌, ◌⊎◌, [], ap, arith, cond, false, inl, inr, length, List, Option, refl, Some, subst, sym, true, ℕ, All, Event, ComesAfter, IsLater, Truth, Out, True, value_order, Value, values_at}
-use Rattle.std.proofs.Common.{◌≤◌, take}
-use Rattle.std.proofs.lemmas.Bool.{false≢true}
-use Rattle.std.proofs.lemmas.List.{take_all}
-use Rattle.std.specs.Prelude.{unwrap_or}
-use Rattle.zf_enum.specs.{conjuncts_of, Goal, property}
+use Rattle.zf_parts.proofs.Prelude.{◌<◌, ◌∙◌, ◌≡◌, ◌⊎◌, [], ap, arith, cond, false, inl, inr, length, List, Option, refl, Some, subst, sym, true, ℕ, All, Event, ComesAfter, IsLater, Truth, Out, True, value_order, Value, values_at, ◌≤◌, take, false≢true, take_all, unwrap_or, conjuncts_of, Goal, property, IsAtStart, Environment, Schema, IsRowOf-length, Advances, Ahead, IsAhead, IsEvent, SameRanges, Stage, Takes, Step, Breaks, End, Holds, Met, AreAllMarked, AreMarked, is_marked, IsFirstOf, IsNumber, Meets, ranges_at}
 use Rattle.zf_lines.proofs.Searching as searching
-use Rattle.zf_lines.specs.{IsAtStart}
-use Rattle.zf_meaning.specs.{Environment}
-use Rattle.zf_term.specs.{Schema}
-use Rattle.zf_walk.proofs.Picks.{IsRowOf-length}
-use Rattle.zf_walk.specs.{Advances, Ahead, IsAhead, IsEvent, SameRanges, Stage, Takes}
-use Rattle.zf_walk.specs.declared.step.Step.{Step}
-use Rattle.zf_walk.specs.declared.step.Step.TheVariants.{Breaks, End, Holds}
 use Rattle.zf_parts.specs.declared.marks.Marks.{Marks}
-use Rattle.zf_parts.specs.declared.meeting.Met.{Met}
-use Rattle.zf_parts.specs.{AreAllMarked, AreMarked, is_marked, IsFirstOf, IsNumber, Meets, ranges_at}
 use Rattle.zf_parts.proofs.Numbering.{ascending_all, one_number}
 
 module _ (e : Environment) (a : Schema) (ranges : List (List Value)) (named : Option (List Value)) (places : List ℕ) (after : Option (List Value)) where

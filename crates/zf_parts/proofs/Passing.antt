@@ -1,21 +1,7 @@
 -- What the steps of a search say of the loop over parts that are first values.
-use Rattle.zf_parts.proofs.Prelude.{◌+◌, ◌<◌, ◌∙◌, ◌≡◌, [], ap, false, List, Option, refl, Some, subst, sym, true, ℕ, length, option_map, IsLater, value_order, Value, values_at}
-use Rattle.std.proofs.Common.{take}
-use Rattle.std.specs.Io.KnownBytes.{Appends}
-use Rattle.std.specs.Prelude.{IfSome, unwrap_or}
-use Rattle.zf_enum.specs.{conjuncts_of, Goal, property}
-use Rattle.zf_lines.proofs.Fewer.{ahead_count}
+use Rattle.zf_parts.proofs.Prelude.{◌+◌, ◌<◌, ◌∙◌, ◌≡◌, [], ap, false, List, Option, refl, Some, subst, sym, true, ℕ, length, option_map, IsLater, value_order, Value, values_at, take, Appends, IfSome, unwrap_or, conjuncts_of, Goal, property, ahead_count, Status, Done, PastBounds, AppendsFront, HasLimit, IsAtStart, Wording, Schema, Environment, Advances, past, SameRanges, Stage, Takes, Breaks, Holds, AreFirst, StopsParts, WritesParts}
 use Rattle.zf_lines.proofs.Searching as searching
-use Rattle.zf_lines.specs.declared.fault.Status.{Status}
-use Rattle.zf_lines.specs.declared.fault.Status.TheVariants.{Done, PastBounds}
-use Rattle.zf_lines.specs.{AppendsFront, HasLimit, IsAtStart, Wording}
-use Rattle.zf_term.specs.{Schema}
 use Rattle.zf_value.specs.contracts.plain.ValueOrd.TheImpl.Laws as order_laws
-use Rattle.zf_meaning.specs.{Environment}
-use Rattle.zf_walk.specs.{Advances, past, SameRanges, Stage, Takes}
-use Rattle.zf_walk.specs.declared.step.Step.TheVariants.{Breaks, Holds}
-use Rattle.zf_places.specs.{AreFirst}
-use Rattle.zf_parts.specs.{StopsParts, WritesParts}
 use Rattle.zf_parts.proofs.Keeping.{event_of}
 use Rattle.zf_parts.proofs.Fewer.{fewer_past}
 use Rattle.zf_parts.proofs.Fronting as fronting

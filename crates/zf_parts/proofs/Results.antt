@@ -1,6 +1,5 @@
 -- What a call ensures of its result, passed on.
-use Rattle.zf_parts.proofs.Prelude.{◌≡◌}
-use Rattle.std.proofs.Common.{Err, IfOk, Ok, OnErr, OnOk, Result}
+use Rattle.zf_parts.proofs.Prelude.{◌≡◌, Err, IfOk, Ok, OnErr, OnOk, Result}
 
 pub weaker_on_err : {T E : Type 0} (r : Result T E) {P Q : Type 0} → (P → Q) → OnErr r P → OnErr r Q
 weaker_on_err (Ok x) f h = tt

@@ -1,16 +1,8 @@
 -- Where the search for parts stands.
-use Rattle.zf_parts.proofs.Prelude.{◌++◌, ◌∙◌, ◌∷◌, ◌≡◌, [], ap, Bool, false, List, Option, refl, Some, subst, sym, true, ℕ, Event, value_order, Value}
-use Rattle.std.specs.Prelude.{unwrap_or}
-use Rattle.zf_enum.specs.{conjuncts_of, Goal, property}
+use Rattle.zf_parts.proofs.Prelude.{◌++◌, ◌∙◌, ◌∷◌, ◌≡◌, [], ap, Bool, false, List, Option, refl, Some, subst, sym, true, ℕ, Event, value_order, Value, unwrap_or, conjuncts_of, Goal, property, IsAtStart, Schema, Advances, SameRanges, Stage, Takes, Step, Breaks, End, Holds, AreCollected, KeepParts}
 use Rattle.zf_lines.proofs.Behind.{Behind, none_behind, one_behind, up_to_end}
 use Rattle.zf_lines.proofs.Searching as searching
-use Rattle.zf_lines.specs.{IsAtStart}
-use Rattle.zf_term.specs.{Schema}
 use Rattle.zf_value.specs.contracts.plain.ValueOrd.TheImpl.Laws as order_laws
-use Rattle.zf_walk.specs.{Advances, SameRanges, Stage, Takes}
-use Rattle.zf_walk.specs.declared.step.Step.{Step}
-use Rattle.zf_walk.specs.declared.step.Step.TheVariants.{Breaks, End, Holds}
-use Rattle.zf_parts.specs.{AreCollected, KeepParts}
 use Rattle.zf_parts.proofs.Growing.{no_parts}
 use Rattle.zf_parts.proofs.Keeping.{Adds, Entry, event_of}
 

@@ -1,10 +1,6 @@
 -- Fewer rows are ahead after a step that gives one which is out.
-use Rattle.zf_parts.proofs.Prelude.{◌<◌, subst, sym, Out, value_order, Value}
-use Rattle.zf_enum.specs.{conjuncts_of, Goal}
-use Rattle.zf_lines.proofs.Fewer.{ahead_count, one_fewer}
+use Rattle.zf_parts.proofs.Prelude.{◌<◌, subst, sym, Out, value_order, Value, conjuncts_of, Goal, ahead_count, one_fewer, Advances, SameRanges, Stage, Breaks}
 use Rattle.zf_value.specs.contracts.plain.ValueOrd.TheImpl.Laws as order_laws
-use Rattle.zf_walk.specs.{Advances, SameRanges, Stage}
-use Rattle.zf_walk.specs.declared.step.Step.TheVariants.{Breaks}
 
 pub goes_past : (g : Goal) (c d : Stage Value) → SameRanges c d → Advances value_order (conjuncts_of g) Breaks c d → ahead_count value_order d.ranges d.ahead < ahead_count value_order c.ranges c.ahead
 goes_past g c d next (row, last, t) =

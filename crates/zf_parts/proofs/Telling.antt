@@ -1,10 +1,5 @@
 -- The text and the status of parts, as they follow from one part after another.
-use Rattle.zf_parts.proofs.Prelude.{◌++◌, ◌+◌, ◌∙◌, ◌∷◌, ◌≡◌, ◌⊎◌, [], ap, append_assoc, arith, inl, inr, length, List, None, Option, refl, Some, subst, suc, sym, zero, ℕ, Contains, Contains-head, Contains-later, option_map, Truth, False, Out, True, Value, Part}
-use Rattle.std.proofs.lemmas.List.Elements.{All-cons, All-head, All-nil, All-tail}
-use Rattle.zf_lines.specs.declared.fault.Status.{Status}
-use Rattle.zf_lines.specs.declared.fault.Status.TheVariants.{Done, PastBounds}
-use Rattle.zf_lines.specs.{IsBelow, Wording}
-use Rattle.zf_parts.specs.{AllHold, ArePartsWritten, breaks, ends, OneTextOfParts, part_lines, pauses, SomeTextOfParts}
+use Rattle.zf_parts.proofs.Prelude.{◌++◌, ◌+◌, ◌∙◌, ◌∷◌, ◌≡◌, ◌⊎◌, [], ap, append_assoc, arith, inl, inr, length, List, None, Option, refl, Some, subst, suc, sym, zero, ℕ, Contains, Contains-head, Contains-later, option_map, Truth, False, Out, True, Value, Part, All-cons, All-head, All-nil, All-tail, Status, Done, PastBounds, IsBelow, Wording, AllHold, ArePartsWritten, breaks, ends, OneTextOfParts, part_lines, pauses, SomeTextOfParts}
 
 abbrev IsTrue : Part → Type 0
 IsTrue p = p.first.truth ≡ True

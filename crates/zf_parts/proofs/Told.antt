@@ -1,20 +1,12 @@
 -- The property of a schema has one truth on each row, so over any ranges there is the list of its events, and one of their parts.
-use Rattle.zf_parts.proofs.Prelude.{◌<◌, ◌∷◌, ◌≡◌, ◌⊎◌, [], arith, inl, inr, length, List, None, Option, refl, Some, subst, suc, zero, ℕ, False, Out, True, value_order, Value, Part}
-use Rattle.std.proofs.Common.{⊎_elim}
-use Rattle.std.specs.Prelude.{slice_get}
-use Rattle.zf_term.specs.{ResolvedTree, Schema}
-use Rattle.zf_value.proofs.Exact.{exact}
+use Rattle.zf_parts.proofs.Prelude.{◌<◌, ◌∷◌, ◌≡◌, ◌⊎◌, [], arith, inl, inr, length, List, None, Option, refl, Some, subst, suc, zero, ℕ, False, Out, True, value_order, Value, Part, ⊎_elim, slice_get, ResolvedTree, Schema, exact, IsEvents, Stage, Environment, in_row, IsTruth, HasTruth, one_truth_in, property, told, FindsParts}
 use Rattle.zf_value.specs.contracts.plain.ValueOrd.TheImpl.Laws.{total-law}
 use Rattle.zf_value.specs.declared.value.Truth.{Truth}
 use Rattle.zf_value.specs.declared.value.Truth.TheVariants as truth
-use Rattle.zf_walk.specs.{IsEvents, Stage}
 use Rattle.zf_walk.specs.declared.judge.Truth as walk
-use Rattle.zf_meaning.specs.{Environment, in_row, IsTruth}
-use Rattle.zf_enum.specs.{HasTruth, one_truth_in, property, told}
 use Rattle.law_total.proofs.Listed.{Decided, HasSome}
 use Rattle.law_total.proofs.Rows.{AreTold, same_truth, some_events}
 use Rattle.law_total.proofs.Terms.{some_truth}
-use Rattle.zf_parts.specs.{FindsParts}
 use Rattle.zf_parts.proofs.Growing.{some_list_of_parts}
 use Rattle.zf_parts.proofs.Telling.{AllAreTold, true_or_out}
 

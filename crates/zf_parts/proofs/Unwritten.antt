@@ -1,19 +1,5 @@
 -- The loop over the numbers of parts: those that are left have numbers from here on.
-use Rattle.zf_parts.proofs.Prelude.{◌++◌, ◌+◌, ◌<◌, ◌∙◌, ◌∷◌, ◌≡◌, [], ap, append_assoc, arith, inl, inr, List, None, Option, refl, Some, subst, sym, true, ℕ, Contains, AllPairs-head, AllPairs-tail, Contains-cases, Contains-either, Contains-head, Contains-nil, Contains-right, option_map, Event, ComesAfter, IsLater, True, value_order, Value, Part, values_at}
-use Rattle.std.proofs.Common.{◌≤◌}
-use Rattle.std.proofs.lemmas.Bool.{cases_eq, cases_lt, false≢true}
-use Rattle.std.specs.Io.KnownBytes.{Appends}
-use Rattle.zf_format.specs.declared.format.Format.{Format}
-use Rattle.zf_enum.specs.{property}
-use Rattle.zf_lines.specs.declared.fault.Status.{Status}
-use Rattle.zf_lines.specs.declared.fault.Status.TheVariants.{Done, PastBounds}
-use Rattle.zf_lines.specs.{AppendsFront, HasLimit, Wording}
-use Rattle.zf_meaning.specs.{Environment}
-use Rattle.zf_term.specs.{Comp, Schema}
-use Rattle.zf_print.specs.declared.spelling.Spelling.{Spelling}
-use Rattle.zf_walk.specs.{ended, IsAhead, IsEvent, Stage}
-use Rattle.zf_parts.specs.declared.meeting.Met.{Met}
-use Rattle.zf_parts.specs.{AreAllMarked, AreFree, end_status, end_text, FindsParts, is_marked, IsEndOf, IsFirstOf, IsNumber, part_wording, ranges_at, StopsParts, total, WritesParts}
+use Rattle.zf_parts.proofs.Prelude.{◌++◌, ◌+◌, ◌<◌, ◌∙◌, ◌∷◌, ◌≡◌, [], ap, append_assoc, arith, inl, inr, List, None, Option, refl, Some, subst, sym, true, ℕ, Contains, AllPairs-head, AllPairs-tail, Contains-cases, Contains-either, Contains-head, Contains-nil, Contains-right, option_map, Event, ComesAfter, IsLater, True, value_order, Value, Part, values_at, ◌≤◌, cases_eq, cases_lt, false≢true, Appends, Format, property, Status, Done, PastBounds, AppendsFront, HasLimit, Wording, Environment, Comp, Schema, Spelling, ended, IsAhead, IsEvent, Stage, Met, AreAllMarked, AreFree, end_status, end_text, FindsParts, is_marked, IsEndOf, IsFirstOf, IsNumber, part_wording, ranges_at, StopsParts, total, WritesParts}
 use Rattle.zf_parts.proofs.Numbering.{ascending_all, in_order, number_below, one_number, one_row, some_number}
 use Rattle.zf_parts.proofs.Orders.{never_both, never_itself}
 use Rattle.zf_parts.proofs.Putting.{Ascends, Follows}

@@ -1,10 +1,5 @@
 -- What is weighed of components, from the last one on, and what is numbered of their values.
-use Rattle.zf_parts.proofs.Prelude.{◌+◌, ◌<◌, ◌∙◌, ◌∷◌, ◌≡◌, [], ap, arith, length, List, subst, sym, ℕ, All, Value, values_at}
-use Rattle.std.proofs.Common.{◌*◌, ◌≤◌, drop, get_or}
-use Rattle.std.proofs.Math.Nat.{add_comm}
-use Rattle.std.proofs.lemmas.List.{drop_more}
-use Rattle.std.specs.Prelude.{slice_get, slice_index_or}
-use Rattle.zf_parts.specs.{AreWeights, IsNumber, ranges_at, total, weights}
+use Rattle.zf_parts.proofs.Prelude.{◌+◌, ◌<◌, ◌∙◌, ◌∷◌, ◌≡◌, [], ap, arith, length, List, subst, sym, ℕ, All, Value, values_at, ◌*◌, ◌≤◌, drop, get_or, add_comm, drop_more, slice_get, slice_index_or, AreWeights, IsNumber, ranges_at, total, weights}
 use Rattle.zf_parts.specs.declared.weights.Weights.{Weights}
 use Rattle.zf_parts.proofs.Numbering.{fewer_behind, number_below, one_more, weight_at}
 use Rattle.zf_parts.proofs.Told.{got}

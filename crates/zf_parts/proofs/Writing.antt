@@ -1,12 +1,5 @@
 -- The loop over what is kept of parts: what is written so far, and then what is reported of those ahead, is the whole.
-use Rattle.zf_parts.proofs.Prelude.{◌++◌, ◌+◌, ◌∙◌, ◌∷◌, ◌≡◌, ◌⊎◌, [], ap, append-nil, append_assoc, arith, inl, inr, List, None, Option, refl, Some, subst, suc, sym, zero, ℕ, Contains-cases, Contains-nil, option_map, Out, True, Value, Part}
-use Rattle.std.proofs.KnownBytes.{Appends-nil, Appends-trans}
-use Rattle.std.specs.Io.KnownBytes.{Appends}
-use Rattle.zf_lines.proofs.Fronts.{front_behind, front_longer}
-use Rattle.zf_lines.specs.declared.fault.Status.{Status}
-use Rattle.zf_lines.specs.declared.fault.Status.TheVariants.{Done, PastBounds}
-use Rattle.zf_lines.specs.{AppendsFront, HasLimit, Wording}
-use Rattle.zf_parts.specs.{AreKeptAs, ArePartsWritten, IsKeptAs, StopsKept, WritesKept}
+use Rattle.zf_parts.proofs.Prelude.{◌++◌, ◌+◌, ◌∙◌, ◌∷◌, ◌≡◌, ◌⊎◌, [], ap, append-nil, append_assoc, arith, inl, inr, List, None, Option, refl, Some, subst, suc, sym, zero, ℕ, Contains-cases, Contains-nil, option_map, Out, True, Value, Part, Appends-nil, Appends-trans, Appends, front_behind, front_longer, Status, Done, PastBounds, AppendsFront, HasLimit, Wording, AreKeptAs, ArePartsWritten, IsKeptAs, StopsKept, WritesKept}
 use Rattle.zf_parts.proofs.Keeping.{Entry}
 use Rattle.zf_parts.proofs.Telling.{AllAreTold, told, told_of, told_written}
 

@@ -1,13 +1,6 @@
 -- What is kept of parts. No public clause rests on this file.
 use Rattle.std.specs.Prelude.{◌≡◌, ℕ, List, [], ◌∷◌, Option, Some, None}
-use Rattle.std.specs.Io.KnownBytes.{Appends}
-use Rattle.zf_term.specs.{Schema}
-use Rattle.zf_value.specs.declared.plain.Value.{Value}
-use Rattle.zf_walk.specs.declared.judge.Truth.TheVariants.{True, Out}
-use Rattle.zf_walk.specs.{Event, Stage}
-use Rattle.zf_meaning.specs.{Environment}
-use Rattle.zf_lines.specs.declared.fault.Status.{Status}
-use Rattle.zf_lines.specs.{AppendsFront, Wording}
+use Rattle.zf_parts.specs.Prelude.{Appends, Schema, Value, True, Out, Event, Stage, Environment, Status, AppendsFront, Wording}
 use Rattle.zf_parts.specs.Parts.{AreParts, Part}
 use Rattle.zf_parts.specs.Shown.{FindsParts}
 use Rattle.zf_parts.specs.Written.{ArePartsWritten}

@@ -1,13 +1,7 @@
 -- What is claimed of parts alone.
 use Rattle.std.specs.Prelude.{◌≡◌, ◌↔◌, ℕ, List, Option, AllPairs, Contains}
-use Rattle.zf_value.specs.declared.plain.Value.{Value}
-use Rattle.zf_value.specs.{value_order}
-use Rattle.zf_walk.specs.declared.judge.Truth.TheVariants.{False}
-use Rattle.zf_walk.specs.{ComesAfter, Event, IsLater}
-use Rattle.zf_lines.specs.declared.fault.Status.{Status}
-use Rattle.zf_lines.specs.{Wording}
+use Rattle.zf_parts.specs.Prelude.{Value, value_order, False, ComesAfter, Event, IsLater, Status, Wording, values_at}
 use Rattle.zf_parts.specs.Parts.{AreParts, Part}
-use Rattle.zf_places.specs.{values_at}
 use Rattle.zf_parts.specs.Written.{ArePartsWritten}
 
 -- the events are in their order

@@ -1,19 +1,8 @@
 -- Parts as numbers: the places of a part's values in their ranges are its digits. No public clause rests on this file.
 use Rattle.std.specs.Prelude.{◌≡◌, ◌⊎◌, ℕ, zero, suc, ◌+◌, ◌-◌, ◌*◌, ◌/◌, ◌%◌, ◌<◌, ◌≤◌, Bool, cond, eqb, true, false, List, [], ◌∷◌, length, map, All, Option, Some, None, slice_get, slice_index_or}
+use Rattle.zf_parts.specs.Prelude.{Format, Status, Done, PastBounds, end_line, out_line, Comp, Schema, Spelling, Value, value_order, True, Out, Ahead, AreAscending, ComesAfter, ended, Event, IsAhead, IsEvent, IsLater, Stage, Takes, Environment, property, values_at}
 use Rattle.std.specs.Int.{bit_at}
-use Rattle.zf_format.specs.declared.format.Format.{Format}
-use Rattle.zf_lines.specs.declared.fault.Status.{Status}
-use Rattle.zf_lines.specs.declared.fault.Status.TheVariants.{Done, PastBounds}
-use Rattle.zf_lines.specs.{end_line, out_line}
-use Rattle.zf_term.specs.{Comp, Schema}
-use Rattle.zf_print.specs.declared.spelling.Spelling.{Spelling}
-use Rattle.zf_value.specs.declared.plain.Value.{Value}
-use Rattle.zf_value.specs.{value_order}
 use Rattle.zf_walk.specs.declared.judge.Truth.{Truth}
-use Rattle.zf_walk.specs.declared.judge.Truth.TheVariants.{True, Out}
-use Rattle.zf_walk.specs.{Ahead, AreAscending, ComesAfter, ended, Event, IsAhead, IsEvent, IsLater, Stage, Takes}
-use Rattle.zf_meaning.specs.{Environment}
-use Rattle.zf_enum.specs.{property}
 use Rattle.zf_parts.specs.declared.marks.Marks.{Marks}
 use Rattle.zf_parts.specs.declared.page.Sight.{Sight}
 use Rattle.zf_parts.specs.declared.page.Sight.TheVariants.{Free, Marked}
@@ -21,7 +10,6 @@ use Rattle.zf_parts.specs.declared.page.Page.{Page}
 use Rattle.zf_parts.specs.declared.meeting.Met.{Met}
 use Rattle.zf_parts.specs.declared.weights.Weights.{Weights}
 use Rattle.zf_parts.specs.declared.words.Words.{Words}
-use Rattle.zf_places.specs.{values_at}
 
 -- ---- numbers
 

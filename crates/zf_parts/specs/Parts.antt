@@ -1,13 +1,6 @@
 -- The parts of bindings: what values they have at some places.
 use Rattle.std.specs.Prelude.{◌≡◌, ◌⊎◌, ◌↔◌, ℕ, List, Option, None, AllPairs, Contains}
-use Rattle.zf_term.specs.{Schema}
-use Rattle.zf_value.specs.declared.plain.Value.{Value}
-use Rattle.zf_value.specs.{value_order}
-use Rattle.zf_walk.specs.{ComesAfter, Event, IsLater}
-use Rattle.zf_meaning.specs.{Environment}
-use Rattle.zf_enum.specs.{Portion}
-use Rattle.zf_lines.specs.{HasEvents}
-use Rattle.zf_places.specs.{values_at}
+use Rattle.zf_parts.specs.Prelude.{Schema, Value, value_order, ComesAfter, Event, IsLater, Environment, Portion, HasEvents, values_at}
 
 -- the values of a part, and an event whose row has them
 pub record Part : Type 0 where

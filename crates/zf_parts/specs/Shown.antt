@@ -1,12 +1,6 @@
 -- What is written of the parts of a search that stands at its beginning.
 use Rattle.std.specs.Prelude.{◌⊎◌, ℕ, List, [], Option, None}
-use Rattle.std.specs.Io.KnownBytes.{Appends}
-use Rattle.zf_term.specs.{Schema}
-use Rattle.zf_value.specs.declared.plain.Value.{Value}
-use Rattle.zf_walk.specs.{Event, Stage}
-use Rattle.zf_meaning.specs.{Environment}
-use Rattle.zf_lines.specs.declared.fault.Status.{Status}
-use Rattle.zf_lines.specs.{AppendsFront, FindsEvents, Wording}
+use Rattle.zf_parts.specs.Prelude.{Appends, Schema, Value, Event, Stage, Environment, Status, AppendsFront, FindsEvents, Wording}
 use Rattle.zf_parts.specs.Parts.{AreParts, Part}
 use Rattle.zf_parts.specs.Written.{ArePartsWritten}
 

@@ -1,14 +1,7 @@
 -- What is written of parts: their lines up to the last one that is written, and how it ends there.
 use Rattle.std.specs.Prelude.{◌≡◌, ℕ, List, [], ◌∷◌, ◌++◌, length, Option, Some, All}
+use Rattle.zf_parts.specs.Prelude.{Format, Comp, Value, True, Out, Spelling, Status, Done, PastBounds, IsBelow, row_wording, Wording}
 use Rattle.std.specs.List.{flat_map}
-use Rattle.zf_format.specs.declared.format.Format.{Format}
-use Rattle.zf_term.specs.{Comp}
-use Rattle.zf_value.specs.declared.plain.Value.{Value}
-use Rattle.zf_walk.specs.declared.judge.Truth.TheVariants.{True, Out}
-use Rattle.zf_print.specs.declared.spelling.Spelling.{Spelling}
-use Rattle.zf_lines.specs.declared.fault.Status.{Status}
-use Rattle.zf_lines.specs.declared.fault.Status.TheVariants.{Done, PastBounds}
-use Rattle.zf_lines.specs.{IsBelow, row_wording, Wording}
 use Rattle.zf_parts.specs.Parts.{Part}
 
 -- the first event of each is True

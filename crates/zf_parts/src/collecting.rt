@@ -1,13 +1,8 @@
 //! The parts that the bindings ahead of a search have.
 ghost use Rattle.std.specs.Prelude.{◌≡◌, ◌∷◌, ◌++◌, [], List, Contains, None, Some, cond, IfOk, OnOk, MatchBool};
-ghost use Rattle.std.specs.Option.{option_copied};
-ghost use Rattle.zf_lines.specs.{IsAtStart};
+ghost use Rattle.zf_parts.specs.Prelude.{option_copied, IsAtStart, schema_of, value_order, Out, True, ComesAfter, Event, IsLater};
 ghost use Rattle.zf_parts.specs.{AreCollected, Ascend, KeepParts};
-ghost use Rattle.zf_term.specs.{schema_of};
 ghost use Rattle.zf_value.specs.declared.plain.Value as value;
-ghost use Rattle.zf_value.specs.{value_order};
-ghost use Rattle.zf_walk.specs.declared.judge.Truth.TheVariants.{Out, True};
-ghost use Rattle.zf_walk.specs.{ComesAfter, Event, IsLater};
 
 use crate::asked::Parts;
 use std::alloc::{AllocError, Global};

@@ -1,14 +1,8 @@
 //! Parts that are the first values of bindings: each is written as soon as it is met, and the search passes over its other bindings.
 ghost use Rattle.std.specs.Prelude.{◌≡◌, ◌≤◌, ℕ, List, length, true, IfOk, OnErr, MatchBool};
-ghost use Rattle.std.specs.Io.KnownBytes.{Appends};
-ghost use Rattle.std.specs.Option.{option_copied};
-ghost use Rattle.zf_lines.specs.{device_of, failures_of, HasLimit, IsAtStart, read_failures, write_failures};
+ghost use Rattle.zf_parts.specs.Prelude.{Appends, option_copied, device_of, failures_of, HasLimit, IsAtStart, read_failures, write_failures, AreFirst, schema_of, value_order, IsLater};
 ghost use Rattle.zf_places.specs.Places as spec;
-ghost use Rattle.zf_places.specs.{AreFirst};
 ghost use Rattle.zf_parts.specs.{part_wording, StopsParts, WritesParts};
-ghost use Rattle.zf_term.specs.{schema_of};
-ghost use Rattle.zf_value.specs.{value_order};
-ghost use Rattle.zf_walk.specs.{IsLater};
 
 use crate::asked::Parts;
 use crate::collecting::is_later;

@@ -1,9 +1,6 @@
 //! The last line.
 ghost use Rattle.std.specs.Prelude.{◌≡◌, ◌++◌, cond, IfOk, OnOk, OnErr};
-ghost use Rattle.std.specs.Io.KnownBytes.{Appends};
-ghost use Rattle.zf_lines.specs.{AppendsFront, device_of, end_line, failures_of, more_line, out_line, read_failures, write_failures};
-ghost use Rattle.zf_lines.specs.declared.fault.Status.TheVariants.{Done, PastBounds};
-ghost use Rattle.zf_term.specs.{schema_of};
+ghost use Rattle.zf_parts.specs.Prelude.{Appends, AppendsFront, device_of, end_line, failures_of, more_line, out_line, read_failures, write_failures, Done, PastBounds, schema_of};
 
 use std::alloc::AllocError;
 use std::io::Write;

@@ -1,10 +1,7 @@
 //! The lines of parts that were met, by their numbers.
 ghost use Rattle.std.specs.Prelude.{◌≡◌, ℕ, List, IfOk, OnOk, OnErr};
-ghost use Rattle.std.specs.Io.KnownBytes.{Appends};
-ghost use Rattle.std.specs.Option.{option_copied};
-ghost use Rattle.zf_lines.specs.{AppendsFront, device_of, failures_of, HasLimit, read_failures, write_failures};
+ghost use Rattle.zf_parts.specs.Prelude.{Appends, option_copied, AppendsFront, device_of, failures_of, HasLimit, read_failures, write_failures, schema_of};
 ghost use Rattle.zf_parts.specs.{AreAllMarked, end_status, end_text, part_wording, StopsParts, WritesParts};
-ghost use Rattle.zf_term.specs.{schema_of};
 
 use crate::asked::Wanted;
 use crate::last::{write_last, write_out};

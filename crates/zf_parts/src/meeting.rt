@@ -1,12 +1,7 @@
 //! The parts that the bindings ahead of a search have, by their numbers.
 ghost use Rattle.std.specs.Prelude.{◌≡◌, ◌<◌, length, cond, All, IfOk, OnOk};
-ghost use Rattle.std.specs.Option.{option_copied};
-ghost use Rattle.zf_lines.specs.{IsAtStart};
+ghost use Rattle.zf_parts.specs.Prelude.{option_copied, IsAtStart, schema_of, value_order, Out, True, AreAscending, SameRanges};
 ghost use Rattle.zf_parts.specs.{AreAllMarked, AreWeights, Meets};
-ghost use Rattle.zf_term.specs.{schema_of};
-ghost use Rattle.zf_value.specs.{value_order};
-ghost use Rattle.zf_walk.specs.declared.judge.Truth.TheVariants.{Out, True};
-ghost use Rattle.zf_walk.specs.{AreAscending, SameRanges};
 
 use crate::asked::Parts;
 use crate::fronts::is_asked;

@@ -1,7 +1,7 @@
 //! A part as a row of values.
 ghost use Rattle.std.specs.Prelude.{◌≡◌, ◌+◌, ◌*◌, ◌<◌, ◌≤◌, length, All, IfOk, slice_get, slice_index_or};
+ghost use Rattle.zf_parts.specs.Prelude.{AreWithin, picked};
 ghost use Rattle.zf_parts.specs.{counted, IsNumber, ranges_at, total};
-ghost use Rattle.zf_walk.specs.{AreWithin, picked};
 
 use crate::weights::count_at;
 use std::alloc::{AllocError, Global};

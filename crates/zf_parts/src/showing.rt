@@ -1,10 +1,7 @@
 //! The lines of parts.
 ghost use Rattle.std.specs.Prelude.{◌≡◌, ℕ, List, IfOk, OnOk, OnErr};
-ghost use Rattle.std.specs.Io.KnownBytes.{Appends};
-ghost use Rattle.std.specs.Option.{option_copied};
-ghost use Rattle.zf_lines.specs.{AppendsFront, device_of, failures_of, HasLimit, IsAtStart, read_failures, row_line, write_failures};
+ghost use Rattle.zf_parts.specs.Prelude.{Appends, option_copied, AppendsFront, device_of, failures_of, HasLimit, IsAtStart, read_failures, row_line, write_failures, schema_of};
 ghost use Rattle.zf_parts.specs.{part_wording, StopsKept, StopsParts, WritesKept, WritesParts};
-ghost use Rattle.zf_term.specs.{schema_of};
 
 use crate::asked::{Parts, Wanted};
 use crate::collecting::{Collected, collect};

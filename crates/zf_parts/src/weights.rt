@@ -1,7 +1,7 @@
 //! Numbers of parts: the places of their values in the ranges of the components are digits. So numbers ascend as parts do.
 ghost use Rattle.std.specs.Prelude.{◌≡◌, ◌<◌, length, [], All, IfOk, IfSome, slice_index_or};
+ghost use Rattle.zf_parts.specs.Prelude.{values_at};
 ghost use Rattle.zf_parts.specs.{AreWeights, IsNumber, ranges_at};
-ghost use Rattle.zf_places.specs.{values_at};
 
 use std::alloc::{AllocError, Global};
 use zf_enum::Located;

@@ -1,6 +1,5 @@
 -- What is to be found by conjuncts that say the same is the same.
-use Rattle.zf_plan.proofs.Prelude.{◌<◌, ◌↔◌, inl, inr, List, Option, refl, subst, sym, ℕ, ⊎_elim, Ordering, Conjuncts, IsTruthOf, Event, IsEvent, Advances, Ahead, AreAllAhead, IsNoneAhead, SameAhead, Stage, Takes, Truth, False, Out, True, Step, Breaks, End, Holds}
-use Rattle.zf_plan.specs.{SayTheSame}
+use Rattle.zf_plan.proofs.Prelude.{◌<◌, ◌↔◌, inl, inr, List, Option, refl, subst, sym, ℕ, ⊎_elim, Ordering, Conjuncts, IsTruthOf, Event, IsEvent, Advances, Ahead, AreAllAhead, IsNoneAhead, SameAhead, Stage, Takes, Truth, False, Out, True, Step, Breaks, End, Holds, SayTheSame}
 
 pub itself : {V : Type 0} → (s : Conjuncts V) → SayTheSame s s
 itself s = record { number = refl; says = λ c l row t. ((λ h. h), (λ h. h)) }

@@ -1,12 +1,6 @@
 -- On what it is to be blamed that no event begins with the values of a range.
-use Rattle.zf_plan.proofs.Prelude.{◌++◌, ◌+◌, ◌-◌, ◌<◌, ◌∙◌, ◌∷◌, ◌≡◌, ◌≤◌, ◌⊎◌, [], ap, append_assoc, arith, Bool, Conjuncts, drop, drop_more, false, False, get_or, get_or-append_seam, get_or-take, get_or_append_left, get_or_from_slice_get, HaveLeavesWithin, inl, inr, IsChosen, IsNth, IsRowOf, IsRowOf-length, leaf, length, length-append, length-picked, List, max, nth, Option, picked, picked-push, refl, slice_get-nth, slice_get_within, subst, suc, sym, take, Tree, tree_at, true, zero, ℕ, cases_eq, cases_lt, AreDueWithin, AreWithin, AreWithin-push, IsNextChoice}
-use Rattle.std.specs.Prelude.{bit_or}
+use Rattle.zf_plan.proofs.Prelude.{◌++◌, ◌+◌, ◌-◌, ◌<◌, ◌∙◌, ◌∷◌, ◌≡◌, ◌≤◌, ◌⊎◌, [], ap, append_assoc, arith, Bool, Conjuncts, drop, drop_more, false, False, get_or, get_or-append_seam, get_or-take, get_or_append_left, get_or_from_slice_get, HaveLeavesWithin, inl, inr, IsChosen, IsNth, IsRowOf, IsRowOf-length, leaf, length, length-append, length-picked, List, max, nth, Option, picked, picked-push, refl, slice_get-nth, slice_get_within, subst, suc, sym, take, Tree, tree_at, true, zero, ℕ, cases_eq, cases_lt, AreDueWithin, AreWithin, AreWithin-push, IsNextChoice, bit_or, take-append-le, bit_at-lt, bit_at_or, FollowUsed, HasBit, AreAlike, Covers, HasBits, IsBlamed, IsFailed, IsRefuted, StaysChoice, touches, Mark}
 use Rattle.std.specs.Int.{bit_at}
-use Rattle.std.proofs.lemmas.List.{take-append-le}
-use Rattle.std.proofs.lemmas.Nat.Bits.{bit_at-lt, bit_at_or}
-use Rattle.zf_walk.specs.{FollowUsed, HasBit}
-use Rattle.zf_plan.specs.{AreAlike, Covers, HasBits, IsBlamed, IsFailed, IsRefuted, StaysChoice, touches}
-use Rattle.zf_plan.specs.declared.marks.Mark.{Mark}
 use Rattle.zf_plan.proofs.Marking.{each-leaf, same-get, tree-follows}
 use Rattle.zf_plan.proofs.Moving.{tail-row}
 

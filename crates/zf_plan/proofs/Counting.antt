@@ -1,15 +1,8 @@
 -- How many tests there were, where each conjunct is a leaf and nothing is left out.
-use Rattle.zf_plan.proofs.Prelude.{suc, zero, due_of, IsSoFar, IsTreeTruth, ◌++◌, ◌+◌, ◌<◌, ◌∙◌, ◌∷◌, ◌≡◌, ◌≤◌, ◌⊎◌, [], ap, arith, Bool, false, get_or, inl, inr, length, length-append, List, None, Option, refl, set, Some, subst, sym, take, true, ℕ, cases_eq, cases_lt, false≢true, append-nil, IsTotalOrder, ◌≢◌, AllPairs, Contains, Ordering, Less, IsNth, nth, IsFrontOf-picked, IsRowOf-length, length-picked, nth-at, picked-push, Conjuncts, HaveOneTruth, KeepTruths, AreWithin, picked, first_of, is_reached, reaches, under, IsRowOf, Truth, False, Out, True, TiesAreEqual, length-take-le, take_more_set, bound, IsAt, Lands, LandsNext, Place, IsNextChoice, path, Equal, Greater, get_or_default, Tree, tree_at, leaf, AreAscending, cond, eqb, Step, Holds, Breaks, End, Gives, ahead_of, IsSound, get_or-set_other, get_or-set_same, picked-nil}
+use Rattle.zf_plan.proofs.Prelude.{suc, zero, due_of, IsSoFar, IsTreeTruth, ◌++◌, ◌+◌, ◌<◌, ◌∙◌, ◌∷◌, ◌≡◌, ◌≤◌, ◌⊎◌, [], ap, arith, Bool, false, get_or, inl, inr, length, length-append, List, None, Option, refl, set, Some, subst, sym, take, true, ℕ, cases_eq, cases_lt, false≢true, append-nil, IsTotalOrder, ◌≢◌, AllPairs, Contains, Ordering, Less, IsNth, nth, IsFrontOf-picked, IsRowOf-length, length-picked, nth-at, picked-push, Conjuncts, HaveOneTruth, KeepTruths, AreWithin, picked, first_of, is_reached, reaches, under, IsRowOf, Truth, False, Out, True, TiesAreEqual, length-take-le, take_more_set, bound, IsAt, Lands, LandsNext, Place, IsNextChoice, path, Equal, Greater, get_or_default, Tree, tree_at, leaf, AreAscending, cond, eqb, Step, Holds, Breaks, End, Gives, ahead_of, IsSound, get_or-set_other, get_or-set_same, picked-nil, cases_Bool, cases_order, eqb-true, cut, HasLength, IsAhead, IsBound, IsCount, IsDueTest, IsNumberOfTests, IsUpTo, IsWalked, past, unseen, under-at, under-push, under-differs, reaches-under, IsFrontOf-length, IsReached-from, is_reached-from, unreached, IsUpTo-from, IsUpTo-to, IsAhead-to, Counts, Plan}
 use Rattle.std.proofs.lemmas.Cmp.{alike_right}
-use Rattle.std.proofs.lemmas.Bool.{cases_Bool, cases_order, eqb-true}
-use Rattle.zf_walk.specs.{cut, HasLength, IsAhead, IsBound, IsCount, IsDueTest, IsNumberOfTests, IsUpTo, IsWalked, past, unseen}
 use Rattle.zf_walk.proofs.Counting.{cut-le, number-same, number-more, number-none, number-le}
-use Rattle.zf_walk.proofs.Order.{under-at, under-push, under-differs, reaches-under}
-use Rattle.zf_walk.proofs.Picks.{IsFrontOf-length}
-use Rattle.zf_walk.proofs.Reaching.{IsReached-from, is_reached-from, unreached, IsUpTo-from, IsUpTo-to, IsAhead-to}
 use Rattle.zf_plan.specs.{all_of, AreDue, AreNotFalse, below_it, CountsFound, IsCounted, IsFlat, IsTested, NeedsBelow, none_of, seen_at, Tests}
-use Rattle.zf_plan.specs.Counts.{Counts}
-use Rattle.zf_plan.specs.declared.plan.Plan.{Plan}
 use Rattle.zf_plan.proofs.SoFar.{so-kept}
 use Rattle.zf_plan.proofs.Testing.{not-false}
 use Rattle.zf_plan.proofs.Moving.{same-under, IsFrontier, frontier-past, frontier-at, frontier-last, within-front, length-front, length-bound, last-value}

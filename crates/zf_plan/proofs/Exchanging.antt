@@ -1,6 +1,5 @@
 -- Ranges that are exchanged one after another.
-use Rattle.std.proofs.Common.{◌≡◌, ◌<◌, ◌+◌, ℕ, zero, suc, List, [], ◌∷◌, ◌++◌, length, take, drop, slice_set, Option, None, Some, ap, refl, subst, arith}
-use Rattle.zf_plan.specs.{exchanged}
+use Rattle.zf_plan.proofs.Prelude.{◌≡◌, ◌<◌, ◌+◌, ℕ, zero, suc, List, [], ◌∷◌, ◌++◌, length, take, drop, slice_set, Option, None, Some, ap, refl, subst, arith, exchanged}
 
 stays : {V : Type 0} (ranges : List (List V)) (others : List (Option (List V))) (place : ℕ) → place < length ranges
     → take place ranges ++ exchanged (drop place ranges) (None ∷ others) ≡ take (suc place) ranges ++ exchanged (drop (suc place) ranges) others

@@ -1,6 +1,5 @@
 -- What is known of leaves of which some are forgotten.
-use Rattle.zf_plan.proofs.Prelude.{◌<◌, ◌∙◌, ◌≡◌, get_or, length, List, None, Option, sym, ℕ, ◌≢◌, Conjuncts, Truth}
-use Rattle.zf_plan.specs.{AreDues, Forgets, Memory}
+use Rattle.zf_plan.proofs.Prelude.{◌<◌, ◌∙◌, ◌≡◌, get_or, length, List, None, Option, sym, ℕ, ◌≢◌, Conjuncts, Truth, AreDues, Forgets, Memory}
 
 -- nothing is known of the leaves that need k values, and all that was of the others
 pub record AreForgotten {V : Type 0} (l : Conjuncts V) (k : ℕ) (old new : List (Option Truth)) : Type 0 where

@@ -1,11 +1,5 @@
 -- Where a range is exhausted: back to the last value that its values are to be blamed on.
-use Rattle.zf_plan.proofs.Prelude.{◌++◌, ◌+◌, ◌<◌, ◌∙◌, ◌∷◌, ◌≡◌, ◌≤◌, ◌⊎◌, [], ap, arith, cond, drop, false, false≢true, get_or, get_or-take, inl, inr, length, length-take-le, List, None, Option, refl, subst, suc, sym, take, take-append-drop, take-take, true, zero, ℕ, cases_eq, above, below, AreWithin, bound, Bool, Conjuncts, Event, first_of, IsAt, IsEvent, IsHopeless, IsRowOf, KeepsEvents, Ordering, path, picked, Place, planted, reaches, reaches-under, Remembers, Stands, steps_left, Tree, under}
-use Rattle.std.specs.Prelude.{bit_or}
-use Rattle.zf_walk.specs.{FollowUsed, HasBit}
-use Rattle.zf_plan.specs.{Accuses, IsBlamed, IsCounted, IsKept, IsRefuted, Jumps, mark_at, Memory, Passes, PassesOpen}
-use Rattle.zf_plan.specs.declared.marks.Mark.{Mark}
-use Rattle.zf_plan.specs.declared.marks.Marks.{Marks}
-use Rattle.zf_plan.specs.declared.plan.Plan.{Plan}
+use Rattle.zf_plan.proofs.Prelude.{◌++◌, ◌+◌, ◌<◌, ◌∙◌, ◌∷◌, ◌≡◌, ◌≤◌, ◌⊎◌, [], ap, arith, cond, drop, false, false≢true, get_or, get_or-take, inl, inr, length, length-take-le, List, None, Option, refl, subst, suc, sym, take, take-append-drop, take-take, true, zero, ℕ, cases_eq, above, below, AreWithin, bound, Bool, Conjuncts, Event, first_of, IsAt, IsEvent, IsHopeless, IsRowOf, KeepsEvents, Ordering, path, picked, Place, planted, reaches, reaches-under, Remembers, Stands, steps_left, Tree, under, bit_or, FollowUsed, HasBit, Accuses, IsBlamed, IsCounted, IsKept, IsRefuted, Jumps, mark_at, Memory, Passes, PassesOpen, Mark, Marks, Plan}
 use Rattle.zf_plan.proofs.Blaming.{AreBarren, blamed-as, blamed-more, blamed-open, refuted-barren, spent-barren}
 use Rattle.zf_plan.proofs.Knowing.{picked-take}
 use Rattle.zf_plan.proofs.Moving.{length-bound, same-under, within-front}

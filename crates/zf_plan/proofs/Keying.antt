@@ -1,6 +1,5 @@
 -- The places that have the key which is wanted.
-use Rattle.zf_plan.proofs.Prelude.{◌++◌, ◌+◌, ◌<◌, ◌≡◌, ◌∙◌, ◌∷◌, [], arith, Contains, Conjuncts, get_or, length, length-append, List, slice_get-get_or, slice_get_within, None, ℕ, get_or-append_seam, get_or_append_left}
-use Rattle.zf_plan.specs.{AreKeys, IsKeyOf, StaysIn}
+use Rattle.zf_plan.proofs.Prelude.{◌++◌, ◌+◌, ◌<◌, ◌≡◌, ◌∙◌, ◌∷◌, [], arith, Contains, Conjuncts, get_or, length, length-append, List, slice_get-get_or, slice_get_within, None, ℕ, get_or-append_seam, get_or_append_left, AreKeys, IsKeyOf, StaysIn}
 use Rattle.zf_plan.specs.Choices.{Leaves}
 
 -- ---- one place more

@@ -1,7 +1,5 @@
 -- A search that leaves values: it stands, past the row of the first ones.
-use Rattle.zf_plan.proofs.Prelude.{◌∙◌, ◌≡◌, ◌≤◌, ◌⊎◌, ap, arith, cond, false, true, inl, inr, List, None, Option, refl, Some, subst, sym, take, ℕ, take-take, take_all, ahead_of, Bool, bound, Conjuncts, IfSome, path, picked, Place, Stands, Tree}
-use Rattle.zf_walk.specs.{past}
-use Rattle.zf_plan.specs.{Memory}
+use Rattle.zf_plan.proofs.Prelude.{◌∙◌, ◌≡◌, ◌≤◌, ◌⊎◌, ap, arith, cond, false, true, inl, inr, List, None, Option, refl, Some, subst, sym, take, ℕ, take-take, take_all, ahead_of, Bool, bound, Conjuncts, IfSome, path, picked, Place, Stands, Tree, past, Memory}
 use Rattle.zf_plan.specs.Places.{Leaves}
 use Rattle.zf_plan.proofs.Jumping.{lowered, lowered-open, notes-same}
 use Rattle.zf_plan.proofs.Knowing.{picked-take}

@@ -1,10 +1,5 @@
 -- A leaf is looked at: what is known of it, and what is once it was asked for.
-use Rattle.zf_plan.proofs.Prelude.{◌+◌, ◌<◌, Bool, ◌∙◌, ◌≡◌, ◌≤◌, ap, arith, get_or, get_or-replicate, get_or_default, inl, inr, length, length-replicate, List, map, None, Option, refl, replicate, set, slice_get, slice_get-get_or, slice_get_within, Some, subst, sym, take, ℕ, cases_eq, get_or-set_other, get_or-set_same, length-map, length-set, Conjuncts, KeepTruths, AreDueWithin, AreWithin, picked, IsKnown, leaf, Remembers, Tells, True, Truth}
-use Rattle.std.proofs.lemmas.List.{ext_get_or}
-use Rattle.zf_walk.specs.{AreTrue}
-use Rattle.zf_walk.specs.declared.table.Table.{Table}
-use Rattle.zf_plan.specs.declared.memo.Stamped.{Stamped}
-use Rattle.zf_plan.specs.{AreDues, AreStamped, AreUnknown, IsNew, known_by, Memory, memory_of}
+use Rattle.zf_plan.proofs.Prelude.{◌+◌, ◌<◌, Bool, ◌∙◌, ◌≡◌, ◌≤◌, ap, arith, get_or, get_or-replicate, get_or_default, inl, inr, length, length-replicate, List, map, None, Option, refl, replicate, set, slice_get, slice_get-get_or, slice_get_within, Some, subst, sym, take, ℕ, cases_eq, get_or-set_other, get_or-set_same, length-map, length-set, Conjuncts, KeepTruths, AreDueWithin, AreWithin, picked, IsKnown, leaf, Remembers, Tells, True, Truth, ext_get_or, AreTrue, Table, Stamped, AreDues, AreStamped, AreUnknown, IsNew, known_by, Memory, memory_of}
 use Rattle.zf_plan.proofs.Knowing.{known-later, known-told, settled-leaf}
 use Rattle.zf_plan.proofs.Stamping.{asked-dues, asked-stamped, asked-truths, due-at, known-at, known-not, known-now, stamped-at}
 

@@ -1,13 +1,5 @@
 -- What was chosen stays a choice where the values of which it was made stay.
-use Rattle.zf_plan.proofs.Prelude.{◌++◌, ◌+◌, ◌<◌, ◌∙◌, ◌∷◌, ◌≡◌, ◌≤◌, ◌⊎◌, [], ap, arith, Bool, eqb, false, get_or, inl, inr, length, List, None, Option, refl, set, Some, subst, suc, sym, take, true, zero, ℕ, cases_eq, cases_lt, false≢true, get_or-set_other, get_or-set_same, get_or-take, ◌≢◌, slice_get, IsRowOf-length, length-picked, picked-cons, AreDueWithin, AreWithin, AreWithin-tail, bound, both, Conjuncts, either, False, HasLeavesWithin, IsAt, IsRowOf, IsTreeTruth, Lands, LandsNext, leaf, Narrows, negated, opposite, picked, Place, Tree, tree_at, Truth}
-use Rattle.std.proofs.lemmas.Bool.{eqb-true}
-use Rattle.std.specs.Vec.{with_item}
-use Rattle.zf_walk.proofs.Picks.{slice_get-picked}
-use Rattle.zf_walk.specs.{cut, FollowUsed}
-use Rattle.zf_plan.specs.{AreKept, AreNew, EachLeaf, is_still, IsKept, mark_at, StaysChoice, unmarked, UsesFirst}
-use Rattle.zf_plan.specs.declared.marks.Mark.{Mark}
-use Rattle.zf_plan.specs.declared.marks.Marks.{Marks}
-use Rattle.zf_walk.specs.declared.seen.Seen.{Seen}
+use Rattle.zf_plan.proofs.Prelude.{◌++◌, ◌+◌, ◌<◌, ◌∙◌, ◌∷◌, ◌≡◌, ◌≤◌, ◌⊎◌, [], ap, arith, Bool, eqb, false, get_or, inl, inr, length, List, None, Option, refl, set, Some, subst, suc, sym, take, true, zero, ℕ, cases_eq, cases_lt, false≢true, get_or-set_other, get_or-set_same, get_or-take, ◌≢◌, slice_get, IsRowOf-length, length-picked, picked-cons, AreDueWithin, AreWithin, AreWithin-tail, bound, both, Conjuncts, either, False, HasLeavesWithin, IsAt, IsRowOf, IsTreeTruth, Lands, LandsNext, leaf, Narrows, negated, opposite, picked, Place, Tree, tree_at, Truth, eqb-true, with_item, slice_get-picked, cut, FollowUsed, AreKept, AreNew, EachLeaf, is_still, IsKept, mark_at, StaysChoice, unmarked, UsesFirst, Mark, Marks, Seen}
 use Rattle.zf_plan.proofs.Moving.{length-bound}
 use Rattle.zf_plan.proofs.TreeTruths.{both-kept, either-kept}
 

@@ -1,10 +1,7 @@
 -- The moves of a search: the same events are ahead, and fewer steps.
-use Rattle.zf_plan.proofs.Prelude.{◌*◌, ◌++◌, ◌+◌, ◌-◌, ◌<◌, ◌∙◌, ◌∷◌, ◌≡◌, ◌≤◌, [], ap, arith, Bool, cond, drop, false, get_or, inl, inr, length, List, None, Option, refl, set, Some, subst, suc, sym, take, true, ℕ, cases_eq, cases_lt, drop_more, get_or-take, length-set, length-take-le, take-set-le, take-take, take_more, take_more_set, IsTotalOrder, AllPairs, Ordering, Equal, Greater, Less, greater-at, IsNth, less-at, nth, reaches-push, reaches-under, tied-at, AreWithin-push, AreWithin-take, length-picked, nth-at, picked-push, Conjuncts, Event, IsEvent, AreWithin, picked, above, below, first_of, reaches, under, AreAscending, IsRowOf, TiesAreEqual, Truth, Tells, bound, IsAt, KeepsEvents, Lands, path, steps_left, Place}
+use Rattle.zf_plan.proofs.Prelude.{◌*◌, ◌++◌, ◌+◌, ◌-◌, ◌<◌, ◌∙◌, ◌∷◌, ◌≡◌, ◌≤◌, [], ap, arith, Bool, cond, drop, false, get_or, inl, inr, length, List, None, Option, refl, set, Some, subst, suc, sym, take, true, ℕ, cases_eq, cases_lt, drop_more, get_or-take, length-set, length-take-le, take-set-le, take-take, take_more, take_more_set, IsTotalOrder, AllPairs, Ordering, Equal, Greater, Less, greater-at, IsNth, less-at, nth, reaches-push, reaches-under, tied-at, AreWithin-push, AreWithin-take, length-picked, nth-at, picked-push, Conjuncts, Event, IsEvent, AreWithin, picked, above, below, first_of, reaches, under, AreAscending, IsRowOf, TiesAreEqual, Truth, Tells, bound, IsAt, KeepsEvents, Lands, path, steps_left, Place, cut, Renews, Marks}
 use Rattle.std.proofs.Math.Nat.{mul-le-mul_right}
 use Rattle.zf_plan.proofs.Forgetting.{AreForgotten}
-use Rattle.zf_walk.specs.{cut}
-use Rattle.zf_plan.specs.{Renews}
-use Rattle.zf_plan.specs.declared.marks.Marks.{Marks}
 
 -- what the row has after a road is a row of the ranges after it
 pub tail-row : {V : Type 0} (road tail : List V) (ranges : List (List V)) → IsRowOf ranges (road ++ tail) → IsRowOf (drop (length road) ranges) tail

@@ -1,6 +1,5 @@
 -- What trees leave to the next component, and the next value that is tried.
-use Rattle.zf_plan.proofs.Prelude.{◌<◌, ◌∙◌, ◌∷◌, ◌≡◌, ◌≤◌, arith, get_or, length, List, subst, sym, ℕ, get_or_default, Contains, Conjuncts, False, Narrows, IsSettled, either, Tree}
-use Rattle.zf_plan.specs.{StaysIn}
+use Rattle.zf_plan.proofs.Prelude.{◌<◌, ◌∙◌, ◌∷◌, ◌≡◌, ◌≤◌, arith, get_or, length, List, subst, sym, ℕ, get_or_default, Contains, Conjuncts, False, Narrows, IsSettled, either, Tree, StaysIn}
 
 module _ {V : Type 0} (l : Conjuncts V) (ranges : List (List V)) (row range : List V) where
   -- sides

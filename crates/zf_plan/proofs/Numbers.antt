@@ -1,10 +1,7 @@
 -- Lists of conjuncts.
-use Rattle.zf_plan.proofs.Prelude.{Bool, max, ◌≤◌, ◌++◌, ◌+◌, ◌<◌, ◌∙◌, ◌∷◌, ◌≡◌, [], ap, arith, false, get_or, inl, inr, length, length-append, List, refl, subst, suc, sym, true, zero, ℕ, get_or-append_seam, cases_lt, false≢true, get_or_append_left, get_or_default, AllPairs, Contains, Conjuncts, AreBelow, leaf, Tree, tree_at}
-use Rattle.zf_walk.proofs.Lists.{Contains-cases, Contains-either, Contains-head, Contains-left, Contains-nil, Contains-right}
-use Rattle.zf_plan.specs.{AreChoosers, AreDue, AreLasts, AreTouched, IsLeafDue, touches_inside, UsesFirst}
+use Rattle.zf_plan.proofs.Prelude.{Bool, max, ◌≤◌, ◌++◌, ◌+◌, ◌<◌, ◌∙◌, ◌∷◌, ◌≡◌, [], ap, arith, false, get_or, inl, inr, length, length-append, List, refl, subst, suc, sym, true, zero, ℕ, get_or-append_seam, cases_lt, false≢true, get_or_append_left, get_or_default, AllPairs, Contains, Conjuncts, AreBelow, leaf, Tree, tree_at, Contains-cases, Contains-either, Contains-head, Contains-left, Contains-nil, Contains-right, AreChoosers, AreDue, AreLasts, AreTouched, IsLeafDue, touches_inside, UsesFirst, Layer}
 use Rattle.zf_plan.proofs.Marking.{uses-more}
 use Rattle.zf_plan.specs.declared.plan.Choosers.{Choosers}
-use Rattle.zf_plan.specs.declared.plan.Layer.{Layer}
 
 -- the last one of a conjunct, and of the first i
 abbrev IsLast : (ℕ → ℕ → Bool) → List Tree → ℕ → List ℕ → ℕ → ℕ → Type 0

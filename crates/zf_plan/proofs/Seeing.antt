@@ -1,9 +1,5 @@
 -- What is known of leaves with each value of the next range.
-use Rattle.zf_plan.proofs.Prelude.{◌++◌, ◌+◌, ◌<◌, ◌≤◌, ◌∙◌, ◌∷◌, ◌≡◌, ◌⊎◌, [], ap, arith, get_or, inl, inr, length, List, refl, replicate, set, subst, suc, sym, take, zero, ℕ, cases_eq, get_or-set_other, get_or-set_same, get_or_default, length-take-le, AreWithin, bound, HasLeavesWithin, HaveLeavesWithin, IsAt, leaf, path, Conjuncts, picked, Place, Tree, Truth, False, Out, True}
-use Rattle.std.specs.Prelude.{slice_index}
-use Rattle.zf_walk.specs.{IsSeen, unseen}
-use Rattle.zf_walk.specs.declared.seen.Seen.{Seen}
-use Rattle.zf_plan.specs.{AreDue, AreLeaves, AreSeen, AreSeenOf, IsTold, seen_at}
+use Rattle.zf_plan.proofs.Prelude.{◌++◌, ◌+◌, ◌<◌, ◌≤◌, ◌∙◌, ◌∷◌, ◌≡◌, ◌⊎◌, [], ap, arith, get_or, inl, inr, length, List, refl, replicate, set, subst, suc, sym, take, zero, ℕ, cases_eq, get_or-set_other, get_or-set_same, get_or_default, length-take-le, AreWithin, bound, HasLeavesWithin, HaveLeavesWithin, IsAt, leaf, path, Conjuncts, picked, Place, Tree, Truth, False, Out, True, slice_index, IsSeen, unseen, Seen, AreDue, AreLeaves, AreSeen, AreSeenOf, IsTold, seen_at}
 use Rattle.zf_plan.proofs.Moving.{last-value}
 
 module _ {V : Type 0} (l : Conjuncts V) (ranges : List (List V)) (places leaves : List ℕ) where

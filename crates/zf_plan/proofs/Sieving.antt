@@ -1,10 +1,5 @@
 -- What conjuncts leave of a range is a choice wherever the values that they use are the same.
-use Rattle.zf_plan.proofs.Prelude.{◌++◌, ◌+◌, ◌<◌, ◌∙◌, ◌∷◌, ◌≡◌, ◌≤◌, ◌⊎◌, [], ap, append_assoc, arith, Bool, cond, false, false≢true, get_or, inl, inr, length, length-append, List, None, refl, Some, subst, suc, sym, true, zero, ℕ, Contains, slice_get, slice_get-get_or, slice_get_within, get_or_default, Option, AreWithin-push, picked-push, nth-at, slice_get-nth, AreBelow, AreDueWithin, AreWithin, Conjuncts, HaveLeavesWithin, leaf, picked, Remembers, Tree, tree_at, False, IsTreeTruth}
-use Rattle.std.proofs.Common.{not}
-use Rattle.std.proofs.lemmas.List.{take-append-le}
-use Rattle.zf_walk.proofs.Lists.{Contains-cases, Contains-head, Contains-later, Contains-nil}
-use Rattle.zf_walk.specs.{AreTrue, FollowUsed}
-use Rattle.zf_plan.specs.{AreDues, AreLasts, AreSifted, Forgets, IsGreatest, IsOneFalse, KeepsChosen, Memory, passing, StaysChoice}
+use Rattle.zf_plan.proofs.Prelude.{◌++◌, ◌+◌, ◌<◌, ◌∙◌, ◌∷◌, ◌≡◌, ◌≤◌, ◌⊎◌, [], ap, append_assoc, arith, Bool, cond, false, false≢true, get_or, inl, inr, length, length-append, List, None, refl, Some, subst, suc, sym, true, zero, ℕ, Contains, slice_get, slice_get-get_or, slice_get_within, get_or_default, Option, AreWithin-push, picked-push, nth-at, slice_get-nth, AreBelow, AreDueWithin, AreWithin, Conjuncts, HaveLeavesWithin, leaf, picked, Remembers, Tree, tree_at, False, IsTreeTruth, not, take-append-le, Contains-cases, Contains-head, Contains-later, Contains-nil, AreTrue, FollowUsed, AreDues, AreLasts, AreSifted, Forgets, IsGreatest, IsOneFalse, KeepsChosen, Memory, passing, StaysChoice}
 use Rattle.zf_plan.proofs.Forgetting.{are-forgotten}
 use Rattle.zf_plan.proofs.Marking.{stays-false, uses-more}
 use Rattle.zf_plan.proofs.Moving.{tells-landed}

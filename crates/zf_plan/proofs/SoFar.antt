@@ -1,7 +1,5 @@
 -- The truth of the conjuncts of which something holds, on every row that begins with a given one.
-use Rattle.zf_plan.proofs.Prelude.{◌++◌, ◌+◌, ◌<◌, ◌∙◌, ◌≡◌, ◌≤◌, ◌⊎◌, ap, append_assoc, arith, false, get_or, inl, inr, length, length-picked, List, None, Option, refl, Some, subst, sym, true, ℕ, cases_eq, cases_lt, get_or_default, take_all, ◌≢◌, Conjuncts, IsTruthOf, KeepTruths, AreWithin, picked, Truth, False, Out, True, conjoined, IsKnown, IsSettled, HasLeavesWithin, HaveLeavesWithin, IsTreeTruth, both, due_of, either, leaf, negated, planted, Tree, tree_at}
-use Rattle.std.proofs.Common.{Bool, ◌||◌, max}
-use Rattle.std.proofs.lemmas.Bool.{eq-eqb}
+use Rattle.zf_plan.proofs.Prelude.{◌++◌, ◌+◌, ◌<◌, ◌∙◌, ◌≡◌, ◌≤◌, ◌⊎◌, ap, append_assoc, arith, false, get_or, inl, inr, length, length-picked, List, None, Option, refl, Some, subst, sym, true, ℕ, cases_eq, cases_lt, get_or_default, take_all, ◌≢◌, Conjuncts, IsTruthOf, KeepTruths, AreWithin, picked, Truth, False, Out, True, conjoined, IsKnown, IsSettled, HasLeavesWithin, HaveLeavesWithin, IsTreeTruth, both, due_of, either, leaf, negated, planted, Tree, tree_at, Bool, ◌||◌, max, eq-eqb}
 use Rattle.zf_plan.specs.{AreDue, AreHeld, AreNotFalse, AreTouched, IsAmong, IsLeafDue, IsLeafOrBelow, IsRefuted, IsSoFar, IsTold, IsTruthOfLeaves, joined, NeedsBelow, NeedsWithin, Tests, touches, touches_inside}
 use Rattle.zf_plan.proofs.Knowing.{settled-leaf}
 use Rattle.zf_plan.proofs.TreeTruths.{settled-here}

@@ -1,12 +1,5 @@
 -- What stamps say of leaves, and how they are forgotten by new ones.
-use Rattle.zf_plan.proofs.Prelude.{◌+◌, ◌<◌, ◌∙◌, ◌≡◌, ◌≤◌, ap, arith, cond, eqb, get_or, inl, inr, length, List, map, None, Option, refl, set, Some, subst, sym, ℕ, cases_eq, cases_lt, get_or-set_other, get_or-set_same, length-map, length-set, slice_get-get_or, slice_get_within, slice_get_read, ◌≢◌, True}
-use Rattle.std.proofs.lemmas.Bool.{ne_eqb, eq-eqb}
-use Rattle.std.proofs.lemmas.List.{ext_get_or, get_or-map, get_or_past, map-id, map-set}
-use Rattle.std.proofs.Math.Seq.{map-set_same}
-use Rattle.std.proofs.lemmas.Option.{get_or_from_slice_get}
-use Rattle.zf_walk.specs.declared.table.Table.{Table}
-use Rattle.zf_plan.specs.declared.memo.Stamped.{Stamped}
-use Rattle.zf_plan.specs.{AreStamped, cleared, Forgets, known_by, memory_of}
+use Rattle.zf_plan.proofs.Prelude.{◌+◌, ◌<◌, ◌∙◌, ◌≡◌, ◌≤◌, ap, arith, cond, eqb, get_or, inl, inr, length, List, map, None, Option, refl, set, Some, subst, sym, ℕ, cases_eq, cases_lt, get_or-set_other, get_or-set_same, length-map, length-set, slice_get-get_or, slice_get_within, slice_get_read, ◌≢◌, True, ne_eqb, eq-eqb, ext_get_or, get_or-map, get_or_past, map-id, map-set, map-set_same, get_or_from_slice_get, Table, Stamped, AreStamped, cleared, Forgets, known_by, memory_of}
 
 -- a leaf that is read
 pub stamped-at : (stamps : List ℕ) (leaves : List Stamped) → AreStamped stamps leaves → (c : ℕ) (s : Stamped) → c < length leaves → s ≡ get_or leaves c s

@@ -1,15 +1,11 @@
 -- The steps of a search: rows that hold no event are passed, and a whole row is an answer.
-use Rattle.zf_plan.proofs.Prelude.{Err, IfOk, Ok, Result, length-picked, Bool, suc, zero, ◌++◌, ◌+◌, ◌<◌, ◌∙◌, ◌∷◌, ◌≡◌, ◌≤◌, ◌⊎◌, [], ap, arith, cond, drop, eqb, false, get_or, inl, inr, length, List, None, Option, refl, set, Some, subst, sym, take, true, ℕ, cases_eq, false≢true, get_or-replicate, get_or-set_other, get_or-set_same, length-replicate, length-set, take-take, take_all, IsTotalOrder, ◌≢◌, slice_get, Ordering, Equal, Less, reaches-under, IsFrontOf-picked, IsRowOf-front, IsRowOf-length, picked-nil, slice_get-nth, Conjuncts, HaveOneTruth, IsTruthOf, KeepTruths, Event, IsEvent, AreWithin, picked, above, below, is_reached, reaches, Ahead, AreAllAhead, AreDueWithin, ended, IsAhead, SameAhead, Takes, ComesAfter, IsRowOf, False, Out, Truth, True, Step, Breaks, End, Holds, IsChoice, IsChosen, Remembers, ahead_of, bound, Gives, GoesOn, is_over, IsAt, IsHopeless, IsSoFar, IsSound, KeepsEvents, Lands, LandsNext, path, Stands, steps_left, planted, Tree, Place}
-use Rattle.zf_walk.proofs.Reaching.{IsLater-from, later-reached, unreached, IsAhead-from, IsAhead-to}
+use Rattle.zf_plan.proofs.Prelude.{Err, IfOk, Ok, Result, length-picked, Bool, suc, zero, ◌++◌, ◌+◌, ◌<◌, ◌∙◌, ◌∷◌, ◌≡◌, ◌≤◌, ◌⊎◌, [], ap, arith, cond, drop, eqb, false, get_or, inl, inr, length, List, None, Option, refl, set, Some, subst, sym, take, true, ℕ, cases_eq, false≢true, get_or-replicate, get_or-set_other, get_or-set_same, length-replicate, length-set, take-take, take_all, IsTotalOrder, ◌≢◌, slice_get, Ordering, Equal, Less, reaches-under, IsFrontOf-picked, IsRowOf-front, IsRowOf-length, picked-nil, slice_get-nth, Conjuncts, HaveOneTruth, IsTruthOf, KeepTruths, Event, IsEvent, AreWithin, picked, above, below, is_reached, reaches, Ahead, AreAllAhead, AreDueWithin, ended, IsAhead, SameAhead, Takes, ComesAfter, IsRowOf, False, Out, Truth, True, Step, Breaks, End, Holds, IsChoice, IsChosen, Remembers, ahead_of, bound, Gives, GoesOn, is_over, IsAt, IsHopeless, IsSoFar, IsSound, KeepsEvents, Lands, LandsNext, path, Stands, steps_left, planted, Tree, Place, IsLater-from, later-reached, unreached, IsAhead-from, IsAhead-to, Marks, AreTrue, unseen, Plan}
 use Rattle.zf_walk.proofs.Truths.{IsTruthOf-false, IsTruthOf-only}
 use Rattle.zf_plan.specs.{AreDues, AreKept, AreNew, AreSeen, AreTouched, begun, Finds, Forgets, found_before, IsAmong, IsBlamed, IsFailed, IsFound, IsKept, IsNew, IsRefuted, mark_at, Memory, NeedsBelow, NeedsWithin, seen_at, unmarked}
-use Rattle.zf_plan.specs.declared.marks.Marks.{Marks}
-use Rattle.zf_walk.specs.{AreTrue, unseen}
 use Rattle.zf_plan.proofs.Blaming.{blamed-as, blamed-skips}
 use Rattle.zf_plan.proofs.Marking.{kept-chosen, kept-first, moved-on}
 use Rattle.zf_plan.proofs.Forgetting.{are-forgotten}
 use Rattle.zf_plan.proofs.SoFar.{so-fewer, so-longer, so-none, so-refuted, so-whole, so-within}
-use Rattle.zf_plan.specs.declared.plan.Plan.{Plan}
 use Rattle.zf_plan.proofs.TreeTruths.{planted-one, planted-kept, planted-due}
 use Rattle.zf_plan.proofs.Moving.{enough, same-under, length-bound, length-path, last-value, IsFrom, from-fresh, from-past, Landed, landed, tells-landed}
 

@@ -1,6 +1,5 @@
 -- Leaves that are tested on a row, one after another.
-use Rattle.zf_plan.proofs.Prelude.{◌+◌, ◌<◌, ◌∙◌, ◌≡◌, ◌⊎◌, arith, inl, inr, length, List, refl, subst, sym, ℕ, cases_eq, ◌≢◌, Conjuncts, Truth, False, Out, True, conjoined}
-use Rattle.std.specs.Prelude.{slice_index}
+use Rattle.zf_plan.proofs.Prelude.{◌+◌, ◌<◌, ◌∙◌, ◌≡◌, ◌⊎◌, arith, inl, inr, length, List, refl, subst, sym, ℕ, cases_eq, ◌≢◌, Conjuncts, Truth, False, Out, True, conjoined, slice_index}
 use Rattle.zf_plan.specs.{AreNotFalse, ArePassed, Tests}
 
 module _ {V : Type 0} (l : Conjuncts V) (row : List V) (leaves : List ℕ) (before : Truth) where

@@ -1,8 +1,5 @@
 -- A search over a flat forest is a walk over its leaves.
-use Rattle.zf_plan.proofs.Prelude.{◌<◌, Bool, Err, List, Ok, Result, subst, sym, Conjuncts, IfOk, IsTrue, IsTreeTruth, OnErr, Ordering, planted, Stage, Step, Tree, Advances}
-use Rattle.std.specs.Result.{OnOk}
-use Rattle.zf_walk.specs.{Stays}
-use Rattle.zf_plan.specs.{IsFlat, SayTheSame}
+use Rattle.zf_plan.proofs.Prelude.{◌<◌, Bool, Err, List, Ok, Result, subst, sym, Conjuncts, IfOk, IsTrue, IsTreeTruth, OnErr, Ordering, planted, Stage, Step, Tree, Advances, OnOk, Stays, IsFlat, SayTheSame}
 use Rattle.zf_plan.proofs.Alike.{advances, same_ahead}
 
 pub flat-alike : {V : Type 0} (l : Conjuncts V) (trees : List Tree) → IsFlat l.number trees → SayTheSame (planted l trees) l

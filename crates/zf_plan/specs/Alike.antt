@@ -1,7 +1,6 @@
 -- Conjuncts that say the same.
 use Rattle.std.specs.Prelude.{◌≡◌, ◌↔◌, ℕ, ◌<◌, List}
-use Rattle.zf_walk.specs.declared.judge.Truth.{Truth}
-use Rattle.zf_walk.specs.Conjuncts.{Conjuncts}
+use Rattle.zf_plan.specs.Prelude.{Truth, Conjuncts}
 
 -- as many conjuncts, each with the same truths on every row
 pub record SayTheSame {V : Type 0} (s r : Conjuncts V) : Type 0 where

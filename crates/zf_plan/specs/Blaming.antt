@@ -1,7 +1,6 @@
 -- On which values it is to be blamed that no event begins with a value: for private contracts and the model of `Search` alone.
 use Rattle.std.specs.Prelude.{◌≡◌, ◌⊎◌, ℕ, ◌<◌, Bool, true, false, List, ◌∷◌, ◌++◌, [], length, Option, Some, slice_get, slice_index_or}
-use Rattle.zf_walk.specs.Conjuncts.{Conjuncts}
-use Rattle.zf_walk.specs.{AreWithin, HasBit, IsRowOf, picked}
+use Rattle.zf_plan.specs.Prelude.{Conjuncts, AreWithin, HasBit, IsRowOf, picked}
 use Rattle.zf_plan.specs.Trees.{EachLeaf, Tree, tree_at}
 use Rattle.zf_plan.specs.Knowing.{touches}
 use Rattle.zf_plan.specs.Choosing.{IsChosen, IsFailed}

@@ -1,8 +1,6 @@
 -- Which values of a range a leaf leaves.
 use Rattle.std.specs.Prelude.{◌≡◌, ◌≢◌, ℕ, ◌+◌, List, [], ◌∷◌, ◌++◌, length, Option, None, Some, Contains, slice_get, slice_index_or}
-use Rattle.zf_walk.specs.declared.judge.Truth.TheVariants.{False}
-use Rattle.zf_walk.specs.Conjuncts.{Conjuncts}
-use Rattle.zf_walk.specs.{IsRowOf, picked}
+use Rattle.zf_plan.specs.Prelude.{False, Conjuncts, IsRowOf, picked}
 
 -- what was gathered stays
 abbrev pub StaysIn : List ℕ → List ℕ → Type 0

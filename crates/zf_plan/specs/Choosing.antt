@@ -1,8 +1,6 @@
 -- Which values of a range are tried: for private contracts and the model of `Search` alone.
 use Rattle.std.specs.Prelude.{◌≡◌, ℕ, suc, ◌<◌, ◌≤◌, Bool, true, false, List, [], ◌∷◌, ◌++◌, length, take, Option, Some, None, Contains, slice_get, slice_index_or}
-use Rattle.zf_walk.specs.declared.judge.Truth.TheVariants.{False}
-use Rattle.zf_walk.specs.Conjuncts.{Conjuncts}
-use Rattle.zf_walk.specs.{AreWithin, IsRowOf, picked}
+use Rattle.zf_plan.specs.Prelude.{False, Conjuncts, AreWithin, IsRowOf, picked}
 use Rattle.zf_plan.specs.Trees.{EachLeaf, IsTreeTruth, Tree, tree_at}
 
 -- the numbers, from n on, of those that are marked as passing

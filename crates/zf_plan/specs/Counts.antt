@@ -1,10 +1,6 @@
 -- What is counted where each conjunct is a leaf and nothing is left out: for private contracts and the model of `Search` alone.
 use Rattle.std.specs.Prelude.{◌≡◌, ℕ, Bool, true, false, List, [], ◌∷◌, slice_index_or, Option, None, Result, Ok, Err}
-use Rattle.std.specs.declared.cmp.Ordering.{Ordering}
-use Rattle.zf_walk.specs.declared.judge.Truth.{Truth}
-use Rattle.zf_walk.specs.declared.judge.Truth.TheVariants.{True, False, Out}
-use Rattle.zf_walk.specs.Conjuncts.{Conjuncts}
-use Rattle.zf_walk.specs.{cut, IsCount, IsWalked, picked, under, unseen}
+use Rattle.zf_plan.specs.Prelude.{Ordering, Truth, True, False, Out, Conjuncts, cut, IsCount, IsWalked, picked, under, unseen}
 use Rattle.zf_plan.specs.Trees.{Tree, IsFlat}
 use Rattle.zf_plan.specs.Places.{bound, seen_at}
 use Rattle.zf_plan.specs.declared.place.Place.{Place}

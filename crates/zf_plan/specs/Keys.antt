@@ -1,6 +1,6 @@
 -- Keys of the values of components: for private contracts and the model of `Search` alone.
 use Rattle.std.specs.Prelude.{◌≡◌, ℕ, ◌+◌, ◌<◌, List, [], Some, slice_get, slice_index_or}
-use Rattle.zf_walk.specs.Conjuncts.{Conjuncts}
+use Rattle.zf_plan.specs.Prelude.{Conjuncts}
 
 -- the numbers are keys of the values, place by place
 abbrev pub AreKeys : {V : Type 0} → (V → ℕ → Type 0) → List V → List ℕ → Type 0

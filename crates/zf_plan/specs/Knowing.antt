@@ -1,9 +1,6 @@
 -- What is known of leaves and trees at a row: for private contracts and the model of `Search` alone.
 use Rattle.std.specs.Prelude.{◌≡◌, ◌⊎◌, ℕ, ◌<◌, ◌≤◌, Bool, true, ◌||◌, nat_eq, List, ◌++◌, length, take, slice_index_or, Contains, Option, Some, None}
-use Rattle.zf_walk.specs.declared.judge.Truth.{Truth}
-use Rattle.zf_walk.specs.declared.judge.Truth.TheVariants.{True, False, Out}
-use Rattle.zf_walk.specs.Conjuncts.{Conjuncts}
-use Rattle.zf_walk.specs.{AreTrue, picked}
+use Rattle.zf_plan.specs.Prelude.{Truth, True, False, Out, Conjuncts, AreTrue, picked}
 use Rattle.zf_plan.specs.Memories.{Memory, AreDues}
 use Rattle.zf_plan.specs.Trees.{Tree, leaf, negated, both, either, opposite, IsTreeTruth, due_of, tree_at}
 

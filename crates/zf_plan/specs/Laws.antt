@@ -1,7 +1,6 @@
 -- What is claimed of trees, over leaves that have one truth each and keep it.
 use Rattle.std.specs.Prelude.{List}
-use Rattle.zf_walk.specs.Conjuncts.{Conjuncts}
-use Rattle.zf_walk.specs.{HaveOneTruth, KeepTruths}
+use Rattle.zf_plan.specs.Prelude.{Conjuncts, HaveOneTruth, KeepTruths}
 use Rattle.zf_plan.specs.Trees.{Tree, HaveLeavesWithin, planted}
 
 -- No tree has two truths on a row.

@@ -1,3 +1,4 @@
+pub mod Prelude
 pub mod Trees
 pub mod Groves
 pub mod Choices

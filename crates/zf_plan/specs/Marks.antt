@@ -1,6 +1,6 @@
 -- What was made of values that are still bound: for private contracts and the model of `Search` alone.
 use Rattle.std.specs.Prelude.{◌≡◌, ◌≢◌, ℕ, ◌+◌, ◌-◌, ◌<◌, ◌≤◌, ◌^◌, Bool, true, eqb, List, length, slice_index_or, slice_set}
-use Rattle.zf_walk.specs.{cut}
+use Rattle.zf_plan.specs.Prelude.{cut}
 use Rattle.zf_plan.specs.declared.marks.Mark.{Mark}
 use Rattle.zf_plan.specs.declared.marks.Marks.{Marks}
 

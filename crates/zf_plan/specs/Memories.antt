@@ -1,9 +1,6 @@
 -- What a search remembers, and how it changes: for private contracts and the model of `Search` alone.
 use Rattle.std.specs.Prelude.{◌≡◌, ◌≢◌, ℕ, ◌<◌, Bool, List, length, replicate, slice_index_or, Option, None}
-use Rattle.zf_walk.specs.declared.judge.Truth.{Truth}
-use Rattle.zf_walk.specs.declared.table.Table.{Table}
-use Rattle.zf_walk.specs.Conjuncts.{Conjuncts}
-use Rattle.zf_walk.specs.{AreTrue}
+use Rattle.zf_plan.specs.Prelude.{Truth, Table, Conjuncts, AreTrue}
 
 -- Of each leaf how many values it needs, its truth on the bound values where that is known, and the truths that it had on any values, as far as they are kept. And how many tests were counted.
 pub record Memory : Type 0 where

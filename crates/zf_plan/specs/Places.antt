@@ -1,26 +1,19 @@
 -- Where a search is, and what its steps do: for private contracts and the model of `Search` alone.
-use Rattle.std.specs.Prelude.{◌≡◌, ◌≢◌, ◌⊎◌, ℕ, zero, suc, ◌+◌, ◌-◌, ◌*◌, ◌<◌, ◌≤◌, ◌^◌, Bool, true, false, cond, eqb, List, [], ◌∷◌, ◌++◌, length, take, drop, slice_index_or, slice_set, Option, Some, None, Result, OnOk, OnErr}
-use Rattle.std.specs.declared.cmp.Ordering.{Ordering}
-use Rattle.zf_walk.specs.declared.judge.Truth.{Truth}
-use Rattle.zf_walk.specs.declared.judge.Truth.TheVariants.{True, False, Out}
+use Rattle.std.specs.Prelude.{◌≡◌, ◌≢◌, ◌⊎◌, ℕ, zero, suc, ◌+◌, ◌-◌, ◌*◌, ◌<◌, ◌≤◌, ◌^◌, Bool, true, false, cond, eqb, List, [], ◌∷◌, ◌++◌, length, take, drop, slice_index_or, slice_set, Option, Some, None, Result, OnOk, OnErr, bit_or}
+use Rattle.zf_plan.specs.Prelude.{Ordering, Truth, True, False, Out, Conjuncts, Ahead, AreAscending, AreDueWithin, AreWithin, ended, Event, HasBit, HasLength, is_reached, IsEvent, IsNoneAhead, IsSeen, picked, reaches, Takes, TiesAreEqual, unseen, option_copied, Seen}
 use Rattle.zf_walk.specs.declared.step.Step.{Step}
 use Rattle.zf_walk.specs.declared.step.Step.TheVariants.{Holds, Breaks, End}
-use Rattle.zf_walk.specs.Conjuncts.{Conjuncts}
-use Rattle.zf_walk.specs.{Ahead, AreAscending, AreDueWithin, AreWithin, ended, Event, HasBit, HasLength, is_reached, IsEvent, IsNoneAhead, IsSeen, picked, reaches, Takes, TiesAreEqual, unseen}
 use Rattle.zf_plan.specs.declared.place.Place.{Place}
 use Rattle.zf_plan.specs.declared.plan.Plan.{Plan}
 use Rattle.zf_plan.specs.declared.problem.Problem.{Problem}
-use Rattle.std.specs.Option.{option_copied}
 use Rattle.zf_plan.specs.Groves.{trees_of}
 use Rattle.zf_plan.specs.Keys.{AreKeyed}
 use Rattle.zf_plan.specs.Memories.{Memory}
 use Rattle.zf_plan.specs.Trees.{Tree, tree_at, HaveLeavesWithin}
-use Rattle.zf_walk.specs.declared.seen.Seen.{Seen}
 use Rattle.zf_plan.specs.Knowing.{Remembers, IsRefuted, IsSettled, IsSoFar, IsLeafDue, NeedsWithin}
 use Rattle.zf_plan.specs.Choosing.{IsChoice, IsNextChoice, StaysChoice}
 use Rattle.zf_plan.specs.Blaming.{Covers, IsBlamed}
 use Rattle.zf_plan.specs.Plans.{IsPlan}
-use Rattle.std.specs.Prelude.{bit_or}
 use Rattle.zf_plan.specs.declared.marks.Mark.{Mark}
 use Rattle.zf_plan.specs.declared.marks.Marks.{Marks}
 use Rattle.zf_plan.specs.Marks.{is_still, mark_at, Accuses, Renews}

@@ -1,6 +1,6 @@
 -- What plans are: for private contracts and the model of `Search` alone.
 use Rattle.std.specs.Prelude.{◌≡◌, ℕ, ◌+◌, ◌<◌, ◌≤◌, Bool, true, false, ◌||◌, List, [], length, slice_index_or, AllPairs, Contains}
-use Rattle.zf_walk.specs.Conjuncts.{Conjuncts}
+use Rattle.zf_plan.specs.Prelude.{Conjuncts}
 use Rattle.zf_plan.specs.Trees.{Tree, leaf, negated, both, either, tree_at}
 use Rattle.zf_plan.specs.Knowing.{touches, IsLeafDue, AreBelow}
 use Rattle.zf_plan.specs.Choosing.{AreLasts}

@@ -1,6 +1,6 @@
 -- What a search is seen as.
 use Rattle.std.specs.Prelude.{◌≡◌, ℕ, Bool}
-use Rattle.zf_walk.specs.{SameRanges, Stage}
+use Rattle.zf_plan.specs.Prelude.{SameRanges, Stage}
 use Rattle.zf_walk.specs.Progress as walk
 use Rattle.zf_plan.specs.Groves.{Grove}
 

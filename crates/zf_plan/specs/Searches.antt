@@ -1,7 +1,6 @@
 -- How a search is seen, and what always holds of one: for the model of `Search` alone.
 use Rattle.std.specs.Prelude.{◌≡◌, ℕ, Bool, true, cond, List, length, Option, Some, None}
-use Rattle.std.specs.declared.cmp.Ordering.{Ordering}
-use Rattle.zf_walk.specs.Conjuncts.{Conjuncts}
+use Rattle.zf_plan.specs.Prelude.{Ordering, Conjuncts}
 use Rattle.zf_plan.specs.declared.place.Place.{Place}
 use Rattle.zf_plan.specs.declared.plan.Plan.{Plan}
 use Rattle.zf_plan.specs.Memories.{Memory}

@@ -1,8 +1,6 @@
 -- Which values of a range some conjuncts leave: for private contracts alone.
 use Rattle.std.specs.Prelude.{◌≡◌, ℕ, ◌<◌, ◌≤◌, Bool, false, List, [], ◌∷◌, ◌++◌, length, Some, slice_get, slice_index_or}
-use Rattle.zf_walk.specs.declared.judge.Truth.TheVariants.{False}
-use Rattle.zf_walk.specs.Conjuncts.{Conjuncts}
-use Rattle.zf_walk.specs.{picked}
+use Rattle.zf_plan.specs.Prelude.{False, Conjuncts, picked}
 use Rattle.zf_plan.specs.Trees.{Tree, tree_at}
 use Rattle.zf_plan.specs.Knowing.{IsSettled}
 

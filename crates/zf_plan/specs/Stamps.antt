@@ -1,8 +1,6 @@
 -- How it is kept what is known of leaves: for the model of `Memo` alone.
 use Rattle.std.specs.Prelude.{◌≡◌, ℕ, ◌<◌, ◌≤◌, eqb, cond, List, length, map, slice_get, slice_index_or, Option, Some, None}
-use Rattle.zf_walk.specs.declared.judge.Truth.{Truth}
-use Rattle.zf_walk.specs.declared.table.Table.{Table}
-use Rattle.zf_walk.specs.Conjuncts.{Conjuncts}
+use Rattle.zf_plan.specs.Prelude.{Truth, Table, Conjuncts}
 use Rattle.zf_plan.specs.declared.memo.Stamped.{Stamped}
 use Rattle.zf_plan.specs.Memories.{Memory}
 

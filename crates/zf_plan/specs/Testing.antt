@@ -1,10 +1,6 @@
 -- Tests of leaves on a row: for private contracts alone.
 use Rattle.std.specs.Prelude.{◌≡◌, ◌⊎◌, ℕ, ◌+◌, ◌<◌, List, [], ◌∷◌, ◌++◌, length, slice_index}
-use Rattle.zf_walk.specs.declared.judge.Truth.{Truth}
-use Rattle.zf_walk.specs.declared.judge.Truth.TheVariants.{True, False, Out}
-use Rattle.zf_walk.specs.Conjuncts.{Conjuncts}
-use Rattle.zf_walk.specs.{AreWithin, cut, IsSeen, picked}
-use Rattle.zf_walk.specs.declared.seen.Seen.{Seen}
+use Rattle.zf_plan.specs.Prelude.{Truth, True, False, Out, Conjuncts, AreWithin, cut, IsSeen, picked, Seen}
 
 -- each of these is a leaf that needs k values
 abbrev pub AreLeaves : {V : Type 0} → Conjuncts V → ℕ → List ℕ → Type 0

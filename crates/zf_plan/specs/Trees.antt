@@ -1,8 +1,6 @@
 -- Conjuncts as trees over leaves: the truth of a tree from those of its leaves.
 use Rattle.std.specs.Prelude.{◌≡◌, ◌⊎◌, ℕ, ◌<◌, List, length, max, slice_index_or, All}
-use Rattle.zf_walk.specs.declared.judge.Truth.{Truth}
-use Rattle.zf_walk.specs.declared.judge.Truth.TheVariants.{True, False, Out}
-use Rattle.zf_walk.specs.Conjuncts.{Conjuncts}
+use Rattle.zf_plan.specs.Prelude.{Truth, True, False, Out, Conjuncts}
 
 -- a leaf by its place, and what the connectives make
 pub data Tree : Type 0 where

@@ -1,6 +1,6 @@
 -- What always holds of a walk: for the model of `Walk` alone.
 use Rattle.std.specs.Prelude.{Bool, IsTrue}
-use Rattle.zf_walk.specs.Conjuncts.{Conjuncts}
+use Rattle.zf_plan.specs.Prelude.{Conjuncts}
 use Rattle.zf_plan.specs.Trees.{IsFlat}
 use Rattle.zf_plan.specs.Groves.{Grove, trees_of}
 

@@ -1,6 +1,6 @@
 //! Components as the bits of words.
 ghost use Rattle.std.specs.Prelude.{◌<◌, ◌≤◌, ℕ};
-ghost use Rattle.zf_walk.specs.{HasBit};
+ghost use Rattle.zf_plan.specs.Prelude.{HasBit};
 
 use zf_walk::has_bit;
 

@@ -1,6 +1,6 @@
 //! How the values of a range are chosen that are tried.
 ghost use Rattle.std.specs.Prelude.{◌≡◌, ◌<◌, ◌≤◌, ◌+◌, [], length, slice_index_or, IsTrue, IfOk, IfSome, OnOk, OnErr, Ok, None};
-ghost use Rattle.zf_walk.specs.{AreWithin, picked};
+ghost use Rattle.zf_plan.specs.Prelude.{AreWithin, picked};
 ghost use Rattle.zf_plan.specs.{AreBelow, AreChoosers, AreKeyed, AreKeys, IsAsked, IsPart, IsPosed, Narrows, Remembers, StaysChoice, StaysIn, tree_at, trees_made, trees_of};
 ghost use Rattle.zf_plan.specs.Choices.{Leaves};
 

@@ -1,7 +1,6 @@
 //! What is known of trees at a row. The truth of each leaf is asked for once on the values that it needs.
 ghost use Rattle.std.specs.Prelude.{◌≡◌, ◌≢◌, ◌<◌, Ok, [], ℕ, true, length, slice_index_or, IfOk, IfSome};
-ghost use Rattle.zf_walk.specs.declared.judge.Truth.TheVariants.{False};
-ghost use Rattle.zf_walk.specs.{picked};
+ghost use Rattle.zf_plan.specs.Prelude.{False, picked};
 ghost use Rattle.zf_plan.specs.{AreBelow, IsAmong, IsAsked, IsKnown, IsLeafOrBelow, IsPart, IsSettled, IsSoFar, Remembers, touches, tree_at, trees_made, trees_of};
 
 use crate::guide::Guide;

@@ -1,6 +1,6 @@
 //! Which values of a component leaves leave.
 ghost use Rattle.std.specs.Prelude.{◌<◌, ◌≤◌, ℕ, length, IsTrue, IfOk, IfSome};
-ghost use Rattle.zf_walk.specs.{AreAscending, AreWithin};
+ghost use Rattle.zf_plan.specs.Prelude.{AreAscending, AreWithin};
 ghost use Rattle.zf_plan.specs.{IsKeyOf, StaysIn};
 ghost use Rattle.zf_plan.specs.Choices.{Leaves};
 

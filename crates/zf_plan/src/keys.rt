@@ -1,6 +1,6 @@
 //! Keys of the values of components.
 ghost use Rattle.std.specs.Prelude.{◌≡◌, ◌+◌, ◌<◌, ◌≤◌, ℕ, [], length, slice_index_or, Contains, IfOk, OnOk};
-ghost use Rattle.zf_walk.specs.{AreDueWithin};
+ghost use Rattle.zf_plan.specs.Prelude.{AreDueWithin};
 ghost use Rattle.zf_plan.specs.{AreKeyed, AreKeys, StaysIn};
 
 use crate::guide::Guide;

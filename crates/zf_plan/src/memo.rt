@@ -1,7 +1,6 @@
 //! What a search remembers of the leaves.
 ghost use Rattle.std.specs.Prelude.{◌≡◌, ◌≢◌, ◌+◌, ◌<◌, ◌≤◌, ◌^◌, ◌++◌, ◌∷◌, [], length, IfOk, IfSome, OnErr};
-ghost use Rattle.zf_walk.specs.declared.judge.Truth.TheVariants.{False};
-ghost use Rattle.zf_walk.specs.{AreDueWithin, AreTrue, AreWithin, picked};
+ghost use Rattle.zf_plan.specs.Prelude.{False, AreDueWithin, AreTrue, AreWithin, picked};
 ghost use Rattle.zf_plan.specs.{AreLeaves, AreSeenOf, AreUnknown, cleared, Forgets, IsCleared, IsKnown, IsNew, IsSettled, IsTested, leaf, Remembers, Tests};
 
 use crate::guide::Guide;

@@ -1,6 +1,6 @@
 //! Where a search is.
 ghost use Rattle.std.specs.Prelude.{◌≡◌, ◌+◌, ◌≤◌, ℕ, length, slice_index_or, IfSome};
-ghost use Rattle.zf_walk.specs.{IsSeen};
+ghost use Rattle.zf_plan.specs.Prelude.{IsSeen};
 ghost use Rattle.zf_plan.specs.{found_before, seen_at};
 
 use crate::marks::Marks;

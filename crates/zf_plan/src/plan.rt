@@ -1,7 +1,7 @@
 //! Which leaves and which conjuncts a value that is bound concerns.
 ghost use Rattle.std.specs.Prelude.{◌≡◌, ◌+◌, ◌^◌, ◌<◌, ◌≤◌, ℕ, true, false, [], length, IfOk, OnOk, MatchOption};
+ghost use Rattle.zf_plan.specs.Prelude.{HasBit};
 ghost use Rattle.zf_plan.specs.{AreBelow, AreChoosers, AreDue, AreTouched, Covers, HasBits, HaveLeavesWithin, IsBare, IsLayer, IsLeafDue, IsPart, IsPlan, touches, touches_inside, tree_at, trees_made, trees_of, UsesFirst};
-ghost use Rattle.zf_walk.specs.{HasBit};
 
 use crate::forest::Forest;
 use crate::guide::{Guide, Means};

@@ -1,7 +1,6 @@
 //! Searches.
 ghost use Rattle.std.specs.Prelude.{◌≡◌, ◌<◌, ◌≤◌, ◌+◌, ◌∷◌, ◌++◌, length, drop, take, IsTrue, IfOk, OnOk, OnErr, IsSomeAnd, IfSome, slice_get, slice_index_or, true, false, unwrap_or, List, Option, []};
-ghost use Rattle.std.specs.Option.{option_copied};
-ghost use Rattle.zf_walk.specs.{Advances, AreAllAhead, AreAscending, AreDueWithin, AreTests, ended, HasLength, IsBounded, IsRowOf, past, SameRanges, Stays, TiesAreEqual};
+ghost use Rattle.zf_plan.specs.Prelude.{option_copied, Advances, AreAllAhead, AreAscending, AreDueWithin, AreTests, ended, HasLength, IsBounded, IsRowOf, past, SameRanges, Stays, TiesAreEqual};
 ghost use Rattle.zf_plan.specs.{begun, counted, exchanged, HaveLeavesWithin, IsFlat, IsPlain, IsSound, planted, SameProblem, trees_of};
 ghost use Rattle.zf_plan.specs.Places.{Leaves};
 

@@ -1,6 +1,6 @@
 //! How the values of a range are sifted by conjuncts that use few of the values before it.
 ghost use Rattle.std.specs.Prelude.{◌≡◌, ◌<◌, ◌≤◌, ℕ, [], length, slice_index_or, None, IsTrue, IfOk, OnOk, OnErr};
-ghost use Rattle.zf_walk.specs.{picked};
+ghost use Rattle.zf_plan.specs.Prelude.{picked};
 ghost use Rattle.zf_plan.specs.{AreBelow, AreChoosers, AreSifted, IsAsked, IsGreatest, IsOneFalse, Remembers, StaysChoice, trees_of};
 
 use crate::choice::Choice;

@@ -1,8 +1,6 @@
 //! The steps of a search.
 ghost use Rattle.std.specs.Prelude.{◌≡◌, ◌≢◌, ◌<◌, ◌≤◌, true, None, [], length, slice_index_or, IsTrue, IfOk, OnOk, OnErr, ℕ, take};
-ghost use Rattle.std.specs.Option.{option_copied};
-ghost use Rattle.zf_walk.specs.declared.judge.Truth.TheVariants.{False};
-ghost use Rattle.zf_walk.specs.{picked, unseen};
+ghost use Rattle.zf_plan.specs.Prelude.{option_copied, False, picked, unseen};
 ghost use Rattle.zf_plan.specs.{all_of, AreHeld, AreKeyed, AreSeen, bound, CountsOn, Enters, Finds, found_before, Gives, Goes, is_over, IsAsked, IsAt, IsBlamed, IsChoice, IsCounted, IsKept, IsPlain, IsPosed, IsSoFar, KeepsEvents, mark_at, NeedsBelow, Passes, PassesOpen, path, planted, Remembers, seen_at, Stands, StaysChoice, trees_of};
 ghost use Rattle.zf_plan.specs.Counts.{Counts};
 

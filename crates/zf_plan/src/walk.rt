@@ -1,7 +1,6 @@
 //! Walks.
 ghost use Rattle.std.specs.Prelude.{◌≡◌, ◌<◌, ◌≤◌, length, IfOk, OnOk, OnErr, IsSomeAnd, IfSome, slice_get, slice_index_or, unwrap_or, []};
-ghost use Rattle.std.specs.Option.{option_copied};
-ghost use Rattle.zf_walk.specs.{Advances, AreAllAhead, AreAscending, AreDueWithin, AreTests, ended, HasLength, IsBounded, SameProblem, Stays, TiesAreEqual};
+ghost use Rattle.zf_plan.specs.Prelude.{option_copied, Advances, AreAllAhead, AreAscending, AreDueWithin, AreTests, ended, HasLength, IsBounded, SameProblem, Stays, TiesAreEqual};
 
 use crate::guide::Guide;
 use crate::search::Search;

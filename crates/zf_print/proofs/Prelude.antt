@@ -1,11 +1,11 @@
 -- What the proofs of this crate take from elsewhere, passed on from one place.
-pub use Rattle.std.proofs.Common.{◌&&◌, ◌++◌, ◌+◌, ◌<◌, ◌^◌, ◌||◌, ◌∙◌, ◌∷◌, ◌≡◌, ◌≤◌, [], add-one, ap, arith, Bool, codes, drop, false, length, List, map, negsuc, None, Option, pos, refl, Some, subst, suc, sym, true, zero, ℕ, ℤ}
-pub use Rattle.std.proofs.lemmas.Fmt.{decimal_injective, decimal_is_IsNumeral, decimal_nonempty, signed_decimal_injective}
+pub use Rattle.std.proofs.Common.{◌&&◌, ◌++◌, ◌+◌, ◌<◌, ◌^◌, ◌||◌, ◌∙◌, ◌∷◌, ◌≡◌, ◌≤◌, [], add-one, ap, arith, Bool, codes, drop, false, length, List, map, negsuc, None, Option, pos, refl, Some, subst, suc, sym, true, zero, ℕ, ℤ, rules}
+pub use Rattle.std.proofs.lemmas.Fmt.{decimal_injective, decimal_is_IsNumeral, decimal_nonempty, signed_decimal_injective, decimal_digit}
 pub use Rattle.std.proofs.lemmas.List.{append_assoc, drop_more, length-append}
 pub use Rattle.std.specs.Fmt.{signed_decimal}
 pub use Rattle.std.specs.Int.{IsInRange, w64}
 pub use Rattle.std.specs.List.{list_all, AllByRecursion}
-pub use Rattle.std.specs.Prelude.{decimal, FitsSigned, slice_get}
+pub use Rattle.std.specs.Prelude.{decimal, FitsSigned, slice_get, OnOk}
 pub use Rattle.std.specs.Str.Parse.{AllDigits}
 pub use Rattle.zf_format.specs.declared.format.Format.{Format}
 pub use Rattle.zf_format.specs.declared.format.Format.TheVariants.{Lines, Objects}

@@ -1,9 +1,7 @@
 -- The ranges of components, one more at a time, and the first component that is out.
-use Rattle.zf_ranges.proofs.Prelude.{◌++◌, ◌+◌, ◌<◌, ◌∙◌, ◌∷◌, ◌≡◌, ◌≤◌, [], add-one, ap, arith, Err, get_or, length, List, map, None, Ok, Option, refl, Result, Some, subst, suc, sym, take, zero, ℕ, length-map, AllByRecursion, IfErr, IsErrAnd, slice_get, Value, Comp, comp_of, sets_of, Environment, AreAllRanges, held_at, IsOneRange, IsOutBy, IsOneOut, AreRanges, IsFirstOut, IsNoneOut, IsComponentRange, later_held}
-use Rattle.zf_term.specs.declared.schema.Component.{Component}
+use Rattle.zf_ranges.proofs.Prelude.{◌++◌, ◌+◌, ◌<◌, ◌∙◌, ◌∷◌, ◌≡◌, ◌≤◌, [], add-one, ap, arith, Err, get_or, length, List, map, None, Ok, Option, refl, Result, Some, subst, suc, sym, take, zero, ℕ, length-map, AllByRecursion, IfErr, IsErrAnd, slice_get, Value, Comp, comp_of, sets_of, Environment, AreAllRanges, held_at, IsOneRange, IsOutBy, IsOneOut, AreRanges, IsFirstOut, IsNoneOut, IsComponentRange, later_held, Component, RefusesStart}
 use Rattle.zf_ranges.specs.declared.start_fault.StartFault.{StartFault}
 use Rattle.zf_ranges.specs.declared.start_fault.StartFault.TheVariants.{DeclaredOut, OutOfMemory}
-use Rattle.zf_ranges.specs.{RefusesStart}
 
 -- ---- what is held
 

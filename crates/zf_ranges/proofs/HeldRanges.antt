@@ -1,7 +1,5 @@
 -- The ranges of held components, one more at a time.
-use Rattle.zf_ranges.proofs.Prelude.{◌++◌, ◌+◌, ◌∷◌, ◌≡◌, ◌≤◌, [], add-one, length, length-map, List, map, Option, Some, subst, suc, sym, take, zero, ℕ, slice_get, Value, Comp, comp_of, sets_of, Environment, held_at, IsOneOut, IsNoneOut, later_held}
-use Rattle.zf_term.specs.declared.schema.Component.{Component}
-use Rattle.zf_ranges.specs.{AreHeldRanges, IsHeldRange}
+use Rattle.zf_ranges.proofs.Prelude.{◌++◌, ◌+◌, ◌∷◌, ◌≡◌, ◌≤◌, [], add-one, length, length-map, List, map, Option, Some, subst, suc, sym, take, zero, ℕ, slice_get, Value, Comp, comp_of, sets_of, Environment, held_at, IsOneOut, IsNoneOut, later_held, Component, AreHeldRanges, IsHeldRange}
 use Rattle.zf_ranges.proofs.Comps.{whole}
 
 next : (e : Environment) (cs : List Comp) (held : List (Option Value)) (i : ℕ) (c : Comp) (ranges : List (Option (List Value))) (x : Option (List Value))

@@ -1,7 +1,5 @@
 -- What a declared set that is no disjunction holds, by its outcome.
-use Rattle.zf_ranges.proofs.Prelude.{◌↔◌, ◌≡◌, ap, Bool, false, List, None, not, Option, refl, Some, subst, sym, true, ℕ, IsMember, members, Outcome, Is, Out, Undefined, Value, carrier, plain, ResolvedTree, has_numbers, Ty, Infinite, direct, bounds, IsCarrier, Environment, globally, HasOutcome, IsOfType, has_endless, IsCarrierOut, IsInCarrier, IsInOne, IsInPlain, IsPlainOut, IsSetOut, Filters, IsAllOf, IsIn, IsListed, Lists, Narrows, is_none}
-use Rattle.std.specs.Prelude.{is_some, ◌||◌}
-use Rattle.zf_meaning.specs.{infinite_in, unended}
+use Rattle.zf_ranges.proofs.Prelude.{◌↔◌, ◌≡◌, ap, Bool, false, List, None, not, Option, refl, Some, subst, sym, true, ℕ, IsMember, members, Outcome, Is, Out, Undefined, Value, carrier, plain, ResolvedTree, has_numbers, Ty, Infinite, direct, bounds, IsCarrier, Environment, globally, HasOutcome, IsOfType, has_endless, IsCarrierOut, IsInCarrier, IsInOne, IsInPlain, IsPlainOut, IsSetOut, Filters, IsAllOf, IsIn, IsListed, Lists, Narrows, is_none, is_some, ◌||◌, infinite_in, unended}
 use Rattle.zf_outcome.specs.Symbols as symbols
 use Rattle.zf_outcome.specs.declared.described.Described.{Described}
 use Rattle.zf_outcome.specs.{Describes, IsDescribed, IsInDescribed}

@@ -1,13 +1,6 @@
 -- Tests of the type of a value, form by form.
-use Rattle.zf_ranges.proofs.Prelude.{◌+◌, ◌<◌, ◌↔◌, ◌∙◌, ◌∷◌, ◌≡◌, ◌≤◌, [], add-one, ap, arith, Bool, drop, false, get_or, length, List, map, refl, subst, suc, sym, zero, ℕ, false≢true, IsTrue, members-SetOf, parts-Tuple, members, parts, SetOf, Tuple, Value, power, product, Ty, type_of, types, Tys, Environment, AreOfTypes, IsOfType, IsAscending, AllByRecursion}
+use Rattle.zf_ranges.proofs.Prelude.{◌+◌, ◌<◌, ◌↔◌, ◌∙◌, ◌∷◌, ◌≡◌, ◌≤◌, [], add-one, ap, arith, Bool, drop, false, get_or, length, List, map, refl, subst, suc, sym, zero, ℕ, false≢true, IsTrue, members-SetOf, parts-Tuple, members, parts, SetOf, Tuple, Value, power, product, Ty, type_of, types, Tys, Environment, AreOfTypes, IsOfType, IsAscending, AllByRecursion, AreAllOf, IsNumberHere, ℤ, Option, Some, None, true, w64, FitsSigned, number_of, Elem, is_Int, no_Int, IsExistingElement}
 use Rattle.zf_term.specs.declared.ztype.ZType.{ZType}
-use Rattle.zf_ranges.specs.{AreAllOf, IsNumberHere}
-use Rattle.std.proofs.Common.{ℤ, Option, Some, None, true, w64}
-use Rattle.std.specs.Prelude.{FitsSigned}
-use Rattle.zf_value.specs.{number_of}
-use Rattle.zf_value.specs.declared.plain.Value.{Elem}
-use Rattle.zf_value.proofs.Seen.{is_Int, no_Int}
-use Rattle.zf_meaning.specs.{IsExistingElement}
 
 pub never : (P : Type 0) → (P → ⊥) → IsTrue false ↔ P
 never P h = (λ e. absurd (false≢true e), λ p. absurd (h p))

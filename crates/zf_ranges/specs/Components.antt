@@ -1,8 +1,6 @@
 -- The ranges of components one after another. No public clause of a search rests on this.
 use Rattle.std.specs.Prelude.{◌≡◌, ℕ, suc, zero, List, [], ◌∷◌, Option, Some, None, IsSomeAnd}
-use Rattle.zf_term.specs.{Comp, sets_of}
-use Rattle.zf_value.specs.declared.plain.Value.{Value}
-use Rattle.zf_meaning.specs.{Environment}
+use Rattle.zf_ranges.specs.Prelude.{Comp, sets_of, Value, Environment}
 use Rattle.zf_ranges.specs.declared.start_fault.StartFault.{StartFault}
 use Rattle.zf_ranges.specs.declared.start_fault.StartFault.TheVariants.{DeclaredOut, OutOfMemory}
 use Rattle.zf_ranges.specs.DeclaredSets.{IsOneOut}

@@ -1,13 +1,7 @@
 -- What is a member of the declared sets of a component, and which of them are out.
 use Rattle.std.specs.Prelude.{◌⊎◌, ℕ, Bool, true, false, Option, Some, None}
+use Rattle.zf_ranges.specs.Prelude.{carrier, DeclaredSet, DeclaredSets, has_numbers, no_sets, plain, ResolvedTree, set, sides, Ty, Value, Outcome, Is, Out, IsMember, members, Environment, globally, HasOutcome, infinite_in, IsCarrier, IsOfType, IsIn}
 use Rattle.zf_term.specs.declared.extent.Infinite.{Infinite}
-use Rattle.zf_term.specs.{carrier, DeclaredSet, DeclaredSets, has_numbers, no_sets, plain, ResolvedTree, set, sides, Ty}
-use Rattle.zf_value.specs.declared.plain.Value.{Value}
-use Rattle.zf_value.specs.declared.value.Outcome.{Outcome}
-use Rattle.zf_value.specs.declared.value.Outcome.TheVariants.{Is, Out}
-use Rattle.zf_value.specs.{IsMember, members}
-use Rattle.zf_meaning.specs.{Environment, globally, HasOutcome, infinite_in, IsCarrier, IsOfType}
-use Rattle.zf_outcome.specs.{IsIn}
 
 -- a member of the set that has such an outcome; what is undefined has no members
 abbrev pub IsInOne : (Outcome → Type 0) → Value → Type 0

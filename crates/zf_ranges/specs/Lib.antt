@@ -1,3 +1,4 @@
+pub mod Prelude
 pub mod DeclaredSets
 pub mod Ranges
 pub mod StartFaults

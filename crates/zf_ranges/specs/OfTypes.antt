@@ -1,11 +1,8 @@
 -- Which values are of a type, form by form. No public clause rests on this.
 use Rattle.std.specs.Prelude.{◌≡◌, ◌≤◌, ℤ, List, length, FitsSigned}
+use Rattle.zf_ranges.specs.Prelude.{Ty, Value, Int, AllByRecursion, Environment, IsOfType}
 use Rattle.std.specs.Int.{w64}
-use Rattle.zf_term.specs.{Ty}
 use Rattle.zf_value.specs.declared.TheConstants.{SET_MAX}
-use Rattle.zf_value.specs.declared.plain.Value.{Value, Int}
-use Rattle.std.specs.List.{AllByRecursion}
-use Rattle.zf_meaning.specs.{Environment, IsOfType}
 
 abbrev pub IsNumberHere : Value → Type 0
 IsNumberHere v = (n : ℤ) × (v ≡ Int n) × FitsSigned w64 n

@@ -1,18 +1,11 @@
 -- What declared sets leave of values. No public clause rests on this.
 use Rattle.std.specs.Prelude.{◌≡◌, ◌⊎◌, ◌↔◌, ℕ, ◌<◌, true, List, [], ◌∷◌, ◌++◌, length, get_or, Option}
+use Rattle.zf_ranges.specs.Prelude.{bounds, DeclaredSet, DeclaredSets, Defined, set_of, Value, IsAscending, IsMember, members, Outcome, Is, Undefined, IsInDescribed, IsWithin, Environment}
 use Rattle.zf_term.specs.declared.schema.Domain.{Domain}
-use Rattle.zf_finite.specs.{bounds}
-use Rattle.zf_term.specs.{DeclaredSet, DeclaredSets, Defined, set_of}
-use Rattle.zf_value.specs.declared.plain.Value.{Value}
-use Rattle.zf_value.specs.{IsAscending, IsMember, members}
-use Rattle.zf_value.specs.declared.value.Outcome.{Outcome}
-use Rattle.zf_value.specs.declared.value.Outcome.TheVariants.{Is, Undefined}
 use Rattle.zf_value.specs.declared.value.Outcome.TheVariants as outcome
 use Rattle.zf_ranges.specs.declared.lack.Lack.{Lack}
 use Rattle.zf_ranges.specs.declared.lack.Lack.TheVariants.{Out, OutOfMemory}
 use Rattle.zf_outcome.specs.declared.described.Described.{Described}
-use Rattle.zf_outcome.specs.{IsInDescribed, IsWithin}
-use Rattle.zf_meaning.specs.{Environment}
 use Rattle.zf_ranges.specs.DeclaredSets.{IsInSet, IsInSets, IsSetOut, IsOneOut}
 use Rattle.zf_ranges.specs.Ranges.{IsHeld}
 

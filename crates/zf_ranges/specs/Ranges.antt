@@ -1,9 +1,6 @@
 -- The ranges of a schema's components where some values are held, and which components have a declared set that is out.
 use Rattle.std.specs.Prelude.{◌≡◌, ◌↔◌, ℕ, ◌<◌, List, [], ◌∷◌, Option, Some, None, slice_get, IfSome}
-use Rattle.zf_term.specs.{Comp, sets_of}
-use Rattle.zf_value.specs.declared.plain.Value.{Value}
-use Rattle.zf_value.specs.{IsAscending, IsMember}
-use Rattle.zf_meaning.specs.{Environment}
+use Rattle.zf_ranges.specs.Prelude.{Comp, sets_of, Value, IsAscending, IsMember, Environment}
 use Rattle.zf_ranges.specs.DeclaredSets.{IsInSets, IsOneOut}
 
 -- where a value is held it is this one alone

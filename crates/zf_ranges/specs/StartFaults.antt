@@ -1,7 +1,6 @@
 -- Why a search can't begin.
 use Rattle.std.specs.Prelude.{List}
-use Rattle.zf_term.specs.{Comp}
-use Rattle.zf_meaning.specs.{Environment}
+use Rattle.zf_ranges.specs.Prelude.{Comp, Environment}
 use Rattle.zf_ranges.specs.declared.start_fault.StartFault.{StartFault}
 use Rattle.zf_ranges.specs.declared.start_fault.StartFault.TheVariants.{DeclaredOut, OutOfMemory}
 use Rattle.zf_ranges.specs.Ranges.{IsFirstOut}

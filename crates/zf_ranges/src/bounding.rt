@@ -1,7 +1,6 @@
 //! Which of several declared sets bounds, and which of those is likely to be the smallest.
 ghost use Rattle.std.specs.Prelude.{◌≡◌, true, map, IfOk, IfSome};
-ghost use Rattle.zf_term.specs.{globals_of, set_of, sets_of};
-ghost use Rattle.zf_meaning.specs.{environment_of};
+ghost use Rattle.zf_ranges.specs.Prelude.{globals_of, set_of, sets_of, environment_of};
 ghost use Rattle.zf_finite.specs.Finite as spec;
 ghost use Rattle.zf_ranges.specs.{BoundsAt};
 

@@ -1,9 +1,6 @@
 //! The ranges of components.
 ghost use Rattle.std.specs.Prelude.{◌≡◌, true, IsTrue, IfOk, IfErr, map, option_map};
-ghost use Rattle.std.specs.List.{AllByRecursion};
-ghost use Rattle.zf_term.specs.{comp_of, sets_of};
-ghost use Rattle.zf_finite.specs.{one_bounds};
-ghost use Rattle.zf_meaning.specs.{environment_of};
+ghost use Rattle.zf_ranges.specs.Prelude.{AllByRecursion, comp_of, sets_of, one_bounds, environment_of};
 ghost use Rattle.zf_ranges.specs.{AreAllRanges, AreHeldRanges, held_at, IsAllWith, IsHeldRange, IsNoneOut, IsOneOut, IsOneRange, IsOutBy, RefusesStart, Tells};
 
 use crate::lack::Lack;

@@ -1,6 +1,6 @@
 //! Declared sets that only filter.
 ghost use Rattle.std.specs.Prelude.{◌↔◌, IsTrue};
-ghost use Rattle.zf_outcome.specs.{IsFrom};
+ghost use Rattle.zf_ranges.specs.Prelude.{IsFrom};
 
 use crate::kept::Test;
 use zf_term::Infinite;

@@ -1,7 +1,7 @@
 //! Tests of values, and the values that pass one.
 ghost use Rattle.std.specs.Prelude.{◌↔◌, IsTrue, IfOk, OnOk};
+ghost use Rattle.zf_ranges.specs.Prelude.{IsAscending, IsMember};
 ghost use Rattle.zf_value.specs.declared.plain.Value as value;
-ghost use Rattle.zf_value.specs.{IsAscending, IsMember};
 ghost use Rattle.zf_ranges.specs.{Grows, Lists};
 
 use std::alloc::{AllocError, Global};

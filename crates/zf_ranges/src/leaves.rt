@@ -1,8 +1,6 @@
 //! The values of a declared set that is no disjunction.
 ghost use Rattle.std.specs.Prelude.{◌≡◌, true, IfOk, IfErr};
-ghost use Rattle.zf_term.specs.{carrier, plain, resolved_of, type_of};
-ghost use Rattle.zf_value.specs.{IsAscending};
-ghost use Rattle.zf_meaning.specs.{environment_of, globally, HasOutcome};
+ghost use Rattle.zf_ranges.specs.Prelude.{carrier, plain, resolved_of, type_of, IsAscending, environment_of, globally, HasOutcome};
 ghost use Rattle.zf_finite.specs.Finite as spec;
 ghost use Rattle.zf_ranges.specs.DeclaredSets as sets;
 ghost use Rattle.zf_ranges.specs.{IsAllOf, IsSetOut, Narrows, Tells};

@@ -1,8 +1,7 @@
 //! The members of a set that an expression comes to.
 ghost use Rattle.std.specs.Prelude.{◌≡◌, ◌⊎◌, [], ◌∷◌, IfOk, IfErr};
+ghost use Rattle.zf_ranges.specs.Prelude.{IsAscending, IsMember, IsDescribed};
 ghost use Rattle.zf_value.specs.declared.value.Outcome.TheVariants as outcome;
-ghost use Rattle.zf_value.specs.{IsAscending, IsMember};
-ghost use Rattle.zf_outcome.specs.{IsDescribed};
 ghost use Rattle.zf_ranges.specs.{Filters, IsIn, IsListed, Lists, Tells};
 
 use crate::kept::{Test, kept};

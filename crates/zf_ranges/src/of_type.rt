@@ -1,8 +1,6 @@
 //! Which values are of a type.
 ghost use Rattle.std.specs.Prelude.{◌↔◌, ◌<◌, IsTrue, IsSomeAnd, map};
-ghost use Rattle.zf_term.specs.{power, product, type_of, types};
-ghost use Rattle.zf_value.specs.declared.plain.Value.{Elem};
-ghost use Rattle.zf_meaning.specs.{AreOfTypes, environment_of, IsExistingElement, IsOfType, type_number};
+ghost use Rattle.zf_ranges.specs.Prelude.{power, product, type_of, types, Elem, AreOfTypes, environment_of, IsExistingElement, IsOfType, type_number};
 ghost use Rattle.zf_ranges.specs.{AreAllOf, IsNumberHere};
 
 use crate::kept::Test;

@@ -1,9 +1,7 @@
 //! The values that are members of declared sets.
 ghost use Rattle.std.specs.Prelude.{◌≡◌, ◌<◌, true, IfOk, IfErr, map, option_map};
-ghost use Rattle.zf_term.specs.{set_of, sets_of};
-ghost use Rattle.zf_meaning.specs.{environment_of};
+ghost use Rattle.zf_ranges.specs.Prelude.{set_of, sets_of, environment_of, IsAscending};
 ghost use Rattle.zf_finite.specs.Finite as spec;
-ghost use Rattle.zf_value.specs.{IsAscending};
 ghost use Rattle.zf_ranges.specs.{IsAllOf, IsAllOfEach, IsAllWith, IsOneOut, IsSetOut, Narrows, NarrowsAll, Tells};
 
 use crate::bounding::lightest_bounding;

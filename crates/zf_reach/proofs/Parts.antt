@@ -1,7 +1,5 @@
 -- How a turn goes on by the parts of its edges.
-use Rattle.std.proofs.lemmas.List.{length-map}
-use Rattle.zf_graph.proofs.Places.{at_left, one_at}
-use Rattle.zf_reach.proofs.Prelude.{◌++◌, ◌+◌, ◌<◌, ◌≡◌, ◌⊎◌, ◌∷◌, ◌∙◌, [], ap, arith, Appends, Appends-nil, AppendsFront, AtTurn, Bool, broken, cases_Bool, cases_lt, ended, some_at, Closes, cond, cond-false, cond-true, counted, Edge, edge_text, Explored, false, inl, InParts, inr, InTurn, IsFull, IsStuck, KeepsNodes, length, list_any, List, node_at, no_turn, Option, paused, place_within, refl, slice_get, Some, StopsEarly, subst, sym, true, Turn, with_edge, with_node, Words, ℕ}
+use Rattle.zf_reach.proofs.Prelude.{◌++◌, ◌+◌, ◌<◌, ◌≡◌, ◌⊎◌, ◌∷◌, ◌∙◌, [], ap, arith, Appends, Appends-nil, AppendsFront, AtTurn, Bool, broken, cases_Bool, cases_lt, ended, some_at, Closes, cond, cond-false, cond-true, counted, Edge, edge_text, Explored, false, inl, InParts, inr, InTurn, IsFull, IsStuck, KeepsNodes, length, list_any, List, node_at, no_turn, Option, paused, place_within, refl, slice_get, Some, StopsEarly, subst, sym, true, Turn, with_edge, with_node, Words, ℕ, length-map, at_left, one_at}
 use Rattle.zf_reach.proofs.Running.{at_over_edges, at_over_stuck, closes_broken, closes_ended, closes_paused, in_begun, in_passed, stops_before, stops_in, stops_in_edge, stops_in_stray, stops_in_stuck_line}
 
 -- ---- what is met stays

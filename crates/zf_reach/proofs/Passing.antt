@@ -1,10 +1,5 @@
 -- What an edge brings, by what the set of nodes answers.
-use Rattle.std.proofs.lemmas.Bool.{false≢true, or_cases, or_parts}
-use Rattle.std.specs.List.{position_or_len}
-use Rattle.std.specs.Prelude.{nat_eq, not}
-use Rattle.zf_graph.proofs.Places.{at_last}
-use Rattle.zf_reach.proofs.Prelude.{◌++◌, ◌+◌, ◌<◌, ◌∙◌, ◌∷◌, ◌≡◌, ◌≤◌, ◌⊎◌, [], ap, arith, Bool, cases_Bool, cases_eq, cond, cond-false, cond-true, eq-eqb, false, inl, inr, length, length-append, List, list_any, ne_eqb, refl, slice_get, Some, some_at, subst, sym, true, ℕ, edge_text, IsFull, with_node, Words}
-use Rattle.zf_reach.specs.{edge}
+use Rattle.zf_reach.proofs.Prelude.{◌++◌, ◌+◌, ◌<◌, ◌∙◌, ◌∷◌, ◌≡◌, ◌≤◌, ◌⊎◌, [], ap, arith, Bool, cases_Bool, cases_eq, cond, cond-false, cond-true, eq-eqb, false, inl, inr, length, length-append, List, list_any, ne_eqb, refl, slice_get, Some, some_at, subst, sym, true, ℕ, edge_text, IsFull, with_node, Words, false≢true, or_cases, or_parts, position_or_len, nat_eq, not, at_last, edge}
 
 module _ {X : Type 0} (test : X → Bool) where
   -- where none passes, the place is after the last

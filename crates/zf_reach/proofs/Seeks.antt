@@ -1,12 +1,7 @@
 -- How a search goes on by what an edge brings, and how it ends.
-use Rattle.std.proofs.lemmas.List.{length-map}
-use Rattle.std.specs.List.{position_or_len}
-use Rattle.std.specs.Prelude.{not}
-use Rattle.zf_graph.proofs.Numbers.{numbered}
-use Rattle.zf_graph.proofs.Places.{at_last, at_left, at_map, at_push, map_at, none_some, one_at, one_some}
 use Rattle.zf_graph.proofs.Searching.{item_at, met_with_new, seeks_begun, seeks_broken, seeks_first, seeks_found, seeks_full, seeks_known, seeks_missing, seeks_new, seeks_over, seeks_untold}
 use Rattle.zf_graph.specs.{at_first, beyond, found, Graph, IsNumbered, IsOf, IsSearched, Met, missing, nodes_of, open_ended, Result, SeeksIn, Sought, untold, way_text}
-use Rattle.zf_reach.proofs.Prelude.{◌++◌, ◌+◌, ◌-◌, ◌<◌, ◌∙◌, ◌∷◌, ◌≡◌, ◌≤◌, ◌⊎◌, [], ap, Appends-nil, AppendsFront, arith, Bool, cases_lt, cond-false, cond-true, counted, cut, Explored, false, inl, inr, KeepsNodes, length, length-append, List, list_any, no_turn, None, Option, refl, slice_get, slice_get_within, Some, subst, suc, sym, true, Turn, with_edge, with_node, Words, zero, ℕ}
+use Rattle.zf_reach.proofs.Prelude.{◌++◌, ◌+◌, ◌-◌, ◌<◌, ◌∙◌, ◌∷◌, ◌≡◌, ◌≤◌, ◌⊎◌, [], ap, Appends-nil, AppendsFront, arith, Bool, cases_lt, cond-false, cond-true, counted, cut, Explored, false, inl, inr, KeepsNodes, length, length-append, List, list_any, no_turn, None, Option, refl, slice_get, slice_get_within, Some, subst, suc, sym, true, Turn, with_edge, with_node, Words, zero, ℕ, length-map, position_or_len, not, numbered, at_last, at_left, at_map, at_push, map_at, none_some, one_at, one_some, Arrival, AtSearch, BeginsAs, Brings, Concludes, edge, EndsWithout, InSearch, IsArrival, IsEarlier, IsFoundBy, IsTrail, result_of, SaysWay, SeesNew, StopsSearch, UnlessOut}
 use Rattle.zf_reach.proofs.Fronts.{front_whole}
 use Rattle.zf_reach.proofs.Passing.{place-none}
 use Rattle.zf_reach.proofs.Running.{counted_cut, next_count, none_at_root, one_beyond}
@@ -14,8 +9,6 @@ use Rattle.zf_reach.specs.declared.finding.Finding.{Finding}
 use Rattle.zf_reach.specs.declared.finding.Finding.TheVariants as findings
 use Rattle.zf_reach.specs.declared.machine.Beginning.{Beginning}
 use Rattle.zf_reach.specs.declared.machine.Beginning.TheVariants as beginnings
-use Rattle.zf_reach.specs.declared.trail.Arrival.{Arrival}
-use Rattle.zf_reach.specs.{AtSearch, BeginsAs, Brings, Concludes, edge, EndsWithout, InSearch, IsArrival, IsEarlier, IsFoundBy, IsTrail, result_of, SaysWay, SeesNew, StopsSearch, UnlessOut}
 
 -- ---- the trail
 

@@ -1,11 +1,6 @@
 -- The way to a node that is met, backwards along the trail.
-use Rattle.zf_graph.proofs.Numbers.{way_text-push}
-use Rattle.zf_graph.proofs.Places.{at_map, one_at}
-use Rattle.zf_graph.specs.{end_of, Met, number_in, way_text}
-use Rattle.zf_reach.proofs.Prelude.{◌++◌, ◌-◌, ◌<◌, ◌∙◌, ◌∷◌, ◌≡◌, [], ap, append_assoc, arith, Explored, length, List, refl, slice_get, Some, subst, sym, Words, ℕ}
+use Rattle.zf_reach.proofs.Prelude.{◌++◌, ◌-◌, ◌<◌, ◌∙◌, ◌∷◌, ◌≡◌, [], ap, append_assoc, arith, Explored, length, List, refl, slice_get, Some, subst, sym, Words, ℕ, way_text-push, at_map, one_at, end_of, Met, number_in, way_text, Arrival, by, edge, IsArrival, IsChain, over, SaysStep, SaysWay}
 use Rattle.std.proofs.lemmas.List.{length-append, same_from_push}
-use Rattle.zf_reach.specs.declared.trail.Arrival.{Arrival}
-use Rattle.zf_reach.specs.{by, edge, IsArrival, IsChain, over, SaysStep, SaysWay}
 
 module _ {L : Type 0} (trail : List (Arrival L)) (target : ℕ) where
   -- one more number

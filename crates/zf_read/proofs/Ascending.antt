@@ -1,6 +1,5 @@
 -- When a list stays ascending with one more value after it.
-use Rattle.zf_read.proofs.Prelude.{◌++◌, ◌-◌, ◌↔◌, ◌∙◌, ◌∷◌, ◌≡◌, [], ap, arith, Bool, Equal, Greater, is_lt, IsTrue, length, Less, List, Ordering, refl, Some, sym, true, slice_get, IsAscending, value_order, Value, AllByRecursion}
-use Rattle.std.proofs.lemmas.Option.{same_Some}
+use Rattle.zf_read.proofs.Prelude.{◌++◌, ◌-◌, ◌↔◌, ◌∙◌, ◌∷◌, ◌≡◌, [], ap, arith, Bool, Equal, Greater, is_lt, IsTrue, length, Less, List, Ordering, refl, Some, sym, true, slice_get, IsAscending, value_order, Value, AllByRecursion, same_Some}
 use Rattle.zf_value.specs.contracts.plain.ValueOrd.TheImpl.Laws.{total-law}
 
 abbrev last_of : Value → List Value → Value

@@ -1,12 +1,8 @@
 -- A line of some components is the line of a schema with these alone; where names are clear each such line is one.
-use Rattle.zf_read.proofs.Prelude.{Value, Comp, Environment, IsOfType, IsRow, component_text, component_texts, AreApart, AreNames, Ends, IsName, IsNoneOf, held_comps, held_values, HoldNext, goes_on, later_parts, comma_before, value_text, Spelling}
+use Rattle.zf_read.proofs.Prelude.{Value, Comp, Environment, IsOfType, IsRow, component_text, component_texts, AreApart, AreNames, Ends, IsName, IsNoneOf, held_comps, held_values, HoldNext, goes_on, later_parts, comma_before, value_text, Spelling, HeldIsLine, LineIsHeld, OneHeldLine, goes_on-first, goes_on-later, goes_on-nil, cancel, name_in_word, one_run}
 use Rattle.std.proofs.Common.{◌≡◌, ℕ, suc, ◌+◌, List, [], ◌∷◌, ◌++◌, length, map, Option, Some, None, refl, sym, ap, ◌∙◌, subst, add-one, arith, codes, length-append}
-use Rattle.zf_read.specs.{HeldIsLine, LineIsHeld, OneHeldLine}
 use Rattle.zf_read.proofs.HeldSoFar.{component_parts}
 use Rattle.zf_read.proofs.OneHeld.{one_next}
-use Rattle.zf_print.proofs.Printing.{goes_on-first, goes_on-later, goes_on-nil}
-use Rattle.zf_print.proofs.Spelled.{cancel}
-use Rattle.zf_print.proofs.WordRuns.{name_in_word, one_run}
 
 abbrev names : List Comp → List (List ℕ)
 names cs = map (λ c. c.name) cs

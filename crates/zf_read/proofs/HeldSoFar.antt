@@ -1,10 +1,5 @@
 -- What is read so far of a line of some components: each is named next or not, and holds a value where it is.
-use Rattle.zf_read.proofs.Prelude.{add-one, Lines, ◌++◌, ◌+◌, ◌-◌, ◌<◌, ◌∙◌, ◌∷◌, ◌≡◌, ◌≤◌, [], ap, arith, Bool, codes, drop, false, get_or, length, List, map, None, Option, refl, Some, subst, suc, sym, take, true, ℕ, append-nil, append_assoc, length-drop, take_all, MatchBool, slice_get, Value, Comp, comp_of, Component, Environment, IsOfType, component_text, AreClear, Ends, is_in_word, HoldNext, IsHeldLine, IsNamedNext, IsNoHeldLine, BeginsWithName, EndsAs, IsHeldAt, IsNamedAt, BeginsWithoutName, GoesOn, HoldsNothing, IsNoComponent, IsNoItem, IsNotNamed, comma_before, value_text, Spelling}
-use Rattle.std.proofs.lemmas.Option.{same_Some}
-use Rattle.zf_print.proofs.OneFront.{ends_as}
-use Rattle.zf_print.proofs.OneRow.{one_component}
-use Rattle.zf_print.proofs.Printing.{comps-drop, drop-end}
-use Rattle.zf_print.proofs.Spelled.{cancel}
+use Rattle.zf_read.proofs.Prelude.{add-one, Lines, ◌++◌, ◌+◌, ◌-◌, ◌<◌, ◌∙◌, ◌∷◌, ◌≡◌, ◌≤◌, [], ap, arith, Bool, codes, drop, false, get_or, length, List, map, None, Option, refl, Some, subst, suc, sym, take, true, ℕ, append-nil, append_assoc, length-drop, take_all, MatchBool, slice_get, Value, Comp, comp_of, Component, Environment, IsOfType, component_text, AreClear, Ends, is_in_word, HoldNext, IsHeldLine, IsNamedNext, IsNoHeldLine, BeginsWithName, EndsAs, IsHeldAt, IsNamedAt, BeginsWithoutName, GoesOn, HoldsNothing, IsNoComponent, IsNoItem, IsNotNamed, comma_before, value_text, Spelling, same_Some, ends_as, one_component, comps-drop, drop-end, cancel}
 
 -- ---- names
 

@@ -1,7 +1,6 @@
 -- Words that are the texts of numbers.
-use Rattle.zf_read.proofs.Prelude.{◌<◌, ◌^◌, ◌∙◌, ◌≡◌, ap, Bool, Err, false, List, of_z, Ok, Result, subst, sym, to_z, true, ℕ, ℤ, IsAscii-decimal, IsAscii-signed, parse-decimal, parse-signed_decimal, signed_decimal, w64, decimal, FitsSigned, IsUtf8, ParsesSigned, ParsesUnsigned, same}
+use Rattle.zf_read.proofs.Prelude.{◌<◌, ◌^◌, ◌∙◌, ◌≡◌, ap, Bool, Err, false, List, of_z, Ok, Result, subst, sym, to_z, true, ℕ, ℤ, IsAscii-decimal, IsAscii-signed, parse-decimal, parse-signed_decimal, signed_decimal, w64, decimal, FitsSigned, IsUtf8, ParsesSigned, ParsesUnsigned, same, magnitude}
 use Rattle.std.proofs.lemmas.Str.{IsUtf8-from_ascii}
-use Rattle.zf_print.proofs.OneFront.{magnitude}
 
 pub signed_utf8 : (word : List ℕ) (n : ℤ) → FitsSigned w64 n → word ≡ signed_decimal n → IsUtf8 word
 signed_utf8 word n fits e = subst IsUtf8 (sym e) (IsUtf8-from_ascii (signed_decimal n) (IsAscii-signed n (magnitude n fits)))

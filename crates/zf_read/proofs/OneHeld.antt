@@ -1,8 +1,6 @@
 -- A line of some components holds one list of values.
-use Rattle.zf_read.proofs.Prelude.{Lines, ◌+◌, ◌∙◌, ◌∷◌, ◌≡◌, [], ap, ap₂, List, None, Option, refl, Some, subst, sym, ℕ, Value, Comp, Environment, AreClear, HoldNext, comma_before, Spelling}
+use Rattle.zf_read.proofs.Prelude.{Lines, ◌+◌, ◌∙◌, ◌∷◌, ◌≡◌, [], ap, ap₂, List, None, Option, refl, Some, subst, sym, ℕ, Value, Comp, Environment, AreClear, HoldNext, comma_before, Spelling, one_component, cancel}
 use Rattle.zf_read.proofs.HeldSoFar.{ends_more, told_named}
-use Rattle.zf_print.proofs.OneRow.{one_component}
-use Rattle.zf_print.proofs.Spelled.{cancel}
 
 module _ (ss : List Spelling) (e : Environment) where
   pub one_next : (clear : AreClear ss e.sizes) (cs : List Comp) (n : ℕ) (bytes : List ℕ) (xs ys : List (Option Value)) → HoldNext ss e cs n bytes xs → HoldNext ss e cs n bytes ys → xs ≡ ys

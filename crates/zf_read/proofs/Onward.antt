@@ -1,7 +1,6 @@
 -- One turn more of what reads the components of a line, the parts of a tuple, the members of a set.
-use Rattle.zf_read.proofs.Prelude.{◌++◌, ◌+◌, ◌<◌, ◌∙◌, ◌∷◌, ◌≡◌, ◌≤◌, [], ap, arith, codes, drop, get_or, length, List, map, subst, sym, ℕ, append_assoc, drop_more, length-append, length-drop, IsAscending, SET_MAX, Value, comp_of, no_types, Ty, type, type_of, types, Tys, Component, Environment, IsLineOf, IsNoLine, AreMembersAt, ArePartsAt, IsComponentAt, IsItem, IsNext, IsValueAt, AreNoMembers, AreNoParts, IsNoComponent, IsNoItem, IsNoNext, IsNoRest, IsNoValue, parted, comma_before, value_text, Spelling}
+use Rattle.zf_read.proofs.Prelude.{◌++◌, ◌+◌, ◌<◌, ◌∙◌, ◌∷◌, ◌≡◌, ◌≤◌, [], ap, arith, codes, drop, get_or, length, List, map, subst, sym, ℕ, append_assoc, drop_more, length-append, length-drop, IsAscending, SET_MAX, Value, comp_of, no_types, Ty, type, type_of, types, Tys, Component, Environment, IsLineOf, IsNoLine, AreMembersAt, ArePartsAt, IsComponentAt, IsItem, IsNext, IsValueAt, AreNoMembers, AreNoParts, IsNoComponent, IsNoItem, IsNoNext, IsNoRest, IsNoValue, parted, comma_before, value_text, Spelling, comps-drop, drop-end}
 use Rattle.zf_term.specs.declared.ztype.ZType.{ZType}
-use Rattle.zf_print.proofs.Printing.{comps-drop, drop-end}
 use Rattle.zf_read.proofs.HeldSoFar.{comps-end}
 use Rattle.zf_read.proofs.Reading.{parts_unseparated, parts_unread, parts_unclosed, members_unseparated, members_unread, members_full}
 use Rattle.zf_read.proofs.SoFar.{RowSoFar, row_unseparated, row_unread, row_behind, row_more, row_all, PartsSoFar, parts_more, parts_all, MembersSoFar, members_more, members_all}

@@ -1,8 +1,5 @@
 -- What follows a part that was read, of a tuple or of a set.
-use Rattle.zf_read.proofs.Prelude.{Lines, ◌++◌, ◌+◌, ◌∙◌, ◌∷◌, ◌≡◌, [], ap, arith, codes, length, Less, List, map, refl, subst, suc, sym, ℕ, append_assoc, length-append, IsAscending, value_order, SET_MAX, Value, no_types, Ty, type, Tys, Environment, IsOfType, AreMembers, Closes, EndsAs, goes_on, AreNoMembers, AreNoParts, IsNoItem, IsNoNext, IsNoValue, later_parts, comma_before, value_text, Spelling, AllByRecursion}
-use Rattle.zf_print.proofs.OneFront.{ends_as, ends_later, one_front}
-use Rattle.zf_print.proofs.Printing.{goes_on-nil, front, goes_on-later}
-use Rattle.zf_print.proofs.Spelled.{cancel}
+use Rattle.zf_read.proofs.Prelude.{Lines, ◌++◌, ◌+◌, ◌∙◌, ◌∷◌, ◌≡◌, [], ap, arith, codes, length, Less, List, map, refl, subst, suc, sym, ℕ, append_assoc, length-append, IsAscending, value_order, SET_MAX, Value, no_types, Ty, type, Tys, Environment, IsOfType, AreMembers, Closes, EndsAs, goes_on, AreNoMembers, AreNoParts, IsNoItem, IsNoNext, IsNoValue, later_parts, comma_before, value_text, Spelling, AllByRecursion, ends_as, ends_later, one_front, goes_on-nil, front, goes_on-later, cancel}
 
 -- ---- the parts of a tuple
 

@@ -1,7 +1,6 @@
 -- Elements by their spellings.
-use Rattle.zf_read.proofs.Prelude.{◌++◌, ◌+◌, ◌<◌, ◌^◌, ◌∙◌, ◌∷◌, ◌≡◌, ◌≤◌, ◌⊎◌, [], ap, arith, codes, get_or, inl, inr, length, List, None, Option, refl, Some, subst, suc, sym, zero, ℕ, ⊎_elim, decimal_injective, append_assoc, decimal, MatchOption, slice_get, Value, Environment, type_number, IsExistingElement, IsClear, spelled, IsSpelledType, HasNoElements, IsNoItem, IsNoSpelledType, SpellsNone, Spelling, Named, Numbered}
+use Rattle.zf_read.proofs.Prelude.{◌++◌, ◌+◌, ◌<◌, ◌^◌, ◌∙◌, ◌∷◌, ◌≡◌, ◌≤◌, ◌⊎◌, [], ap, arith, codes, get_or, inl, inr, length, List, None, Option, refl, Some, subst, suc, sym, zero, ℕ, ⊎_elim, decimal_injective, append_assoc, decimal, MatchOption, slice_get, Value, Environment, type_number, IsExistingElement, IsClear, spelled, IsSpelledType, HasNoElements, IsNoItem, IsNoSpelledType, SpellsNone, Spelling, Named, Numbered, cancel}
 use denote.Bor.{Bor}
-use Rattle.zf_print.proofs.Spelled.{cancel}
 
 -- ---- types without elements
 

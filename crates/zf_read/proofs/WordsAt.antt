@@ -1,6 +1,5 @@
 -- The longest word at a place.
-use Rattle.zf_read.proofs.Prelude.{◌&&◌, ◌++◌, ◌+◌, ◌-◌, ◌<◌, ◌∙◌, ◌∷◌, ◌≡◌, ◌≤◌, [], ap, arith, drop, false, get_or, length, List, refl, subst, suc, sym, take, true, zero, ℕ, drop_more, length-drop, take-append-drop, list_all, Ends, is_in_word, IsWordAt}
-use Rattle.zf_print.proofs.WordRuns.{AreInWord, first_and_rest}
+use Rattle.zf_read.proofs.Prelude.{◌&&◌, ◌++◌, ◌+◌, ◌-◌, ◌<◌, ◌∙◌, ◌∷◌, ◌≡◌, ◌≤◌, [], ap, arith, drop, false, get_or, length, List, refl, subst, suc, sym, take, true, zero, ℕ, drop_more, length-drop, take-append-drop, list_all, Ends, is_in_word, IsWordAt, AreInWord, first_and_rest}
 
 both : (b : ℕ) (w : List ℕ) → is_in_word b ≡ true → AreInWord w → AreInWord (b ∷ w)
 both b w k h = ap (λ x. x && list_all is_in_word w) k ∙ h

@@ -1,10 +1,6 @@
 -- Lines of some of a schema's components, in its order, and the values that they hold.
 use Rattle.std.specs.Prelude.{◌≡◌, ℕ, ◌+◌, List, [], ◌∷◌, ◌++◌, Option, Some, None}
-use Rattle.zf_term.specs.{Comp}
-use Rattle.zf_value.specs.declared.plain.Value.{Value}
-use Rattle.zf_meaning.specs.{Environment, IsOfType}
-use Rattle.zf_print.specs.declared.spelling.Spelling.{Spelling}
-use Rattle.zf_print.specs.{comma_before, component_text, Ends}
+use Rattle.zf_read.specs.Prelude.{Comp, Value, Environment, IsOfType, Spelling, comma_before, component_text, Ends}
 
 -- after n components the bytes go on with the name of this one, and no word goes on after it
 abbrev pub IsNamedNext : Comp → ℕ → List ℕ → Type 0

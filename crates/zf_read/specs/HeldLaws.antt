@@ -1,10 +1,6 @@
 -- What readers and laws of held values say.
 use Rattle.std.specs.Prelude.{ℕ, List, map, Option}
-use Rattle.zf_term.specs.{Comp}
-use Rattle.zf_value.specs.declared.plain.Value.{Value}
-use Rattle.zf_meaning.specs.{Environment}
-use Rattle.zf_print.specs.declared.spelling.Spelling.{Spelling}
-use Rattle.zf_print.specs.{AreApart, AreNames, AreClear}
+use Rattle.zf_read.specs.Prelude.{Comp, Value, Environment, Spelling, AreApart, AreNames, AreClear}
 use Rattle.zf_read.specs.Held.{IsHeldLine}
 
 -- the line of none of them

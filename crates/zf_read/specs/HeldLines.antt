@@ -1,10 +1,6 @@
 -- Held values by the choice of components: the line of the row that they are.
 use Rattle.std.specs.Prelude.{◌≡◌, ℕ, List, [], ◌∷◌, length, Option, Some, None}
-use Rattle.zf_term.specs.{Comp}
-use Rattle.zf_value.specs.declared.plain.Value.{Value}
-use Rattle.zf_meaning.specs.{Environment, IsRow}
-use Rattle.zf_print.specs.declared.spelling.Spelling.{Spelling}
-use Rattle.zf_print.specs.{binding_text}
+use Rattle.zf_read.specs.Prelude.{Comp, Value, Environment, IsRow, Spelling, binding_text}
 
 -- the components of which values are held, and these values
 abbrev pub held_comps : List Comp → List (Option Value) → List Comp

@@ -1,10 +1,6 @@
 -- What is claimed of lines of some components.
 use Rattle.std.specs.Prelude.{◌≡◌, ℕ, List, Option}
-use Rattle.zf_term.specs.{Comp}
-use Rattle.zf_value.specs.declared.plain.Value.{Value}
-use Rattle.zf_meaning.specs.{Environment}
-use Rattle.zf_print.specs.declared.spelling.Spelling.{Spelling}
-use Rattle.zf_print.specs.{AreClear}
+use Rattle.zf_read.specs.Prelude.{Comp, Value, Environment, Spelling, AreClear}
 use Rattle.zf_read.specs.HeldLaws.{HaveClearNames}
 use Rattle.zf_read.specs.Held.{IsHeldLine}
 use Rattle.zf_read.specs.HeldLines.{IsLineOfSome}

@@ -1,12 +1,8 @@
 -- What the reading of a line answers.
 use Rattle.std.specs.Prelude.{◌≡◌, ℕ, List}
-use Rattle.zf_term.specs.{Comp}
-use Rattle.zf_value.specs.declared.plain.Value.{Value}
-use Rattle.zf_meaning.specs.{Environment, IsRow}
+use Rattle.zf_read.specs.Prelude.{Comp, Value, Environment, IsRow, Spelling, AreClear, binding_text}
 use Rattle.zf_read.specs.declared.fault.AfterFault.{AfterFault}
 use Rattle.zf_read.specs.declared.fault.AfterFault.TheVariants.{NotABinding, OutOfMemory}
-use Rattle.zf_print.specs.declared.spelling.Spelling.{Spelling}
-use Rattle.zf_print.specs.{AreClear, binding_text}
 
 -- the line of this row of the schema's types
 pub record IsLineOf (ss : List Spelling) (e : Environment) (cs : List Comp) (text : List ℕ) (vs : List Value) : Type 0 where

@@ -1,13 +1,8 @@
 -- What the steps of reading say. No public clause rests on this file.
 use Rattle.std.specs.Prelude.{◌≡◌, ℕ, ◌+◌, ◌≤◌, true, ◌<◌, List, [], ◌∷◌, ◌++◌, length, map, drop, codes, Option, Some, None, slice_get}
+use Rattle.zf_read.specs.Prelude.{Comp, Ty, Tys, Value, IsAscending, AreOfTypes, Environment, IsExistingElement, IsOfType, IsRow, type_number, Spelling, AreClear, comma_before, component_text, component_texts, Ends, EndsAs, goes_on, is_in_word, IsClear, parted, spelled, value_text}
 use Rattle.std.specs.List.{list_all, AllByRecursion}
-use Rattle.zf_term.specs.{Comp, Ty, Tys}
 use Rattle.zf_value.specs.declared.TheConstants.{SET_MAX}
-use Rattle.zf_value.specs.declared.plain.Value.{Value}
-use Rattle.zf_value.specs.{IsAscending}
-use Rattle.zf_meaning.specs.{AreOfTypes, Environment, IsExistingElement, IsOfType, IsRow, type_number}
-use Rattle.zf_print.specs.declared.spelling.Spelling.{Spelling}
-use Rattle.zf_print.specs.{AreClear, comma_before, component_text, component_texts, Ends, EndsAs, goes_on, is_in_word, IsClear, parted, spelled, value_text}
 use Rattle.zf_read.specs.Held.{IsNamedNext}
 
 -- ---- words

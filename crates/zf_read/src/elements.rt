@@ -1,9 +1,7 @@
 //! Elements by their spellings.
 ghost use Rattle.std.specs.Prelude.{◌≡◌, ◌+◌, ◌≤◌, ◌<◌, ◌^◌, ◌++◌, ℕ, Some, length, drop, codes, decimal, slice_get, IfOk, IfErr, MatchOption};
-ghost use Rattle.zf_meaning.specs.{environment_of};
-ghost use Rattle.zf_term.specs.{basic};
+ghost use Rattle.zf_read.specs.Prelude.{environment_of, basic, spelled};
 ghost use Rattle.zf_print.specs.declared.spelling.Spelling.TheVariants.{Named};
-ghost use Rattle.zf_print.specs.{spelled};
 ghost use Rattle.zf_read.specs.{HasNoElements, IfMisfit, IsNoSpelledType, IsNoValue, IsSpelledType, IsValueAt, SpellsNone};
 
 use crate::fault::AfterFault;

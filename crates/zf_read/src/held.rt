@@ -1,8 +1,6 @@
 //! Lines of some components, as they are read.
 ghost use Rattle.std.specs.Prelude.{◌≤◌, length, drop, IfOk, IfErr, MatchBool, MatchOption};
-ghost use Rattle.zf_meaning.specs.{environment_of};
-ghost use Rattle.zf_term.specs.{comp_of, schema_of};
-ghost use Rattle.zf_print.specs.{comma_before, Ends};
+ghost use Rattle.zf_read.specs.Prelude.{environment_of, comp_of, schema_of, comma_before, Ends};
 ghost use Rattle.zf_read.specs.{BeginsWithName, BeginsWithoutName, GoesOn, HoldsIfNamed, HoldsNothing, IfMisfit, IsHeldLine, IsItem, IsNamedAt, IsNoHeldLine, IsNoItem, IsNotNamed};
 
 use crate::fault::AfterFault;

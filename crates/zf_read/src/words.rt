@@ -1,9 +1,9 @@
 //! The words and items of a line, by their places.
 ghost use Rattle.std.specs.Prelude.{◌≡◌, ◌+◌, ◌≤◌, ◌<◌, ◌^◌, ◌++◌, ℕ, ℤ, length, drop, decimal, IfOk, IfErr, MatchOption, MatchBool, FitsSigned};
+ghost use Rattle.zf_read.specs.Prelude.{comma_before};
 ghost use Rattle.std.specs.Fmt.{signed_decimal};
 ghost use Rattle.std.specs.Int.{w64};
 ghost use Rattle.zf_print.specs.Words as spec;
-ghost use Rattle.zf_print.specs.{comma_before};
 ghost use Rattle.zf_read.specs.{IfMisfit, IsItem, IsNoItem, IsWordAt};
 
 use crate::fault::AfterFault;

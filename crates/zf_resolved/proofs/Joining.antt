@@ -1,24 +1,16 @@
 -- Terms that are joined one after another, and conjuncts as terms.
-use Rattle.std.proofs.Common.{◌++◌, ◌∙◌, ◌∷◌, ◌≡◌, [], ap, drop, get_or, length, List, map, None, Option, refl, Some, sym, ◌<◌, ◌+◌, ◌≤◌, ℕ}
+use Rattle.zf_resolved.proofs.Prelude.{◌++◌, ◌∙◌, ◌∷◌, ◌≡◌, [], ap, drop, get_or, length, List, map, None, Option, refl, Some, sym, ◌<◌, ◌+◌, ◌≤◌, ℕ, all_of, Conjunct, Resolved, ResolvedLink, all_joined, batch_of, binary, both_hold, chain, conjunct_of, is_member, joined, link, links, moved, no_links, numbering, reference, resolved_link_of, resolved_of, ResolvedTree, term_line, of-Either, of-Member, of-Term, new_link, of-Chain, of-Constant, of-link, of-Name, behind, onto, or_true, tree_in}
 use Rattle.std.proofs.lemmas.List.{drop_all}
-use Rattle.zf_data.specs.{all_of}
 use Rattle.zf_reference.specs.declared.reference.Reference.TheVariants.{Component}
 use Rattle.zf_tree.specs.declared.operator.Operator.TheVariants.{Connective}
 use Rattle.zf_tree.specs.declared.symbol.Connective.TheVariants.{Or}
 use Rattle.zf_tree.specs.declared.symbol.Constant.TheVariants.{True}
 use Rattle.zf_tree.specs.declared.symbol.Relation.TheVariants.{Member}
 use Rattle.zf_term.specs.declared.conjunct.Batch.{Batch}
-use Rattle.zf_term.specs.declared.conjunct.Conjunct.{Conjunct}
 use Rattle.zf_term.specs.declared.conjunct.Conjunct.TheVariants as conjuncts
-use Rattle.zf_term.specs.declared.resolved.Resolved.{Resolved}
 use Rattle.zf_term.specs.declared.resolved.Resolved.TheVariants as v
-use Rattle.zf_term.specs.declared.resolved.ResolvedLink.{ResolvedLink}
-use Rattle.zf_term.specs.{all_joined, batch_of, binary, both_hold, chain, conjunct_of, is_member, joined, link, links, moved, no_links, numbering, reference, resolved_link_of, resolved_of, ResolvedTree, term_line}
-use Rattle.zf_term.proofs.ConjunctsSeen.{of-Either, of-Member, of-Term}
 use Rattle.zf_term.proofs.Places.{unmoved}
-use Rattle.zf_term.proofs.ResolvedSeen.{new_link, of-Chain, of-Constant, of-link, of-Name}
 use Rattle.zf_term.proofs.Walk.{dropped}
-use Rattle.zf_resolved.specs.{behind, onto, or_true, tree_in}
 
 -- ---- places
 

@@ -1,3 +1,4 @@
+pub mod Prelude
 pub mod Renamings
 pub mod Moved
 pub mod Joining

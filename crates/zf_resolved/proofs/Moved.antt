@@ -1,9 +1,7 @@
 -- To number components anew is to rename them.
-use Rattle.std.proofs.Common.{◌≡◌, ℕ, ap, refl}
+use Rattle.zf_resolved.proofs.Prelude.{◌≡◌, ℕ, ap, refl, absent, all_moved, binary, bracket, comprehension, chain, constant, empty_set, link, links_moved, listed, moved, no_links, no_ranges, no_terms, number, part_moved, present, quantified, range, Ranges, ranges_moved, reference, ResolvedLinks, ResolvedPart, ResolvedTree, term, unary, all_renamed, links_renamed, part_renamed, ranges_renamed, renamed}
 use Rattle.zf_reference.specs.{renumbered}
-use Rattle.zf_term.specs.{absent, all_moved, binary, bracket, comprehension, chain, constant, empty_set, link, links_moved, listed, moved, no_links, no_ranges, no_terms, number, part_moved, present, quantified, range, Ranges, ranges_moved, reference, ResolvedLinks, ResolvedPart, ResolvedTree, term, unary}
 use Rattle.zf_term.specs.ResolvedTrees.{ResolvedTrees}
-use Rattle.zf_resolved.specs.{all_renamed, links_renamed, part_renamed, ranges_renamed, renamed}
 
 mutual
   pub of_term : (f : ℕ → ℕ) (t : ResolvedTree) → renamed (renumbered f) t ≡ moved f t

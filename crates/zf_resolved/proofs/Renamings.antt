@@ -1,5 +1,5 @@
 -- Terms whose parts are renamed, one after another in lists.
-use Rattle.std.proofs.Common.{◌≡◌, ℕ, Option, List, [], ◌∷◌, map, refl, ap, sym, ◌∙◌}
+use Rattle.zf_resolved.proofs.Prelude.{◌≡◌, ℕ, Option, List, [], ◌∷◌, map, refl, ap, sym, ◌∙◌, Resolved, ResolvedLink, binary, bracket, comprehension, chain, empty_set, links, listed, part_of, quantified, range_of, ranges, reference, resolved_link_of, resolved_of, ResolvedTree, terms, unary, all_renamed, link_renamed, links_renamed, part_renamed, range_renamed, ranges_renamed, renamed, of-Binary, of-Bracket, of-Comprehension, of-Chain, of-Constant, of-EmptySet, of-Listed, of-Name, of-Number, of-Quantified, of-Unary}
 use Rattle.zf_tree.specs.declared.operator.Listed.{Listed}
 use Rattle.zf_tree.specs.declared.operator.Operator.{Operator}
 use Rattle.zf_tree.specs.declared.operator.Unary.{Unary}
@@ -8,12 +8,7 @@ use Rattle.zf_tree.specs.declared.symbol.Quantifier.{Quantifier}
 use Rattle.zf_tree.specs.declared.symbol.Relation.{Relation}
 use Rattle.zf_reference.specs.declared.reference.Reference.{Reference}
 use Rattle.zf_term.specs.declared.resolved.Range.{Range}
-use Rattle.zf_term.specs.declared.resolved.Resolved.{Resolved}
 use Rattle.zf_term.specs.declared.resolved.Resolved.TheVariants as v
-use Rattle.zf_term.specs.declared.resolved.ResolvedLink.{ResolvedLink}
-use Rattle.zf_term.specs.{binary, bracket, comprehension, chain, empty_set, links, listed, part_of, quantified, range_of, ranges, reference, resolved_link_of, resolved_of, ResolvedTree, terms, unary}
-use Rattle.zf_resolved.specs.{all_renamed, link_renamed, links_renamed, part_renamed, range_renamed, ranges_renamed, renamed}
-use Rattle.zf_term.proofs.ResolvedSeen.{of-Binary, of-Bracket, of-Comprehension, of-Chain, of-Constant, of-EmptySet, of-Listed, of-Name, of-Number, of-Quantified, of-Unary}
 
 pub all-terms : (f : Reference → Reference) (ts : List ResolvedTree) → all_renamed f (terms ts) ≡ terms (map (renamed f) ts)
 all-terms f [] = refl

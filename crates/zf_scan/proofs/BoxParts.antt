@@ -1,7 +1,6 @@
 -- What the list of the symbols of a box is while the scanner fills it.
-use Rattle.zf_scan.proofs.Prelude.{◌++◌, ◌∙◌, ◌∷◌, ◌≡◌, ◌≤◌, [], ap, append_assoc, Bool, false, inl, inr, length, List, refl, subst, sym, take, true, ℕ, append-nil, list_all, if◌then◌else◌, begins_box, BeginsBox, ends_box, EndsOnce, Follows, IsBox, IsBoxAtMost, IsCutOn, IsCutUpTo, entered, escape, informal, is_directive, opening, OutsideKind, remark, schema_opening, SpellsOutside, openings, kind_of, Match, NotInProfile, Next, Piece, Plain, Refused, Symbol, Region, Border, Kind, BeginSchema, BeginZed, EndBox, Token}
+use Rattle.zf_scan.proofs.Prelude.{◌++◌, ◌∙◌, ◌∷◌, ◌≡◌, ◌≤◌, [], ap, append_assoc, Bool, false, inl, inr, length, List, refl, subst, sym, take, true, ℕ, append-nil, list_all, if◌then◌else◌, begins_box, BeginsBox, ends_box, EndsOnce, Follows, IsBox, IsBoxAtMost, IsCutOn, IsCutUpTo, entered, escape, informal, is_directive, opening, OutsideKind, remark, schema_opening, SpellsOutside, openings, kind_of, Match, NotInProfile, Next, Piece, Plain, Refused, Symbol, Region, Border, Kind, BeginSchema, BeginZed, EndBox, Token, Outside, Zed, Schema}
 use Rattle.zf_scan.specs.declared.next.Next.TheVariants as next
-use Rattle.zf_scan.specs.declared.pieces.Region.TheVariants.{Outside, Zed, Schema}
 use Rattle.zf_scan.proofs.Laws.{cut_whole}
 use Rattle.zf_scan.proofs.Scanned.{StandsAt}
 use Rattle.zf_scan.proofs.Table.{hit}

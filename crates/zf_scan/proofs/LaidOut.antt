@@ -1,7 +1,6 @@
 -- That tokens laid out in a text are its symbols.
-use Rattle.zf_scan.proofs.Prelude.{◌++◌, ◌-◌, ◌∙◌, ◌∷◌, ◌≡◌, ◌≤◌, [], ap, arith, drop, length, length-append, length-drop, List, map, refl, sym, take, ℕ, drop-append_seam, take-append_seam, drop-append-le, map-append, take-append-le, next_of, amount, AreWithin, IsLaid, spelling, between, symbol_at, unplaced, kind_of, Placed, Kind, Token, take_all}
+use Rattle.zf_scan.proofs.Prelude.{◌++◌, ◌-◌, ◌∙◌, ◌∷◌, ◌≡◌, ◌≤◌, [], ap, arith, drop, length, length-append, length-drop, List, map, refl, sym, take, ℕ, drop-append_seam, take-append_seam, drop-append-le, map-append, take-append-le, next_of, amount, AreWithin, IsLaid, spelling, between, symbol_at, unplaced, kind_of, Placed, Kind, Token, take_all, symbol}
 use Rattle.zf_scan.specs.declared.token.Kind.TheVariants as k
-use Rattle.zf_scan.specs.{symbol}
 
 between_kept : (start stop : ℕ) (text more : List ℕ) → start ≤ stop → stop ≤ length text → between start stop (text ++ more) ≡ between start stop text
 between_kept start stop text more h w =

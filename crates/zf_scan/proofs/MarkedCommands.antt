@@ -1,6 +1,5 @@
 -- The commands of a backslash and one mark: what stands after the mark doesn't matter. And what closes a box begins `\e`.
-use Rattle.zf_scan.proofs.Prelude.{◌+◌, ◌∙◌, ◌∷◌, ◌≡◌, ◌≤◌, [], ap, ap₂, arith, drop, false, length, length-take-le, List, None, refl, slice_index_or, Some, suc, sym, take, ℕ, is_letter, look_up, symbols, begins, command_len, found, long_len, or_else, run_len, step_len, tail_len, command_found, short_command, Piece, Symbol, Letters, CloseBrace, OpenBrace, Separator}
-use Rattle.std.specs.Prelude.{min}
+use Rattle.zf_scan.proofs.Prelude.{◌+◌, ◌∙◌, ◌∷◌, ◌≡◌, ◌≤◌, [], ap, ap₂, arith, drop, false, length, length-take-le, List, None, refl, slice_index_or, Some, suc, sym, take, ℕ, is_letter, look_up, symbols, begins, command_len, found, long_len, or_else, run_len, step_len, tail_len, command_found, short_command, Piece, Symbol, Letters, CloseBrace, OpenBrace, Separator, min}
 use Rattle.zf_scan.specs.declared.token.Separator.TheVariants as separators
 use Rattle.zf_scan.proofs.Closing.{tail_within}
 use Rattle.zf_scan.proofs.Fronts.{one_differs}

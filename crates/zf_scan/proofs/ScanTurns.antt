@@ -1,10 +1,9 @@
 -- One turn of the scanner's loop: a blank, another piece without a token, a symbol.
-use Rattle.zf_scan.proofs.Prelude.{◌++◌, ◌+◌, ◌<◌, ◌∙◌, ◌∷◌, ◌≡◌, [], ap, arith, drop, inl, inr, length, length-take-le, List, map, refl, subst, sym, take, ℕ, Before, entered, IsRead, newlines, token_at, kind_of, piece_of, match_of, Match, found, found_at, Plain, Symbol, Region, Placed, Token, length-drop, between, begins_box, true, map-append}
+use Rattle.zf_scan.proofs.Prelude.{◌++◌, ◌+◌, ◌<◌, ◌∙◌, ◌∷◌, ◌≡◌, [], ap, arith, drop, inl, inr, length, length-take-le, List, map, refl, subst, sym, take, ℕ, Before, entered, IsRead, newlines, token_at, kind_of, piece_of, match_of, Match, found, found_at, Plain, Symbol, Region, Placed, Token, length-drop, between, begins_box, true, map-append, Outside}
 use Rattle.zf_scan.specs.declared.next.Next as symbol
 use Rattle.zf_scan.specs.declared.pieces.Match as code
 use Rattle.zf_scan.specs.declared.pieces.Lexeme.{Lexeme}
 use Rattle.zf_scan.specs.declared.pieces.Lexeme.TheVariants as lexemes
-use Rattle.zf_scan.specs.declared.pieces.Region.TheVariants.{Outside}
 use Rattle.zf_scan.proofs.BoxParts.{begins_same, begins_there}
 use Rattle.zf_scan.proofs.Quiet.{quiet}
 use Rattle.zf_scan.proofs.Scanned.{StandsAt, Next, found_next, goes, turned, moved, told_plain, told_symbol, placed_told}

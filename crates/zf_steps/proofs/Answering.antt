@@ -1,30 +1,13 @@
 -- What the searches answer, in the turn of a node.
-use Rattle.std.proofs.Common.{◌+◌, ◌<◌, ◌∙◌, ◌≡◌, [], ap, arith, Bool, false, inl, List, Option, refl, Some, subst, suc, sym, true, ℕ}
-use Rattle.std.specs.Prelude.{unwrap_or}
-use Rattle.zf_graph.proofs.Going.{begins_with_none}
-use Rattle.zf_graph.specs.{AreFirst, BeginsTurn}
+use Rattle.zf_steps.proofs.Prelude.{◌+◌, ◌<◌, ◌∙◌, ◌≡◌, [], ap, arith, Bool, false, inl, List, Option, refl, Some, subst, suc, sym, true, ℕ, unwrap_or, begins_with_none, AreFirst, BeginsTurn, AdvancesTo, HasFewer, IsSeenAs, Value, value_order, AllPairs-nil, Contains-nil, Out, True, Conjuncts, Advances, ComesAfter, Event, IsEvent, IsNoneAhead, SameRanges, Stage, Takes, property, Label, Node, State, BeginsFor, BeginsState, begun_as, exploration, GoesOn, HasFound, HasPassed, held_by, IsEventOf, IsFirstOf, IsFound, IsSight, IsStray, Operation, parts_of, rows_ahead, searched, sought_in, stopped, System, Stepped, values_at}
 use Rattle.zf_lines.proofs.Fewer.{ahead_count, one_fewer}
 use Rattle.zf_reach.specs.declared.machine.Found as answer
 use Rattle.zf_reach.specs.declared.machine.Found.TheVariants as founds
 use Rattle.zf_reach.specs.declared.sight.Sight.{Sight}
 use Rattle.zf_reach.specs.declared.sight.Sight.TheVariants as sights
-use Rattle.zf_reach.specs.{AdvancesTo, HasFewer, IsSeenAs}
 use Rattle.zf_value.specs.contracts.plain.ValueOrd.TheImpl.Laws as order_laws
-use Rattle.zf_value.specs.declared.plain.Value.{Value}
-use Rattle.zf_value.specs.{value_order}
-use Rattle.zf_walk.proofs.Lists.{AllPairs-nil, Contains-nil}
-use Rattle.zf_walk.specs.declared.judge.Truth.TheVariants.{Out, True}
 use Rattle.zf_walk.specs.declared.step.Step.TheVariants.{Breaks, End, Holds}
-use Rattle.zf_walk.specs.Conjuncts.{Conjuncts}
-use Rattle.zf_walk.specs.{Advances, ComesAfter, Event, IsEvent, IsNoneAhead, SameRanges, Stage, Takes}
-use Rattle.zf_enum.specs.{property}
 use Rattle.zf_steps.proofs.Searching.{all_passed, begins_so, breaks_so, event_in, found_at, goes_on}
-use Rattle.zf_steps.specs.declared.node.Label.{Label}
-use Rattle.zf_steps.specs.declared.node.Node.{Node}
-use Rattle.zf_steps.specs.declared.node.Node.TheVariants.{State}
-use Rattle.zf_steps.specs.{BeginsFor, BeginsState, begun_as, exploration, GoesOn, HasFound, HasPassed, held_by, IsEventOf, IsFirstOf, IsFound, IsSight, IsStray, Operation, parts_of, rows_ahead, searched, sought_in, stopped, System}
-use Rattle.zf_steps.specs.declared.stepped.Stepped.{Stepped}
-use Rattle.zf_places.specs.{values_at}
 
 -- the row that a step gave
 row_of : (given row : List Value) (last : Option (List Value)) → given ≡ unwrap_or last [] → last ≡ Some row → given ≡ row

@@ -1,10 +1,6 @@
 -- Components of the state whose name a schema has at another type, component by component.
-use Rattle.std.proofs.Common.{◌+◌, ◌<◌, ◌∙◌, ◌∷◌, ◌≡◌, ◌≤◌, ◌↔◌, ap, Bool, drop, get_or, inr, IsTrue, length, List, map, Some, subst, sym, ℕ}
-use Rattle.zf_graph.proofs.Places.{one_some}
-use Rattle.zf_term.specs.{Comp, comp_of, first_named}
-use Rattle.zf_term.specs.declared.schema.Component.{Component}
+use Rattle.zf_steps.proofs.Prelude.{◌+◌, ◌<◌, ◌∙◌, ◌∷◌, ◌≡◌, ◌≤◌, ◌↔◌, ap, Bool, drop, get_or, inr, IsTrue, length, List, map, Some, subst, sym, ℕ, one_some, Comp, comp_of, first_named, Component, Allows, AllowsAll, StateClashes}
 use Rattle.zf_steps.proofs.Shapes.{ahead_got, nothing_ahead}
-use Rattle.zf_steps.specs.{Allows, AllowsAll, StateClashes}
 
 pub found_allows : (comps : List Comp) (c d : Comp) (place : ℕ) (b : Bool) → Some (place, d) ≡ first_named (λ e. e.name) c.name comps → IsTrue b ↔ (d.type ≡ c.type) → IsTrue b ↔ Allows comps c
 found_allows comps c d place b at same = (

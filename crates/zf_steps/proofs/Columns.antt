@@ -1,7 +1,5 @@
 -- Texts that are appended one after another, each on a line of its own.
-use Rattle.std.proofs.Common.{◌++◌, ◌∙◌, ◌∷◌, ◌≡◌, [], ap, append-nil, codes, List, sym, ℕ}
-use Rattle.std.proofs.lemmas.List.{append_assoc}
-use Rattle.zf_steps.specs.{column}
+use Rattle.zf_steps.proofs.Prelude.{◌++◌, ◌∙◌, ◌∷◌, ◌≡◌, [], ap, append-nil, codes, List, sym, ℕ, append_assoc, column}
 
 pub column-over : (text whole : List ℕ) (ts : List (List ℕ)) → ts ≡ [] → text ++ column ts ≡ whole → text ≡ whole
 column-over text whole ts none h = let nothing : (l : List ℕ) → l ++ [] ≡ l = append-nil in sym (nothing text) ∙ ap (λ l. text ++ column l) (sym none) ∙ h

@@ -1,13 +1,5 @@
 -- Searches of several schemas: that at a place, and another in its stead.
-use Rattle.std.proofs.Common.{◌++◌, ◌+◌, ◌<◌, ◌≡◌, ◌∙◌, ◌∷◌, [], ap, arith, get_or, length, List, map, refl, Some, subst, suc, sym, take, zero, ℕ}
-use Rattle.std.proofs.lemmas.List.{map-append, take_more}
-use Rattle.std.specs.List.{AllByRecursion}
-use Rattle.std.proofs.lemmas.Option.{slice_get-get_or}
-use Rattle.std.specs.Prelude.{slice_get, slice_index_or, slice_set}
-use Rattle.zf_graph.proofs.Places.{none_some, one_some}
-use Rattle.zf_meaning.specs.{Environment}
-use Rattle.zf_term.specs.{Schema}
-use Rattle.zf_steps.specs.{AreFor}
+use Rattle.zf_steps.proofs.Prelude.{◌++◌, ◌+◌, ◌<◌, ◌≡◌, ◌∙◌, ◌∷◌, [], ap, arith, get_or, length, List, map, refl, Some, subst, suc, sym, take, zero, ℕ, map-append, take_more, AllByRecursion, slice_get-get_or, slice_get, slice_index_or, slice_set, none_some, one_some, Environment, Schema, AreFor}
 
 -- what holds of all holds of what stands at a place
 pub all_at : {X : Type 0} (P : X → Type 0) (xs : List X) (i : ℕ) (d : X) → AllByRecursion P xs → i < length xs → P (get_or xs i d)

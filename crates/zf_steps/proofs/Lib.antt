@@ -1,3 +1,4 @@
+pub mod Prelude
 pub mod Sure
 pub mod Stopping
 pub mod Satisfying

@@ -1,26 +1,11 @@
 -- The machine's searches, before and after its steps.
-use Rattle.std.proofs.Common.{◌+◌, ◌<◌, ◌∙◌, ◌≡◌, [], arith, Bool, Err, IfOk, length, List, map, Ok, OnOk, Option, refl, Result, Some, subst, sym, ℕ}
-use Rattle.std.proofs.lemmas.List.{length-map}
-use Rattle.std.specs.Prelude.{slice_get, slice_index_or, slice_set}
-use Rattle.zf_graph.proofs.Places.{at_map, one_some}
-use Rattle.zf_graph.specs.{AreFirst, Explored, Turn}
-use Rattle.zf_meaning.specs.{Environment}
+use Rattle.zf_steps.proofs.Prelude.{◌+◌, ◌<◌, ◌∙◌, ◌≡◌, [], arith, Bool, Err, IfOk, length, List, map, Ok, OnOk, Option, refl, Result, Some, subst, sym, ℕ, length-map, slice_get, slice_index_or, slice_set, at_map, one_some, AreFirst, Explored, Turn, Environment, AdvancesTo, HasFewer, Schema, Value, value_order, AllPairs-nil, Contains-nil, ComesAfter, Event, Stage, Label, Node, Root, State, BeginsFor, exploration, Fits, GoesOn, HasFound, HasPart, HasPassed, held_by, number_of, parts_of, rows_ahead, rows_ahead_at, search_of, searched, Stands, System}
 use Rattle.zf_reach.specs.declared.machine.Found.{Found}
 use Rattle.zf_reach.specs.declared.machine.Found.TheVariants.{Edge, Out, Over}
-use Rattle.zf_reach.specs.{AdvancesTo, HasFewer}
-use Rattle.zf_term.specs.{Schema}
-use Rattle.zf_value.specs.declared.plain.Value.{Value}
-use Rattle.zf_value.specs.{value_order}
-use Rattle.zf_walk.proofs.Lists.{AllPairs-nil, Contains-nil}
-use Rattle.zf_walk.specs.{ComesAfter, Event, Stage}
 use Rattle.zf_steps.proofs.Fitting.{another, for_at, same_length, set_at, stands_at}
 use Rattle.zf_steps.proofs.Searching.{started}
 use Rattle.zf_steps.specs.declared.cursor.Part.{Part}
 use Rattle.zf_steps.specs.declared.cursor.Part.TheVariants.{Initial, Operation}
-use Rattle.zf_steps.specs.declared.node.Label.{Label}
-use Rattle.zf_steps.specs.declared.node.Node.{Node}
-use Rattle.zf_steps.specs.declared.node.Node.TheVariants.{Root, State}
-use Rattle.zf_steps.specs.{BeginsFor, exploration, Fits, GoesOn, HasFound, HasPart, HasPassed, held_by, number_of, parts_of, rows_ahead, rows_ahead_at, search_of, searched, Stands, System}
 use Rattle.zf_steps.specs.Systems as systems
 
 -- ---- the turn of what is before the initial states begins

@@ -1,7 +1,5 @@
 -- Pieces that are appended one after another.
-use Rattle.std.proofs.Common.{◌++◌, ◌∙◌, ◌≡◌, ap, Err, List, Ok, OnOk, Result, ℕ}
-use Rattle.std.proofs.lemmas.List.{append_assoc}
-use Rattle.std.specs.Prelude.{if◌then◌else◌}
+use Rattle.zf_steps.proofs.Prelude.{◌++◌, ◌∙◌, ◌≡◌, ap, Err, List, Ok, OnOk, Result, ℕ, append_assoc, if◌then◌else◌}
 use Rattle.std.specs.Result.{is_ok}
 
 pub three_pieces : (line a b d u v w : List ℕ) → u ≡ line ++ a → v ≡ u ++ b → w ≡ v ++ d → w ≡ line ++ (a ++ (b ++ d))

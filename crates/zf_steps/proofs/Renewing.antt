@@ -1,20 +1,10 @@
 -- A search that is begun again goes by the conjuncts of its schema, over its ranges.
-use Rattle.std.proofs.Common.{◌≡◌, ◌≢◌, ◌∙◌, ◌∷◌, [], ap, Bool, Err, IfOk, List, map, None, Ok, Option, refl, Result, Some, subst, suc, sym, true, zero, ℕ, ⊎_elim, inl, inr}
+use Rattle.zf_steps.proofs.Prelude.{◌≡◌, ◌≢◌, ◌∙◌, ◌∷◌, [], ap, Bool, Err, IfOk, List, map, None, Ok, Option, refl, Result, Some, subst, suc, sym, true, zero, ℕ, ⊎_elim, inl, inr, is_some, Value, value_order, Advances, SameRanges, Environment, environment_of, Schema, schema_of, AreRanges, held_at, Begins, CanHold, conjuncts_of, planted_goal, portion, property, Stepped, AreMarked, AreMarkedHeld, BeginsFor, CanSearch, GoesBy, GoesOver, IsFor, stage_of}
 use Rattle.std.proofs.lemmas.Bool.{false≢true}
-use Rattle.std.specs.Option.{is_some}
 use Rattle.zf_plan.proofs.Alike.{advances}
 use Rattle.zf_plan.specs.{SayTheSame}
-use Rattle.zf_value.specs.declared.plain.Value.{Value}
-use Rattle.zf_value.specs.{value_order}
-use Rattle.zf_walk.specs.{Advances, SameRanges}
-use Rattle.zf_meaning.specs.{Environment, environment_of}
-use Rattle.zf_term.specs.{Schema, schema_of}
-use Rattle.zf_ranges.specs.{AreRanges, held_at}
 use Rattle.zf_enum.specs.declared.instances.Instances.{Instances}
-use Rattle.zf_enum.specs.{Begins, CanHold, conjuncts_of, planted_goal, portion, property}
 use Rattle.zf_steps.specs.declared.renewed.Renewed.{Renewed}
-use Rattle.zf_steps.specs.declared.stepped.Stepped.{Stepped}
-use Rattle.zf_steps.specs.{AreMarked, AreMarkedHeld, BeginsFor, CanSearch, GoesBy, GoesOver, IsFor, stage_of}
 
 pub goes_by_schema : {E : Type 0} (r : Renewed) (i j : Instances) (result : Result Stepped E) → r.search ≡ Some i
     → IfOk result (λ s. Advances value_order (conjuncts_of (planted_goal i.names i.search)) s.step i.search.stage j.search.stage)

@@ -1,17 +1,6 @@
 -- What is found of a state in a schema that is sought: its rows that agree with the state.
-use Rattle.std.proofs.Common.{◌∷◌, ◌≡◌, ◌≢◌, [], inl, inr, List, Option, subst, sym, ℕ}
-use Rattle.std.specs.Prelude.{Contains}
-use Rattle.zf_term.specs.{Comp, Schema}
-use Rattle.zf_value.specs.declared.plain.Value.{Value}
-use Rattle.zf_value.specs.{IsMember}
-use Rattle.zf_walk.proofs.Lists.{Contains-cases, Contains-head, Contains-later, Contains-nil}
+use Rattle.zf_steps.proofs.Prelude.{◌∷◌, ◌≡◌, ◌≢◌, [], inl, inr, List, Option, subst, sym, ℕ, Contains, Comp, Schema, Value, IsMember, Contains-cases, Contains-head, Contains-later, Contains-nil, False, True, Event, IsRowOf, Environment, AreRanges, State, AgreesWith, HasRow, held_by, IsEventOf, IsOther, IsRowIn, IsSought, Operation, Satisfies, sources_of, System, test_in}
 use Rattle.zf_walk.specs.declared.judge.Truth.{Truth}
-use Rattle.zf_walk.specs.declared.judge.Truth.TheVariants.{False, True}
-use Rattle.zf_walk.specs.{Event, IsRowOf}
-use Rattle.zf_meaning.specs.{Environment}
-use Rattle.zf_ranges.specs.{AreRanges}
-use Rattle.zf_steps.specs.declared.node.Node.TheVariants.{State}
-use Rattle.zf_steps.specs.{AgreesWith, HasRow, held_by, IsEventOf, IsOther, IsRowIn, IsSought, Operation, Satisfies, sources_of, System, test_in}
 
 is_member : (xs : List Value) (v : Value) → Contains xs v → IsMember v xs
 is_member [] v k = absurd (Contains-nil v k)

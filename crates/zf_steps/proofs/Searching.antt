@@ -1,23 +1,9 @@
 -- What a search comes to, in the turn of a node.
-use Rattle.std.proofs.Common.{◌++◌, ◌+◌, ◌∙◌, ◌∷◌, ◌≡◌, [], ap, arith, Bool, inl, inr, List, map, None, Option, refl, Some, subst, suc, sym, take, ℕ}
+use Rattle.zf_steps.proofs.Prelude.{◌++◌, ◌+◌, ◌∙◌, ◌∷◌, ◌≡◌, [], ap, arith, Bool, inl, inr, List, map, None, Option, refl, Some, subst, suc, sym, take, ℕ, slice_get, AreFinds, AreFirst, BeginsParts, BeginsTurn, BreaksParts, BreaksTurn, EachHolds, HasParts, Turn, with_edge, begins_in_part, breaks_in_part, one_more_part, Value, value_order, Contains-cases, Contains-either, Contains-nil, Out, True, Conjuncts, Ahead, Event, IsEvent, IsNoneAhead, SameRanges, Stage, Takes, property, AreRanges, Label, Node, BeginsFor, HasFound, HasPassed, held_by, IsFoundAt, never_both, Operation, parts_of, searched, step, stop, System, values_of}
 use Rattle.std.proofs.lemmas.List.{append-nil, append_assoc, map-append}
-use Rattle.std.specs.Prelude.{slice_get}
-use Rattle.zf_graph.specs.{AreFinds, AreFirst, BeginsParts, BeginsTurn, BreaksParts, BreaksTurn, EachHolds, HasParts, Turn, with_edge}
-use Rattle.zf_graph.proofs.Going.{begins_in_part, breaks_in_part, one_more_part}
 use Rattle.zf_value.specs.contracts.plain.ValueOrd.TheImpl.Laws as order_laws
-use Rattle.zf_value.specs.declared.plain.Value.{Value}
-use Rattle.zf_value.specs.{value_order}
-use Rattle.zf_walk.proofs.Lists.{Contains-cases, Contains-either, Contains-nil}
-use Rattle.zf_walk.specs.declared.judge.Truth.TheVariants.{Out, True}
-use Rattle.zf_walk.specs.Conjuncts.{Conjuncts}
-use Rattle.zf_walk.specs.{Ahead, Event, IsEvent, IsNoneAhead, SameRanges, Stage, Takes}
 use Rattle.zf_enum.proofs.EventLaws.{one_ranges}
-use Rattle.zf_enum.specs.{property}
-use Rattle.zf_ranges.specs.{AreRanges}
 use Rattle.zf_lines.proofs.Behind.{Behind, none_behind, one_behind}
-use Rattle.zf_steps.specs.declared.node.Label.{Label}
-use Rattle.zf_steps.specs.declared.node.Node.{Node}
-use Rattle.zf_steps.specs.{BeginsFor, HasFound, HasPassed, held_by, IsFoundAt, never_both, Operation, parts_of, searched, step, stop, System, values_of}
 
 module _ (m : System) (eq : Node → Node → Bool) (a : Node) (number : ℕ) (o : Operation) where
   abbrev conjuncts : Conjuncts Value

@@ -1,13 +1,8 @@
 -- The schemas of a machine, component by component.
 use Rattle.std.proofs.Common.{◌++◌, ◌+◌, ◌<◌, ◌∙◌, ◌∷◌, ◌≡◌, ◌≤◌, ◌⊎◌, ◌↔◌, [], add-one, ap, append_assoc, arith, Bool, drop, Err, get_or, IfOk, inl, inr, IsTrue, length, List, map, MatchOption, None, Ok, Option, refl, Result, Some, subst, suc, sym, take, zero, ℕ}
 use Rattle.std.proofs.lemmas.List.{append-nil, map-append, map_more}
-use Rattle.std.proofs.lemmas.Option.{slice_get-get_or}
+use Rattle.zf_steps.proofs.Prelude.{slice_get-get_or, cond, slice_get, none_some, one_some, Comp, comp_of, first_named, Schema, Component, Has, HasAll, init_in, is_other, IsInit, Lacks, Operation, others_from, with_strokes}
 use Rattle.std.specs.List.{filter_map}
-use Rattle.std.specs.Prelude.{cond, slice_get}
-use Rattle.zf_graph.proofs.Places.{none_some, one_some}
-use Rattle.zf_term.specs.{Comp, comp_of, first_named, Schema}
-use Rattle.zf_term.specs.declared.schema.Component.{Component}
-use Rattle.zf_steps.specs.{Has, HasAll, init_in, is_other, IsInit, Lacks, Operation, others_from, with_strokes}
 use Rattle.zf_steps.proofs.Fitting.{map_map}
 
 -- ---- lists, item by item

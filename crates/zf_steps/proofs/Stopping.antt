@@ -1,9 +1,7 @@
 -- A search that stops before anything is written.
-use Rattle.std.proofs.Common.{[], inl, List, Option, refl, ℕ}
+use Rattle.zf_steps.proofs.Prelude.{[], inl, List, Option, refl, ℕ, front_whole, StopsSearch}
 use Rattle.std.proofs.KnownBytes.{Appends-nil}
 use Rattle.zf_graph.specs.{Explored, Result, Sought, Words}
-use Rattle.zf_reach.proofs.Fronts.{front_whole}
-use Rattle.zf_reach.specs.{StopsSearch}
 
 pub stops_at_once : {N L : Type 0} (p : Explored N L) (s : Sought N) (w : Words N L) (last : Result → (nodes edges : ℕ)
     → List ℕ) (limit : ℕ) (origin : Option (List ℕ)) → StopsSearch p s w last limit origin origin

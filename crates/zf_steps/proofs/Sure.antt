@@ -1,10 +1,8 @@
 -- The laws of what is searched.
-use Rattle.std.proofs.Common.{ℕ}
-use Rattle.zf_graph.specs.{IsDecisive, IsOf, IsSearchedInOneWay, IsSure}
+use Rattle.zf_steps.proofs.Prelude.{ℕ, IsDecisive, IsOf, IsSearchedInOneWay, IsSure, decisive, exploration, explored_in, orderly, searched, sought_in, steps, System, verdict, words}
 use Rattle.zf_graph.proofs.OneSearch.{one_search}
 use Rattle.zf_graph.proofs.Turns.{of_graph, sure}
 use Rattle.zf_steps.specs.contracts.node.NodePartialEq.TheImpl as nodes
-use Rattle.zf_steps.specs.{decisive, exploration, explored_in, orderly, searched, sought_in, steps, System, verdict, words}
 
 pub is_of : (m : System) → IsOf (exploration m nodes.ghosts.eq) (steps m nodes.ghosts.eq)
 is_of m = of_graph (searched m nodes.ghosts.eq) (orderly m)

@@ -1,9 +1,7 @@
 -- What is said in any form.
-use Rattle.std.proofs.Common.{◌++◌, ◌∙◌, ◌≡◌, [], ap, append-nil, List, refl, sym, ℕ}
+use Rattle.zf_steps.proofs.Prelude.{◌++◌, ◌∙◌, ◌≡◌, [], ap, append-nil, List, refl, sym, ℕ, Root, System, words, words_in}
 use Rattle.zf_steps.specs.declared.form.Form.{Form}
 use Rattle.zf_steps.specs.declared.form.Form.TheVariants as forms
-use Rattle.zf_steps.specs.declared.node.Node.TheVariants.{Root}
-use Rattle.zf_steps.specs.{System, words, words_in}
 
 no_words : (f : Form) (m : System) (from number : ℕ) → (words_in f m).node from number Root ≡ []
 no_words forms.Lines m from number = refl

@@ -1,6 +1,6 @@
 -- What is explored of a specification, with nodes that are one where they are equal, and which states are sought.
 use Rattle.std.specs.Prelude.{Bool}
-use Rattle.zf_graph.specs.{Explored, Sought}
+use Rattle.zf_steps.specs.Prelude.{Explored, Sought}
 use Rattle.zf_steps.specs.contracts.node.NodePartialEq.TheImpl as nodes
 use Rattle.zf_steps.specs.declared.node.Label.{Label}
 use Rattle.zf_steps.specs.declared.node.Node.{Node}

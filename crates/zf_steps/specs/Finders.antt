@@ -1,12 +1,6 @@
 -- Where a search stands, and how it goes on.
 use Rattle.std.specs.Prelude.{◌≡◌, List, [], Option, None, Some, Result, IfOk, OnOk, unwrap_or}
-use Rattle.zf_term.specs.{Schema}
-use Rattle.zf_value.specs.declared.plain.Value.{Value}
-use Rattle.zf_value.specs.{value_order}
-use Rattle.zf_walk.specs.{Advances, AreAllAhead, SameRanges, Stage}
-use Rattle.zf_meaning.specs.{Environment}
-use Rattle.zf_enum.specs.{property}
-use Rattle.zf_ranges.specs.{AreRanges}
+use Rattle.zf_steps.specs.Prelude.{Schema, Value, value_order, Advances, AreAllAhead, SameRanges, Stage, Environment, property, AreRanges}
 use Rattle.zf_steps.specs.declared.stepped.Stepped.{Stepped}
 
 -- before all events of the schema that have these values

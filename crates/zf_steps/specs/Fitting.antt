@@ -1,7 +1,6 @@
 -- Searches of several schemas. No public clause rests on this file, but those of the machine.
 use Rattle.std.specs.Prelude.{List, [], ◌∷◌}
-use Rattle.zf_term.specs.{Schema}
-use Rattle.zf_meaning.specs.{Environment}
+use Rattle.zf_steps.specs.Prelude.{Schema, Environment}
 
 module _ {S : Type 0} (IsFor : S → Environment → Schema → Type 0) (e : Environment) where
   -- a search for each schema, in their order

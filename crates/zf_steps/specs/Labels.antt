@@ -1,10 +1,7 @@
 -- The labels of a graph for Graphviz, between quotes.
 use Rattle.std.specs.Prelude.{ℕ, List, [], ◌∷◌, codes, cond, eqb, flat_map, ◌++◌}
+use Rattle.zf_steps.specs.Prelude.{Value, Spelling, components_in, Comp}
 use Rattle.zf_format.specs.declared.format.Format.TheVariants.{Lines}
-use Rattle.zf_value.specs.declared.plain.Value.{Value}
-use Rattle.zf_print.specs.declared.spelling.Spelling.{Spelling}
-use Rattle.zf_print.specs.{components_in}
-use Rattle.zf_term.specs.{Comp}
 
 -- each text on a line of its own
 abbrev pub column : List (List ℕ) → List ℕ

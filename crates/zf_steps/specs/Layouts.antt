@@ -1,10 +1,7 @@
 -- How the binding of a label is laid out. No public clause rests on this file.
 use Rattle.std.specs.Prelude.{ℕ, List}
+use Rattle.zf_steps.specs.Prelude.{Comp, binding_object, binding_text, Spelling, Value}
 use Rattle.zf_steps.specs.Labels.{column_text}
-use Rattle.zf_term.specs.{Comp}
-use Rattle.zf_print.specs.{binding_object, binding_text}
-use Rattle.zf_print.specs.declared.spelling.Spelling.{Spelling}
-use Rattle.zf_value.specs.declared.plain.Value.{Value}
 use Rattle.zf_steps.specs.declared.layout.Layout.{Layout}
 use Rattle.zf_steps.specs.declared.layout.Layout.TheVariants.{Column, Line, Object}
 

@@ -1,9 +1,6 @@
 -- The lines of states and steps.
 use Rattle.std.specs.Prelude.{ℕ, ◌-◌, ◌^◌, ◌++◌, List, [], ◌∷◌, codes, cond, decimal, eqb, min, Option, slice_get}
-use Rattle.zf_graph.specs.{broken, ended, Ending, found, missing, open_ended, paused, Result, untold, Words}
-use Rattle.zf_term.specs.{Comp}
-use Rattle.zf_print.specs.{binding_text}
-use Rattle.zf_value.specs.declared.plain.Value.{Value}
+use Rattle.zf_steps.specs.Prelude.{broken, ended, Ending, found, missing, open_ended, paused, Result, untold, Words, Comp, binding_text, Value}
 use Rattle.zf_steps.specs.declared.node.Label.{Label}
 use Rattle.zf_steps.specs.declared.node.Node.{Node}
 use Rattle.zf_steps.specs.declared.node.Node.TheVariants.{Root, State}

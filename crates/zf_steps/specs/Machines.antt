@@ -1,21 +1,14 @@
 -- A specification as a machine. No public clause rests on this file, but those of the machine.
 use Rattle.std.specs.Prelude.{◌≡◌, ℕ, ◌+◌, ◌<◌, Bool, List, length, map, Option, None, Some, slice_get}
-use Rattle.zf_graph.specs.{Turn}
+use Rattle.zf_steps.specs.Prelude.{Turn, Environment, AdvancesTo, BeginsAs, UnlessOut, Schema, Value, value_order, Spelling, Stage, values_at}
 use Rattle.zf_lines.proofs.Fewer.{ahead_count}
-use Rattle.zf_meaning.specs.{Environment}
 use Rattle.zf_reach.specs.declared.machine.Beginning.{Beginning}
 use Rattle.zf_reach.specs.declared.machine.Beginning.TheVariants as beginnings
 use Rattle.zf_reach.specs.declared.machine.Found.{Found}
 use Rattle.zf_reach.specs.declared.machine.Found.TheVariants as founds
 use Rattle.zf_reach.specs.declared.sight.Sight.{Sight}
 use Rattle.zf_reach.specs.declared.sight.Sight.TheVariants as sights
-use Rattle.zf_reach.specs.{AdvancesTo, BeginsAs, UnlessOut}
-use Rattle.zf_term.specs.{Schema}
-use Rattle.zf_value.specs.declared.plain.Value.{Value}
-use Rattle.zf_value.specs.{value_order}
-use Rattle.zf_print.specs.declared.spelling.Spelling.{Spelling}
 use Rattle.zf_walk.specs.declared.step.Step.TheVariants as steps
-use Rattle.zf_walk.specs.{Stage}
 use Rattle.zf_steps.specs.declared.cursor.Part.{Part}
 use Rattle.zf_steps.specs.declared.cursor.Part.TheVariants as parts
 use Rattle.zf_steps.specs.declared.form.Form.{Form}
@@ -26,7 +19,6 @@ use Rattle.zf_steps.specs.declared.stepped.Stepped.{Stepped}
 use Rattle.zf_steps.specs.Fitting.{AreFor}
 use Rattle.zf_steps.specs.Searching.{HasFound, HasPassed}
 use Rattle.zf_steps.specs.Steps.{exploration, stopped}
-use Rattle.zf_places.specs.{values_at}
 use Rattle.zf_steps.specs.Systems.{Operation, System}
 
 -- ---- which part is searched

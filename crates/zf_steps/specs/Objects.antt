@@ -1,9 +1,6 @@
 -- The objects of states and steps, each on a line of its own.
 use Rattle.std.specs.Prelude.{ℕ, ◌-◌, ◌^◌, ◌++◌, List, [], codes, cond, decimal, eqb, min, Option, slice_get}
-use Rattle.zf_format.specs.{string_text}
-use Rattle.zf_graph.specs.{broken, ended, Ending, found, missing, open_ended, paused, Result, untold, Words}
-use Rattle.zf_print.specs.{binding_object}
-use Rattle.zf_value.specs.declared.plain.Value.{Value}
+use Rattle.zf_steps.specs.Prelude.{string_text, broken, ended, Ending, found, missing, open_ended, paused, Result, untold, Words, binding_object, Value}
 use Rattle.zf_steps.specs.declared.node.Label.{Label}
 use Rattle.zf_steps.specs.declared.node.Node.{Node}
 use Rattle.zf_steps.specs.declared.node.Node.TheVariants.{Root, State}

@@ -1,15 +1,9 @@
 -- A search that is begun anew for each state. Public clauses cite `CanSearch` and `CanSearchAll` alone.
 use Rattle.std.specs.Prelude.{◌≡◌, ◌≢◌, ◌⊎◌, ℕ, Bool, true, List, [], length, Option, None, Some, slice_get}
-use Rattle.std.specs.List.{AllByRecursion}
-use Rattle.zf_term.specs.{Schema, schema_of}
-use Rattle.zf_finite.specs.{IsFinite}
-use Rattle.zf_value.specs.declared.plain.Value.{Value}
+use Rattle.zf_steps.specs.Prelude.{AllByRecursion, Schema, schema_of, IsFinite, Value, Environment, environment_of, conjuncts_of, planted_goal, property, AreRanges, held_at, IsNoneOut}
 use Rattle.zf_walk.specs.{AreDueWithin, ended, Stage}
 use Rattle.zf_plan.specs.{SayTheSame}
-use Rattle.zf_meaning.specs.{Environment, environment_of}
 use Rattle.zf_enum.specs.declared.instances.Instances.{Instances}
-use Rattle.zf_enum.specs.{conjuncts_of, planted_goal, property}
-use Rattle.zf_ranges.specs.{AreRanges, held_at, IsNoneOut}
 use Rattle.zf_steps.specs.declared.renewed.Renewed.{Renewed}
 use Rattle.zf_steps.specs.Finders.{Place}
 use Rattle.zf_steps.specs.Systems.{System}

@@ -1,13 +1,6 @@
 -- What it means that a state is sought: some row of the schema that is sought agrees with the state in the components that they share.
 use Rattle.std.specs.Prelude.{List, [], ◌∷◌}
-use Rattle.zf_term.specs.{Comp, Schema, sets_of}
-use Rattle.zf_value.specs.declared.plain.Value.{Value}
-use Rattle.zf_walk.specs.declared.judge.Truth.{Truth}
-use Rattle.zf_walk.specs.declared.judge.Truth.TheVariants.{True}
-use Rattle.zf_walk.specs.{IsTruthOf}
-use Rattle.zf_meaning.specs.{Environment}
-use Rattle.zf_enum.specs.{property}
-use Rattle.zf_ranges.specs.{IsHeld, IsInSets}
+use Rattle.zf_steps.specs.Prelude.{Comp, Schema, sets_of, Value, Truth, True, IsTruthOf, Environment, property, IsHeld, IsInSets}
 use Rattle.zf_steps.specs.Shapes.{place_of}
 use Rattle.zf_steps.specs.Steps.{source_value}
 

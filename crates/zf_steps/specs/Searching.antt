@@ -1,11 +1,6 @@
 -- Where the search for the steps of a node stands. No public clause rests on this file.
 use Rattle.std.specs.Prelude.{◌≡◌, ℕ, Bool, List, ◌++◌, map, take, None, Some, slice_get}
-use Rattle.zf_graph.specs.{EachHolds, Edge, HasParts, Turn}
-use Rattle.zf_value.specs.declared.plain.Value.{Value}
-use Rattle.zf_value.specs.{value_order}
-use Rattle.zf_walk.specs.{Event, Stage}
-use Rattle.zf_enum.specs.{property}
-use Rattle.zf_ranges.specs.{AreRanges}
+use Rattle.zf_steps.specs.Prelude.{EachHolds, Edge, HasParts, Turn, Value, value_order, Event, Stage, property, AreRanges}
 use Rattle.zf_lines.proofs.Behind.{Behind}
 use Rattle.zf_steps.specs.declared.node.Label.{Label}
 use Rattle.zf_steps.specs.declared.node.Node.{Node}

@@ -1,8 +1,6 @@
 -- The schemas of a machine: which of their components are those of the state before, and which those of the state after.
 use Rattle.std.specs.Prelude.{◌≡◌, ◌⊎◌, ◌++◌, ◌+◌, ℕ, Bool, not, cond, List, [], ◌∷◌, codes, map, Option, Some, is_some, option_map}
-use Rattle.std.specs.List.{AllByRecursion, filter_map}
-use Rattle.zf_term.specs.{Comp, first_named, Schema}
-use Rattle.zf_places.specs.{comps_at}
+use Rattle.zf_steps.specs.Prelude.{AllByRecursion, filter_map, Comp, first_named, Schema, comps_at}
 use Rattle.zf_steps.specs.Systems.{Operation}
 
 -- ---- components

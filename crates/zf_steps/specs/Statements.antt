@@ -1,7 +1,6 @@
 -- The statements of a graph for Graphviz: its nodes are the states, by their numbers, its edges the steps.
 use Rattle.std.specs.Prelude.{ℕ, ◌++◌, List, [], codes, cond, decimal, eqb, Option, slice_get}
-use Rattle.zf_graph.specs.{Words}
-use Rattle.zf_value.specs.declared.plain.Value.{Value}
+use Rattle.zf_steps.specs.Prelude.{Words, Value}
 use Rattle.zf_steps.specs.declared.node.Label.{Label}
 use Rattle.zf_steps.specs.declared.node.Node.{Node}
 use Rattle.zf_steps.specs.declared.node.Node.TheVariants.{Root, State}

@@ -1,6 +1,6 @@
 -- The components of the state, before and after.
 use Rattle.std.specs.Prelude.{◌≡◌, List, map}
-use Rattle.zf_term.specs.{Comp, comp_of}
+use Rattle.zf_steps.specs.Prelude.{Comp, comp_of}
 use Rattle.zf_steps.specs.declared.shape.States.{States}
 use Rattle.zf_steps.specs.Shapes.{with_strokes}
 

@@ -1,8 +1,6 @@
 -- The graph of a specification, and which can be explored. No text of an exploration rests on this.
 use Rattle.std.specs.Prelude.{Bool}
-use Rattle.std.specs.List.{AllByRecursion}
-use Rattle.zf_finite.specs.{IsFinite}
-use Rattle.zf_graph.specs.{Graph, graph_of}
+use Rattle.zf_steps.specs.Prelude.{AllByRecursion, IsFinite, Graph, graph_of}
 use Rattle.zf_steps.specs.declared.node.Label.{Label}
 use Rattle.zf_steps.specs.declared.node.Node.{Node}
 use Rattle.zf_steps.specs.Steps.{searched}

@@ -1,18 +1,7 @@
 -- The graph of a specification: its states, and the steps that its operations make.
 use Rattle.std.specs.Prelude.{◌≡◌, ◌⊎◌, ℕ, ◌++◌, Bool, List, [], ◌∷◌, codes, map, Option, None, Some, slice_get}
-use Rattle.zf_format.specs.{string_text}
-use Rattle.zf_graph.specs.{Edge, Explored, explored_of, Searched}
-use Rattle.zf_term.specs.{Schema}
-use Rattle.zf_print.specs.{binding_object, binding_text}
-use Rattle.zf_print.specs.declared.spelling.Spelling.{Spelling}
-use Rattle.zf_value.specs.declared.plain.Value.{Value}
-use Rattle.zf_value.specs.{value_order}
+use Rattle.zf_steps.specs.Prelude.{string_text, Edge, Explored, explored_of, Searched, Schema, binding_object, binding_text, Spelling, Value, value_order, ComesAfter, Event, IsEvent, Environment, property, AreRanges, values_at}
 use Rattle.zf_walk.specs.declared.judge.Truth.TheVariants as truth
-use Rattle.zf_walk.specs.{ComesAfter, Event, IsEvent}
-use Rattle.zf_meaning.specs.{Environment}
-use Rattle.zf_enum.specs.{property}
-use Rattle.zf_ranges.specs.{AreRanges}
-use Rattle.zf_places.specs.{values_at}
 use Rattle.zf_steps.specs.declared.form.Form.{Form}
 use Rattle.zf_steps.specs.declared.form.Form.TheVariants as forms
 use Rattle.zf_steps.specs.declared.node.Label.{Label}

@@ -1,26 +1,18 @@
 -- What is searched of a specification is in order. No public clause rests on the proofs here, but those of the machine's laws.
-use Rattle.std.proofs.Common.{◌≡◌, ◌⊎◌, ◌∙◌, ap, ap₂, Bool, false, inl, inr, length, List, Option, refl, subst, sym, true, ℕ}
+use Rattle.std.specs.Prelude.{◌≡◌, ◌⊎◌, Bool, length, List, Option, true, ℕ, slice_get}
+use Rattle.std.proofs.Common.{◌∙◌}
+use Rattle.zf_steps.specs.Prelude.{ap, ap₂, false, inl, inr, refl, subst, sym, HasParts, HasTurn, IsDecisive, IsOrderly, Turn, ResolvedTree, Schema, Value, value_order, Truth, True, False, Out, ComesAfter, Event, IsTruthOf, Environment, one_truth_in, property}
 use Rattle.std.proofs.Math.Seq.{take-length}
 use Rattle.std.proofs.lemmas.Bool.{false≢true}
 use Rattle.std.proofs.lemmas.Cmp.{tied_itself}
-use Rattle.std.specs.Prelude.{slice_get}
 use Rattle.std.specs.Cmp.Lexicographic.{lists_ties, lists_total, pointwise, slice_cmp}
 use Rattle.std.specs.declared.cmp.Ordering.{Ordering}
 use Rattle.std.specs.declared.cmp.Ordering.TheVariants.{Equal, Greater, Less}
 use Rattle.std.specs.Ordering.{is_eq, ordering_reverse}
-use Rattle.zf_graph.specs.{HasParts, HasTurn, IsDecisive, IsOrderly, Turn}
-use Rattle.zf_term.specs.{ResolvedTree, Schema}
 use Rattle.zf_value.specs.contracts.plain.ValueOrd.TheImpl.Laws as order_laws
 use Rattle.zf_value.specs.contracts.plain.ValuePartialEq.TheImpl as equality
 use Rattle.zf_value.proofs.Exact.{exact, is_eq_true}
-use Rattle.zf_value.specs.declared.plain.Value.{Value}
-use Rattle.zf_value.specs.{value_order}
-use Rattle.zf_walk.specs.declared.judge.Truth.{Truth}
-use Rattle.zf_walk.specs.declared.judge.Truth.TheVariants.{True, False, Out}
-use Rattle.zf_walk.specs.{ComesAfter, Event, IsTruthOf}
 use Rattle.zf_walk.proofs.Order.{slice-ties}
-use Rattle.zf_meaning.specs.{Environment}
-use Rattle.zf_enum.specs.{one_truth_in, property}
 use Rattle.zf_steps.specs.contracts.node.NodePartialEq.TheImpl as nodes
 use Rattle.zf_steps.specs.declared.node.Label.{Label}
 use Rattle.zf_steps.specs.declared.node.Node.{Node}

@@ -1,7 +1,6 @@
 -- How the program's systems are seen.
 use Rattle.std.specs.Prelude.{[], None, map}
-use Rattle.zf_term.specs.{Schema}
-use Rattle.zf_meaning.specs.{Environment}
+use Rattle.zf_steps.specs.Prelude.{Schema, Environment}
 use Rattle.zf_steps.specs.declared.system.Operation as code
 use Rattle.zf_steps.specs.declared.system.System as codes
 use Rattle.zf_steps.specs.Systems.{Operation, System}

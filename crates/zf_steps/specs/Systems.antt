@@ -1,8 +1,6 @@
 -- What is explored of a specification: the schema of the state, one by which states are tested, that of the initial states, and the operations.
 use Rattle.std.specs.Prelude.{ℕ, List, Option}
-use Rattle.zf_term.specs.{Comp, Schema}
-use Rattle.zf_print.specs.declared.spelling.Spelling.{Spelling}
-use Rattle.zf_meaning.specs.{Environment}
+use Rattle.zf_steps.specs.Prelude.{Comp, Schema, Spelling, Environment}
 use Rattle.zf_steps.specs.declared.form.Form.{Form}
 
 -- A schema whose bindings are steps: of each of its components, which one of the state before it is, if it is one; the places of those of the state after, and those of the others, with the others themselves.

@@ -1,6 +1,6 @@
 -- The words of an exploration, and the last ones of a search, in the form that is asked for.
 use Rattle.std.specs.Prelude.{ℕ, ◌++◌, List}
-use Rattle.zf_graph.specs.{Result, Words}
+use Rattle.zf_steps.specs.Prelude.{Result, Words}
 use Rattle.zf_steps.specs.declared.form.Form.{Form}
 use Rattle.zf_steps.specs.declared.form.Form.TheVariants as forms
 use Rattle.zf_steps.specs.declared.node.Label.{Label}

@@ -1,11 +1,9 @@
 //! The searches of an exploration, and what a step of one comes to.
 ghost use Rattle.std.specs.Prelude.{◌≡◌, IfOk, OnOk};
-ghost use Rattle.zf_meaning.specs.{Environment};
-ghost use Rattle.zf_reach.specs.{HasFewer, IsSeenAs};
+ghost use Rattle.zf_steps.specs.Prelude.{Environment, HasFewer, IsSeenAs, Schema};
 ghost use Rattle.zf_steps.specs.contracts.node.NodePartialEq.TheImpl as nodes;
 ghost use Rattle.zf_steps.specs.declared.node.Node.TheVariants.{State};
 ghost use Rattle.zf_steps.specs.{BeginsFor, BeginsState, begun_as, GoesOn, held_by, IsForIn, IsFound, IsSight, operation_of, rows_ahead, sought_in, stage_in, system_of};
-ghost use Rattle.zf_term.specs.{Schema};
 
 use crate::finder::{Finder, advance, begin};
 use crate::given::{Schematic, Surrounding};

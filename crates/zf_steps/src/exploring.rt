@@ -1,9 +1,6 @@
 //! The text of what a specification can reach.
 ghost use Rattle.std.specs.Prelude.{◌≡◌, ◌≤◌, ℕ, List, IfOk, OnErr};
-ghost use Rattle.std.specs.Io.KnownBytes.{Appends};
-ghost use Rattle.zf_graph.specs.{IsExplored};
-ghost use Rattle.zf_lines.specs.{device_of, failures_of, read_failures, write_failures};
-ghost use Rattle.zf_reach.specs.{ending_of, StopsEarly};
+ghost use Rattle.zf_steps.specs.Prelude.{Appends, IsExplored, device_of, failures_of, read_failures, write_failures, ending_of, StopsEarly};
 ghost use Rattle.zf_steps.specs.{explored_in, Fits, IsForIn, system_of, words};
 
 use crate::cursor::Cursor;

@@ -1,12 +1,7 @@
 //! What flat schemas can reach in an environment.
 ghost use Rattle.std.specs.Prelude.{◌≡◌, ◌≤◌, ℕ, List, IfOk, OnErr};
-ghost use Rattle.std.specs.Io.KnownBytes.{Appends};
-ghost use Rattle.zf_graph.specs.{IsExplored};
-ghost use Rattle.zf_lines.specs.{device_of, failures_of, read_failures, write_failures};
-ghost use Rattle.zf_meaning.specs.{environment_of};
-ghost use Rattle.zf_reach.specs.{ending_of, StopsEarly};
+ghost use Rattle.zf_steps.specs.Prelude.{Appends, IsExplored, device_of, failures_of, read_failures, write_failures, environment_of, ending_of, StopsEarly, schema_of};
 ghost use Rattle.zf_steps.specs.{CanSearchAll, explored_in, Fits, IsFor, system_of, words};
-ghost use Rattle.zf_term.specs.{schema_of};
 
 use crate::cursor::Cursor;
 use crate::exploring::explore_by;

@@ -1,12 +1,7 @@
 //! A search for a state of flat schemas in an environment.
 ghost use Rattle.std.specs.Prelude.{◌≡◌, ◌≤◌, ℕ, List, IfOk, OnErr};
-ghost use Rattle.std.specs.Io.KnownBytes.{Appends};
-ghost use Rattle.zf_graph.specs.{IsSearched};
-ghost use Rattle.zf_lines.specs.{device_of, failures_of, read_failures, write_failures};
-ghost use Rattle.zf_meaning.specs.{environment_of};
-ghost use Rattle.zf_reach.specs.{result_of, StopsSearch};
+ghost use Rattle.zf_steps.specs.Prelude.{Appends, IsSearched, device_of, failures_of, read_failures, write_failures, environment_of, result_of, StopsSearch, schema_of};
 ghost use Rattle.zf_steps.specs.{CanSearchAll, explored_in, Fits, IsFor, sought_in, system_of, verdict, words};
-ghost use Rattle.zf_term.specs.{schema_of};
 
 use crate::cursor::Cursor;
 use crate::renewed::{Renewed, searches_of};

@@ -1,8 +1,7 @@
 //! What a graph for Graphviz has between quotes.
 ghost use Rattle.std.specs.Prelude.{◌≡◌, ◌++◌, OnOk, codes};
+ghost use Rattle.zf_steps.specs.Prelude.{comp_of, schema_of, component_text};
 ghost use Rattle.zf_steps.specs.{column_text, label_byte, label_of};
-ghost use Rattle.zf_term.specs.{comp_of, schema_of};
-ghost use Rattle.zf_print.specs.{component_text};
 
 use std::alloc::AllocError;
 use zf_format::Format;

@@ -1,6 +1,6 @@
 //! Laws of what is explored of a specification.
 ghost use Rattle.std.specs.Prelude.{ℕ};
-ghost use Rattle.zf_graph.specs.{IsDecisive, IsOf, IsSearchedInOneWay, IsSure};
+ghost use Rattle.zf_steps.specs.Prelude.{IsDecisive, IsOf, IsSearchedInOneWay, IsSure};
 ghost use Rattle.zf_steps.specs.{exploration, explored_in, sought_in, steps, System, verdict, words};
 ghost use Rattle.zf_steps.specs.contracts.node.NodePartialEq.TheImpl as nodes;
 

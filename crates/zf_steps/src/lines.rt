@@ -1,7 +1,6 @@
 //! The lines of states and steps, each with its newline.
 ghost use Rattle.std.specs.Prelude.{◌≡◌, ◌-◌, ◌^◌, ◌++◌, ℕ, OnOk, Some, decimal, min, slice_get};
-ghost use Rattle.zf_graph.specs.{broken};
-ghost use Rattle.zf_reach.specs.{ending_of};
+ghost use Rattle.zf_steps.specs.Prelude.{broken, ending_of};
 ghost use Rattle.zf_steps.specs.declared.node.Node.TheVariants.{State};
 ghost use Rattle.zf_steps.specs.{count_line, ending_line, label_text, operation_of, operation_text, state_line, step_line, stuck_line, system_of};
 

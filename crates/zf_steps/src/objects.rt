@@ -1,7 +1,6 @@
 //! The objects of states and steps, each with its newline.
 ghost use Rattle.std.specs.Prelude.{◌≡◌, ◌-◌, ◌^◌, ◌++◌, ℕ, OnOk, Some, min, slice_get};
-ghost use Rattle.zf_graph.specs.{broken};
-ghost use Rattle.zf_reach.specs.{ending_of, result_of};
+ghost use Rattle.zf_steps.specs.Prelude.{broken, ending_of, result_of};
 ghost use Rattle.zf_steps.specs.declared.node.Node.TheVariants.{State};
 ghost use Rattle.zf_steps.specs.{count_object, ending_object, operation_of, result_object, state_object, step_members, step_object, stray_object, stuck_object, system_of};
 

@@ -1,14 +1,8 @@
 //! A search that is begun anew for each state.
 ghost use Rattle.std.specs.Prelude.{◌≡◌, ◌≢◌, IfOk, IfSome, OnOk, List, [], None, map, true, unwrap_or};
-ghost use Rattle.std.specs.List.{AllByRecursion};
+ghost use Rattle.zf_steps.specs.Prelude.{AllByRecursion, held_at, IsNoneOut, RefusesStart, Environment, environment_of, Begins, CanHold, conjuncts_of, planted_goal, portion, property, Comp, Schema, schema_of, value_order, Advances, SameRanges};
 ghost use Rattle.std.specs.Option.{is_some};
-ghost use Rattle.zf_ranges.specs.{held_at, IsNoneOut, RefusesStart};
-ghost use Rattle.zf_meaning.specs.{Environment, environment_of};
 ghost use Rattle.zf_steps.specs.{AreFor, AreMarkedHeld, BeginsFor, CanSearch, CanSearchAll, Fits, IsFor, operation_of, stage_at, system_of};
-ghost use Rattle.zf_enum.specs.{Begins, CanHold, conjuncts_of, planted_goal, portion, property};
-ghost use Rattle.zf_term.specs.{Comp, Schema, schema_of};
-ghost use Rattle.zf_value.specs.{value_order};
-ghost use Rattle.zf_walk.specs.{Advances, SameRanges};
 
 use crate::cursor::{Cursor, Part};
 use crate::finder::Finder;

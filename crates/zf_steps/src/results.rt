@@ -1,6 +1,6 @@
 //! The lines at the end of a search.
 ghost use Rattle.std.specs.Prelude.{◌≡◌, ◌-◌, ◌^◌, ◌++◌, ℕ, OnOk, min};
-ghost use Rattle.zf_reach.specs.{result_of};
+ghost use Rattle.zf_steps.specs.Prelude.{result_of};
 ghost use Rattle.zf_steps.specs.{count_line, result_line};
 
 use crate::lines::{append_counts, append_ending};

@@ -1,9 +1,6 @@
 //! The text of a search for a state of a specification.
 ghost use Rattle.std.specs.Prelude.{◌≡◌, ◌≤◌, ℕ, List, IfOk, OnErr};
-ghost use Rattle.std.specs.Io.KnownBytes.{Appends};
-ghost use Rattle.zf_graph.specs.{IsSearched};
-ghost use Rattle.zf_lines.specs.{device_of, failures_of, read_failures, write_failures};
-ghost use Rattle.zf_reach.specs.{result_of, StopsSearch};
+ghost use Rattle.zf_steps.specs.Prelude.{Appends, IsSearched, device_of, failures_of, read_failures, write_failures, result_of, StopsSearch};
 ghost use Rattle.zf_steps.specs.{explored_in, Fits, IsForIn, sought_in, system_of, verdict, words};
 
 use crate::cursor::Cursor;

@@ -1,9 +1,8 @@
 //! The schemas of a machine: which of their components are those of the state before, and which those of the state after.
 ghost use Rattle.std.specs.Prelude.{◌≡◌, ◌⊎◌, ◌++◌, ◌∷◌, ◌↔◌, [], IfOk, IsTrue, MatchOption, OnOk, cond, map, option_to_list};
-ghost use Rattle.std.specs.List.{filter_map};
+ghost use Rattle.zf_steps.specs.Prelude.{filter_map, comp_of, schema_of};
 ghost use Rattle.zf_steps.specs.Shapes as spec;
 ghost use Rattle.zf_steps.specs.{AreStates, before_of, operation_of};
-ghost use Rattle.zf_term.specs.{comp_of, schema_of};
 
 use crate::system::Operation;
 use bumpalo::Bump;

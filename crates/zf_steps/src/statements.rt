@@ -1,6 +1,6 @@
 //! The statements of a graph for Graphviz: its nodes are the states, by their numbers, its edges the steps.
 ghost use Rattle.std.specs.Prelude.{◌≡◌, ◌-◌, ◌^◌, ◌++◌, ℕ, OnOk, Some, codes, decimal, min, slice_get};
-ghost use Rattle.zf_reach.specs.{ending_of, result_of};
+ghost use Rattle.zf_steps.specs.Prelude.{ending_of, result_of};
 ghost use Rattle.zf_steps.specs.declared.node.Node.TheVariants.{State};
 ghost use Rattle.zf_steps.specs.{column_text, count_line, edge_statement, ending_line, frame_text, graph_head, graph_last, label_of, node_statement, operation_of, result_line, step_text, stray_statement, stuck_statement, system_of};
 

@@ -1,10 +1,8 @@
 -- Members of lists, and lists in order.
-use Rattle.zf_value.proofs.Prelude.{◌++◌, ◌+◌, ◌-◌, ◌<◌, ◌↔◌, ◌∙◌, ◌∷◌, ◌≡◌, ◌≤◌, ◌⊎◌, [], add-one, ap, arith, drop, false, get_or, inl, inr, IsTrue, length, Less, List, refl, subst, suc, sym, take, true, zero, ℕ, ⊎_elim, tied_itself, get_or_default, all_adjacent_more, AllAdjacentBelow, AllByRecursion, Contains, IsStrictlySortedBy, is_lt, IsAscending, IsMember, value_order, AreAmong, Value}
+use Rattle.zf_value.proofs.Prelude.{◌++◌, ◌+◌, ◌-◌, ◌<◌, ◌↔◌, ◌∙◌, ◌∷◌, ◌≡◌, ◌≤◌, ◌⊎◌, [], add-one, ap, arith, drop, false, get_or, inl, inr, IsTrue, length, Less, List, refl, subst, suc, sym, take, true, zero, ℕ, ⊎_elim, tied_itself, get_or_default, all_adjacent_more, AllAdjacentBelow, AllByRecursion, Contains, IsStrictlySortedBy, is_lt, IsAscending, IsMember, value_order, AreAmong, Value, Contains-get_or, total-law}
 use Rattle.std.specs.declared.cmp.Ordering.{Ordering}
 use Rattle.std.specs.declared.cmp.Ordering.TheVariants.{Equal, Greater}
-use Rattle.std.proofs.lemmas.List.Elements.{Contains-get_or}
 use Rattle.std.proofs.lemmas.Map.Keys.{sorted_from_all_adjacent}
-use Rattle.zf_value.specs.contracts.plain.ValueOrd.TheImpl.Laws.{total-law}
 
 -- ---- each of a list
 

@@ -1,8 +1,7 @@
 -- The derived order is that of values, and values that tie are one.
-use Rattle.zf_value.proofs.Prelude.{◌↔◌, ◌∙◌, ◌∷◌, ◌≡◌, [], ap, Equal, Greater, IsTrue, Less, List, map, Ordering, refl, subst, sym, true, tied_itself, slice_cmp, is_eq, ordering_then, level_order, ind-Value, map-Value, out-roll-Value, out-Value, roll-out-Value, roll-Value, Value, Value-F}
+use Rattle.zf_value.proofs.Prelude.{◌↔◌, ◌∙◌, ◌∷◌, ◌≡◌, [], ap, Equal, Greater, IsTrue, Less, List, map, Ordering, refl, subst, sym, true, tied_itself, slice_cmp, is_eq, ordering_then, level_order, ind-Value, map-Value, out-roll-Value, out-Value, roll-out-Value, roll-Value, Value, Value-F, is, total-law}
 use Rattle.std.proofs.lemmas.Map.Lookups.{exact_unsigned, exact_signed}
 use Rattle.zf_value.specs.contracts.plain.ValueOrd.TheImpl.{ghosts}
-use Rattle.zf_value.specs.contracts.plain.ValueOrd.TheImpl.Laws.{is, total-law}
 
 abbrev pub cmp : Value → Value → Ordering
 cmp = ghosts.cmp

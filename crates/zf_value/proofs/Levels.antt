@@ -1,8 +1,7 @@
 -- How forms compare is how the values compare that they are.
-use Rattle.zf_value.proofs.Prelude.{◌∙◌, ◌≡◌, ap, refl, Some, sym, is_eq, value_of, outs-Elem, outs-Int, outs-SetOf, outs-Tuple, Form}
+use Rattle.zf_value.proofs.Prelude.{◌∙◌, ◌≡◌, ap, refl, Some, sym, is_eq, value_of, outs-Elem, outs-Int, outs-SetOf, outs-Tuple, Form, is}
 use Rattle.zf_value.specs.declared.value.Form.TheVariants as form
 use Rattle.zf_value.specs.contracts.plain.ValueOrd.TheImpl as plain
-use Rattle.zf_value.specs.contracts.plain.ValueOrd.TheImpl.Laws.{is}
 use Rattle.zf_value.specs.contracts.plain.ValueHash.TheImpl as fed
 use Rattle.zf_value.specs.contracts.plain.ValueHash.TheImpl.Laws as hashed
 use Rattle.zf_value.specs.contracts.value.FormOrd.TheImpl as forms

@@ -1,9 +1,7 @@
 -- The one way in which sets are made: from an ascending list of the values that pass.
-use Rattle.zf_value.proofs.Prelude.{◌*◌, ◌+◌, ◌<◌, ◌↔◌, ◌∙◌, ◌≡◌, ◌≤◌, [], ap, arith, Bool, false, length, length-take, List, ltb, refl, subst, sym, take, true, ℕ, ltb-false, ltb-true, Contains-permutation, IsPermutation-sym, dedup, IsPermutation, IsSorted, IfOk, AllocError, IsDisplay, IsAscending, IsMember, IsSetOf, value_order, HaveSameMembers, IsGathered, SET_MAX, SetOf, Value, Outcome, Is, Out, Undefined}
+use Rattle.zf_value.proofs.Prelude.{◌*◌, ◌+◌, ◌<◌, ◌↔◌, ◌∙◌, ◌≡◌, ◌≤◌, [], ap, arith, Bool, false, length, length-take, List, ltb, refl, subst, sym, take, true, ℕ, ltb-false, ltb-true, Contains-permutation, IsPermutation-sym, dedup, IsPermutation, IsSorted, IfOk, AllocError, IsDisplay, IsAscending, IsMember, IsSetOf, value_order, HaveSameMembers, IsGathered, SET_MAX, SetOf, Value, Outcome, Is, Out, Undefined, IfOk-weaker, Result}
 use Rattle.std.specs.Bool.{MatchBool}
-use Rattle.std.proofs.lemmas.Result.{IfOk-weaker}
 use Rattle.std.specs.List.Retain.{IsFiltered, DiffersFromLast}
-use Rattle.std.specs.Prelude.{Result}
 use Rattle.std.proofs.lemmas.List.Filters.{dedup_is}
 use Rattle.std.proofs.lemmas.List.Kept.{Contains-dedup, Contains-from_dedup, IsStrictlySortedBy-dedup}
 use Rattle.zf_value.specs.contracts.plain.ValuePartialEq.TheImpl as equality

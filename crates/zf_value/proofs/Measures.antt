@@ -1,8 +1,7 @@
 -- The members of a form, and that they are less deep than it.
-use Rattle.zf_value.proofs.Prelude.{◌*◌, ◌+◌, ◌<◌, ◌∙◌, ◌∷◌, ◌≡◌, ◌≤◌, [], ap, arith, Bool, false, length, Less, List, map, None, refl, Some, subst, sym, true, ℕ, ℤ, level_of, value_of, number_at, number_of, pair, members, members_at, parts, place_of_first, Elem, out-Value, SetOf, Tuple, Value, Value-F, outs-Elem, outs-Int, outs-SetOf, outs-Tuple, Form}
+use Rattle.zf_value.proofs.Prelude.{◌*◌, ◌+◌, ◌<◌, ◌∙◌, ◌∷◌, ◌≡◌, ◌≤◌, [], ap, arith, Bool, false, length, Less, List, map, None, refl, Some, subst, sym, true, ℕ, ℤ, level_of, value_of, number_at, number_of, pair, members, members_at, parts, place_of_first, Elem, out-Value, SetOf, Tuple, Value, Value-F, outs-Elem, outs-Int, outs-SetOf, outs-Tuple, Form, greatest, height, height-SetOf, height-Tuple}
 use Rattle.zf_value.specs.declared.value.Form.TheVariants as form
 use Rattle.zf_value.proofs.Seen.{number_of-Int, parts-Tuple}
-use Rattle.zf_value.specs.{greatest, height, height-SetOf, height-Tuple}
 use Rattle.zf_value.specs.declared.value.Value.TheDeep.{size-Value}
 use denote.Param.Weighed.{most}
 

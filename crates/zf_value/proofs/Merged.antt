@@ -1,8 +1,7 @@
 -- Two ascending lists, merged.
-use Rattle.zf_value.proofs.Prelude.{◌++◌, ◌+◌, ◌<◌, ◌↔◌, ◌∙◌, ◌∷◌, ◌≡◌, ◌≤◌, ◌⊎◌, [], add-one, ap, arith, drop, Equal, get_or, Greater, inl, inr, length, Less, List, subst, suc, sym, take, ℕ, ⊎_elim, append-nil, take-append-drop, ordering_reverse, IsAscending, IsMember, value_order, IsJoined, Value, AllByRecursion}
+use Rattle.zf_value.proofs.Prelude.{◌++◌, ◌+◌, ◌<◌, ◌↔◌, ◌∙◌, ◌∷◌, ◌≡◌, ◌≤◌, ◌⊎◌, [], add-one, ap, arith, drop, Equal, get_or, Greater, inl, inr, length, Less, List, subst, suc, sym, take, ℕ, ⊎_elim, append-nil, take-append-drop, ordering_reverse, IsAscending, IsMember, value_order, IsJoined, Value, AllByRecursion, total-law}
 use Rattle.std.proofs.Math.Seq.{drop-cons, append_snoc}
 use Rattle.std.proofs.Math.ListN.{drop_of_length-le}
-use Rattle.zf_value.specs.contracts.plain.ValueOrd.TheImpl.Laws.{total-law}
 use Rattle.zf_value.proofs.Among.{every_from, every_at, members-append, members-push, members-take_more}
 use Rattle.zf_value.proofs.Exact.{exact}
 

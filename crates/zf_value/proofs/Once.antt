@@ -1,6 +1,5 @@
 -- Each operation has one outcome at most.
-use Rattle.zf_value.proofs.Prelude.{◌↔◌, ◌∙◌, ◌∷◌, ◌≡◌, ◌≤◌, [], ap, arith, Equal, Greater, inl, inr, length, Less, List, None, Option, Ordering, refl, Some, subst, sym, ℤ, ⊎_elim, ordering_reverse, IsNumber, OnNumber, OnNumbers, IsDifference, IsInterval, IsNegation, IsProduct, IsSum, IsAscending, IsMember, IsSetOf, value_order, SetOf, Value, Outcome, Is, Out, Undefined}
-use Rattle.zf_value.specs.contracts.plain.ValueOrd.TheImpl.Laws.{total-law}
+use Rattle.zf_value.proofs.Prelude.{◌↔◌, ◌∙◌, ◌∷◌, ◌≡◌, ◌≤◌, [], ap, arith, Equal, Greater, inl, inr, length, Less, List, None, Option, Ordering, refl, Some, subst, sym, ℤ, ⊎_elim, ordering_reverse, IsNumber, OnNumber, OnNumbers, IsDifference, IsInterval, IsNegation, IsProduct, IsSum, IsAscending, IsMember, IsSetOf, value_order, SetOf, Value, Outcome, Is, Out, Undefined, total-law}
 use Rattle.zf_value.specs.Operations as op
 use Rattle.zf_value.proofs.Among.{every_at, not_below_itself}
 use Rattle.zf_value.proofs.Exact.{exact}

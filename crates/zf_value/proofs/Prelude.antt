@@ -8,7 +8,7 @@ pub use Rattle.std.proofs.lemmas.List.Sorted.{all_adjacent_more, Contains-permut
 pub use Rattle.std.specs.Cmp.{int_cmp_is, nat_cmp_is}
 pub use Rattle.std.specs.Cmp.Lexicographic.{slice_cmp}
 pub use Rattle.std.specs.Int.RustNames.{int_div, int_rem, unsigned_abs}
-pub use Rattle.std.specs.List.{AllAdjacentBelow, AllByRecursion, Contains, dedup, fold}
+pub use Rattle.std.specs.List.{AllAdjacentBelow, AllByRecursion, Contains, dedup, fold, AllWithin, HoldsAt}
 pub use Rattle.std.specs.List.Sorted.{IsBinarySearchResult, IsNonDecreasingBy, IsPartitionedBy, IsPartitionPoint, IsPermutation, IsSearchInRange, IsSorted}
 unfoldable pub use Rattle.std.specs.List.Sorted.{IsStrictlySortedBy}
 pub use Rattle.std.specs.Option.{is_some, SomeIff}
@@ -17,7 +17,7 @@ pub use Rattle.std.specs.Prelude.{◌*ℤ◌, ◌+ℤ◌, ◌-ℤ◌, ◌<ℤ◌
 pub use Rattle.std.specs.Result.{IfOk, is_ok}
 pub use Rattle.std.specs.declared.alloc.AllocError.{AllocError}
 pub use denote.Ref.{Bor}
-pub use Rattle.zf_value.specs.{AreRelated, DivisionsTell, IsAscending, IsDivision, IsInDomain, IsInRange, IsKept, IsMember, IsNumber, IsPairOf, IsPartOf, IsRemainder, IsSelected, IsSetOf, level_of, level_order, ListsNumbers, members, members_at, number_at, number_of, OnNumber, OnNumbers, pair, parts, parts_at, place_at, place_beside, place_of_first, Relates, value_of, value_order}
+pub use Rattle.zf_value.specs.{AreRelated, DivisionsTell, IsAscending, IsDivision, IsInDomain, IsInRange, IsKept, IsMember, IsNumber, IsPairOf, IsPartOf, IsRemainder, IsSelected, IsSetOf, level_of, level_order, ListsNumbers, members, members_at, number_at, number_of, OnNumber, OnNumbers, pair, parts, parts_at, place_at, place_beside, place_of_first, Relates, value_of, value_order, greatest, height, height-SetOf, height-Tuple, IsOrdered}
 unfoldable pub use Rattle.zf_value.specs.{AddsPairs, AreAmong, AreElements, GivesJust, HaveSameMembers, IsApplied, IsBetweenNumbers, IsComposition, IsDifference, IsDisplay, IsDomain, IsDomainRestriction, IsDomainSubtraction, IsElement, IsGathered, IsImage, IsIntersection, IsInterval, IsInverse, IsJoined, IsModulus, IsNegation, IsOverriding, IsProduct, IsQuotient, IsRange, IsRangeRestriction, IsRangeSubtraction, IsSetDifference, IsSize, IsSum, IsUnion}
 pub use Rattle.zf_value.specs.declared.TheConstants.{SET_MAX}
 pub use Rattle.zf_value.specs.declared.part.Keep.{Keep}
@@ -29,3 +29,7 @@ pub use Rattle.zf_value.specs.declared.plain.Value.TheVariants.{outs-Elem, outs-
 pub use Rattle.zf_value.specs.declared.value.Form.{Form}
 pub use Rattle.zf_value.specs.declared.value.Outcome.{Outcome}
 pub use Rattle.zf_value.specs.declared.value.Outcome.TheVariants.{Is, Out, Undefined}
+pub use Rattle.std.proofs.lemmas.List.Elements.{Contains-get_or, AllWithin-more, at_read}
+pub use Rattle.zf_value.specs.contracts.plain.ValueOrd.TheImpl.Laws.{total-law, is}
+pub use Rattle.std.proofs.lemmas.Result.{IfOk-weaker}
+pub use Rattle.std.proofs.lemmas.Fn.{always_returns_same}

@@ -1,6 +1,5 @@
 -- Where a binary search in an ascending list ends.
-use Rattle.zf_value.proofs.Prelude.{◌<◌, ◌↔◌, ◌≡◌, ◌≤◌, ◌⊎◌, ap, arith, Equal, Err, get_or, Greater, IsTrue, length, Less, List, Ok, Ordering, refl, Result, subst, ℕ, ⊎_elim, cases_lt, tied_itself, IsBinarySearchResult, IsNonDecreasingBy, IsSearchInRange, ordering_index, is_ok, IsAscending, IsMember, value_order, Value}
-use Rattle.zf_value.specs.contracts.plain.ValueOrd.TheImpl.Laws.{total-law}
+use Rattle.zf_value.proofs.Prelude.{◌<◌, ◌↔◌, ◌≡◌, ◌≤◌, ◌⊎◌, ap, arith, Equal, Err, get_or, Greater, IsTrue, length, Less, List, Ok, Ordering, refl, Result, subst, ℕ, ⊎_elim, cases_lt, tied_itself, IsBinarySearchResult, IsNonDecreasingBy, IsSearchInRange, ordering_index, is_ok, IsAscending, IsMember, value_order, Value, total-law}
 use Rattle.zf_value.proofs.Exact.{exact}
 use Rattle.zf_value.proofs.Among.{below_at, contained, member}
 

@@ -1,8 +1,5 @@
 -- Where the pairs of an ascending relation that begin with one value stand.
-use Rattle.zf_value.proofs.Prelude.{◌+◌, ◌-◌, ◌<◌, ◌∙◌, ◌∷◌, ◌≡◌, ◌≤◌, [], ap, arith, drop, Equal, false, get_or, Greater, length, length-drop, length-take, Less, List, Ordering, refl, sym, take, true, ℕ, ⊎_elim, cases_lt, tied_itself, get_or-drop, get_or-take, slice_cmp, Contains, IsPartitionedBy, IsPartitionPoint, is_le, is_lt, ordering_index, ordering_then, pair, level_order, IsAscending, IsMember, value_order, AreRelated, place_at, place_beside, place_of_first, out-Value, Value, Value-F, outs-Tuple}
-use Rattle.std.specs.Prelude.{Bool}
-use Rattle.std.specs.List.{AllWithin, HoldsAt}
-use Rattle.zf_value.specs.contracts.plain.ValueOrd.TheImpl.Laws.{total-law}
+use Rattle.zf_value.proofs.Prelude.{◌+◌, ◌-◌, ◌<◌, ◌∙◌, ◌∷◌, ◌≡◌, ◌≤◌, [], ap, arith, drop, Equal, false, get_or, Greater, length, length-drop, length-take, Less, List, Ordering, refl, sym, take, true, ℕ, ⊎_elim, cases_lt, tied_itself, get_or-drop, get_or-take, slice_cmp, Contains, IsPartitionedBy, IsPartitionPoint, is_le, is_lt, ordering_index, ordering_then, pair, level_order, IsAscending, IsMember, value_order, AreRelated, place_at, place_beside, place_of_first, out-Value, Value, Value-F, outs-Tuple, Bool, AllWithin, HoldsAt, total-law}
 use Rattle.zf_value.proofs.Among.{contained, member, ascending-take, ascending-drop}
 use Rattle.zf_value.proofs.Exact.{cmp_is, exact}
 use Rattle.zf_value.proofs.Searched.{index_below, rising}

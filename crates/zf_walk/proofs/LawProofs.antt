@@ -1,6 +1,5 @@
 -- The laws of the definitions.
-use Rattle.zf_walk.proofs.Prelude.{◌++◌, ◌∙◌, ◌∷◌, ◌≡◌, ◌⊎◌, [], ap, arith, inl, inr, length, List, None, Option, refl, Some, subst, suc, sym, take, zero, ℕ, false≢true, take_all, IsTotalOrder, lists_total, slice_cmp, ordering_reverse, ordering_then, ◌≢◌, Contains, IsTrue, Ordering, Equal, Greater, Less, Conjuncts, Event, IsEvent, Ahead, IsAhead, IsRest, past, ComesAfter, IsLater, TiesAreEqual, IsDueTest, IsUpTo, IsWalked}
-use Rattle.zf_walk.specs.{EndsWithNone, HasOneList, Resumes, StartsWithAll, StaysWithinBound, TakesFirst}
+use Rattle.zf_walk.proofs.Prelude.{◌++◌, ◌∙◌, ◌∷◌, ◌≡◌, ◌⊎◌, [], ap, arith, inl, inr, length, List, None, Option, refl, Some, subst, suc, sym, take, zero, ℕ, false≢true, take_all, IsTotalOrder, lists_total, slice_cmp, ordering_reverse, ordering_then, ◌≢◌, Contains, IsTrue, Ordering, Equal, Greater, Less, Conjuncts, Event, IsEvent, Ahead, IsAhead, IsRest, past, ComesAfter, IsLater, TiesAreEqual, IsDueTest, IsUpTo, IsWalked, EndsWithNone, HasOneList, Resumes, StartsWithAll, StaysWithinBound, TakesFirst}
 use Rattle.zf_walk.proofs.Lists.{Contains-head, Contains-later, Contains-cases, Contains-nil, Contains-right, Contains-either, AllPairs-nil, AllPairs-cons, AllPairs-head, AllPairs-tail, AllPairs-back, AllPairs-across, AllPairs-unique}
 use Rattle.zf_walk.proofs.Order.{slice-ties}
 use Rattle.zf_walk.proofs.Picks.{IsRowOf-length}

@@ -1,14 +1,8 @@
 -- The truths that a table has marked, a bit each.
-use Rattle.zf_walk.proofs.Prelude.{◌*◌, ◌++◌, ◌+◌, ◌-◌, ◌<◌, ◌∙◌, ◌∷◌, ◌≡◌, ◌⊎◌, [], ap, arith, drop, get_or, inl, inr, length, List, refl, subst, sym, ℕ, cases_eq, drop_more, get_or_append_left, Contains, combinations, HavePlaces, number, Truth, False, Out, True, Table, Used}
-use Rattle.std.specs.Prelude.{◌/◌, ◌%◌, bit_and, bit_or, max, min}
+use Rattle.zf_walk.proofs.Prelude.{◌*◌, ◌++◌, ◌+◌, ◌-◌, ◌<◌, ◌∙◌, ◌∷◌, ◌≡◌, ◌⊎◌, [], ap, arith, drop, get_or, inl, inr, length, List, refl, subst, sym, ℕ, cases_eq, drop_more, get_or_append_left, Contains, combinations, HavePlaces, number, Truth, False, Out, True, Table, Used, ◌/◌, ◌%◌, bit_and, bit_or, max, min, get_or-append_seam, drop_all, mod-lt, bit_at-lt, bit_at-zero, bit_at_and, bit_at_or, HasBit, IsMarked, IsSeen, unseen}
 use Rattle.std.specs.Int.{bit_at}
-use Rattle.std.proofs.Math.Seq.{get_or-append_seam}
-use Rattle.std.proofs.lemmas.List.{drop_all}
-use Rattle.std.proofs.Math.Nat.{mod-lt}
 use Rattle.std.proofs.lemmas.Nat.{div-add-mod'}
-use Rattle.std.proofs.lemmas.Nat.Bits.{bit_at-lt, bit_at-zero, bit_at_and, bit_at_or}
 use Rattle.zf_walk.proofs.Numbering.{digit_small, next_digit, one_digit}
-use Rattle.zf_walk.specs.{HasBit, IsMarked, IsSeen, unseen}
 
 pub unseen-nothing : (i : ℕ) (t : Truth) → IsSeen unseen i t → ⊥
 unseen-nothing i False m = let z = bit_at-zero i in omega (arith, z, m)

@@ -1,6 +1,5 @@
 -- Numbers whose digits are the places of used components.
-use Rattle.zf_walk.proofs.Prelude.{◌*◌, ◌+◌, ◌<◌, ◌∷◌, ◌≡◌, ◌≤◌, [], ap, arith, drop, get_or, inl, inr, length, List, subst, suc, zero, ℕ, cases_eq, cases_lt, drop_more, Contains, combinations, HavePlaces, number, Used}
-use Rattle.std.proofs.Math.Nat.{mul-le-mul_left}
+use Rattle.zf_walk.proofs.Prelude.{◌*◌, ◌+◌, ◌<◌, ◌∷◌, ◌≡◌, ◌≤◌, [], ap, arith, drop, get_or, inl, inr, length, List, subst, suc, zero, ℕ, cases_eq, cases_lt, drop_more, Contains, combinations, HavePlaces, number, Used, mul-le-mul_left}
 use Rattle.zf_walk.proofs.Lists.{Contains-head, Contains-later, Contains-cases, Contains-nil}
 
 pub HavePlaces-tail : (u : Used) (us : List Used) (places : List ℕ) → HavePlaces (u ∷ us) places → HavePlaces us places

@@ -1,8 +1,6 @@
 -- What tables tell of conjuncts is so.
-use Rattle.zf_walk.proofs.Prelude.{◌*◌, ◌++◌, ◌+◌, ◌<◌, ◌^◌, ◌∙◌, ◌∷◌, ◌≡◌, ◌≤◌, [], ap, arith, Bool, false, get_or, inl, inr, length, length-append, List, None, Option, refl, set, Some, subst, suc, sym, true, zero, ℕ, cases_eq, cases_lt, false≢true, get_or-set_other, get_or-set_same, get_or_append_left, get_or_default, length-set, IfSome, slice_get, Conjuncts, FollowUsed, AreWithin, picked, Truth, Table, Used}
-use Rattle.std.proofs.Math.Seq.{get_or-append_seam}
+use Rattle.zf_walk.proofs.Prelude.{◌*◌, ◌++◌, ◌+◌, ◌<◌, ◌^◌, ◌∙◌, ◌∷◌, ◌≡◌, ◌≤◌, [], ap, arith, Bool, false, get_or, inl, inr, length, length-append, List, None, Option, refl, set, Some, subst, suc, sym, true, zero, ℕ, cases_eq, cases_lt, false≢true, get_or-set_other, get_or-set_same, get_or_append_left, get_or_default, length-set, IfSome, slice_get, Conjuncts, FollowUsed, AreWithin, picked, Truth, Table, Used, get_or-append_seam, AreTables, AreUsed, combinations, Fits, HavePlaces, IsMarked, IsTableOf, Keeps, number, told}
 use Rattle.zf_walk.specs.declared.entry.Entry.TheVariants.{Unknown}
-use Rattle.zf_walk.specs.{AreTables, AreUsed, combinations, Fits, HavePlaces, IsMarked, IsTableOf, Keeps, number, told}
 use Rattle.zf_walk.proofs.Marking.{unmarked-new}
 use Rattle.zf_walk.proofs.Lists.{Contains-head, Contains-nil, Contains-left, Contains-right, Contains-either, Contains-cases}
 use Rattle.zf_walk.proofs.Picks.{slice_get-picked, length-picked}

@@ -1,8 +1,5 @@
 -- None of the parameters, one more, and all.
-use Rattle.zf_command.proofs.Prelude.{subst, IsCommand}
-use Rattle.std.proofs.lemmas.List.{take_all}
-use Rattle.clap.specs.Words.{new_app}
-use Rattle.zf_command.specs.{with_parameters}
+use Rattle.zf_command.proofs.Prelude.{subst, IsCommand, take_all, new_app, with_parameters}
 use Rattle.zf_command.proofs.Commands.{with_about, with_next}
 use Rattle.zf_command.proofs.command.command_of.Goals as goal
 

@@ -1,7 +1,5 @@
 -- The command so far has the parameters so far.
-use Rattle.zf_command.proofs.Prelude.{take, IsCommand}
-use Rattle.clap.specs.Words.{new_app}
-use Rattle.zf_command.specs.{with_parameters}
+use Rattle.zf_command.proofs.Prelude.{take, IsCommand, new_app, with_parameters}
 use Rattle.zf_command.proofs.command.command_of.Given as goal
 
 abbrev pub invariant-loop-parameter : goal.invariant-loop-parameter

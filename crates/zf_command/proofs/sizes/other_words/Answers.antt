@@ -1,7 +1,5 @@
 -- The other words so far, word by word.
-use Rattle.zf_command.proofs.Prelude.{◌++◌, ◌∙◌, ◌∷◌, [], ap, List, sym, ℕ}
-use Rattle.std.specs.Prelude.{not}
-use Rattle.zf_command.specs.{is_size_word}
+use Rattle.zf_command.proofs.Prelude.{◌++◌, ◌∙◌, ◌∷◌, [], ap, List, sym, ℕ, not, is_size_word}
 use Rattle.zf_command.proofs.SizeWords.{left_out, picked}
 use Rattle.zf_command.proofs.sizes.other_words.Goals as goal
 use Rattle.zf_command.proofs.sizes.other_words.Goals.{then-not-is_size_word+in_ok-of+in_ok-push, else-not-is_size_word}

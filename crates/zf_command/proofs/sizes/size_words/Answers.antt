@@ -1,7 +1,5 @@
 -- The size words so far, word by word.
-use Rattle.zf_command.proofs.Prelude.{◌∙◌, Bor, List, sym, ℕ}
-use Rattle.std.proofs.lemmas.List.{map-append}
-use Rattle.zf_command.specs.{is_size_word}
+use Rattle.zf_command.proofs.Prelude.{◌∙◌, Bor, List, sym, ℕ, map-append, is_size_word}
 use Rattle.zf_command.proofs.SizeWords.{left_out, picked}
 use Rattle.zf_command.proofs.sizes.size_words.Goals as goal
 use Rattle.zf_command.proofs.sizes.size_words.Goals.{then-is_size_word+in_ok-push, else-is_size_word}

@@ -1,5 +1,4 @@
-use Rattle.zf_cores.proofs.Prelude.{◌≡◌, true}
-use Rattle.std.specs.Prelude.{replicate}
+use Rattle.zf_cores.proofs.Prelude.{◌≡◌, true, replicate}
 use Rattle.zf_cores.proofs.trimming.all_chosen.Given as goal
 
 abbrev pub invariant-loop : goal.invariant-loop

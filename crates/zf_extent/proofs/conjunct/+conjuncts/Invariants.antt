@@ -1,7 +1,4 @@
-use Rattle.std.proofs.Common.{◌≡◌, drop, map}
-use Rattle.zf_term.specs.{conjunct_of, globals_of}
-use Rattle.zf_extent.specs.{first}
-use Rattle.std.specs.Option.{option_or}
+use Rattle.zf_extent.proofs.Prelude.{◌≡◌, drop, map, conjunct_of, globals_of, first, option_or}
 use Rattle.zf_extent.proofs.JoinedOffences.{offenders, side}
 use Rattle.zf_extent.proofs.conjunct.+conjuncts.Given as goal
 

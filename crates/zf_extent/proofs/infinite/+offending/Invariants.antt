@@ -1,7 +1,4 @@
-use Rattle.std.proofs.Common.{◌≡◌, drop}
-use Rattle.zf_term.specs.{globals_of}
-use Rattle.zf_extent.specs.{first}
-use Rattle.std.specs.Option.{option_or}
+use Rattle.zf_extent.proofs.Prelude.{◌≡◌, drop, globals_of, first, option_or}
 use Rattle.zf_extent.proofs.FirstOffenders.{offending_terms, offending_links, offending_ranges}
 use Rattle.zf_extent.proofs.infinite.+offending.Given as goal
 

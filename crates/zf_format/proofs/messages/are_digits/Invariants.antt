@@ -1,6 +1,4 @@
-use Rattle.std.proofs.Common.{◌≡◌, drop}
-use Rattle.std.specs.Char.{is_ascii_digit}
-use Rattle.std.specs.List.{list_all}
+use Rattle.zf_format.proofs.Prelude.{◌≡◌, drop, is_ascii_digit, list_all}
 use Rattle.zf_format.proofs.messages.are_digits.Given as goal
 
 abbrev pub invariant-loop-byte : goal.invariant-loop-byte

@@ -1,7 +1,4 @@
-use Rattle.std.proofs.Common.{◌∙◌, ap, codes, sym}
-use Rattle.std.proofs.lemmas.List.{take_rest}
-use Rattle.std.specs.List.{starts_with}
-use Rattle.std.specs.Prelude.{nat_eq}
+use Rattle.zf_format.proofs.Prelude.{◌∙◌, ap, codes, sym, take_rest, starts_with, nat_eq}
 use Rattle.zf_format.proofs.Reading.{colon_later}
 use Rattle.zf_format.proofs.messages.colon_place.Goals as goal
 

@@ -1,6 +1,4 @@
-use Rattle.std.proofs.Common.{◌+◌, ◌≡◌, drop}
-use Rattle.std.specs.Prelude.{option_map}
-use Rattle.zf_format.specs.{colon_place}
+use Rattle.zf_format.proofs.Prelude.{◌+◌, ◌≡◌, drop, option_map, colon_place}
 use Rattle.zf_format.proofs.messages.colon_place.Given as goal
 
 abbrev pub invariant-loop-place : goal.invariant-loop-place

@@ -1,6 +1,4 @@
-use Rattle.std.proofs.Common.{◌+◌, ◌≡◌, drop}
-use Rattle.std.specs.List.{position_or_len}
-use Rattle.zf_format.specs.{is_newline}
+use Rattle.zf_format.proofs.Prelude.{◌+◌, ◌≡◌, drop, position_or_len, is_newline}
 use Rattle.zf_format.proofs.messages.line_len.Given as goal
 
 abbrev pub invariant-loop-place : goal.invariant-loop-place

@@ -1,5 +1,4 @@
-use Rattle.std.proofs.Common.{◌++◌, ◌<◌, ◌∙◌, ◌∷◌, [], ap, length, rules}
-use Rattle.zf_format.specs.{further, message_members}
+use Rattle.zf_format.proofs.Prelude.{◌++◌, ◌<◌, ◌∙◌, ◌∷◌, [], ap, length, rules, further, message_members}
 use Rattle.zf_format.proofs.Reading.{begun, one_line}
 use Rattle.zf_format.proofs.messages.objects_of.Goals as goal
 

@@ -1,7 +1,5 @@
 -- What is still to be appended.
-use Rattle.std.proofs.Common.{◌++◌, ◌≡◌, codes, length}
-use Rattle.std.specs.List.{flat_map}
-use Rattle.zf_format.specs.{further, objects_of, text_lines}
+use Rattle.zf_format.proofs.Prelude.{◌++◌, ◌≡◌, codes, length, flat_map, further, objects_of, text_lines}
 use Rattle.zf_format.proofs.messages.objects_of.Given as goal
 
 abbrev pub invariant-loop-rest : goal.invariant-loop-rest

@@ -1,7 +1,5 @@
-use Rattle.std.proofs.Common.{◌++◌, ◌∙◌, ◌∷◌, [], ap, arith}
-use Rattle.std.specs.List.{flat_map}
+use Rattle.zf_format.proofs.Prelude.{◌++◌, ◌∙◌, ◌∷◌, [], ap, arith, flat_map, string_byte}
 unfoldable use Rattle.zf_format.specs.{string_text}
-use Rattle.zf_format.specs.{string_byte}
 use Rattle.zf_format.proofs.Reading.{none_more, told_utf8}
 use Rattle.zf_format.proofs.strings.append_string.Goals as goal
 

@@ -1,7 +1,5 @@
 -- What is still to be appended.
-use Rattle.std.proofs.Common.{◌++◌, ◌∷◌, ◌≡◌, [], drop}
-use Rattle.std.specs.List.{flat_map}
-use Rattle.zf_format.specs.{string_byte}
+use Rattle.zf_format.proofs.Prelude.{◌++◌, ◌∷◌, ◌≡◌, [], drop, flat_map, string_byte}
 use Rattle.zf_format.proofs.strings.append_string.Given as goal
 
 abbrev pub invariant-loop-byte : goal.invariant-loop-byte

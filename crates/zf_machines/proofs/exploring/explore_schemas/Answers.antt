@@ -1,14 +1,7 @@
 -- The exploration of the machine that the schemas make.
-use Rattle.zf_meaning.specs.{environment_of}
+use Rattle.zf_machines.proofs.Prelude.{environment_of, schemas_of, always_on_err, weaker_on_err, weaker_if_ok, system_of, schema_of, inl, inr, Appends-nil}
 use Rattle.zf_machines.proofs.exploring.explore_schemas.Goals as goal
 use Rattle.zf_machines.proofs.Sole.{can_search_all}
-use Rattle.zf_machines.specs.{schemas_of}
-use Rattle.zf_reach.proofs.Fronts.{always_on_err, weaker_on_err}
-use Rattle.zf_steps.proofs.Moving.{weaker_if_ok}
-use Rattle.zf_steps.specs.{system_of}
-use Rattle.zf_term.specs.{schema_of}
-use Rattle.std.proofs.Common.{inl, inr}
-use Rattle.std.proofs.KnownBytes.{Appends-nil}
 
 pub returns-in_err-system-clause-err : goal.returns-in_err-system-clause-err
 returns-in_err-system-clause-err g c = always_on_err _ (inl (Appends-nil _))

@@ -1,9 +1,5 @@
-use Rattle.std.proofs.Common.{◌∙◌, ◌≡◌, ap, List, map, refl, subst}
+use Rattle.zf_machines.proofs.Prelude.{◌∙◌, ◌≡◌, ap, List, map, refl, subst, Named, named_of, schemas_of, state_of, IsInit, operation_in, operation_of, test_in, Component, comp_of, schema_of}
 use Rattle.zf_machines.proofs.Lacking.{map_map}
-use Rattle.zf_machines.specs.{Named, named_of, schemas_of, state_of}
-use Rattle.zf_steps.specs.{IsInit, operation_in, operation_of, test_in}
-use Rattle.zf_term.specs.declared.schema.Component.{Component}
-use Rattle.zf_term.specs.{comp_of, schema_of}
 use Rattle.zf_machines.proofs.making.machine_of.Goals as goal
 
 pub returns : goal.returns

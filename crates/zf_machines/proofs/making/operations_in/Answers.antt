@@ -1,10 +1,6 @@
-use Rattle.std.proofs.Common.{◌+◌, ◌∙◌, ◌≡◌, ap, map, subst, sym, take}
-use Rattle.std.proofs.lemmas.List.{take_all}
+use Rattle.zf_machines.proofs.Prelude.{◌+◌, ◌∙◌, ◌≡◌, ap, map, subst, sym, take, take_all, named_of, before_of, operation_in, operation_of, schema_of}
 use Rattle.zf_machines.specs.declared.schemas.Named.{Named}
-use Rattle.zf_machines.specs.{named_of}
 use Rattle.zf_steps.proofs.Shapes.{mapped_push}
-use Rattle.zf_steps.specs.{before_of, operation_in, operation_of}
-use Rattle.zf_term.specs.{schema_of}
 use Rattle.zf_machines.proofs.making.operations_in.Goals as goal
 
 pub loop-operation-preserved : goal.loop-operation-preserved

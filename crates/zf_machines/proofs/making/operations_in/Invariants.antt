@@ -1,8 +1,5 @@
 -- The operations so far.
-use Rattle.std.proofs.Common.{◌≡◌, map, take}
-use Rattle.zf_machines.specs.{named_of}
-use Rattle.zf_steps.specs.{before_of, operation_in, operation_of}
-use Rattle.zf_term.specs.{schema_of}
+use Rattle.zf_machines.proofs.Prelude.{◌≡◌, map, take, named_of, before_of, operation_in, operation_of, schema_of}
 use Rattle.zf_machines.proofs.making.operations_in.Given as goal
 
 abbrev pub invariant-loop-operation : goal.invariant-loop-operation

@@ -1,11 +1,5 @@
-use Rattle.std.proofs.Common.{inl, List, map, refl, subst}
-use Rattle.std.specs.List.{AllByRecursion}
-use Rattle.std.specs.Prelude.{MatchOption}
+use Rattle.zf_machines.proofs.Prelude.{inl, List, map, refl, subst, AllByRecursion, MatchOption, AllowsSought, CanBeInitial, CanStep, LacksBehind, schemas_of, LacksInit, Component, comp_of, schema_of}
 use Rattle.zf_machines.proofs.Lacking.{shape_by}
-use Rattle.zf_machines.specs.{AllowsSought, CanBeInitial, CanStep, LacksBehind, schemas_of}
-use Rattle.zf_steps.specs.{LacksInit}
-use Rattle.zf_term.specs.declared.schema.Component.{Component}
-use Rattle.zf_term.specs.{comp_of, schema_of}
 use Rattle.zf_machines.proofs.shape.lack_of.Goals as goal
 
 pub returns-in-Some : goal.returns-in-Some

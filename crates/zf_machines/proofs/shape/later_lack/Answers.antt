@@ -1,8 +1,5 @@
-use Rattle.std.proofs.Common.{inl, map, subst}
-use Rattle.std.specs.List.{AllByRecursion}
+use Rattle.zf_machines.proofs.Prelude.{inl, map, subst, AllByRecursion, CanStep, LacksStepFirst, named_of, schemas_of, before_of}
 use Rattle.zf_machines.proofs.Lacking.{behind_by}
-use Rattle.zf_machines.specs.{CanStep, LacksStepFirst, named_of, schemas_of}
-use Rattle.zf_steps.specs.{before_of}
 use Rattle.zf_machines.proofs.shape.later_lack.Goals as goal
 
 pub returns-in-Some : goal.returns-in-Some

@@ -1,8 +1,6 @@
-use Rattle.std.proofs.Common.{List, map, refl, ℕ}
+use Rattle.zf_machines.proofs.Prelude.{List, map, refl, ℕ, CanStep, named_of, before_of}
 use Rattle.zf_machines.proofs.Firsts.{all_passed, at_first, failed, mapped_ahead, mapped_end, passed}
 use Rattle.zf_machines.proofs.Lacking.{LacksIt}
-use Rattle.zf_machines.specs.{CanStep, named_of}
-use Rattle.zf_steps.specs.{before_of}
 use Rattle.zf_machines.proofs.shape.step_lack.Goals as goal
 
 pub loop-operation-init : goal.loop-operation-init

@@ -1,9 +1,7 @@
 -- What is still ahead decides.
-use Rattle.std.proofs.Common.{drop, map}
-use Rattle.zf_machines.specs.{CanStep, named_of}
+use Rattle.zf_machines.proofs.Prelude.{drop, map, CanStep, named_of, before_of}
 use Rattle.zf_machines.proofs.Firsts.{IsAhead}
 use Rattle.zf_machines.proofs.Lacking.{LacksIt}
-use Rattle.zf_steps.specs.{before_of}
 use Rattle.zf_machines.proofs.shape.step_lack.Given as goal
 
 abbrev pub invariant-loop-operation : goal.invariant-loop-operation

@@ -1,6 +1,4 @@
-use Rattle.std.proofs.Common.{◌++◌, ◌∙◌, ap, codes, List, refl, ℕ}
-use Rattle.zf_term.proofs.PrintedTypes.{both_written}
-use Rattle.zf_messages.specs.{detail}
+use Rattle.zf_messages.proofs.Prelude.{◌++◌, ◌∙◌, ap, codes, List, refl, ℕ, both_written, detail}
 use Rattle.zf_messages.proofs.details.append_clash.Goals as goal
 
 pub returns : goal.returns

@@ -1,6 +1,4 @@
-use Rattle.std.proofs.Common.{codes, refl}
-use Rattle.zf_term.proofs.PrintedTypes.{both_written}
-use Rattle.zf_messages.specs.{detail, detail_if_any}
+use Rattle.zf_messages.proofs.Prelude.{codes, refl, both_written, detail, detail_if_any}
 use Rattle.zf_messages.proofs.details.append_unbounded.Goals as goal
 
 pub returns : goal.returns

@@ -1,6 +1,5 @@
 -- No name before the place is like it.
-use Rattle.std.proofs.Common.{◌≡◌, drop}
-use Rattle.zf_messages.specs.{first_like}
+use Rattle.zf_messages.proofs.Prelude.{◌≡◌, drop, first_like}
 use Rattle.zf_messages.proofs.missing.first_like.Given as goal
 
 abbrev pub invariant-loop-other : goal.invariant-loop-other

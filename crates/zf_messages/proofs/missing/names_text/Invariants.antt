@@ -1,7 +1,6 @@
 -- The text has the names up to the place.
-use Rattle.std.proofs.Common.{◌≡◌, [], take}
+use Rattle.zf_messages.proofs.Prelude.{◌≡◌, [], take, and_name}
 use Rattle.std.specs.List.{fold}
-use Rattle.zf_messages.specs.{and_name}
 use Rattle.zf_messages.proofs.missing.names_text.Given as goal
 
 abbrev pub invariant-loop-name : goal.invariant-loop-name

@@ -1,7 +1,5 @@
 -- The schemas up to the place are listed.
-use Rattle.std.proofs.Common.{◌++◌, ◌≡◌, drop}
-use Rattle.zf_term.specs.{globals_of}
-use Rattle.zf_messages.specs.{schemas}
+use Rattle.zf_messages.proofs.Prelude.{◌++◌, ◌≡◌, drop, globals_of, schemas}
 use Rattle.zf_messages.proofs.missing.schemas.Given as goal
 
 abbrev pub invariant-loop-place : goal.invariant-loop-place

@@ -1,5 +1,4 @@
-use Rattle.zf_outcome.proofs.Prelude.{◌↔◌, ◌∙◌, rules, sym, w64, IsTrue, FitsSigned}
-use Rattle.zf_outcome.specs.{AreOrdered}
+use Rattle.zf_outcome.proofs.Prelude.{◌↔◌, ◌∙◌, rules, sym, w64, IsTrue, FitsSigned, AreOrdered}
 use Rattle.zf_outcome.proofs.Comparisons.{compared-both, compared-no_left, compared-no_right, written-both}
 use Rattle.zf_outcome.proofs.relation.compares.Goals as goal
 

@@ -1,5 +1,4 @@
-use Rattle.zf_outcome.proofs.Prelude.{◌↔◌, ◌∙◌, rules, sym, subst, w64, IsTrue, FitsSigned, same}
-use Rattle.zf_outcome.specs.{IsFrom}
+use Rattle.zf_outcome.proofs.Prelude.{◌↔◌, ◌∙◌, rules, sym, subst, w64, IsTrue, FitsSigned, same, IsFrom}
 use Rattle.zf_outcome.proofs.Comparisons.{in-infinite, none-infinite}
 use Rattle.zf_outcome.proofs.relation.is_in.Goals as goal
 

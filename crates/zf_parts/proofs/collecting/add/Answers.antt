@@ -1,6 +1,5 @@
 -- Each way out says whatever parts are kept then.
-use Rattle.zf_parts.proofs.Prelude.{◌∙◌, subst, sym, value_order, IsLater}
-use Rattle.std.specs.Option.{option_copied}
+use Rattle.zf_parts.proofs.Prelude.{◌∙◌, subst, sym, value_order, IsLater, option_copied}
 use Rattle.zf_parts.proofs.Keeping.{adds_known, adds_new, adds_not_later}
 use Rattle.zf_parts.proofs.collecting.add.Goals as goal
 

@@ -1,8 +1,5 @@
 -- The parts of what is passed are kept.
-use Rattle.zf_parts.proofs.Prelude.{value_order}
-use Rattle.std.specs.Option.{option_copied}
-use Rattle.zf_lines.proofs.Fewer.{ahead_count}
-use Rattle.zf_term.specs.{schema_of}
+use Rattle.zf_parts.proofs.Prelude.{value_order, option_copied, ahead_count, schema_of}
 use Rattle.zf_parts.proofs.Standing.{Standing}
 use Rattle.zf_parts.proofs.collecting.collect.Given as goal
 

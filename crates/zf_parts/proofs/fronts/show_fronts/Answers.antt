@@ -1,14 +1,9 @@
 -- Each way out says what is written of the parts.
-use Rattle.zf_parts.proofs.Prelude.{◌∙◌, refl, subst, sym}
-use Rattle.std.specs.Io.KnownBytes.{Appends}
-use Rattle.zf_lines.proofs.Fronts.{always_on_err}
-use Rattle.zf_lines.specs.{AppendsFront, IsPrinted}
+use Rattle.zf_parts.proofs.Prelude.{◌∙◌, refl, subst, sym, Appends, always_on_err, AppendsFront, IsPrinted, same_later, schema_of}
 use Rattle.zf_parts.proofs.Fronting.{ends_at_end, fronting_first, stops_in_end, stops_now}
 use Rattle.zf_parts.proofs.FrontLines.{front_line}
 use Rattle.zf_parts.proofs.Passing.{as_status, ends_at_limit, ends_out, fewer_broken, fewer_held, goes_on, passes_broken, passes_held, stops_in_line, stops_in_more, stops_in_out}
 use Rattle.zf_parts.proofs.Results.{known_if_ok, weaker_on_err}
-use Rattle.zf_lines.proofs.Searching.{same_later}
-use Rattle.zf_term.specs.{schema_of}
 use Rattle.zf_parts.proofs.fronts.show_fronts.Goals.{in-Breaks+in_ok-is_asked-in-Breaks+else-branch-2, in-Holds+in_ok-is_asked-in-Holds+else-branch, in-Holds+in_ok-is_asked-in-Holds+then-branch+in_ok-write_row-in-Holds+else-is_spent}
 use Rattle.zf_parts.proofs.fronts.show_fronts.Goals as goal
 

@@ -1,10 +1,5 @@
 -- What is ahead has the parts that are left, and the lines of the others are written.
-use Rattle.zf_parts.proofs.Prelude.{◌≡◌, value_order}
-use Rattle.std.specs.Option.{option_copied}
-use Rattle.zf_lines.proofs.Fewer.{ahead_count}
-use Rattle.zf_lines.specs.{device_of, failures_of, IsPrinted}
-use Rattle.zf_parts.specs.{part_wording}
-use Rattle.zf_term.specs.{schema_of}
+use Rattle.zf_parts.proofs.Prelude.{◌≡◌, value_order, option_copied, ahead_count, device_of, failures_of, IsPrinted, part_wording, schema_of}
 use Rattle.zf_parts.proofs.Fronting.{Fronting}
 use Rattle.zf_parts.proofs.fronts.show_fronts.Given as goal
 

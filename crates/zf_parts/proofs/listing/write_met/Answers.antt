@@ -1,16 +1,9 @@
 -- Each way out says what is written of the parts.
-use Rattle.zf_parts.proofs.Prelude.{◌<◌, ◌∙◌, ◌≡◌, ap, arith, subst, sym}
-use Rattle.std.proofs.Common.{◌≤◌}
-use Rattle.std.specs.Io.KnownBytes.{Appends}
-use Rattle.zf_lines.proofs.Fronts.{always_on_err}
-use Rattle.zf_lines.specs.{IsPrinted}
-use Rattle.zf_parts.specs.{AreFree, counted, part_wording, ranges_at, total}
+use Rattle.zf_parts.proofs.Prelude.{◌<◌, ◌∙◌, ◌≡◌, ap, arith, subst, sym, ◌≤◌, Appends, always_on_err, IsPrinted, AreFree, counted, part_wording, ranges_at, total, schema_of, picked}
 use Rattle.zf_parts.proofs.Counting.{at_number}
 use Rattle.zf_parts.proofs.Passing.{as_status}
 use Rattle.zf_parts.proofs.Results.{known_if_ok, weaker_on_err}
 use Rattle.zf_parts.proofs.Unwritten.{ends_at_limit, ends_there, goes_on, listing_first, same_end, stops_by, stops_in_more, stops_in_row}
-use Rattle.zf_term.specs.{schema_of}
-use Rattle.zf_walk.specs.{picked}
 use Rattle.zf_parts.proofs.listing.write_met.Goals as goal
 
 pub parts-init : goal.parts-init

@@ -1,10 +1,5 @@
 -- The parts that are left have numbers from here on, the lines of the others are written, and the row is that of the last number.
-use Rattle.zf_parts.proofs.Prelude.{◌≡◌}
-use Rattle.std.proofs.Common.{◌-◌, ◌≤◌}
-use Rattle.std.specs.Option.{option_copied}
-use Rattle.zf_lines.specs.{device_of, failures_of, IsPrinted}
-use Rattle.zf_parts.specs.{counted, part_wording, ranges_at}
-use Rattle.zf_term.specs.{schema_of}
+use Rattle.zf_parts.proofs.Prelude.{◌≡◌, ◌-◌, ◌≤◌, option_copied, device_of, failures_of, IsPrinted, counted, part_wording, ranges_at, schema_of}
 use Rattle.zf_parts.proofs.Unwritten.{Listing}
 use Rattle.zf_parts.proofs.listing.write_met.Given as goal
 

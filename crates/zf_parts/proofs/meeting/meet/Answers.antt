@@ -1,6 +1,4 @@
-use Rattle.zf_parts.proofs.Prelude.{◌∙◌, ◌≡◌, ◌⊎◌, ap, cond, Out, True, Some, subst, sym, true, ℕ}
-use Rattle.std.specs.Option.{option_copied}
-use Rattle.zf_parts.specs.{AreMarked, is_marked, Meets}
+use Rattle.zf_parts.proofs.Prelude.{◌∙◌, ◌≡◌, ◌⊎◌, ap, cond, Out, True, Some, subst, sym, true, ℕ, option_copied, AreMarked, is_marked, Meets}
 use Rattle.zf_parts.proofs.Passed.{ends_there, known, marks_one, not_asked, past_end}
 use Rattle.zf_parts.proofs.Results.{both_ok}
 use Rattle.zf_parts.proofs.meeting.meet.Goals as goal

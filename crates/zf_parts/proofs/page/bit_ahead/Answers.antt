@@ -1,5 +1,4 @@
-use Rattle.zf_parts.proofs.Prelude.{◌<◌, ◌≡◌, refl, rules}
-use Rattle.std.proofs.Common.{◌/◌, ◌%◌, ◌^◌, get_or}
+use Rattle.zf_parts.proofs.Prelude.{◌<◌, ◌≡◌, refl, rules, ◌/◌, ◌%◌, ◌^◌, get_or}
 use Rattle.zf_parts.proofs.Marking.{no_bit, some_bit}
 use Rattle.zf_parts.proofs.page.bit_ahead.Goals as goal
 

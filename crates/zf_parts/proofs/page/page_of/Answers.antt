@@ -1,5 +1,4 @@
-use Rattle.zf_parts.proofs.Prelude.{[], arith, inl, inr}
-use Rattle.std.proofs.Common.{replicate}
+use Rattle.zf_parts.proofs.Prelude.{[], arith, inl, inr, replicate}
 use Rattle.zf_parts.proofs.Marking.{empty_page, one_in_page, zeros_behind}
 use Rattle.zf_parts.proofs.page.page_of.Goals as goal
 

@@ -1,7 +1,4 @@
-use Rattle.zf_parts.proofs.Prelude.{◌<◌, ◌∙◌, [], ap, arith, length, refl, subst, sym}
-use Rattle.std.proofs.Common.{◌-◌}
-use Rattle.std.proofs.lemmas.List.{get_or_default}
-use Rattle.zf_parts.specs.{ranges_at, total}
+use Rattle.zf_parts.proofs.Prelude.{◌<◌, ◌∙◌, [], ap, arith, length, refl, subst, sym, ◌-◌, get_or_default, ranges_at, total}
 use Rattle.zf_parts.proofs.Counting.{counting_first, counting_next, not_first, some_value, sum_fits}
 use Rattle.zf_parts.proofs.Numbering.{length_ranges, range_there}
 use Rattle.zf_parts.proofs.part_row.count_on.Goals as goal

@@ -1,6 +1,5 @@
 -- What is left is to be added before the digits from i on.
-use Rattle.zf_parts.proofs.Prelude.{◌+◌}
-use Rattle.zf_parts.specs.{counted, ranges_at}
+use Rattle.zf_parts.proofs.Prelude.{◌+◌, counted, ranges_at}
 use Rattle.zf_parts.proofs.Counting.{Counting}
 use Rattle.zf_parts.proofs.part_row.count_on.Given as goal
 

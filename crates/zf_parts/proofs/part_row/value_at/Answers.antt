@@ -1,9 +1,4 @@
-use Rattle.std.proofs.Common.{◌<◌, ◌≡◌, ◌∙◌, [], ap, get_or, length, refl, subst, sym}
-use Rattle.std.proofs.lemmas.List.{get_or_default}
-use Rattle.std.proofs.lemmas.Option.{slice_get_read}
-use Rattle.std.specs.Prelude.{slice_get}
-use Rattle.zf_parts.specs.{ranges_at}
-use Rattle.zf_walk.proofs.Picks.{slice_get-picked}
+use Rattle.zf_parts.proofs.Prelude.{◌<◌, ◌≡◌, ◌∙◌, [], ap, get_or, length, refl, subst, sym, get_or_default, slice_get_read, slice_get, ranges_at, slice_get-picked}
 use Rattle.zf_parts.proofs.Numbering.{range_there}
 use Rattle.zf_parts.proofs.part_row.value_at.Goals as goal
 

@@ -1,6 +1,4 @@
-use Rattle.zf_parts.proofs.Prelude.{inl}
-use Rattle.std.proofs.KnownBytes.{Appends-nil}
-use Rattle.zf_lines.proofs.Fronts.{always_on_err}
+use Rattle.zf_parts.proofs.Prelude.{inl, Appends-nil, always_on_err}
 use Rattle.zf_parts.proofs.Answering.{all_written, front_written}
 use Rattle.zf_parts.proofs.showing.show_collected.Goals as goal
 

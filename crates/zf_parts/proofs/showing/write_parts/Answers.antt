@@ -1,10 +1,7 @@
 -- Each way out says of whatever parts are kept what is written of them.
-use Rattle.zf_parts.proofs.Prelude.{◌∙◌, ◌∷◌, ap, rules}
-use Rattle.zf_lines.proofs.Fronts.{always_on_err}
-use Rattle.zf_parts.specs.{part_wording}
+use Rattle.zf_parts.proofs.Prelude.{◌∙◌, ◌∷◌, ap, rules, always_on_err, part_wording, schema_of}
 use Rattle.zf_parts.proofs.Results.{known_if_ok, weaker_on_err}
 use Rattle.zf_parts.proofs.Writing.{ends, ends_at_limit, ends_out, nothing_yet, one_line, stops_in_end, stops_in_line, stops_in_more, stops_in_out}
-use Rattle.zf_term.specs.{schema_of}
 use Rattle.zf_parts.proofs.showing.write_parts.Goals as goal
 
 pub loop-values-init : goal.loop-values-init

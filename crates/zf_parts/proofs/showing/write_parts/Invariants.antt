@@ -1,9 +1,6 @@
 -- What is written so far, and then what is reported of the parts ahead, is the whole.
-use Rattle.zf_parts.proofs.Prelude.{◌≡◌}
-use Rattle.zf_lines.specs.{device_of, failures_of, HasLimit}
-use Rattle.zf_parts.specs.{part_wording}
+use Rattle.zf_parts.proofs.Prelude.{◌≡◌, device_of, failures_of, HasLimit, part_wording, schema_of}
 use Rattle.zf_parts.proofs.Writing.{SoFar}
-use Rattle.zf_term.specs.{schema_of}
 use Rattle.zf_parts.proofs.showing.write_parts.Given as goal
 
 abbrev pub invariant-loop-values : goal.invariant-loop-values

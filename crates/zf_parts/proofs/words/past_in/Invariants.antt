@@ -1,6 +1,5 @@
 -- None is there up to the next one.
-use Rattle.zf_parts.proofs.Prelude.{◌+◌, ◌<◌, ◌≡◌, ℕ}
-use Rattle.std.proofs.Common.{◌*◌, ◌-◌, ◌/◌, ◌%◌, ◌≤◌, get_or}
+use Rattle.zf_parts.proofs.Prelude.{◌+◌, ◌<◌, ◌≡◌, ℕ, ◌*◌, ◌-◌, ◌/◌, ◌%◌, ◌≤◌, get_or}
 use Rattle.zf_parts.proofs.words.past_in.Given as goal
 
 abbrev pub invariant-loop-next : goal.invariant-loop-next

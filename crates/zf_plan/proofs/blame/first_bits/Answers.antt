@@ -1,8 +1,5 @@
-use Rattle.std.specs.Prelude.{◌*◌, ◌%◌, ◌^◌}
-use Rattle.std.proofs.lemmas.Nat.Bits.{bit_at_ones}
 use Rattle.std.proofs.Math.Pow.{pow-lt}
-use Rattle.zf_walk.specs.{HasBit}
-use Rattle.zf_plan.proofs.Prelude.{◌-◌, ◌≡◌, arith, subst, sym}
+use Rattle.zf_plan.proofs.Prelude.{◌-◌, ◌≡◌, arith, subst, sym, ◌*◌, ◌%◌, ◌^◌, bit_at_ones, HasBit}
 use Rattle.zf_plan.proofs.blame.first_bits.Goals as goal
 
 pub returns : goal.returns

@@ -1,5 +1,4 @@
-use Rattle.zf_plan.proofs.Prelude.{◌<◌, ◌≤◌, ℕ}
-use Rattle.zf_walk.specs.{HasBit}
+use Rattle.zf_plan.proofs.Prelude.{◌<◌, ◌≤◌, ℕ, HasBit}
 use Rattle.zf_plan.proofs.blame.last_blamed.Given as goal
 
 -- The word has no bit after those that are left.

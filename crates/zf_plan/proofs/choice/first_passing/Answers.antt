@@ -1,5 +1,4 @@
-use Rattle.zf_plan.proofs.Prelude.{◌∙◌, ◌≡◌, arith, false, true, subst, sym, cases_lt, false≢true, get_or_from_slice_get, inl, inr, slice_get_within, Contains}
-use Rattle.zf_plan.specs.{passing}
+use Rattle.zf_plan.proofs.Prelude.{◌∙◌, ◌≡◌, arith, false, true, subst, sym, cases_lt, false≢true, get_or_from_slice_get, inl, inr, slice_get_within, Contains, passing}
 use Rattle.zf_plan.proofs.Sieving.{is-passing}
 use Rattle.zf_plan.proofs.choice.first_passing.Goals as goal
 

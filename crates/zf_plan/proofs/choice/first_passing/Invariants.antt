@@ -1,6 +1,4 @@
-use Rattle.std.proofs.Common.{◌<◌, ◌≤◌, ℕ}
-use Rattle.std.specs.Prelude.{Contains}
-use Rattle.zf_plan.specs.{passing}
+use Rattle.zf_plan.proofs.Prelude.{◌<◌, ◌≤◌, ℕ, Contains, passing}
 use Rattle.zf_plan.proofs.choice.first_passing.Given as goal
 
 -- None of the places so far is marked.

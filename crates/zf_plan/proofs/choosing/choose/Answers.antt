@@ -1,6 +1,5 @@
-use Rattle.zf_plan.proofs.Prelude.{[], ◌<◌, ◌∙◌, ◌≡◌, ap, arith, AreBelow, get_or, get_or_default, IfSome, leaf, length, Narrows, picked, range-is, refl, Some, subst, sym, tree_at, trees_of}
+use Rattle.zf_plan.proofs.Prelude.{[], ◌<◌, ◌∙◌, ◌≡◌, ap, arith, AreBelow, get_or, get_or_default, IfSome, leaf, length, Narrows, picked, range-is, refl, Some, subst, sym, tree_at, trees_of, AreLasts, KeepsChosen, UsesFirst}
 use Rattle.zf_plan.proofs.Marking.{stays-narrowed}
-use Rattle.zf_plan.specs.{AreLasts, KeepsChosen, UsesFirst}
 use Rattle.zf_plan.proofs.Sieving.{stays-kept}
 use Rattle.zf_plan.proofs.choosing.choose.Goals as goal
 

@@ -1,5 +1,4 @@
-use Rattle.zf_plan.proofs.Prelude.{ap, arith, length, None, range-is, subst, IfSome}
-use Rattle.zf_plan.specs.{IsKeyOf}
+use Rattle.zf_plan.proofs.Prelude.{ap, arith, length, None, range-is, subst, IfSome, IsKeyOf}
 use Rattle.zf_plan.proofs.Keying.{keys-leave}
 use Rattle.zf_plan.proofs.choosing.narrow_by_keys.Goals as goal
 

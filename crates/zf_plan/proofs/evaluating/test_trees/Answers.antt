@@ -1,5 +1,4 @@
-use Rattle.zf_plan.proofs.Prelude.{◌+◌, ◌∙◌, ◌≡◌, ap, arith, get_or, length, Ok, refl, subst, sym, length-picked, picked, IsKnown, IsSoFar, tree_at, trees_of}
-use Rattle.zf_plan.specs.{IsAmong}
+use Rattle.zf_plan.proofs.Prelude.{◌+◌, ◌∙◌, ◌≡◌, ap, arith, get_or, length, Ok, refl, subst, sym, length-picked, picked, IsKnown, IsSoFar, tree_at, trees_of, IsAmong}
 use Rattle.zf_plan.proofs.SoFar.{first-all, first-next, first-none, IsFirst, so-false}
 use Rattle.zf_plan.proofs.evaluating.test_trees.Goals as goal
 

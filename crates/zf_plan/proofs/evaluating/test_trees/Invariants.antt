@@ -1,5 +1,4 @@
-use Rattle.zf_plan.proofs.Prelude.{◌≡◌, ◌≢◌, length, False, picked, trees_of, Remembers}
-use Rattle.zf_plan.specs.{IsSoFar}
+use Rattle.zf_plan.proofs.Prelude.{◌≡◌, ◌≢◌, length, False, picked, trees_of, Remembers, IsSoFar}
 use Rattle.zf_plan.proofs.SoFar.{IsFirst}
 use Rattle.zf_plan.proofs.evaluating.test_trees.Given as goal
 

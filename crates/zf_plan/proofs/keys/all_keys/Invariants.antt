@@ -1,5 +1,4 @@
-use Rattle.zf_plan.proofs.Prelude.{◌≡◌, ◌<◌, ◌+◌, ℕ, [], get_or, length}
-use Rattle.zf_plan.specs.{AreKeys}
+use Rattle.zf_plan.proofs.Prelude.{◌≡◌, ◌<◌, ◌+◌, ℕ, [], get_or, length, AreKeys}
 use Rattle.zf_plan.proofs.keys.all_keys.Given as goal
 
 -- Those for the leaves so far.

@@ -1,5 +1,4 @@
-use Rattle.zf_plan.proofs.Prelude.{◌++◌, ◌∷◌, ◌≡◌, ◌∙◌, [], ap, arith, Contains, get_or, inl, inr, List, subst, sym, ℕ, cases_eq}
-use Rattle.std.proofs.Common.{Global, Vec}
+use Rattle.zf_plan.proofs.Prelude.{◌++◌, ◌∷◌, ◌≡◌, ◌∙◌, [], ap, arith, Contains, get_or, inl, inr, List, subst, sym, ℕ, cases_eq, Global, Vec}
 use Rattle.zf_plan.proofs.Keying.{has-push, stays-push}
 use Rattle.zf_plan.proofs.keys.gather_keyed.Goals as goal
 use Rattle.zf_plan.proofs.keys.gather_keyed.Goals.{then-keys-place+in_ok-push, else-keys-place}

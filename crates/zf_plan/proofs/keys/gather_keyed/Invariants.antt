@@ -1,5 +1,4 @@
-use Rattle.zf_plan.proofs.Prelude.{◌≡◌, ◌<◌, ℕ, Contains, get_or}
-use Rattle.zf_plan.specs.{StaysIn}
+use Rattle.zf_plan.proofs.Prelude.{◌≡◌, ◌<◌, ℕ, Contains, get_or, StaysIn}
 use Rattle.zf_plan.proofs.keys.gather_keyed.Given as goal
 
 -- What was there, and the places so far.

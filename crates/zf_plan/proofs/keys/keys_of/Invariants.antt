@@ -1,5 +1,4 @@
-use Rattle.zf_plan.proofs.Prelude.{◌≡◌, ◌+◌, ℕ, [], get_or, length}
-use Rattle.zf_plan.specs.{AreKeys}
+use Rattle.zf_plan.proofs.Prelude.{◌≡◌, ◌+◌, ℕ, [], get_or, length, AreKeys}
 use Rattle.zf_plan.proofs.keys.keys_of.Given as goal
 
 -- Those of the values so far.

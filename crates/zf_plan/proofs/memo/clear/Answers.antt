@@ -1,7 +1,6 @@
-use Rattle.zf_plan.proofs.Prelude.{◌++◌, ◌<◌, ◌≤◌, ◌≡◌, ◌∙◌, ap, append-nil, arith, drop, get_or_default, length, map, set, take, take_all}
+use Rattle.zf_plan.proofs.Prelude.{◌++◌, ◌<◌, ◌≤◌, ◌≡◌, ◌∙◌, ap, append-nil, arith, drop, get_or_default, length, map, set, take, take_all, cleared}
 use Rattle.std.proofs.Math.ListN.{drop_of_length-le}
 use Rattle.std.proofs.lemmas.List.Edits.{map_over_more}
-use Rattle.zf_plan.specs.{cleared}
 use Rattle.zf_plan.proofs.memo.clear.Goals as goal
 
 pub loop-leaf-init : goal.loop-leaf-init

@@ -1,5 +1,4 @@
-use Rattle.zf_plan.proofs.Prelude.{◌++◌, ◌≡◌, drop, map, take}
-use Rattle.zf_plan.specs.{cleared}
+use Rattle.zf_plan.proofs.Prelude.{◌++◌, ◌≡◌, drop, map, take, cleared}
 use Rattle.zf_plan.proofs.memo.clear.Given as goal
 
 -- The leaves before this one are without their stamps, and the others are as they were.

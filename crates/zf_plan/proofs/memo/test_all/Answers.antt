@@ -1,5 +1,4 @@
-use Rattle.zf_plan.proofs.Prelude.{◌+◌, ◌∙◌, ◌≡◌, arith, length, refl, subst, sym, picked}
-use Rattle.zf_plan.specs.{ArePassed, Tests}
+use Rattle.zf_plan.proofs.Prelude.{◌+◌, ◌∙◌, ◌≡◌, arith, length, refl, subst, sym, picked, ArePassed, Tests}
 use Rattle.zf_plan.proofs.Testing.{passed-first, passed-next, tests-false, tests-all}
 use Rattle.zf_plan.proofs.memo.test_all.Goals as goal
 

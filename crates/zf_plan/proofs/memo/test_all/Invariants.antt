@@ -1,6 +1,4 @@
-use Rattle.zf_plan.proofs.Prelude.{picked}
-use Rattle.zf_walk.specs.{AreTrue}
-use Rattle.zf_plan.specs.{ArePassed}
+use Rattle.zf_plan.proofs.Prelude.{picked, AreTrue, ArePassed}
 use Rattle.zf_plan.proofs.memo.test_all.Given as goal
 
 -- The tables are right, and the leaves so far are not False.

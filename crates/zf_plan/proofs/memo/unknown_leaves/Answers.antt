@@ -1,5 +1,4 @@
-use Rattle.zf_plan.proofs.Prelude.{arith, subst}
-use Rattle.zf_plan.specs.{AreUnknown}
+use Rattle.zf_plan.proofs.Prelude.{arith, subst, AreUnknown}
 use Rattle.zf_plan.proofs.memo.unknown_leaves.Goals as goal
 
 pub returns : goal.returns

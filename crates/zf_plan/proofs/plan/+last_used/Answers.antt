@@ -1,5 +1,4 @@
-use Rattle.zf_plan.proofs.Prelude.{arith, subst, sym, tree_at, trees_made}
-use Rattle.zf_plan.specs.{UsesFirst}
+use Rattle.zf_plan.proofs.Prelude.{arith, subst, sym, tree_at, trees_made, UsesFirst}
 use Rattle.zf_plan.proofs.Marking.{uses-more}
 use Rattle.zf_plan.proofs.plan.+last_used.Goals as goal
 

@@ -1,6 +1,4 @@
-use Rattle.zf_plan.proofs.Prelude.{subst, sym, tree_at, trees_made}
-use Rattle.std.specs.Prelude.{bit_or}
-use Rattle.zf_plan.specs.{HasBits}
+use Rattle.zf_plan.proofs.Prelude.{subst, sym, tree_at, trees_made, bit_or, HasBits}
 use Rattle.zf_plan.proofs.Blaming.{bits-left, bits-right}
 use Rattle.zf_plan.proofs.plan.+used_by.Goals as goal
 

@@ -1,5 +1,4 @@
-use Rattle.zf_plan.proofs.Prelude.{◌+◌, ◌∙◌, ◌≡◌, ap, subst, sym, trees_of, tree_at}
-use Rattle.zf_plan.specs.{Covers, HasBits, touches}
+use Rattle.zf_plan.proofs.Prelude.{◌+◌, ◌∙◌, ◌≡◌, ap, subst, sym, trees_of, tree_at, Covers, HasBits, touches}
 use Rattle.zf_plan.proofs.Blaming.{covers-skip, covers-touched}
 use Rattle.zf_plan.proofs.plan.blame_at.Goals as goal
 use Rattle.zf_plan.proofs.plan.blame_at.Goals.{then-is_touched, else-is_touched}

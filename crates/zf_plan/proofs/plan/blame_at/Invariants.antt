@@ -1,5 +1,4 @@
-use Rattle.zf_plan.proofs.Prelude.{trees_of}
-use Rattle.zf_plan.specs.{Covers}
+use Rattle.zf_plan.proofs.Prelude.{trees_of, Covers}
 use Rattle.zf_plan.proofs.plan.blame_at.Given as goal
 
 -- There is a bit for each component that the first conjuncts use.

@@ -1,6 +1,4 @@
-use Rattle.zf_plan.proofs.Prelude.{◌+◌, ◌∙◌, ap, subst, sym, trees_of, tree_at, ℕ}
-use Rattle.std.proofs.Common.{Global, Vec}
-use Rattle.zf_plan.specs.{AreDue, IsLeafDue}
+use Rattle.zf_plan.proofs.Prelude.{◌+◌, ◌∙◌, ap, subst, sym, trees_of, tree_at, ℕ, Global, Vec, AreDue, IsLeafDue}
 use Rattle.zf_plan.proofs.Numbers.{due_push, due_skip}
 use Rattle.zf_plan.proofs.plan.due_at.Goals as goal
 use Rattle.zf_plan.proofs.plan.due_at.Goals.{in-Some+in_ok-push, in_default}

@@ -1,5 +1,4 @@
-use Rattle.zf_plan.proofs.Prelude.{trees_of}
-use Rattle.zf_plan.specs.{AreDue}
+use Rattle.zf_plan.proofs.Prelude.{trees_of, AreDue}
 use Rattle.zf_plan.proofs.plan.due_at.Given as goal
 
 -- They are those of the first conjuncts.

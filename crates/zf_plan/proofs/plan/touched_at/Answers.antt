@@ -1,6 +1,4 @@
-use Rattle.zf_plan.proofs.Prelude.{◌+◌, ◌∙◌, ◌≡◌, ap, subst, sym, trees_of, tree_at}
-use Rattle.std.proofs.Common.{Global, Vec, ℕ}
-use Rattle.zf_plan.specs.{AreTouched, touches_inside}
+use Rattle.zf_plan.proofs.Prelude.{◌+◌, ◌∙◌, ◌≡◌, ap, subst, sym, trees_of, tree_at, Global, Vec, ℕ, AreTouched, touches_inside}
 use Rattle.zf_plan.proofs.Numbers.{touched_push, touched_skip}
 use Rattle.zf_plan.proofs.plan.touched_at.Goals as goal
 use Rattle.zf_plan.proofs.plan.touched_at.Goals.{then-is_touched_inside+in_ok-push, else-is_touched_inside}

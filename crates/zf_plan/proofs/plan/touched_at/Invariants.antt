@@ -1,5 +1,4 @@
-use Rattle.zf_plan.proofs.Prelude.{trees_of}
-use Rattle.zf_plan.specs.{AreTouched}
+use Rattle.zf_plan.proofs.Prelude.{trees_of, AreTouched}
 use Rattle.zf_plan.proofs.plan.touched_at.Given as goal
 
 -- They are those of the first conjuncts.

@@ -1,5 +1,4 @@
-use Rattle.zf_plan.proofs.Prelude.{◌<◌, ◌≡◌, true, ℕ}
-use Rattle.zf_walk.specs.{HasBit}
+use Rattle.zf_plan.proofs.Prelude.{◌<◌, ◌≡◌, true, ℕ, HasBit}
 use Rattle.zf_plan.proofs.plan.used_by_leaf.Given as goal
 
 -- There is a bit for each of the first components that is used.

@@ -1,5 +1,4 @@
-use Rattle.zf_plan.proofs.Prelude.{◌++◌, ◌+◌, ◌<◌, ◌∷◌, [], ◌≡◌, ◌∙◌, ap, arith, get_or, get_or_default, length, max, subst, sym, tree_at, trees_of}
-use Rattle.zf_plan.specs.{UsesFirst}
+use Rattle.zf_plan.proofs.Prelude.{◌++◌, ◌+◌, ◌<◌, ◌∷◌, [], ◌≡◌, ◌∙◌, ap, arith, get_or, get_or_default, length, max, subst, sym, tree_at, trees_of, UsesFirst}
 use Rattle.zf_plan.proofs.Numbers.{AreLastsSoFar, lasts_push}
 use Rattle.zf_plan.proofs.plan.with_lasts.Goals as goal
 

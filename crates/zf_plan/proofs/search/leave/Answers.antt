@@ -1,5 +1,4 @@
-use Rattle.zf_plan.proofs.Prelude.{◌≤◌, arith, inl, inr, length, refl, subst, sym, Place}
-use Rattle.zf_plan.specs.{PassesOpen}
+use Rattle.zf_plan.proofs.Prelude.{◌≤◌, arith, inl, inr, length, refl, subst, sym, Place, PassesOpen}
 use Rattle.zf_plan.proofs.search.leave.Goals.{else-count-place, then-count-place}
 use Rattle.zf_plan.proofs.search.leave.Goals as goal
 

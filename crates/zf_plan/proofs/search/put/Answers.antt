@@ -1,7 +1,5 @@
 -- What is put stands there, and nothing else changes.
-use Rattle.std.proofs.Common.{◌∙◌, ◌∷◌, ◌++◌, ap, drop, refl, take}
-use Rattle.std.proofs.lemmas.List.{length-set}
-use Rattle.zf_plan.specs.{exchanged}
+use Rattle.zf_plan.proofs.Prelude.{◌∙◌, ◌∷◌, ◌++◌, ap, drop, refl, take, length-set, exchanged}
 use Rattle.zf_plan.proofs.Exchanging.{passes, takes}
 use Rattle.zf_plan.proofs.search.put.Goals as goal
 

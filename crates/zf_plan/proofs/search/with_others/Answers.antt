@@ -1,7 +1,5 @@
 -- One more range is put into its place.
-use Rattle.std.proofs.Common.{◌∙◌, ◌++◌, ap, arith, drop, length, take}
-use Rattle.std.specs.Vec.Iter.{into_iter_items}
-use Rattle.zf_plan.specs.{exchanged}
+use Rattle.zf_plan.proofs.Prelude.{◌∙◌, ◌++◌, ap, arith, drop, length, take, into_iter_items, exchanged}
 use Rattle.zf_plan.proofs.search.with_others.Goals as goal
 
 pub put-requires : goal.put-requires

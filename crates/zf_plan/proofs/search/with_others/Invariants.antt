@@ -1,7 +1,5 @@
 -- The ranges up to here are exchanged, the others are still to be.
-use Rattle.std.proofs.Common.{◌≡◌, ◌+◌, ◌++◌, length, take, drop}
-use Rattle.std.specs.Vec.Iter.{into_iter_items}
-use Rattle.zf_plan.specs.{exchanged}
+use Rattle.zf_plan.proofs.Prelude.{◌≡◌, ◌+◌, ◌++◌, length, take, drop, into_iter_items, exchanged}
 use Rattle.zf_plan.proofs.search.with_others.Given as goal
 
 abbrev pub invariant-loop-other : goal.invariant-loop-other

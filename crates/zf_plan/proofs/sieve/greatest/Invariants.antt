@@ -1,5 +1,4 @@
-use Rattle.zf_plan.proofs.Prelude.{◌<◌, ◌≤◌, ℕ, get_or}
-use Rattle.zf_plan.specs.{IsGreatest}
+use Rattle.zf_plan.proofs.Prelude.{◌<◌, ◌≤◌, ℕ, get_or, IsGreatest}
 use Rattle.zf_plan.proofs.sieve.greatest.Given as goal
 
 -- None of the numbers so far is greater, and none that is as great as all is less.

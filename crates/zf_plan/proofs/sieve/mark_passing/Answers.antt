@@ -1,6 +1,4 @@
-use Rattle.zf_plan.proofs.Prelude.{[], ◌++◌, ◌+◌, ◌<◌, ◌∙◌, ◌∷◌, ◌≡◌, ap, arith, get_or, length, List, refl, rules, subst, sym, take, ℕ, range-is, AreWithin, picked, Remembers, trees_of}
-use Rattle.std.proofs.Math.Seq.{take-append_seam}
-use Rattle.zf_plan.specs.{AreSifted, IsOneFalse}
+use Rattle.zf_plan.proofs.Prelude.{[], ◌++◌, ◌+◌, ◌<◌, ◌∙◌, ◌∷◌, ◌≡◌, ap, arith, get_or, length, List, refl, rules, subst, sym, take, ℕ, range-is, AreWithin, picked, Remembers, trees_of, take-append_seam, AreSifted, IsOneFalse}
 use Rattle.zf_plan.proofs.Sieving.{held, remembers-longer, remembers-shorter, sifted-more, sifted-none, within-push}
 use Rattle.zf_plan.proofs.sieve.mark_passing.Goals as goal
 

@@ -1,5 +1,4 @@
-use Rattle.zf_plan.proofs.Prelude.{◌≡◌, Remembers, trees_of}
-use Rattle.zf_plan.specs.{AreSifted}
+use Rattle.zf_plan.proofs.Prelude.{◌≡◌, Remembers, trees_of, AreSifted}
 use Rattle.zf_plan.proofs.sieve.mark_passing.Given as goal
 
 -- What is remembered is right, no test is counted, and the values so far are marked.

@@ -1,5 +1,4 @@
-use Rattle.zf_plan.proofs.Prelude.{◌∙◌, ◌≡◌, AreBelow, cond, length, None, refl, Some, subst, sym, trees_of}
-use Rattle.zf_plan.specs.{AreLasts, IsGreatest, passing}
+use Rattle.zf_plan.proofs.Prelude.{◌∙◌, ◌≡◌, AreBelow, cond, length, None, refl, Some, subst, sym, trees_of, AreLasts, IsGreatest, passing}
 use Rattle.zf_plan.proofs.Sieving.{all-still, sifted-stays}
 use Rattle.zf_plan.proofs.Results.{on-err}
 use Rattle.zf_plan.proofs.sieve.sift.Goals as goal

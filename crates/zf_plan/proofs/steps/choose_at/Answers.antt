@@ -1,6 +1,4 @@
-use Rattle.zf_plan.proofs.Prelude.{◌∙◌, ◌≡◌, [], ap, arith, false≢true, length, subst, sym, true, None, Err, Ok, OnErr, Result, IsChosen}
-use Rattle.std.specs.Result.{OnOk}
-use Rattle.zf_plan.specs.{IsGreatest}
+use Rattle.zf_plan.proofs.Prelude.{◌∙◌, ◌≡◌, [], ap, arith, false≢true, length, subst, sym, true, None, Err, Ok, OnErr, Result, IsChosen, OnOk, IsGreatest}
 use Rattle.zf_plan.proofs.Results.{on-err}
 use Rattle.zf_plan.proofs.steps.choose_at.Goals as goal
 

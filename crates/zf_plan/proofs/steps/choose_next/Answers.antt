@@ -1,5 +1,4 @@
-use Rattle.zf_plan.proofs.Prelude.{◌∙◌, bound, Remembers, rules, subst, take, trees_of}
-use Rattle.zf_plan.specs.{mark_at}
+use Rattle.zf_plan.proofs.Prelude.{◌∙◌, bound, Remembers, rules, subst, take, trees_of, mark_at}
 use Rattle.zf_plan.proofs.Marking.{kept-all}
 use Rattle.zf_plan.proofs.steps.choose_next.Goals as goal
 

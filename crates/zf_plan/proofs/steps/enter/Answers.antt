@@ -1,7 +1,4 @@
-use Rattle.zf_plan.proofs.Prelude.{◌<◌, ◌∙◌, ◌≡◌, ap, arith, get_or_default, length, subst, sym, trees_of, Place}
-use Rattle.zf_walk.specs.{HasBit}
-use Rattle.zf_plan.specs.{mark_at, unmarked}
-use Rattle.zf_plan.specs.declared.marks.Mark.{Mark}
+use Rattle.zf_plan.proofs.Prelude.{◌<◌, ◌∙◌, ◌≡◌, ap, arith, get_or_default, length, subst, sym, trees_of, Place, HasBit, mark_at, unmarked, Mark}
 use Rattle.zf_plan.proofs.Blaming.{blamed-choice}
 use Rattle.zf_plan.proofs.Moving.{length-bound}
 use Rattle.zf_plan.proofs.steps.enter.Goals as goal

@@ -1,5 +1,4 @@
-use Rattle.zf_plan.proofs.Prelude.{◌≡◌, ◌≤◌, true, option_copied, trees_of, is_over, KeepsEvents, Stands, steps_left, planted}
-use Rattle.zf_plan.specs.{IsCounted, IsPlain}
+use Rattle.zf_plan.proofs.Prelude.{◌≡◌, ◌≤◌, true, option_copied, trees_of, is_over, KeepsEvents, Stands, steps_left, planted, IsCounted, IsPlain}
 use Rattle.zf_plan.proofs.steps.next_answer.Given as goal
 
 -- The same events are ahead, a search that is over stays so, no count is lost, and where each conjunct is a leaf what is counted is so.

@@ -1,7 +1,4 @@
-use Rattle.zf_plan.proofs.Prelude.{◌-◌, ◌<◌, ◌∙◌, ◌≡◌, arith, get_or_default, inr, is_reached, length, option_copied, picked, refl, subst, sym, take, true, Place}
-use Rattle.std.specs.Prelude.{bit_or}
-use Rattle.zf_plan.specs.{Accuses, unmarked}
-use Rattle.zf_plan.specs.declared.marks.Mark.{Mark}
+use Rattle.zf_plan.proofs.Prelude.{◌-◌, ◌<◌, ◌∙◌, ◌≡◌, arith, get_or_default, inr, is_reached, length, option_copied, picked, refl, subst, sym, take, true, Place, bit_or, Accuses, unmarked, Mark}
 use Rattle.zf_plan.proofs.steps.pass.Goals as goal
 
 pub returns : goal.returns

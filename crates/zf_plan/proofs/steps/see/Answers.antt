@@ -1,5 +1,4 @@
-use Rattle.zf_plan.proofs.Prelude.{◌++◌, ◌+◌, ◌∷◌, ◌≡◌, [], arith, length, length-append, subst, sym, picked, trees_of}
-use Rattle.zf_plan.specs.{AreDue, IsTold}
+use Rattle.zf_plan.proofs.Prelude.{◌++◌, ◌+◌, ◌∷◌, ◌≡◌, [], arith, length, length-append, subst, sym, picked, trees_of, AreDue, IsTold}
 use Rattle.zf_plan.proofs.Seeing.{leaves-due}
 use Rattle.zf_plan.proofs.SoFar.{told-so}
 use Rattle.zf_plan.proofs.steps.see.Goals as goal

@@ -1,10 +1,6 @@
-use Rattle.zf_plan.proofs.Prelude.{◌≢◌, ahead_of, Bool, Conjuncts, False, Ordering, Takes, Tree, true, Truth, AreWithin, Remembers, rules, set, Stands, Option, List, None, get_or_default, ◌<◌, ◌+◌, bound, ◌-◌, ◌≤◌, ◌∙◌, ◌≡◌, ap, arith, get_or, inl, inr, length, subst, sym, take, ℕ, option_copied, cases_eq, get_or-set_other, get_or-set_same, length-set, IsAt, IsTruthOf, picked, Out, True, IsSoFar, trees_of, path, planted, Place}
+use Rattle.zf_plan.proofs.Prelude.{◌≢◌, ahead_of, Bool, Conjuncts, False, Ordering, Takes, Tree, true, Truth, AreWithin, Remembers, rules, set, Stands, Option, List, None, get_or_default, ◌<◌, ◌+◌, bound, ◌-◌, ◌≤◌, ◌∙◌, ◌≡◌, ap, arith, get_or, inl, inr, length, subst, sym, take, ℕ, option_copied, cases_eq, get_or-set_other, get_or-set_same, length-set, IsAt, IsTruthOf, picked, Out, True, IsSoFar, trees_of, path, planted, Place, all_of, AreSeen, below_it, CountsFound, Finds, Forgets, IsBlamed, IsCounted, IsFound, IsKept, IsPlain, mark_at, Memory, NeedsWithin, PassesOpen, Counts, with_item, Plan}
 use Rattle.zf_plan.proofs.Results.{on-err}
 use Rattle.zf_plan.proofs.Marking.{kept-chosen, landed-marked}
-use Rattle.zf_plan.specs.{all_of, AreSeen, below_it, CountsFound, Finds, Forgets, IsBlamed, IsCounted, IsFound, IsKept, IsPlain, mark_at, Memory, NeedsWithin, PassesOpen}
-use Rattle.zf_plan.specs.Counts.{Counts}
-use Rattle.std.specs.Vec.{with_item}
-use Rattle.zf_plan.specs.declared.plan.Plan.{Plan}
 use Rattle.zf_plan.proofs.Seeing.{seen-all, unseen-all}
 use Rattle.zf_plan.proofs.Moving.{length-bound, length-path}
 use Rattle.zf_plan.proofs.Jumping.{jumps, jumps-counted, opened-is, passed-is, passes-open-stand, passes-stand}

@@ -1,7 +1,5 @@
-use Rattle.zf_plan.proofs.Prelude.{◌∙◌, ◌≡◌, ap, length, option_copied, subst, sym, take, get_or, picked, path, trees_of, Place}
+use Rattle.zf_plan.proofs.Prelude.{◌∙◌, ◌≡◌, ap, length, option_copied, subst, sym, take, get_or, picked, path, trees_of, Place, IsSeen, AreHeld, IsTold}
 use Rattle.zf_walk.proofs.Marking.{unseen-nothing}
-use Rattle.zf_walk.specs.{IsSeen}
-use Rattle.zf_plan.specs.{AreHeld, IsTold}
 use Rattle.zf_plan.proofs.Moving.{length-bound}
 use Rattle.zf_plan.proofs.Seeing.{told-path}
 use Rattle.zf_plan.proofs.Stepping.{finds-refuted}

@@ -1,6 +1,4 @@
-use Rattle.zf_plan.proofs.Prelude.{◌∙◌, arith, length, option_copied, subst, sym, picked, False, IsSoFar, trees_of}
-use Rattle.zf_plan.specs.{all_of, AreDue, AreTouched, CountsFound, CountsOn, IsLeafOrBelow, IsPlain, NeedsWithin}
-use Rattle.zf_plan.specs.Counts.{Counts}
+use Rattle.zf_plan.proofs.Prelude.{◌∙◌, arith, length, option_copied, subst, sym, picked, False, IsSoFar, trees_of, all_of, AreDue, AreTouched, CountsFound, CountsOn, IsLeafOrBelow, IsPlain, NeedsWithin, Counts}
 use Rattle.zf_plan.proofs.Numbers.{touched_flat}
 use Rattle.zf_plan.proofs.Seeing.{leaves-due}
 use Rattle.zf_plan.proofs.SoFar.{so-false, so-tested, touched-each}

@@ -1,5 +1,4 @@
-use Rattle.zf_plan.proofs.Prelude.{◌∙◌, length, subst, sym, picked, trees_of}
-use Rattle.zf_plan.specs.{AreTouched}
+use Rattle.zf_plan.proofs.Prelude.{◌∙◌, length, subst, sym, picked, trees_of, AreTouched}
 use Rattle.zf_plan.proofs.SoFar.{so-told, touched-each}
 use Rattle.zf_plan.proofs.Stepping.{finds-ok, finds-unreached, setting-of}
 use Rattle.zf_plan.proofs.steps.test_told.Goals as goal

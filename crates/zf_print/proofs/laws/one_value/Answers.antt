@@ -1,5 +1,4 @@
-use Rattle.zf_print.proofs.Prelude.{Lines}
-use Rattle.std.proofs.Common.{[], ◌++◌, ap}
+use Rattle.zf_print.proofs.Prelude.{Lines, [], ◌++◌, ap}
 use Rattle.zf_print.proofs.OneFront.{ends_as, one_front}
 use Rattle.zf_print.proofs.laws.one_value.Goals as goal
 

@@ -1,7 +1,5 @@
-use Rattle.zf_print.proofs.Prelude.{◌++◌, ◌∙◌, ◌∷◌, ◌≡◌, [], ap, arith, map, subst, sym, ℤ, w64, signed_decimal, FitsSigned, same, goes_on, parted, value_in}
-use Rattle.std.specs.Prelude.{OnOk}
+use Rattle.zf_print.proofs.Prelude.{◌++◌, ◌∙◌, ◌∷◌, ◌≡◌, [], ap, arith, map, subst, sym, ℤ, w64, signed_decimal, FitsSigned, same, goes_on, parted, value_in, OnOk, rules}
 use Rattle.zf_print.proofs.Printing.{begun, map-drop, drop-end, ahead-more, closed}
-use Rattle.std.proofs.Common.{rules}
 use Rattle.zf_value.specs.{value_of}
 use Rattle.zf_value.proofs.Measures.{tuple_falls, set_falls}
 use Rattle.zf_print.proofs.TextsSeen.{of-Int, of-Elem, of-Tuple, of-SetOf}

@@ -1,5 +1,4 @@
-use Rattle.std.proofs.Common.{◌++◌, ◌∙◌, ap, sym}
-use Rattle.std.proofs.lemmas.Fmt.{decimal_digit}
+use Rattle.zf_print.proofs.Prelude.{◌++◌, ◌∙◌, ap, sym, decimal_digit}
 use Rattle.zf_print.proofs.printed.append_digit.Goals as goal
 
 pub returns : goal.returns

@@ -1,6 +1,5 @@
 -- The ranges of the components, one after another, where a value is held.
-use Rattle.zf_ranges.proofs.Prelude.{◌+◌, List, map, Option, subst, sym, take, IsTrue, Value, comp_of, sets_of, one_bounds, environment_of}
-use Rattle.zf_ranges.specs.{AreHeldRanges, IsHeldRange}
+use Rattle.zf_ranges.proofs.Prelude.{◌+◌, List, map, Option, subst, sym, take, IsTrue, Value, comp_of, sets_of, one_bounds, environment_of, AreHeldRanges, IsHeldRange}
 use Rattle.zf_ranges.proofs.Comps.{comp_at, all_at}
 use Rattle.zf_ranges.proofs.HeldRanges.{held_next, held_none_yet, held_done, not_out_at}
 use Rattle.zf_ranges.proofs.component.held_ranges.Goals as goal

@@ -1,5 +1,4 @@
-use Rattle.zf_ranges.proofs.Prelude.{map, take, comp_of, environment_of}
-use Rattle.zf_ranges.specs.{AreHeldRanges}
+use Rattle.zf_ranges.proofs.Prelude.{map, take, comp_of, environment_of, AreHeldRanges}
 use Rattle.zf_ranges.proofs.component.held_ranges.Given as goal
 
 abbrev pub invariant-loop-place : goal.invariant-loop-place

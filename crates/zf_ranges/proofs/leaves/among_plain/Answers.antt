@@ -1,5 +1,4 @@
-use Rattle.zf_ranges.proofs.Prelude.{◌∙◌, rules, sym, IfOk-weaker, resolved_of, globally, environment_of, HasOutcome}
-use Rattle.zf_outcome.specs.{Describes}
+use Rattle.zf_ranges.proofs.Prelude.{◌∙◌, rules, sym, IfOk-weaker, resolved_of, globally, environment_of, HasOutcome, Describes}
 use Rattle.zf_ranges.proofs.Lacks.{told}
 use Rattle.zf_ranges.proofs.Single.{filtered_by_plain, numbers_of_plain, described_is_out, no_infinite, none_is_none}
 use Rattle.zf_ranges.proofs.leaves.among_plain.Goals as goal

@@ -1,7 +1,5 @@
-use Rattle.std.proofs.Common.{◌↔◌, ◌∙◌, ap, subst, sym, IsTrue}
-use Rattle.zf_value.specs.{value_of}
+use Rattle.zf_ranges.proofs.Prelude.{◌↔◌, ◌∙◌, ap, subst, sym, IsTrue, value_of, environment_of, IsExistingElement, type_number}
 use Rattle.zf_value.proofs.Measures.{no_element_seen}
-use Rattle.zf_meaning.specs.{environment_of, IsExistingElement, type_number}
 use Rattle.zf_ranges.proofs.Typed.{no_element}
 use Rattle.zf_ranges.proofs.of_type.is_element.Goals as goal
 

@@ -1,5 +1,4 @@
-use Rattle.std.proofs.Common.{◌∙◌, rules, sym, w64}
-use Rattle.std.specs.Prelude.{FitsSigned}
+use Rattle.zf_ranges.proofs.Prelude.{◌∙◌, rules, sym, w64, FitsSigned}
 use Rattle.zf_ranges.proofs.Typed.{number_here, no_number_here}
 use Rattle.zf_ranges.proofs.of_type.is_number.Goals as goal
 

@@ -1,7 +1,6 @@
-use Rattle.zf_reach.proofs.Prelude.{◌∙◌, ap, refl, rules}
+use Rattle.zf_reach.proofs.Prelude.{◌∙◌, ap, refl, rules, edge}
 use Rattle.zf_reach.proofs.Fronts.{always_on_err}
 use Rattle.zf_reach.proofs.Parts.{closes_full_at, closes_out, keeps_more, keeps_same, parts_go_on, stops_at_edge, stops_in_part}
-use Rattle.zf_reach.specs.{edge}
 use Rattle.zf_reach.proofs.exploring.write_part.Goals as goal
 
 pub returns-in_err-label-clause-err : goal.returns-in_err-label-clause-err

@@ -1,6 +1,5 @@
-use Rattle.zf_reach.proofs.Prelude.{◌++◌, ◌-◌, ◌≡◌, ◌∙◌, ap, arith, length}
+use Rattle.zf_reach.proofs.Prelude.{◌++◌, ◌-◌, ◌≡◌, ◌∙◌, ap, arith, length, result_of}
 use Rattle.zf_reach.proofs.Seeks.{laid_found, laid_other, not_found, shown_earlier}
-use Rattle.zf_reach.specs.{result_of}
 use Rattle.zf_reach.proofs.seeking.laid_out.Goals as goal
 use Rattle.zf_reach.proofs.seeking.laid_out.Goals.{in-Found+in_ok-append_way-in-Found, in-Missing}
 

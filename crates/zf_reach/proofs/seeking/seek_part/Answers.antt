@@ -1,7 +1,6 @@
-use Rattle.zf_reach.proofs.Prelude.{◌∙◌, refl, with_edge}
+use Rattle.zf_reach.proofs.Prelude.{◌∙◌, refl, with_edge, edge}
 use Rattle.zf_reach.proofs.Parts.{keeps_same}
 use Rattle.zf_reach.proofs.Seeks.{keeps_brought, search_ends, search_goes_on, search_out}
-use Rattle.zf_reach.specs.{edge}
 use Rattle.zf_reach.proofs.seeking.seek_part.Goals as goal
 
 pub edges-init : goal.edges-init

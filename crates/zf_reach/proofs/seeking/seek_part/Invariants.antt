@@ -1,5 +1,4 @@
-use Rattle.zf_reach.proofs.Prelude.{◌≡◌, KeepsNodes}
-use Rattle.zf_reach.specs.{InSearch}
+use Rattle.zf_reach.proofs.Prelude.{◌≡◌, KeepsNodes, InSearch}
 use Rattle.zf_reach.proofs.seeking.seek_part.Given as goal
 
 abbrev pub invariant-edges : goal.invariant-edges

@@ -1,5 +1,4 @@
-use Rattle.zf_reach.proofs.Prelude.{◌+◌, ◌-◌}
-use Rattle.zf_reach.specs.{AtSearch}
+use Rattle.zf_reach.proofs.Prelude.{◌+◌, ◌-◌, AtSearch}
 use Rattle.zf_reach.proofs.seeking.seek_turns.Given as goal
 
 abbrev pub invariant-turns : goal.invariant-turns

@@ -1,5 +1,4 @@
-use Rattle.std.proofs.lemmas.List.{nil_from_length}
-use Rattle.zf_reach.proofs.Prelude.{◌-◌, ◌≡◌, arith, slice_get, slice_get_within, Some, subst, sym}
+use Rattle.zf_reach.proofs.Prelude.{◌-◌, ◌≡◌, arith, slice_get, slice_get_within, Some, subst, sym, nil_from_length}
 use Rattle.zf_reach.proofs.Trails.{chain_last, chain_over, way_further}
 use Rattle.zf_reach.proofs.trail.append_way.Goals as goal
 

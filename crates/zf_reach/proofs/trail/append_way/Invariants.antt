@@ -1,5 +1,4 @@
-use Rattle.zf_reach.proofs.Prelude.{length, ℕ}
-use Rattle.zf_reach.specs.{IsChain, SaysWay}
+use Rattle.zf_reach.proofs.Prelude.{length, ℕ, IsChain, SaysWay}
 use Rattle.zf_reach.proofs.trail.append_way.Given as goal
 
 abbrev pub invariant-steps : goal.invariant-steps

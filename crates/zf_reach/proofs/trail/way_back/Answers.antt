@@ -1,7 +1,5 @@
-use Rattle.std.proofs.lemmas.Option.{slice_get-get_or}
-use Rattle.zf_reach.proofs.Prelude.{◌-◌, arith, refl}
+use Rattle.zf_reach.proofs.Prelude.{◌-◌, arith, refl, slice_get-get_or, over}
 use Rattle.zf_reach.proofs.Trails.{chain_longer}
-use Rattle.zf_reach.specs.{over}
 use Rattle.zf_reach.proofs.trail.way_back.Goals as goal
 
 pub back-init : goal.back-init

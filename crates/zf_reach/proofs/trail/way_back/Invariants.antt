@@ -1,5 +1,4 @@
-use Rattle.zf_reach.proofs.Prelude.{◌≤◌, length}
-use Rattle.zf_reach.specs.{IsChain}
+use Rattle.zf_reach.proofs.Prelude.{◌≤◌, length, IsChain}
 use Rattle.zf_reach.proofs.trail.way_back.Given as goal
 
 abbrev pub invariant-back : goal.invariant-back

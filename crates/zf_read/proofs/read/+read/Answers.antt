@@ -1,10 +1,9 @@
-use Rattle.zf_read.proofs.Prelude.{arith, subst, sym, IsAscending}
+use Rattle.zf_read.proofs.Prelude.{arith, subst, sym, IsAscending, rules}
 use Rattle.zf_read.proofs.Misfits.{passed}
 use Rattle.zf_read.proofs.Numbers.{never_both}
 use Rattle.zf_read.proofs.Onward.{no_separator, no_part, one_part, no_end, parts_at, no_member_separator, no_member, one_member, no_room, members_at, pushed}
 use Rattle.zf_read.proofs.Reading.{not_next, no_value_no_next}
 use Rattle.zf_read.proofs.ValuesAt.{tuple_at, tuple_unopened, tuple_unread, set_at, set_unopened, set_unread}
-use Rattle.std.proofs.Common.{rules}
 use Rattle.zf_read.proofs.read.+read.Goals as goal
 
 -- ---- the members of a set

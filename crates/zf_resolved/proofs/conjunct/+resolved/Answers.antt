@@ -1,9 +1,4 @@
-use Rattle.std.proofs.Common.{◌∙◌, ap, arith, List, map, Some, sym}
-use Rattle.zf_data.specs.{all_of}
-use Rattle.zf_term.specs.declared.conjunct.Conjunct.{Conjunct}
-use Rattle.zf_term.specs.{batch_of, resolved_of}
-use Rattle.zf_term.proofs.ConjunctsSeen.{batch-seen}
-use Rattle.zf_resolved.specs.{onto, tree_in}
+use Rattle.zf_resolved.proofs.Prelude.{◌∙◌, ap, arith, List, map, Some, sym, all_of, Conjunct, batch_of, resolved_of, batch-seen, onto, tree_in}
 use Rattle.zf_resolved.proofs.Joining.{batches_step, conjuncts_step, none_joined, numbered_anew, some_joined}
 use Rattle.zf_resolved.proofs.conjunct.+resolved.Goals as goal
 

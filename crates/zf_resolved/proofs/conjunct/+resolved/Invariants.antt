@@ -1,7 +1,4 @@
-use Rattle.std.proofs.Common.{◌≡◌, drop, map, None}
-use Rattle.zf_data.specs.{all_of}
-use Rattle.zf_term.specs.{batch_of}
-use Rattle.zf_resolved.specs.{onto, tree_in}
+use Rattle.zf_resolved.proofs.Prelude.{◌≡◌, drop, map, None, all_of, batch_of, onto, tree_in}
 use Rattle.zf_resolved.proofs.Joining.{numbered_anew}
 use Rattle.zf_resolved.proofs.conjunct.+resolved.Given as goal
 

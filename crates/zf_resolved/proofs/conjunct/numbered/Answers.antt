@@ -1,5 +1,4 @@
-use Rattle.std.proofs.Common.{refl}
-use Rattle.zf_term.specs.{resolved_of}
+use Rattle.zf_resolved.proofs.Prelude.{refl, resolved_of}
 use Rattle.zf_resolved.proofs.Joining.{kept}
 use Rattle.zf_resolved.proofs.conjunct.numbered.Goals as goal
 

@@ -1,7 +1,5 @@
-use Rattle.std.proofs.Common.{ap}
+use Rattle.zf_resolved.proofs.Prelude.{ap, ◌≡◌, moved, numbering, resolved_of}
 use Rattle.std.proofs.lemmas.Result.{IfOk-weaker}
-use Rattle.std.proofs.Common.{◌≡◌}
-use Rattle.zf_term.specs.{moved, numbering, resolved_of}
 use Rattle.zf_resolved.proofs.Joining.{kept}
 use Rattle.zf_resolved.proofs.conjunct.placed.Goals as goal
 

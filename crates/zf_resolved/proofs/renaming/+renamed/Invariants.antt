@@ -1,6 +1,4 @@
-use Rattle.std.proofs.Common.{◌≡◌, map, take}
-use Rattle.zf_term.specs.{range_of, resolved_link_of, resolved_of}
-use Rattle.zf_resolved.specs.{link_renamed, range_renamed, renamed}
+use Rattle.zf_resolved.proofs.Prelude.{◌≡◌, map, take, range_of, resolved_link_of, resolved_of, link_renamed, range_renamed, renamed}
 use Rattle.zf_resolved.proofs.renaming.+renamed.Given as goal
 
 abbrev pub invariant-renamed_terms-loop-term : goal.invariant-renamed_terms-loop-term

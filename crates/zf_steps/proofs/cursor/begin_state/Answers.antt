@@ -1,11 +1,9 @@
 -- How the turn of a state begins.
-use Rattle.std.proofs.Common.{subst, sym}
+use Rattle.zf_steps.proofs.Prelude.{subst, sym, State, BeginsState, system_of}
 use Rattle.zf_reach.specs.declared.machine.Beginning.{Beginning}
 use Rattle.zf_steps.proofs.Answering.{begins_seen}
 use Rattle.zf_steps.proofs.cursor.begin_state.Goals as goal
 use Rattle.zf_steps.specs.contracts.node.NodePartialEq.TheImpl as nodes
-use Rattle.zf_steps.specs.declared.node.Node.TheVariants.{State}
-use Rattle.zf_steps.specs.{BeginsState, system_of}
 
 pub returns-clause-begins : goal.returns-clause-begins
 returns-clause-begins g c =

@@ -1,14 +1,7 @@
 -- The searches are in the environment.
-use Rattle.std.proofs.Common.{IfOk, List, OnErr, subst, sym, ℕ}
-use Rattle.std.specs.Io.KnownBytes.{Appends}
-use Rattle.zf_graph.specs.{IsSearched}
-use Rattle.zf_lines.specs.{device_of}
-use Rattle.zf_reach.proofs.Fronts.{always_on_err}
-use Rattle.zf_reach.specs.{result_of, StopsSearch}
+use Rattle.zf_steps.proofs.Prelude.{IfOk, List, OnErr, subst, sym, ℕ, Appends, IsSearched, device_of, always_on_err, result_of, StopsSearch, explored_in, Fits, IsFor, sought_in, system_of, verdict, words, schema_of}
 use Rattle.zf_steps.proofs.flat_seeking.seek_flat.Goals as goal
 use Rattle.zf_steps.proofs.Stopping.{stops_at_once}
-use Rattle.zf_steps.specs.{explored_in, Fits, IsFor, sought_in, system_of, verdict, words}
-use Rattle.zf_term.specs.{schema_of}
 
 pub returns-in_err-cursor-clause-err : goal.returns-in_err-cursor-clause-err
 returns-in_err-cursor-clause-err g c = always_on_err _ (stops_at_once _ _ _ _ _ _)

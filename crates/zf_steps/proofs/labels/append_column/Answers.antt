@@ -1,11 +1,9 @@
 -- The components one after another.
-use Rattle.std.proofs.Common.{◌∙◌, ap, arith, drop, length, map, refl}
+use Rattle.zf_steps.proofs.Prelude.{◌∙◌, ap, arith, drop, length, map, refl, comp_of, component_texts}
 use Rattle.zf_format.specs.declared.format.Format.TheVariants.{Lines}
 use Rattle.zf_steps.proofs.Columns.{column-further, column-over}
 use Rattle.zf_steps.proofs.labels.append_column.Goals as goal
-use Rattle.zf_term.specs.{comp_of}
 use Rattle.zf_print.proofs.Printing.{drop-end, texts-drop, texts-nil}
-use Rattle.zf_print.specs.{component_texts}
 
 pub loop-place-init : goal.loop-place-init
 loop-place-init g c = (omega arith, refl)

@@ -1,9 +1,6 @@
 -- What is still to be appended.
-use Rattle.std.proofs.Common.{◌++◌, ◌≡◌, ◌≤◌, drop, length, map}
+use Rattle.zf_steps.proofs.Prelude.{◌++◌, ◌≡◌, ◌≤◌, drop, length, map, column, column_text, comp_of, component_texts}
 use Rattle.zf_steps.proofs.labels.append_column.Given as goal
-use Rattle.zf_steps.specs.{column, column_text}
-use Rattle.zf_term.specs.{comp_of}
-use Rattle.zf_print.specs.{component_texts}
 
 abbrev pub invariant-loop-place : goal.invariant-loop-place
 invariant-loop-place g l =

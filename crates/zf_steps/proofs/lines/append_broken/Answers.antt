@@ -1,7 +1,5 @@
 -- What can't be decided, with its newline.
-use Rattle.std.proofs.Common.{◌++◌}
-use Rattle.std.specs.Prelude.{codes}
-use Rattle.zf_lines.proofs.Fronts.{weaker_on_ok}
+use Rattle.zf_steps.proofs.Prelude.{◌++◌, codes, weaker_on_ok}
 use Rattle.zf_steps.proofs.Pieces.{if_appended, three_pieces}
 use Rattle.zf_steps.proofs.lines.append_broken.Goals as goal
 

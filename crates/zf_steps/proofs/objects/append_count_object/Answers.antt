@@ -1,7 +1,5 @@
 -- The counts, one after the other.
-use Rattle.std.proofs.Common.{◌++◌, ◌≡◌, refl, subst}
-use Rattle.std.specs.Prelude.{codes, decimal}
-use Rattle.zf_lines.proofs.Fronts.{weaker_on_ok}
+use Rattle.zf_steps.proofs.Prelude.{◌++◌, ◌≡◌, refl, subst, codes, decimal, weaker_on_ok}
 use Rattle.zf_steps.proofs.Pieces.{if_appended, next_piece}
 use Rattle.zf_steps.proofs.objects.append_count_object.Goals as goal
 

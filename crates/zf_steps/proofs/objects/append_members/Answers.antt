@@ -1,10 +1,7 @@
 -- The members of a step.
-use Rattle.std.proofs.Common.{◌++◌, ◌≡◌, OnOk, Some, subst, sym}
-use Rattle.std.specs.Prelude.{slice_get}
-use Rattle.zf_graph.proofs.Places.{at_map}
+use Rattle.zf_steps.proofs.Prelude.{◌++◌, ◌≡◌, OnOk, Some, subst, sym, slice_get, at_map, operation_of, step_members, system_of}
 use Rattle.zf_steps.proofs.Fitting.{stands_at}
 use Rattle.zf_steps.proofs.objects.append_members.Goals as goal
-use Rattle.zf_steps.specs.{operation_of, step_members, system_of}
 
 pub returns-in-Some : goal.returns-in-Some
 returns-in-Some g c =

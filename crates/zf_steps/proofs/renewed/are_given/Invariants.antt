@@ -1,5 +1,4 @@
-use Rattle.std.proofs.Common.{◌≡◌, map, take}
-use Rattle.std.specs.Option.{is_some}
+use Rattle.zf_steps.proofs.Prelude.{◌≡◌, map, take, is_some}
 use Rattle.zf_steps.proofs.renewed.are_given.Given as goal
 
 abbrev pub invariant-loop-value : goal.invariant-loop-value

@@ -1,6 +1,4 @@
-use Rattle.std.proofs.Common.{◌≡◌, ◌≢◌, ◌<◌, ℕ, None, Some, true}
-use Rattle.std.specs.Prelude.{slice_get}
-use Rattle.zf_ranges.specs.{held_at}
+use Rattle.zf_steps.proofs.Prelude.{◌≡◌, ◌≢◌, ◌<◌, ℕ, None, Some, true, slice_get, held_at}
 use Rattle.zf_steps.proofs.renewed.are_held_again.Given as goal
 
 abbrev pub invariant-loop-place : goal.invariant-loop-place

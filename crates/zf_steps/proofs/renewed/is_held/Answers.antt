@@ -1,6 +1,5 @@
 -- What is there is held.
-use Rattle.std.proofs.Common.{◌∙◌, sym}
-use Rattle.zf_ranges.proofs.Comps.{held_got}
+use Rattle.zf_steps.proofs.Prelude.{◌∙◌, sym, held_got}
 use Rattle.zf_steps.proofs.Renewing.{not_there}
 use Rattle.zf_steps.proofs.renewed.is_held.Goals as goal
 

@@ -1,10 +1,7 @@
 -- One more search.
-use Rattle.std.proofs.Common.{◌+◌, map, subst, sym, take}
+use Rattle.zf_steps.proofs.Prelude.{◌+◌, map, subst, sym, take, AreFor, CanSearch, IsFor, operation_of, environment_of, schema_of}
 use Rattle.zf_steps.proofs.Fitting.{for_item}
 use Rattle.zf_steps.proofs.renewed.searches_among.Goals as goal
-use Rattle.zf_steps.specs.{AreFor, CanSearch, IsFor, operation_of}
-use Rattle.zf_meaning.specs.{environment_of}
-use Rattle.zf_term.specs.{schema_of}
 
 pub loop-operation-preserved : goal.loop-operation-preserved
 loop-operation-preserved c =

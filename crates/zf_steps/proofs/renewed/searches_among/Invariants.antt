@@ -1,8 +1,5 @@
 -- The searches so far.
-use Rattle.std.proofs.Common.{map, take}
-use Rattle.zf_steps.specs.{AreFor, IsFor, operation_of}
-use Rattle.zf_meaning.specs.{environment_of}
-use Rattle.zf_term.specs.{schema_of}
+use Rattle.zf_steps.proofs.Prelude.{map, take, AreFor, IsFor, operation_of, environment_of, schema_of}
 use Rattle.zf_steps.proofs.renewed.searches_among.Given as goal
 
 abbrev pub invariant-loop-operation : goal.invariant-loop-operation

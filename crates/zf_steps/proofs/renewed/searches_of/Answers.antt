@@ -1,11 +1,7 @@
 -- The searches fit.
-use Rattle.std.proofs.Common.{◌∙◌, ap, map, subst, sym}
-use Rattle.std.specs.List.{AllByRecursion}
+use Rattle.zf_steps.proofs.Prelude.{◌∙◌, ap, map, subst, sym, AllByRecursion, AreFor, CanSearch, IsFor, Operation, operation_of, system_of, environment_of, schema_of}
 use Rattle.zf_steps.proofs.Fitting.{all_mapped, map_map}
 use Rattle.zf_steps.proofs.renewed.searches_of.Goals as goal
-use Rattle.zf_steps.specs.{AreFor, CanSearch, IsFor, Operation, operation_of, system_of}
-use Rattle.zf_meaning.specs.{environment_of}
-use Rattle.zf_term.specs.{schema_of}
 
 pub searches_among-requires : goal.searches_among-requires
 searches_among-requires c =

@@ -1,11 +1,8 @@
 -- The members of what is said of a binding that is out.
-use Rattle.std.proofs.Common.{◌++◌}
-use Rattle.std.specs.Prelude.{codes}
+use Rattle.zf_steps.proofs.Prelude.{◌++◌, codes, weaker_on_ok, binding_object}
 use Rattle.zf_format.specs.{string_text}
-use Rattle.zf_lines.proofs.Fronts.{weaker_on_ok}
 use Rattle.zf_steps.proofs.Pieces.{five_pieces, if_appended}
 use Rattle.zf_steps.proofs.rows.append_stop_object.Goals as goal
-use Rattle.zf_print.specs.{binding_object}
 
 pub returns : goal.returns
 returns g c =

@@ -1,5 +1,4 @@
-use Rattle.std.proofs.Common.{map}
-use Rattle.zf_term.specs.{comp_of}
+use Rattle.zf_steps.proofs.Prelude.{map, comp_of}
 use Rattle.zf_steps.proofs.Clashing.{found_allows}
 use Rattle.zf_steps.proofs.shape.allows.Goals as goal
 

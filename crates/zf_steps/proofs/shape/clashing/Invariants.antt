@@ -1,6 +1,5 @@
 -- What is still ahead decides.
-use Rattle.std.proofs.Common.{drop, map}
-use Rattle.zf_term.specs.{comp_of}
+use Rattle.zf_steps.proofs.Prelude.{drop, map, comp_of}
 use Rattle.zf_steps.proofs.Clashing.{IsAhead}
 use Rattle.zf_steps.proofs.shape.clashing.Given as goal
 

@@ -1,6 +1,4 @@
-use Rattle.std.proofs.Common.{◌≡◌, map, subst}
-use Rattle.zf_term.specs.{comp_of, schema_of}
-use Rattle.zf_steps.specs.{before_of, init_in, IsInit, Lacks, operation_of}
+use Rattle.zf_steps.proofs.Prelude.{◌≡◌, map, subst, comp_of, schema_of, before_of, init_in, IsInit, Lacks, operation_of}
 use Rattle.zf_steps.proofs.Shapes.{if_ok, init_plain}
 use Rattle.zf_steps.proofs.shape.init_in.Goals as goal
 

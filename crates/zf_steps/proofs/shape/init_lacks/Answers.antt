@@ -1,7 +1,4 @@
-use Rattle.std.proofs.Common.{◌⊎◌, inr, map, subst}
-use Rattle.std.specs.Prelude.{MatchOption}
-use Rattle.zf_term.specs.{comp_of, schema_of}
-use Rattle.zf_steps.specs.{before_of, HasAll, Lacks, LacksInit, with_strokes}
+use Rattle.zf_steps.proofs.Prelude.{◌⊎◌, inr, map, subst, MatchOption, comp_of, schema_of, before_of, HasAll, Lacks, LacksInit, with_strokes}
 use Rattle.zf_steps.proofs.Shapes.{match_option, not_all}
 use Rattle.zf_steps.proofs.shape.init_lacks.Goals as goal
 

@@ -1,6 +1,4 @@
-use Rattle.std.proofs.Common.{◌∙◌, ap, filter_map, map, refl}
-use Rattle.zf_term.specs.{Comp, comp_of}
-use Rattle.zf_steps.specs.{place_of}
+use Rattle.zf_steps.proofs.Prelude.{◌∙◌, ap, filter_map, map, refl, Comp, comp_of, place_of}
 use Rattle.zf_steps.proofs.Shapes.{filter_mapped, same_operation}
 use Rattle.zf_steps.proofs.shape.init_of.Goals as goal
 

@@ -1,7 +1,4 @@
-use Rattle.std.proofs.Common.{◌∙◌, ap, map, refl}
-use Rattle.zf_term.specs.{Comp, comp_of}
-use Rattle.zf_places.specs.{comps_at}
-use Rattle.zf_steps.specs.{before_of, others_from, place_of, places_of, sources_of, with_strokes}
+use Rattle.zf_steps.proofs.Prelude.{◌∙◌, ap, map, refl, Comp, comp_of, comps_at, before_of, others_from, place_of, places_of, sources_of, with_strokes}
 use Rattle.zf_steps.proofs.Fitting.{map_map}
 use Rattle.zf_steps.proofs.Shapes.{filter_mapped, same_operation}
 use Rattle.zf_steps.proofs.shape.operation_in.Goals as goal

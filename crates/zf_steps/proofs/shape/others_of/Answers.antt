@@ -1,9 +1,4 @@
-use Rattle.std.proofs.Common.{◌≤◌, ◌∙◌, ap, map, subst, sym}
-use Rattle.std.proofs.lemmas.List.{length-map}
-use Rattle.zf_term.specs.declared.schema.Component.{Component}
-use Rattle.zf_term.specs.{comp_of}
-use Rattle.zf_ranges.proofs.Comps.{comp_at}
-use Rattle.zf_steps.specs.{before_of, is_other, others_from}
+use Rattle.zf_steps.proofs.Prelude.{◌≤◌, ◌∙◌, ap, map, subst, sym, length-map, Component, comp_of, comp_at, before_of, is_other, others_from}
 use Rattle.zf_steps.proofs.Shapes.{others_push, others_whole}
 use Rattle.zf_steps.proofs.shape.others_of.Goals as goal
 

@@ -1,7 +1,5 @@
 -- The others so far, and those ahead.
-use Rattle.std.proofs.Common.{◌++◌, ◌≡◌, drop, map}
-use Rattle.zf_term.specs.{comp_of}
-use Rattle.zf_steps.specs.{before_of, others_from}
+use Rattle.zf_steps.proofs.Prelude.{◌++◌, ◌≡◌, drop, map, comp_of, before_of, others_from}
 use Rattle.zf_steps.proofs.shape.others_of.Given as goal
 
 abbrev pub invariant-loop-place : goal.invariant-loop-place

@@ -1,6 +1,4 @@
-use Rattle.std.proofs.Common.{map}
-use Rattle.zf_term.specs.{comp_of}
-use Rattle.zf_steps.specs.{place_of}
+use Rattle.zf_steps.proofs.Prelude.{map, comp_of, place_of}
 use Rattle.zf_places.proofs.Picked.{filter_push}
 use Rattle.zf_steps.proofs.shape.places_of.Goals as goal
 

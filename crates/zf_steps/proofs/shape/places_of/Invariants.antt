@@ -1,7 +1,5 @@
 -- The places so far.
-use Rattle.std.proofs.Common.{◌≡◌, filter_map, map, take}
-use Rattle.zf_term.specs.{comp_of}
-use Rattle.zf_steps.specs.{place_of}
+use Rattle.zf_steps.proofs.Prelude.{◌≡◌, filter_map, map, take, comp_of, place_of}
 use Rattle.zf_steps.proofs.shape.places_of.Given as goal
 
 abbrev pub invariant-loop-component : goal.invariant-loop-component

@@ -1,7 +1,4 @@
-use Rattle.std.proofs.Common.{map, subst}
-use Rattle.std.specs.Prelude.{MatchOption}
-use Rattle.zf_term.specs.{comp_of, schema_of}
-use Rattle.zf_steps.specs.{before_of, both_states, HasAll, Lacks, LacksStep, with_strokes}
+use Rattle.zf_steps.proofs.Prelude.{map, subst, MatchOption, comp_of, schema_of, before_of, both_states, HasAll, Lacks, LacksStep, with_strokes}
 use Rattle.zf_steps.proofs.Shapes.{has_both, lacks_behind, lacks_front, match_option}
 use Rattle.zf_steps.proofs.shape.step_lacks.Goals as goal
 

@@ -1,6 +1,4 @@
-use Rattle.std.proofs.Common.{◌∙◌, ap, map, refl}
-use Rattle.zf_term.specs.{Comp, comp_of}
-use Rattle.zf_steps.specs.{place_of, sources_of}
+use Rattle.zf_steps.proofs.Prelude.{◌∙◌, ap, map, refl, Comp, comp_of, place_of, sources_of}
 use Rattle.zf_steps.proofs.Fitting.{map_map}
 use Rattle.zf_steps.proofs.Shapes.{same_operation}
 use Rattle.zf_steps.proofs.shape.test_in.Goals as goal

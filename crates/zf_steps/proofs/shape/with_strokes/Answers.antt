@@ -1,6 +1,4 @@
-use Rattle.std.proofs.Common.{◌+◌, ◌≡◌, map, subst, sym, take}
-use Rattle.zf_term.specs.{comp_of}
-use Rattle.zf_steps.specs.{stroked}
+use Rattle.zf_steps.proofs.Prelude.{◌+◌, ◌≡◌, map, subst, sym, take, comp_of, stroked}
 use Rattle.zf_steps.proofs.Shapes.{mapped_push, mapped_whole}
 use Rattle.zf_steps.proofs.shape.with_strokes.Goals as goal
 

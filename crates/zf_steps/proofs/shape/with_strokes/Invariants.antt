@@ -1,7 +1,5 @@
 -- The components so far have one more stroke.
-use Rattle.std.proofs.Common.{◌≡◌, map, take}
-use Rattle.zf_term.specs.{comp_of}
-use Rattle.zf_steps.specs.{stroked}
+use Rattle.zf_steps.proofs.Prelude.{◌≡◌, map, take, comp_of, stroked}
 use Rattle.zf_steps.proofs.shape.with_strokes.Given as goal
 
 abbrev pub invariant-loop-component : goal.invariant-loop-component

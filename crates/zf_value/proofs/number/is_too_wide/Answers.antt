@@ -1,5 +1,4 @@
-use Rattle.zf_value.proofs.Prelude.{arith, subst, sym, ints, SET_MAX}
-use Rattle.std.specs.Prelude.{ℤ, pos, ◌+ℤ◌, FitsSigned}
+use Rattle.zf_value.proofs.Prelude.{arith, subst, sym, ints, SET_MAX, ℤ, pos, ◌+ℤ◌, FitsSigned}
 use Rattle.std.specs.Int.{w64}
 use Rattle.zf_value.proofs.Exactly.{same, past_fits}
 use Rattle.zf_value.proofs.number.is_too_wide.Goals as goal

@@ -1,5 +1,4 @@
-use Rattle.zf_value.proofs.Prelude.{◌∙◌, inl, of_z, refl, rules, sym, to_z, w64, int_rem, IsModulus}
-use Rattle.std.specs.Prelude.{ℤ, FitsSigned, ◌+ℤ◌}
+use Rattle.zf_value.proofs.Prelude.{◌∙◌, inl, of_z, refl, rules, sym, to_z, w64, int_rem, IsModulus, ℤ, FitsSigned, ◌+ℤ◌}
 use Rattle.zf_value.proofs.Exactly.{same, both_same, is_zero, not_zero, remainder_same, modulus_down, modulus_up}
 use Rattle.zf_value.proofs.number.modulus.Goals as goal
 

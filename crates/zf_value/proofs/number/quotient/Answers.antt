@@ -1,5 +1,4 @@
-use Rattle.zf_value.proofs.Prelude.{◌∙◌, ap, inl, refl, rules, subst, sym, to_z, w64, quot_is, rem_is, int_div, IsNegation, IsQuotient}
-use Rattle.std.specs.Prelude.{ℤ, pos, FitsSigned, ◌-ℤ◌}
+use Rattle.zf_value.proofs.Prelude.{◌∙◌, ap, inl, refl, rules, subst, sym, to_z, w64, quot_is, rem_is, int_div, IsNegation, IsQuotient, ℤ, pos, FitsSigned, ◌-ℤ◌}
 use Rattle.zf_value.proofs.Exactly.{checked, same, is_zero, not_zero, remainder_same, quotient_down, quotient_up, quotient_negated}
 use Rattle.zf_value.proofs.number.quotient.Goals as goal
 

@@ -1,5 +1,4 @@
-use Rattle.zf_value.proofs.Prelude.{◌↔◌, IsTrue, rules, subst, sym, pair, IsMember, value_order}
-use Rattle.std.proofs.lemmas.Fn.{always_returns_same}
+use Rattle.zf_value.proofs.Prelude.{◌↔◌, IsTrue, rules, subst, sym, pair, IsMember, value_order, always_returns_same}
 use Rattle.zf_value.proofs.Searched.{found}
 use Rattle.zf_value.proofs.relation.is_pair_found.Goals as goal
 

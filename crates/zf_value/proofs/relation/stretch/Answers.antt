@@ -1,5 +1,4 @@
-use Rattle.std.proofs.lemmas.List.Elements.{AllWithin-more, at_read}
-use Rattle.zf_value.proofs.Prelude.{◌∙◌, ◌≡◌, ap, arith, false, rules, true, sym, IsPartitionPoint-from_clause, is_le, is_lt, place_beside}
+use Rattle.zf_value.proofs.Prelude.{◌∙◌, ◌≡◌, ap, arith, false, rules, true, sym, IsPartitionPoint-from_clause, is_le, is_lt, place_beside, AllWithin-more, at_read}
 use Rattle.zf_value.proofs.Stretches.{parted_before, from_start, end_here, end_of_all, in_order, related_between}
 use Rattle.zf_value.proofs.relation.stretch.Goals as goal
 

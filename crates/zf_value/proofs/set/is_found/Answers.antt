@@ -1,5 +1,4 @@
-use Rattle.zf_value.proofs.Prelude.{◌↔◌, IsTrue, rules, subst, sym, IsMember, value_order}
-use Rattle.std.proofs.lemmas.Fn.{always_returns_same}
+use Rattle.zf_value.proofs.Prelude.{◌↔◌, IsTrue, rules, subst, sym, IsMember, value_order, always_returns_same}
 use Rattle.zf_value.proofs.Searched.{found}
 use Rattle.zf_value.proofs.set.is_found.Goals as goal
 

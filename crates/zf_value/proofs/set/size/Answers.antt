@@ -1,5 +1,4 @@
-use Rattle.zf_value.proofs.Prelude.{to_z-of_z, IsSize}
-use Rattle.std.proofs.Common.{sym, subst, ◌∙◌, w64, FitsSigned}
+use Rattle.zf_value.proofs.Prelude.{to_z-of_z, IsSize, sym, subst, ◌∙◌, w64, FitsSigned}
 use Rattle.zf_value.proofs.Exactly.{is_number}
 use Rattle.zf_value.proofs.set.size.Goals as goal
 

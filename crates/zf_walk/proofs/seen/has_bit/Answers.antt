@@ -1,5 +1,4 @@
-use Rattle.std.proofs.Common.{arith}
-use Rattle.std.proofs.lemmas.Nat.Bits.{bit_at_above}
+use Rattle.zf_walk.proofs.Prelude.{arith, bit_at_above}
 use Rattle.zf_walk.proofs.seen.has_bit.Goals as goal
 
 pub returns-else-place-lt64-clause-all : goal.returns-else-place-lt64-clause-all

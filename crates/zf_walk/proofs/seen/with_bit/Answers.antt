@@ -1,7 +1,4 @@
-use Rattle.std.proofs.Common.{◌∙◌, inl, inr, subst, sym, w64}
-use Rattle.std.proofs.lemmas.Nat.Bits.{bit_at_set_other, bit_at_set_same}
-use Rattle.zf_walk.specs.{HasBit}
-use Rattle.zf_walk.proofs.Prelude.{cases_eq}
+use Rattle.zf_walk.proofs.Prelude.{cases_eq, ◌∙◌, inl, inr, subst, sym, w64, bit_at_set_other, bit_at_set_same, HasBit}
 use Rattle.zf_walk.proofs.seen.with_bit.Goals as goal
 
 pub returns : goal.returns

@@ -1,5 +1,4 @@
-use Rattle.zf_walk.proofs.Prelude.{◌*◌, ◌++◌, ◌+◌, ◌<◌, ◌∙◌, ◌∷◌, ◌≡◌, [], ap, arith, get_or, Global, length, List, refl, subst, sym, Vec, ℕ, AreUsed, combinations, Table, Used}
-use Rattle.std.proofs.Math.Nat.{le-div_iff_mul-le}
+use Rattle.zf_walk.proofs.Prelude.{◌*◌, ◌++◌, ◌+◌, ◌<◌, ◌∙◌, ◌∷◌, ◌≡◌, [], ap, arith, get_or, Global, length, List, refl, subst, sym, Vec, ℕ, AreUsed, combinations, Table, Used, le-div_iff_mul-le}
 use Rattle.zf_walk.proofs.Picks.{range-is}
 use Rattle.zf_walk.proofs.Telling.{used-none, used-more, used-skip, combinations-more, table-new}
 use Rattle.zf_walk.proofs.tables.table_of.Goals as goal

@@ -1,6 +1,4 @@
-use Rattle.zf_parts.proofs.Prelude.{◌∙◌, ap, refl, subst, sym}
-use Rattle.std.proofs.Common.{◌/◌}
-use Rattle.zf_parts.specs.{bit_of, is_marked, IsPlaced, word_at}
+use Rattle.zf_parts.proofs.Prelude.{◌∙◌, ap, refl, subst, sym, ◌/◌, bit_of, is_marked, IsPlaced, word_at}
 use Rattle.zf_parts.proofs.Marking.{as_sight, read_has}
 use Rattle.zf_parts.proofs.marks.Marks.ahead.Goals as goal
 

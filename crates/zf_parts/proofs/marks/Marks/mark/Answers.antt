@@ -1,6 +1,4 @@
-use Rattle.zf_parts.proofs.Prelude.{◌∙◌, inl, inr, refl}
-use Rattle.std.proofs.Common.{◌/◌}
-use Rattle.zf_parts.specs.{word_at}
+use Rattle.zf_parts.proofs.Prelude.{◌∙◌, inl, inr, refl, ◌/◌, word_at}
 use Rattle.zf_parts.proofs.Marking.{page_others, page_there}
 use Rattle.zf_parts.proofs.marks.Marks.mark.Goals as goal
 

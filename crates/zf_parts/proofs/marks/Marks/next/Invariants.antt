@@ -1,6 +1,5 @@
 -- None is marked up to here. The end may be passed.
-use Rattle.std.proofs.Common.{◌-◌, ◌≤◌}
-use Rattle.zf_parts.specs.{AreFree}
+use Rattle.zf_parts.proofs.Prelude.{◌-◌, ◌≤◌, AreFree}
 use Rattle.zf_parts.proofs.marks.Marks.next.Given as goal
 
 abbrev pub invariant-loop-number : goal.invariant-loop-number

@@ -1,6 +1,4 @@
-use Rattle.zf_parts.proofs.Prelude.{◌∙◌, ◌≡◌, ap, rules, subst, sym}
-use Rattle.std.proofs.Common.{◌%◌, ◌+◌, eqb}
-use Rattle.zf_parts.specs.{has_in, word_at}
+use Rattle.zf_parts.proofs.Prelude.{◌∙◌, ◌≡◌, ap, rules, subst, sym, ◌%◌, ◌+◌, eqb, has_in, word_at}
 use Rattle.zf_parts.proofs.Marking.{page_more}
 use Rattle.zf_parts.proofs.marks.Marks.open.Goals as goal
 

@@ -1,7 +1,4 @@
-use Rattle.std.proofs.Common.{◌∙◌, ◌≡◌, ap, arith, length, refl, replicate, rules, subst, sym}
-use Rattle.std.proofs.lemmas.List.{length-replicate}
-use Rattle.zf_parts.specs.{counted, ranges_at}
-use Rattle.zf_walk.specs.{AreWithin}
+use Rattle.zf_parts.proofs.Prelude.{◌∙◌, ◌≡◌, ap, arith, length, refl, replicate, rules, subst, sym, length-replicate, counted, ranges_at, AreWithin}
 use Rattle.zf_parts.proofs.Counting.{first_digits}
 use Rattle.zf_parts.proofs.Numbering.{length_ranges}
 use Rattle.zf_parts.proofs.part_row.PartRow.new.Goals as goal

@@ -1,8 +1,4 @@
-use Rattle.std.proofs.Common.{◌<◌, ◌≡◌, ◌∙◌, [], ap, get_or, length, subst, sym}
-use Rattle.std.specs.Prelude.{slice_get}
-use Rattle.zf_parts.specs.{ranges_at}
-use Rattle.zf_walk.proofs.Picks.{length-picked, slice_get-picked}
-use Rattle.zf_walk.specs.{picked}
+use Rattle.zf_parts.proofs.Prelude.{◌<◌, ◌≡◌, ◌∙◌, [], ap, get_or, length, subst, sym, slice_get, ranges_at, length-picked, slice_get-picked, picked}
 use Rattle.zf_parts.proofs.part_row.PartRowLocated.place.Goals as goal
 
 pub digit_at-requires : goal.digit_at-requires

@@ -1,8 +1,4 @@
-use Rattle.std.proofs.Common.{◌<◌, ◌≡◌, ◌∙◌, ap, arith, length, Some, subst, sym}
-use Rattle.std.specs.Prelude.{slice_get}
-use Rattle.zf_parts.specs.{ranges_at}
-use Rattle.zf_walk.proofs.Picks.{length-picked}
-use Rattle.zf_walk.specs.{picked}
+use Rattle.zf_parts.proofs.Prelude.{◌<◌, ◌≡◌, ◌∙◌, ap, arith, length, Some, subst, sym, slice_get, ranges_at, length-picked, picked}
 use Rattle.zf_parts.proofs.Numbering.{length_ranges}
 use Rattle.zf_parts.proofs.part_row.PartRowRow.get.Goals as goal
 

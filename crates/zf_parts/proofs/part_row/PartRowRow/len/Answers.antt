@@ -1,7 +1,4 @@
-use Rattle.std.proofs.Common.{◌∙◌, ◌≡◌, ap, arith, length, sym}
-use Rattle.zf_parts.specs.{ranges_at}
-use Rattle.zf_walk.proofs.Picks.{length-picked}
-use Rattle.zf_walk.specs.{picked}
+use Rattle.zf_parts.proofs.Prelude.{◌∙◌, ◌≡◌, ap, arith, length, sym, ranges_at, length-picked, picked}
 use Rattle.zf_parts.proofs.part_row.PartRowRow.len.Goals as goal
 
 pub returns : goal.returns

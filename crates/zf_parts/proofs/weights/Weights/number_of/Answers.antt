@@ -1,6 +1,5 @@
 -- The values at the places from i on are numbered, and there are few numbers.
-use Rattle.std.proofs.Common.{◌-◌, ap, arith, get_or, length}
-use Rattle.std.proofs.lemmas.List.{get_or_default}
+use Rattle.zf_parts.proofs.Prelude.{◌-◌, ap, arith, get_or, length, get_or_default}
 use Rattle.zf_parts.proofs.Numbering.{length_weights}
 use Rattle.zf_parts.proofs.Weighing.{numbering_next, numbering_small}
 use Rattle.zf_parts.proofs.weights.Weights.number_of.Goals as goal

@@ -1,5 +1,4 @@
-use Rattle.zf_parts.proofs.Prelude.{◌++◌, ◌∙◌, ◌∷◌, ◌≡◌, [], ap, length, refl, rules}
-use Rattle.std.proofs.Common.{replicate}
+use Rattle.zf_parts.proofs.Prelude.{◌++◌, ◌∙◌, ◌∷◌, ◌≡◌, [], ap, length, refl, rules, replicate}
 use Rattle.zf_parts.proofs.Marking.{opened, zeros_behind}
 use Rattle.zf_parts.proofs.words.Words.open.Goals as goal
 

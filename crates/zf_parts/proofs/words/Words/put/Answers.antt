@@ -1,5 +1,4 @@
-use Rattle.zf_parts.proofs.Prelude.{rules}
-use Rattle.zf_parts.specs.{word_at}
+use Rattle.zf_parts.proofs.Prelude.{rules, word_at}
 use Rattle.zf_parts.proofs.Marking.{put_here, put_others}
 use Rattle.zf_parts.proofs.words.Words.put.Goals as goal
 

@@ -1,6 +1,4 @@
-use Rattle.zf_plan.proofs.Prelude.{◌∙◌, ap, cond, List, None, Some, subst, sym, ℕ, IsNextChoice}
-use Rattle.std.proofs.Common.{Bool}
-use Rattle.zf_plan.specs.{passing}
+use Rattle.zf_plan.proofs.Prelude.{◌∙◌, ap, cond, List, None, Some, subst, sym, ℕ, IsNextChoice, Bool, passing}
 use Rattle.zf_plan.proofs.choice.Choice.next.Goals as goal
 
 pub returns-then-self-2 : goal.returns-then-self-2

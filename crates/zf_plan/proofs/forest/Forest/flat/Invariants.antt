@@ -1,5 +1,4 @@
-use Rattle.zf_plan.proofs.Prelude.{trees_of}
-use Rattle.zf_plan.specs.{IsFlat}
+use Rattle.zf_plan.proofs.Prelude.{trees_of, IsFlat}
 use Rattle.zf_plan.proofs.forest.Forest.flat.Given as goal
 
 -- The leaves that were passed are its conjuncts.

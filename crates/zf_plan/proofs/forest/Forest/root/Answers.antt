@@ -1,5 +1,4 @@
-use Rattle.zf_plan.proofs.Prelude.{◌<◌, ◌∙◌, ◌≡◌, ap, arith, leaf, length, length-map, subst, sym, Grove, tree_at, trees_made, trees_of}
-use Rattle.std.proofs.lemmas.List.{get_or-map}
+use Rattle.zf_plan.proofs.Prelude.{◌<◌, ◌∙◌, ◌≡◌, ap, arith, leaf, length, length-map, subst, sym, Grove, tree_at, trees_made, trees_of, get_or-map}
 use Rattle.zf_plan.proofs.Groves.{root-within}
 use Rattle.zf_plan.proofs.forest.Forest.root.Goals as goal
 

@@ -1,5 +1,4 @@
-use Rattle.zf_plan.proofs.Prelude.{◌+◌, ◌<◌, ◌∙◌, ◌≡◌, arith, get_or, get_or_default, length, set, subst, sym}
-use Rattle.zf_plan.specs.{AreStamped, Forgets, memory_of}
+use Rattle.zf_plan.proofs.Prelude.{◌+◌, ◌<◌, ◌∙◌, ◌≡◌, arith, get_or, get_or_default, length, set, subst, sym, AreStamped, Forgets, memory_of}
 use Rattle.zf_plan.proofs.Stamping.{next-stamped, next-forgets, cleared-stamped, cleared-forgets, none-forgotten}
 use Rattle.zf_plan.proofs.memo.Memo.forget.Goals as goal
 

@@ -1,5 +1,4 @@
-use Rattle.zf_plan.proofs.Prelude.{arith, length, subst, ◌≡◌}
-use Rattle.zf_plan.specs.{AreSeenOf}
+use Rattle.zf_plan.proofs.Prelude.{arith, length, subst, ◌≡◌, AreSeenOf}
 use Rattle.zf_plan.proofs.Seeing.{seen-first, seen-more}
 use Rattle.zf_plan.proofs.memo.Memo.seen.Goals as goal
 

@@ -1,6 +1,4 @@
-use Rattle.zf_plan.proofs.Prelude.{◌≡◌, ◌∙◌, false≢true, subst, sym, trees_of, true, ℕ}
-use Rattle.zf_plan.specs.{IsBare, IsLayer}
-use Rattle.zf_plan.specs.declared.plan.Layer.{Layer}
+use Rattle.zf_plan.proofs.Prelude.{◌≡◌, ◌∙◌, false≢true, subst, sym, trees_of, true, ℕ, IsBare, IsLayer, Layer}
 use Rattle.zf_plan.proofs.Numbers.{so_far_more}
 use Rattle.zf_plan.proofs.plan.Plan.new.Goals as goal
 use Rattle.zf_plan.proofs.plan.Plan.new.Goals.{then-not-is_plain+in_ok-add_choosers, else-not-is_plain}

@@ -1,5 +1,4 @@
-use Rattle.zf_plan.proofs.Prelude.{◌≡◌, trees_of, true}
-use Rattle.zf_plan.specs.{IsBare, IsLayer}
+use Rattle.zf_plan.proofs.Prelude.{◌≡◌, trees_of, true, IsBare, IsLayer}
 use Rattle.zf_plan.proofs.Numbers.{AreSoFar}
 use Rattle.zf_plan.proofs.plan.Plan.new.Given as goal
 

@@ -1,5 +1,4 @@
-use Rattle.zf_plan.proofs.Prelude.{◌<◌, arith, length, subst, sym, trees_of}
-use Rattle.zf_plan.specs.{IsBare, IsLayer}
+use Rattle.zf_plan.proofs.Prelude.{◌<◌, arith, length, subst, sym, trees_of, IsBare, IsLayer}
 use Rattle.zf_plan.proofs.problem.Problem.layer.Goals as goal
 
 pub returns : goal.returns

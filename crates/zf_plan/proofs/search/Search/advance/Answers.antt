@@ -1,6 +1,4 @@
-use Rattle.zf_plan.proofs.Prelude.{◌≡◌, Bool, Conjuncts, List, Option, Ordering, path, Place, Step, Tree, ℕ, refl, subst, sym, option_copied, trees_of, KeepsEvents, Stands, planted, Gives, Holds, Breaks, End}
-use Rattle.zf_plan.specs.{IsCounted, Memory}
-use Rattle.zf_walk.specs.{cut, IsNumberOfTests}
+use Rattle.zf_plan.proofs.Prelude.{◌≡◌, Bool, Conjuncts, List, Option, Ordering, path, Place, Step, Tree, ℕ, refl, subst, sym, option_copied, trees_of, KeepsEvents, Stands, planted, Gives, Holds, Breaks, End, IsCounted, Memory, cut, IsNumberOfTests}
 use Rattle.zf_plan.proofs.Results.{on-err}
 use Rattle.zf_plan.proofs.Counting.{answered, answered-tests, Basis, basis-of}
 use Rattle.zf_plan.proofs.Stepping.{setting-of, SameAhead-from, over-from}

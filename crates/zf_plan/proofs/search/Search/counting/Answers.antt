@@ -1,5 +1,4 @@
-use Rattle.zf_plan.proofs.Prelude.{length, subst, sym, option_copied, trees_of, IsPlan}
-use Rattle.zf_plan.specs.{IsFlat}
+use Rattle.zf_plan.proofs.Prelude.{length, subst, sym, option_copied, trees_of, IsPlan, IsFlat}
 use Rattle.zf_plan.proofs.Groves.{flat-leaves}
 use Rattle.zf_plan.proofs.Stepping.{ahead-begins}
 use Rattle.zf_plan.proofs.search.Search.counting.Goals as goal

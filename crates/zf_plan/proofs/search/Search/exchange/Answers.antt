@@ -1,7 +1,5 @@
 -- What it goes over is as it was but for the ranges.
-use Rattle.zf_plan.proofs.Prelude.{◌∙◌, ◌≡◌, ap, length, subst, sym, None, planted, trees_of, IsPlan}
-use Rattle.zf_walk.specs.{AreAllAhead, AreAscending, AreDueWithin}
-use Rattle.zf_plan.specs.{exchanged}
+use Rattle.zf_plan.proofs.Prelude.{◌∙◌, ◌≡◌, ap, length, subst, sym, None, planted, trees_of, IsPlan, AreAllAhead, AreAscending, AreDueWithin, exchanged}
 use Rattle.zf_plan.specs.Progress.{Progress}
 use Rattle.zf_plan.proofs.Exchanging.{as_many}
 use Rattle.zf_plan.proofs.search.Search.exchange.Goals as goal

@@ -1,9 +1,7 @@
-use Rattle.zf_plan.proofs.Prelude.{[], false, List, IsRowOf, option_copied, picked, planted, ◌∙◌, ◌≡◌, ap, arith, length, refl, replicate, rules, subst, false≢true, picked-nil, trees_of, Place}
-use Rattle.zf_plan.specs.{AreKeyed, AreNew, IsNew}
+use Rattle.zf_plan.proofs.Prelude.{[], false, List, IsRowOf, option_copied, picked, planted, ◌∙◌, ◌≡◌, ap, arith, length, refl, replicate, rules, subst, false≢true, picked-nil, trees_of, Place, AreKeyed, AreNew, IsNew, unseen}
 use Rattle.zf_plan.proofs.Stepping.{ahead-first, stands-first}
 use Rattle.zf_plan.proofs.Counting.{basis-of, counted-first}
 use Rattle.zf_plan.proofs.Seeing.{unseen-first}
-use Rattle.zf_walk.specs.{unseen}
 use Rattle.zf_plan.proofs.search.Search.over.Goals as goal
 
 pub invariant_of-result : goal.invariant_of-result

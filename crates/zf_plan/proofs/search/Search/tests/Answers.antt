@@ -1,6 +1,4 @@
-use Rattle.zf_plan.proofs.Prelude.{option_copied, subst, sym}
-use Rattle.zf_walk.specs.{IsBounded}
-use Rattle.zf_plan.specs.{bound, counted, view_of}
+use Rattle.zf_plan.proofs.Prelude.{option_copied, subst, sym, IsBounded, bound, counted, view_of}
 use Rattle.zf_plan.proofs.Counting.{basis-of, tests-before_end, tests-before_row, tests-within_bound}
 use Rattle.zf_plan.proofs.search.Search.tests.Goals as goal
 

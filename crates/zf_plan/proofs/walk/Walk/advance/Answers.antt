@@ -1,6 +1,4 @@
-use Rattle.zf_plan.proofs.Prelude.{subst, sym, trees_of, Grove}
-use Rattle.zf_walk.specs.{AreTests}
-use Rattle.zf_plan.specs.{counted, IsWalk}
+use Rattle.zf_plan.proofs.Prelude.{subst, sym, trees_of, Grove, AreTests, counted, IsWalk}
 use Rattle.zf_plan.proofs.Walking.{advances-ok, stays-err, under-ok}
 use Rattle.zf_plan.proofs.walk.Walk.advance.Goals as goal
 

@@ -1,8 +1,6 @@
-use Rattle.std.proofs.Common.{◌↔◌, ◌∙◌, rules, subst, sym, w64, IsTrue}
-use Rattle.std.specs.Prelude.{FitsSigned}
+use Rattle.zf_ranges.proofs.Prelude.{◌↔◌, ◌∙◌, rules, subst, sym, w64, IsTrue, FitsSigned, IsFrom}
 use Rattle.zf_value.proofs.Exactly.{same}
 use Rattle.zf_outcome.proofs.Comparisons.{in-infinite, none-infinite}
-use Rattle.zf_outcome.specs.{IsFrom}
 use Rattle.zf_ranges.proofs.filters.InNumbersTest.admits.Goals as goal
 
 pub returns-in-Some : goal.returns-in-Some

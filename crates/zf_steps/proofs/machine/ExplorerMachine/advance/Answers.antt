@@ -1,10 +1,9 @@
 -- The search of a part goes on.
-use Rattle.std.proofs.Common.{◌<◌, arith, length, rules}
+use Rattle.zf_steps.proofs.Prelude.{◌<◌, arith, length, rules, IsForIn, operation_of, stage_in, system_of}
 use Rattle.zf_steps.proofs.Fitting.{stands_at}
 use Rattle.zf_steps.proofs.machine.ExplorerMachine.advance.Goals as goal
 use Rattle.zf_steps.proofs.Moving.{advances_initial, advances_operation, always_on_ok, as_many, fewer_operation, fits_operation, of_operation, operation_at, weaker_if_ok}
 use Rattle.zf_steps.specs.contracts.node.NodePartialEq.TheImpl as nodes
-use Rattle.zf_steps.specs.{IsForIn, operation_of, stage_in, system_of}
 
 pub index_mut-requires : goal.index_mut-requires
 index_mut-requires g c =

@@ -1,8 +1,7 @@
 -- Nothing is said of what is before the initial states.
-use Rattle.std.proofs.Common.{◌++◌, ◌≡◌, subst, sym}
+use Rattle.zf_steps.proofs.Prelude.{◌++◌, ◌≡◌, subst, sym, system_of, words}
 use Rattle.zf_steps.proofs.machine.ExplorerMachine.append_node.Goals as goal
 use Rattle.zf_steps.proofs.Wording.{nothing_of_root}
-use Rattle.zf_steps.specs.{system_of, words}
 
 pub returns-in-Root : goal.returns-in-Root
 returns-in-Root g c =

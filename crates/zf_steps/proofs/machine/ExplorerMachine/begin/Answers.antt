@@ -1,9 +1,7 @@
 -- The turn of a state begins.
-use Rattle.std.proofs.Common.{◌∙◌, ap, IfOk, subst, sym}
+use Rattle.zf_steps.proofs.Prelude.{◌∙◌, ap, IfOk, subst, sym, State, BeginsState, system_of}
 use Rattle.zf_steps.proofs.machine.ExplorerMachine.begin.Goals as goal
 use Rattle.zf_steps.specs.contracts.node.NodePartialEq.TheImpl as nodes
-use Rattle.zf_steps.specs.declared.node.Node.TheVariants.{State}
-use Rattle.zf_steps.specs.{BeginsState, system_of}
 
 pub returns-in-State-clause-begins : goal.returns-in-State-clause-begins
 returns-in-State-clause-begins g c =

@@ -1,9 +1,6 @@
 -- A state is looked at.
-use Rattle.std.proofs.Common.{◌∙◌, ap, IfOk, subst, sym}
-use Rattle.zf_reach.specs.{IsSeenAs}
+use Rattle.zf_steps.proofs.Prelude.{◌∙◌, ap, IfOk, subst, sym, IsSeenAs, State, sought_in, system_of}
 use Rattle.zf_steps.proofs.machine.ExplorerMachine.look.Goals as goal
-use Rattle.zf_steps.specs.declared.node.Node.TheVariants.{State}
-use Rattle.zf_steps.specs.{sought_in, system_of}
 
 pub returns-in-State-clause-sees : goal.returns-in-State-clause-sees
 returns-in-State-clause-sees g c =

@@ -1,13 +1,10 @@
 -- The search of a part begins.
-use Rattle.std.proofs.Common.{◌<◌, ◌∙◌, ap, arith, length, rules, sym}
-use Rattle.zf_lines.proofs.Fronts.{weaker_on_ok}
+use Rattle.zf_steps.proofs.Prelude.{◌<◌, ◌∙◌, ap, arith, length, rules, sym, weaker_on_ok, State, IsForIn, operation_of, stage_in, system_of}
 use Rattle.zf_steps.proofs.Fitting.{stands_at}
 use Rattle.zf_steps.proofs.machine.ExplorerMachine.start.Goals as goal
 use Rattle.zf_steps.proofs.Moving.{always_on_ok, as_many, fits_operation, of_operation, operation_at, stands_initial, stands_operation}
 use Rattle.zf_steps.specs.contracts.node.NodePartialEq.TheImpl as nodes
 use Rattle.zf_steps.specs.declared.cursor.Part.TheVariants.{Operation}
-use Rattle.zf_steps.specs.declared.node.Node.TheVariants.{State}
-use Rattle.zf_steps.specs.{IsForIn, operation_of, stage_in, system_of}
 
 pub index_mut-requires : goal.index_mut-requires
 index_mut-requires g c =

@@ -1,7 +1,6 @@
 -- It may be begun again.
-use Rattle.std.proofs.Common.{◌∙◌, Bool, List, subst, sym}
+use Rattle.zf_steps.proofs.Prelude.{◌∙◌, Bool, List, subst, sym, AreMarkedHeld}
 use Rattle.zf_steps.proofs.Renewing.{can_hold}
-use Rattle.zf_steps.specs.{AreMarkedHeld}
 use Rattle.zf_steps.proofs.renewed.Renewed.last.Goals as goal
 
 pub returns-then-are_held_again-clause-again : goal.returns-then-are_held_again-clause-again

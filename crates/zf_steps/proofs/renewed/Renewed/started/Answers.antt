@@ -1,6 +1,5 @@
 -- No declared set is out.
-use Rattle.zf_meaning.specs.{environment_of}
-use Rattle.zf_term.specs.{schema_of}
+use Rattle.zf_steps.proofs.Prelude.{environment_of, schema_of}
 use Rattle.zf_steps.proofs.renewed.Renewed.started.Goals as goal
 
 pub no_memory-requires : goal.no_memory-requires

@@ -1,7 +1,5 @@
-use Rattle.std.proofs.lemmas.Result.{IfOk-weaker}
-use Rattle.zf_value.proofs.Prelude.{◌∙◌, ◌≡◌, ap, subst, sym, IfOk, IsAscending, members}
+use Rattle.zf_value.proofs.Prelude.{◌∙◌, ◌≡◌, ap, subst, sym, IfOk, IsAscending, members, IfOk-weaker, IsOrdered}
 use Rattle.zf_value.proofs.Measures.{members_of_set, no_members}
-use Rattle.zf_value.specs.{IsOrdered}
 use Rattle.zf_value.proofs.value.Value.into_members.Goals as goal
 
 pub returns-in_default : goal.returns-in_default

@@ -1,5 +1,4 @@
-use Rattle.zf_walk.proofs.Prelude.{◌-◌, arith, subst}
-use Rattle.zf_walk.specs.{IsSeen}
+use Rattle.zf_walk.proofs.Prelude.{◌-◌, arith, subst, IsSeen}
 use Rattle.zf_walk.proofs.Marking.{seen-marked}
 use Rattle.zf_walk.proofs.table.Table.seen.Goals as goal
 
