@@ -10,7 +10,7 @@ pub use Rattle.zf_reference.specs.declared.reference.Reference.{Reference}
 pub use Rattle.zf_value.proofs.Among.{every_at, every_from, member, members-append, not_below_itself}
 pub use Rattle.zf_value.proofs.Seen.{members-SetOf, number_of-Int, parts-Tuple, same_number}
 pub use Rattle.zf_value.specs.{AreFrom, IsAscending, IsBetween, IsFunctional, IsInDomain, IsInjective, IsInRange, IsMember, IsNumber, IsPairOf, IsRelationThat, IsSetOf, IsSubset, IsTotal, members, number_of, OnNumber, OnNumbers, parts, Relates, value_order}
-unfoldable pub use Rattle.zf_value.specs.{AreAmong, AreElements, ArePartialFunctions, ArePartialInjections, AreRelations, AreTotalFunctions, AreTotalInjections, IsApplied, IsBetweenNumbers, IsComposition, IsCross, IsDifference, IsDisplay, IsDomain, IsDomainRestriction, IsDomainSubtraction, IsImage, IsIntersection, IsInterval, IsInverse, IsModulus, IsNegation, IsOverriding, IsPower, IsProduct, IsQuotient, IsRange, IsRangeRestriction, IsRangeSubtraction, IsSetDifference, IsSize, IsSum, IsUnion}
+unfoldable pub use Rattle.zf_value.specs.{AreAmong, AreElements, IsApplied, IsBetweenNumbers, IsComposition, IsCross, IsDifference, IsDisplay, IsDomain, IsDomainRestriction, IsDomainSubtraction, IsImage, IsIntersection, IsInterval, IsInverse, IsModulus, IsNegation, IsOverriding, IsPower, IsProduct, IsQuotient, IsRange, IsRangeRestriction, IsRangeSubtraction, IsSetDifference, IsSize, IsSum, IsUnion}
 pub use Rattle.zf_value.specs.declared.TheConstants.{SET_MAX}
 pub use Rattle.zf_value.specs.declared.value.Outcome.{Outcome}
 pub use Rattle.zf_value.specs.declared.value.Outcome.TheVariants.{Is, Out, Undefined}
@@ -22,7 +22,7 @@ pub use Rattle.zf_tree.specs.declared.operator.Unary.{Unary}
 pub use Rattle.zf_tree.specs.declared.symbol.Constant.{Constant}
 pub use Rattle.zf_tree.specs.declared.tree.Name.{Name}
 pub use Rattle.zf_term.proofs.SameNames.{is_itself, is_same, swapped}
-pub use Rattle.zf_term.specs.{abbreviation, basic, carrier, Comp, constructor, DeclaredSet, DeclaredSets, Defined, Definition, first_named, free_type, given_set, has_numbers, int, later, listed, no_sets, no_types, pair_type, plain, power, product, ResolvedPart, ResolvedTree, Schema, schema, set, sets_of, sides, term, Ty, type, types, Tys, unary, has_elements, have_numbers, next_number}
+pub use Rattle.zf_term.specs.{abbreviation, basic, carrier, Comp, constructor, DeclaredSet, DeclaredSets, Defined, Definition, first_named, free_type, given_set, has_numbers, int, later, no_sets, no_types, pair_type, plain, power, product, ResolvedPart, ResolvedTree, Schema, schema, set, sets_of, sides, Ty, type, types, Tys, has_elements, have_numbers, next_number}
 pub use Rattle.std.specs.Option.{option_or}
 pub use Rattle.zf_term.specs.ResolvedTrees.{ResolvedTrees}
 pub use Rattle.zf_term.specs.declared.extent.Infinite.{Infinite}
@@ -35,7 +35,8 @@ pub use Rattle.zf_schema.proofs.Once.{constrained_comps, decorated_once, joined_
 pub use Rattle.zf_schema.specs.{AddsAll, AreDefinedOnce, Declares, DeclaresOne, HasCompsOnce, HaveCompsOnce, IsSchema, outside, Refers, type_found, type_named}
 pub use Rattle.zf_checker.specs.{AreWellTyped, IsMadeAfter}
 pub use Rattle.zf_meaning.specs.{AreCarriers, AreElementsIf, AreOfTypes, AreWorkedOut, before, Context, definition_number, element, Environment, found_number, globally, HasOutcome, HaveOutcomes, HaveRanges, IsBuilt, IsBuiltBy, IsCarrier, IsConstraint, IsEnvironment, IsExistingElement, IsOfType, IsOutcomeOf, IsRow, IsTypeSet, IsTypeSetIf, outcome_in, outcome_or, row_value, type_number, value_or, within, AddsSize, AreSizes, IsConstantOutcome, IsNumberSet, infinite_in, least, unended}
-pub use Rattle.zf_outcome.specs.{ArrowOutcome, BinaryOutcome, InfixOutcome, IsIn, ListedOutcome, OnBoth, one_more, one_out, one_undefined, OnOne, OnSeveral, PrefixOutcome, repeated, Several, UnaryOutcome, values}
+unfoldable pub use Rattle.zf_families.specs.{AreArrows, IsArrow}
+pub use Rattle.zf_outcome.specs.{BinaryOutcome, InfixOutcome, IsIn, ListedOutcome, OnBoth, one_more, one_out, one_undefined, OnOne, OnSeveral, PrefixOutcome, repeated, Several, UnaryOutcome, values}
 pub use Rattle.law_sound.specs.{IsFrontOfRow, AreHeldTyped, CarriersAreExact, CarriersAreOutcomes, EventsOfTextsTyped, EventsTyped, IsTypeAt, OutcomesTyped, RowsTyped, SpellAll, Spells, context, scope}
 pub use Rattle.std.proofs.lemmas.Bool.{cases_lt}
 pub use Rattle.zf_ranges.specs.{AreRanges, IsComponentRange, IsInCarrier, IsInPlain, IsInSet, IsInSets, first_held, has_endless, later_held}

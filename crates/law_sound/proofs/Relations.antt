@@ -1,5 +1,5 @@
 -- Sets of relations, functions and subsets are sets of sets of the type.
-use Rattle.law_sound.proofs.Prelude.{◌∙◌, ◌∷◌, ◌≡◌, ◌≤◌, [], ap, arith, length, List, refl, subst, sym, ⊎_elim, every_from, members-SetOf, IsBetween, IsFunctional, IsInjective, IsRelationThat, IsSubset, IsTotal, ArePartialFunctions, ArePartialInjections, AreRelations, AreTotalFunctions, AreTotalInjections, IsPower, IsAscending, IsMember, IsSetOf, members, AreAmong, SET_MAX, Is, SetOf, Value, pair_type, power, Ty, Environment, IsOfType, ArrowOutcome}
+use Rattle.law_sound.proofs.Prelude.{◌∙◌, ◌∷◌, ◌≡◌, ◌≤◌, [], ap, arith, length, List, refl, subst, sym, ⊎_elim, every_from, members-SetOf, IsBetween, IsFunctional, IsInjective, IsRelationThat, IsSubset, IsTotal, AreArrows, IsArrow, IsPower, IsAscending, IsMember, IsSetOf, members, AreAmong, SET_MAX, Is, SetOf, Value, pair_type, power, Ty, Environment, IsOfType}
 use Rattle.zf_tree.specs.declared.symbol.Arrow.{Arrow}
 use Rattle.zf_tree.specs.declared.symbol.Arrow.TheVariants as arrow
 use Rattle.zf_value.specs.Operations as op
@@ -62,9 +62,9 @@ module _ (e : Environment) (t u : Ty) (a b : List Value) (left : AreMembers e t 
   relations : (v : Value) → IsSetOf (IsRelationThat (λ s. Unit {0}) a b) (Is v) → IsOfType e (power (power (pair_type t u))) v
   relations v h = a_set e (power (pair_type t u)) (IsRelationThat (λ s. Unit {0}) a b) v h (λ z p. a_relation (λ s. Unit {0}) z (λ r asc k q. few_of_relation h.0 r h.3 (λ w s. (h.4 w).1 s) asc k) p)
 
-pub an_arrow : (e : Environment) (t u : Ty) (op : Arrow) (x y v : Value) → AreMembers e t (members x) → AreMembers e u (members y) → ArrowOutcome op x y (Is v)
+pub an_arrow : (e : Environment) (t u : Ty) (op : Arrow) (x y v : Value) → AreMembers e t (members x) → AreMembers e u (members y) → AreArrows op (members x) (members y) (Is v)
     → IsOfType e (power (power (pair_type t u))) v
-unfolding AreRelations ArePartialFunctions AreTotalFunctions ArePartialInjections AreTotalInjections
+unfolding AreArrows IsArrow
 an_arrow e t u arrow.Relation x y v h k p = relations e t u (members x) (members y) h k v p
 an_arrow e t u arrow.PartialFunction x y v h k p = functions e t u (members x) (members y) h k IsFunctional v (λ r q. q) p
 an_arrow e t u arrow.TotalFunction x y v h k p = functions e t u (members x) (members y) h k (λ r. IsFunctional r × IsTotal (members x) r) v (λ r q. q.0) p

@@ -1,5 +1,7 @@
 -- Sets and relations: each operation on them has an outcome.
-use Rattle.law_total.proofs.Prelude.{◌≡◌, inl, length, List, refl, subst, sym, ℕ, ⊎_elim, pos, IsBetween, IsFunctional, IsInDomain, IsInjective, IsInRange, IsPairOf, IsRelationThat, IsTotal, pair, Relates, AreElements, ArePartialFunctions, ArePartialInjections, AreRelations, AreTotalFunctions, AreTotalInjections, IsApplied, IsComposition, IsCross, IsDisplay, IsDomain, IsDomainRestriction, IsDomainSubtraction, IsElement, IsImage, IsIntersection, IsInverse, IsOverriding, IsPower, IsRange, IsRangeRestriction, IsRangeSubtraction, IsSetDifference, IsSize, IsUnion, IsAscending, IsMember, IsSetOf, AreAmong, Is, Undefined, Elem, SetOf, Tuple, Value}
+use Rattle.law_total.proofs.Prelude.{◌≡◌, inl, length, List, refl, subst, sym, ℕ, ⊎_elim, pos, IsBetween, IsFunctional, IsInDomain, IsInjective, IsInRange, IsPairOf, IsArrow, IsOfKind, IsRelationThat, IsTotal, pair, Relates, AreArrows, AreElements, IsApplied, IsComposition, IsCross, IsDisplay, IsDomain, IsDomainRestriction, IsDomainSubtraction, IsElement, IsImage, IsIntersection, IsInverse, IsOverriding, IsPower, IsRange, IsRangeRestriction, IsRangeSubtraction, IsSetDifference, IsSize, IsUnion, IsAscending, IsMember, IsSetOf, AreAmong, Is, Undefined, Elem, SetOf, Tuple, Value}
+use Rattle.zf_tree.specs.declared.symbol.Arrow.{Arrow}
+use Rattle.zf_tree.specs.declared.symbol.Arrow.TheVariants as kind
 use Rattle.law_total.proofs.Listed.{HasSome, Decided, decided_both, decided_not, decided_then, decided_same, decided_some, decided_all, decided_in, Listed, listed_same, listed_either, listed_image, listed_kept, listed_pairs}
 use Rattle.law_total.proofs.Naturals.{listed_below}
 use Rattle.law_total.proofs.Numbers.{some_number}
@@ -170,23 +172,14 @@ decided_injective r =
 decided_total : (a r : List Value) → Decided (IsTotal a r)
 decided_total a r = decided_all (IsInDomain r) (listed_members a) (λ x. decided_in_domain r x)
 
-pub some_relations : (a b : List Value) → HasSome (AreRelations a b)
-unfolding AreRelations
-some_relations a b = some_that (λ r. Unit {0}) (λ r. inl tt) a b
+decided_kind : (arrow : Arrow) (a r : List Value) → Decided (IsOfKind arrow a r)
+decided_kind kind.Relation a r = inl tt
+decided_kind kind.PartialFunction a r = decided_functional r
+decided_kind kind.TotalFunction a r = decided_both (decided_functional r) (decided_total a r)
+decided_kind kind.PartialInjection a r = decided_both (decided_functional r) (decided_injective r)
+decided_kind kind.TotalInjection a r =
+    decided_same (λ h. (h.0.0, h.0.1, h.1)) (λ h. ((h.0, h.1), h.2)) (decided_both (decided_both (decided_functional r) (decided_injective r)) (decided_total a r))
 
-pub some_partial_functions : (a b : List Value) → HasSome (ArePartialFunctions a b)
-unfolding ArePartialFunctions
-some_partial_functions a b = some_that IsFunctional decided_functional a b
-
-pub some_total_functions : (a b : List Value) → HasSome (AreTotalFunctions a b)
-unfolding AreTotalFunctions
-some_total_functions a b = some_that (λ r. IsFunctional r × IsTotal a r) (λ r. decided_both (decided_functional r) (decided_total a r)) a b
-
-pub some_partial_injections : (a b : List Value) → HasSome (ArePartialInjections a b)
-unfolding ArePartialInjections
-some_partial_injections a b = some_that (λ r. IsFunctional r × IsInjective r) (λ r. decided_both (decided_functional r) (decided_injective r)) a b
-
-pub some_total_injections : (a b : List Value) → HasSome (AreTotalInjections a b)
-unfolding AreTotalInjections
-some_total_injections a b = some_that (λ r. IsFunctional r × IsInjective r × IsTotal a r) (λ r.
-    decided_same (λ h. (h.0.0, h.0.1, h.1)) (λ h. ((h.0, h.1), h.2)) (decided_both (decided_both (decided_functional r) (decided_injective r)) (decided_total a r))) a b
+pub some_arrows : (arrow : Arrow) (a b : List Value) → HasSome (AreArrows arrow a b)
+unfolding AreArrows IsArrow
+some_arrows arrow a b = some_that (IsOfKind arrow a) (decided_kind arrow a) a b

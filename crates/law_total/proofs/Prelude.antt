@@ -8,7 +8,7 @@ pub use Rattle.zf_value.proofs.Among.{ascending-take, contained, every-take, eve
 pub use Rattle.zf_value.proofs.Exact.{exact}
 pub use Rattle.zf_value.proofs.Seen.{is_Int, no_Int, parts-Tuple, same_number}
 pub use Rattle.zf_value.specs.{AreFrom, IsAscending, IsBetween, IsFunctional, IsInDomain, IsInjective, IsInRange, IsMember, IsPairOf, IsRelationThat, IsSetOf, IsTotal, members, pair, parts, Relates, value_order, IsDifference, IsInterval, IsModulus, IsNegation, IsProduct, IsQuotient, IsSum}
-unfoldable pub use Rattle.zf_value.specs.{AreAmong, AreElements, ArePartialFunctions, ArePartialInjections, AreRelations, AreTotalFunctions, AreTotalInjections, IsApplied, IsComposition, IsCross, IsDisplay, IsDomain, IsDomainRestriction, IsDomainSubtraction, IsElement, IsImage, IsIntersection, IsInverse, IsOverriding, IsPower, IsRange, IsRangeRestriction, IsRangeSubtraction, IsSetDifference, IsSize, IsUnion}
+unfoldable pub use Rattle.zf_value.specs.{AreAmong, AreElements, IsApplied, IsComposition, IsCross, IsDisplay, IsDomain, IsDomainRestriction, IsDomainSubtraction, IsElement, IsImage, IsIntersection, IsInverse, IsOverriding, IsPower, IsRange, IsRangeRestriction, IsRangeSubtraction, IsSetDifference, IsSize, IsUnion}
 pub use Rattle.std.specs.List.{AllByRecursion}
 pub use Rattle.zf_value.specs.declared.TheConstants.{SET_MAX}
 pub use Rattle.zf_value.specs.declared.value.Outcome.{Outcome}
@@ -17,7 +17,9 @@ pub use Rattle.zf_value.specs.declared.value.Truth.{Truth}
 pub use Rattle.zf_value.specs.declared.plain.Value.{Elem, Int, SetOf, Tuple, Value}
 pub use Rattle.zf_term.specs.{abbreviation, constructor, Defined, Definition, free_type, given_set, schema, basic, int, no_types, power, product, Ty, type, Tys, binary, ResolvedTree, absent, bracket, comprehension, chain, constant, empty_set, link, listed, no_links, no_ranges, no_terms, number, present, quantified, range, Ranges, reference, ResolvedLinks, ResolvedPart, term, unary}
 pub use Rattle.zf_meaning.specs.{AddsSize, AreAccepted, AreComplete, AreElementsIf, AreLinked, AreSizes, Builds, constant_truth, Context, element, element_count, Environment, given_sets, globally, HasOutcome, HaveOutcomes, HaveRanges, infinite_right, IsAccepted, IsBuilt, IsBuiltBy, IsBuiltOver, IsConstraint, IsOutOfBounds, IsRefusal, IsSizeFault, IsStated, IsTruth, IsTypeSet, IsWithinBounds, names, outcome_in, row_value, type_number, with_given, within, AreCarriers, IsCarrier, IsTypeSetIf, AreWorkedOut, IsEnvironment, IsOutcomeOf, IsConstantOutcome, IsNumberSet, least}
-pub use Rattle.zf_outcome.specs.{ArrowOutcome, BinaryOutcome, Compares, HasTwo, Holds, HoldsOf, InfixOutcome, IsAtom, IsConjunction, IsConnected, IsExists, IsExistsOne, IsForAll, IsIn, IsLink, IsOver, IsQuantified, IsTest, IsTold, ListedOutcome, OnBoth, one_more, one_out, one_undefined, OnOne, OnSeveral, opposite, PrefixOutcome, repeated, Several, SignOutcome, Tells, UnaryOutcome, values, connected, conjunction, connective_of}
+unfoldable pub use Rattle.zf_families.specs.{AreArrows, IsArrow}
+pub use Rattle.zf_families.specs.{IsOfKind}
+pub use Rattle.zf_outcome.specs.{BinaryOutcome, Compares, HasTwo, Holds, HoldsOf, InfixOutcome, IsAtom, IsConjunction, IsConnected, IsExists, IsExistsOne, IsForAll, IsIn, IsLink, IsOver, IsQuantified, IsTest, IsTold, ListedOutcome, OnBoth, one_more, one_out, one_undefined, OnOne, OnSeveral, opposite, PrefixOutcome, repeated, Several, SignOutcome, Tells, UnaryOutcome, values, connected, conjunction, connective_of}
 pub use Rattle.zf_meaning.specs.declared.sizes.Size.{Size}
 pub use Rattle.zf_term.specs.declared.extent.Infinite.TheVariants.{Num, Nat, Nat1}
 pub use Rattle.std.specs.Cmp.{IsTotalOrder}

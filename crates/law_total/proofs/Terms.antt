@@ -1,7 +1,5 @@
 -- Each expression has an outcome, and each predicate a truth.
-use Rattle.law_total.proofs.Prelude.{[], List, None, Option, refl, Some, ℕ, pos, pair, Outcome, Is, Out, Undefined, SetOf, Tuple, Value, Context, outcome_in, within, AreLinked, Builds, constant_truth, HasOutcome, HaveOutcomes, HaveRanges, infinite_right, IsConstraint, IsLink, IsTruth, row_value, OnBoth, one_more, one_out, one_undefined, OnOne, OnSeveral, repeated, Several, values, ArrowOutcome, BinaryOutcome, InfixOutcome, ListedOutcome, PrefixOutcome, SignOutcome, UnaryOutcome, IsTold, absent, binary, bracket, comprehension, chain, constant, empty_set, link, listed, no_links, no_ranges, no_terms, number, present, quantified, range, Ranges, reference, ResolvedLinks, ResolvedPart, ResolvedTree, term, unary, Infinite, Num, Nat, Nat1, IsConstantOutcome, IsNumberSet, least, IsDifference, IsInterval, IsModulus, IsNegation, IsProduct, IsQuotient, IsSum, one_truth, one_constraint, one_build, one_told_of}
-use Rattle.zf_tree.specs.declared.symbol.Arrow.{Arrow}
-use Rattle.zf_tree.specs.declared.symbol.Arrow.TheVariants as arrow
+use Rattle.law_total.proofs.Prelude.{[], List, None, Option, refl, Some, ℕ, pos, pair, Outcome, Is, Out, Undefined, SetOf, Tuple, Value, Context, outcome_in, within, AreLinked, Builds, constant_truth, HasOutcome, HaveOutcomes, HaveRanges, infinite_right, IsConstraint, IsLink, IsTruth, row_value, OnBoth, one_more, one_out, one_undefined, OnOne, OnSeveral, repeated, Several, values, BinaryOutcome, InfixOutcome, ListedOutcome, PrefixOutcome, SignOutcome, UnaryOutcome, IsTold, absent, binary, bracket, comprehension, chain, constant, empty_set, link, listed, no_links, no_ranges, no_terms, number, present, quantified, range, Ranges, reference, ResolvedLinks, ResolvedPart, ResolvedTree, term, unary, Infinite, Num, Nat, Nat1, IsConstantOutcome, IsNumberSet, least, IsDifference, IsInterval, IsModulus, IsNegation, IsProduct, IsQuotient, IsSum, one_truth, one_constraint, one_build, one_told_of}
 use Rattle.zf_tree.specs.declared.symbol.Constant.{Constant}
 use Rattle.zf_tree.specs.declared.symbol.Constant.TheVariants as constants
 use Rattle.zf_tree.specs.declared.symbol.Infix.{Infix}
@@ -44,16 +42,9 @@ some_infix RangeRestriction v w = operations.some_range_restriction _ _
 some_infix DomainSubtraction v w = operations.some_domain_subtraction _ _
 some_infix RangeSubtraction v w = operations.some_range_subtraction _ _
 
-some_arrow : (op : Arrow) (v w : Value) → HasSome (ArrowOutcome op v w)
-some_arrow arrow.Relation v w = operations.some_relations _ _
-some_arrow arrow.PartialFunction v w = operations.some_partial_functions _ _
-some_arrow arrow.TotalFunction v w = operations.some_total_functions _ _
-some_arrow arrow.PartialInjection v w = operations.some_partial_injections _ _
-some_arrow arrow.TotalInjection v w = operations.some_total_injections _ _
-
 some_binary : (op : Operator) (v w : Value) → HasSome (BinaryOutcome op v w)
 some_binary (operator.Function op) v w = some_infix op v w
-some_binary (operator.Generic op) v w = some_arrow op v w
+some_binary (operator.Generic op) v w = operations.some_arrows op _ _
 some_binary (operator.Connective x) v w = (Undefined, refl)
 some_binary operator.Application v w = operations.some_applied _ _
 some_binary operator.Image v w = operations.some_image _ _

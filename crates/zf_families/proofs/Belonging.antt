@@ -1,5 +1,7 @@
 -- What the tests of pairs say of functions and injections.
-use Rattle.zf_families.proofs.Prelude.{◌↔◌, ◌∙◌, ◌∷◌, ◌≡◌, [], ap, Bool, Equal, false, Greater, inl, inr, Less, List, Ordering, refl, subst, sym, true, ⊎_elim, and_from, and_parts, both_ways, false≢true, is_lt, ordering_reverse, IsTrue, every_at, not_below_itself, exact, members-SetOf, IsBetween, IsFunctional, IsInjective, IsRelationThat, IsSubset, IsTotal, pair, IsAscending, IsMember, members, value_order, AreAmong, SetOf, Value, outs-Tuple, fits_any, fits_apart, pairs, first, first_at, firsts_rise, IsGraph, seconds_apart, IsFunctionFrom, IsInjectionFrom, IsPairOn, AllByRecursion, total-law}
+use Rattle.zf_families.proofs.Prelude.{◌↔◌, ◌∙◌, ◌∷◌, ◌≡◌, [], ap, Bool, Equal, false, Greater, inl, inr, Less, List, Ordering, refl, subst, sym, true, ⊎_elim, and_from, and_parts, both_ways, false≢true, is_lt, ordering_reverse, IsTrue, every_at, not_below_itself, exact, members-SetOf, IsBetween, IsFunctional, IsInjective, IsSubset, pair, IsAscending, IsMember, members, value_order, AreAmong, SetOf, Value, outs-Tuple, fits_any, fits_apart, pairs, first, first_at, firsts_rise, IsGraph, seconds_apart, IsArrow, IsArrowFrom, IsOfKind, IsPairOn, AllByRecursion, total-law}
+use Rattle.zf_tree.specs.declared.symbol.Arrow.{Arrow}
+use Rattle.zf_tree.specs.declared.symbol.Arrow.TheVariants as kind
 use Rattle.zf_families.proofs.Comparisons.{not_both, below_rest, pair_parts, first_below, member_map, from_member_map}
 use Rattle.zf_families.proofs.Functions.{GoesAll, none_all, all_to, all_from}
 use Rattle.zf_families.proofs.FunctionLaws.{functions, IsUnused, unused_from, unused_to, injective_more}
@@ -95,22 +97,26 @@ apart_to a b (z ∷ r) h k f =
     (subst (λ u. fits_apart u r ≡ true) (sym p.2) (unused_to a b p.0 p.1 r (tail_between a b z r k) unused))
     (apart_to a b r h.1 (tail_between a b z r k) (λ u v w m n. f u v w (inr m) (inr n)))
 
--- ---- functions and injections
+-- ---- by kind
 
-pub function_second : (a b r : List Value) → IsAscending r → IsBetween a b r → (t : Bool) → t ≡ firsts_rise r → IsTrue t ↔ IsFunctionFrom a b r
-unfolding IsFunctionFrom
+pub function_second : (a b r : List Value) → IsAscending r → IsBetween a b r → (t : Bool) → t ≡ firsts_rise r → IsTrue t ↔ IsArrowFrom kind.PartialFunction a b r
+unfolding IsArrowFrom
 function_second a b r h k t e = (λ g. (k, functional_from r (sym e ∙ g)), λ p. e ∙ functional_to a b r h k p.1)
 
-pub function_first : (a b r : List Value) (t : Bool) → IsTrue t ↔ IsBetween a b r → t ≡ false → IsTrue t ↔ IsFunctionFrom a b r
-unfolding IsFunctionFrom
+pub function_first : (a b r : List Value) (t : Bool) → IsTrue t ↔ IsBetween a b r → t ≡ false → IsTrue t ↔ IsArrowFrom kind.PartialFunction a b r
+unfolding IsArrowFrom
 function_first a b r t h f = (λ g. absurd (both_ways t f g), λ p. h.1 p.0)
 
-pub injection_second : (a b r : List Value) → IsAscending r → IsFunctionFrom a b r → (t : Bool) → t ≡ seconds_apart r → IsTrue t ↔ IsInjectionFrom a b r
-unfolding IsFunctionFrom IsInjectionFrom
+pub relation_at : (a b r : List Value) (t : Bool) → IsTrue t ↔ IsBetween a b r → IsTrue t ↔ IsArrowFrom kind.Relation a b r
+unfolding IsArrowFrom
+relation_at a b r t h = (λ g. (h.0 g, tt), λ p. h.1 p.0)
+
+pub injection_second : (a b r : List Value) → IsAscending r → IsArrowFrom kind.PartialFunction a b r → (t : Bool) → t ≡ seconds_apart r → IsTrue t ↔ IsArrowFrom kind.PartialInjection a b r
+unfolding IsArrowFrom
 injection_second a b r h k t e = (λ g. (k.0, (k.1, apart_from a b r k.0 (sym e ∙ g))), λ p. e ∙ apart_to a b r h k.0 p.1.1)
 
-pub injection_first : (a b r : List Value) (t : Bool) → IsTrue t ↔ IsFunctionFrom a b r → t ≡ false → IsTrue t ↔ IsInjectionFrom a b r
-unfolding IsFunctionFrom IsInjectionFrom
+pub injection_first : (a b r : List Value) (t : Bool) → IsTrue t ↔ IsArrowFrom kind.PartialFunction a b r → t ≡ false → IsTrue t ↔ IsArrowFrom kind.PartialInjection a b r
+unfolding IsArrowFrom
 injection_first a b r t h f = (λ g. absurd (both_ways t f g), λ p. h.1 (p.0, p.1.0))
 
 -- ---- total ones
@@ -132,57 +138,35 @@ graph_from (x ∷ a) b [] h g = absurd g
 graph_from (x ∷ a) b (z ∷ r) h g =
     all_from b fits_any IsFunctional functions x a (z ∷ r) h (z, r, refl, subst (λ u. IsMember u (pairs b x)) (sym g.0.1) (member_map (pair x) b g.0.0 g.0.2), graph_from a b r h.1 g.1, refl)
 
+pub total_at : (a b r : List Value) (t : Bool) → IsAscending a → IsAscending r → IsTrue t ↔ IsGraph b a r → IsTrue t ↔ IsArrowFrom kind.TotalFunction a b r
+unfolding IsArrowFrom
+total_at a b r t h g k = (λ m. let q = graph_from a b r h (k.0 m) in (q.0.1, (q.0.2, q.1)), λ p. k.1 (graph_to a b r h ((g, p.0, p.1.0), p.1.1)))
+
+pub total_injection_at : (a b r : List Value) (t : Bool) → IsAscending a → IsAscending r → IsGraph b a r → t ≡ seconds_apart r → IsTrue t ↔ IsArrowFrom kind.TotalInjection a b r
+unfolding IsArrowFrom
+total_injection_at a b r t h g k s =
+    let q = graph_from a b r h k in
+    (λ m. (q.0.1, (q.0.2, apart_from a b r q.0.1 (sym s ∙ m), q.1)), λ p. s ∙ apart_to a b r g p.0 p.1.1)
+
+pub no_total_injection : (a b r : List Value) (t : Bool) → IsAscending a → IsAscending r → IsTrue t ↔ IsGraph b a r → t ≡ false → IsTrue t ↔ IsArrowFrom kind.TotalInjection a b r
+unfolding IsArrowFrom
+no_total_injection a b r t h g k f = (λ m. absurd (both_ways t f m), λ p. k.1 (graph_to a b r h ((g, p.0, p.1.0), p.1.2)))
+
 -- ---- values
 
 same_pairs : (r s : List Value) → SetOf r ≡ SetOf s → r ≡ s
 same_pairs r s e = sym (members-SetOf r) ∙ ap members e ∙ members-SetOf s
 
-pub relation_at : (P : List Value → Type 0) (a b r : List Value) (v : Value) (t : Bool) → v ≡ SetOf r → IsAscending r → IsTrue t ↔ (IsBetween a b r × P r) → IsTrue t ↔ IsRelationThat P a b v
-relation_at P a b r v t e h k = (
+pub arrow_at : (arrow : Arrow) (a b r : List Value) (v : Value) (t : Bool) → v ≡ SetOf r → IsAscending r → IsTrue t ↔ IsArrowFrom arrow a b r → IsTrue t ↔ IsArrow arrow a b v
+unfolding IsArrow IsArrowFrom
+arrow_at arrow a b r v t e h k = (
   λ g. let p = k.0 g in (r, e, h, p.0, p.1),
-  λ p.
-      let same : p.0 ≡ r = same_pairs p.0 r (sym p.1 ∙ e) in
-      k.1 (subst (λ s. IsBetween a b s × P s) same (p.3, p.4)),
+  λ p. k.1 (subst (λ s. IsBetween a b s × IsOfKind arrow a s) (same_pairs p.0 r (sym p.1 ∙ e)) (p.3, p.4)),
 )
 
-pub no_relation : (P : List Value → Type 0) (a b : List Value) (v : Value) → ((r : List Value) → v ≡ SetOf r → ⊥) → IsTrue false ↔ IsRelationThat P a b v
-no_relation P a b v h = (λ e. absurd (false≢true e), λ p. absurd (h p.0 p.1))
-
-pub total_at : (a b r : List Value) (v : Value) (t : Bool) → IsAscending a → v ≡ SetOf r → IsAscending r → IsTrue t ↔ IsGraph b a r
-    → IsTrue t ↔ IsRelationThat (λ r. IsFunctional r × IsTotal a r) a b v
-total_at a b r v t h e g k =
-    relation_at (λ r. IsFunctional r × IsTotal a r) a b r v t e g (
-      λ m. let q = graph_from a b r h (k.0 m) in (q.0.1, (q.0.2, q.1)),
-      λ p. k.1 (graph_to a b r h ((g, p.0, p.1.0), p.1.1)),
-    )
-
-pub total_injection_at : (a b r : List Value) (v : Value) (t : Bool) → IsAscending a → v ≡ SetOf r → IsAscending r → IsGraph b a r → t ≡ seconds_apart r
-    → IsTrue t ↔ IsRelationThat (λ r. IsFunctional r × IsInjective r × IsTotal a r) a b v
-total_injection_at a b r v t h e g k s =
-    let q = graph_from a b r h k in
-    relation_at (λ r. IsFunctional r × IsInjective r × IsTotal a r) a b r v t e g (
-      λ m. (q.0.1, (q.0.2, apart_from a b r q.0.1 (sym s ∙ m), q.1)),
-      λ p. s ∙ apart_to a b r g p.0 p.1.1,
-    )
-
-pub no_total_injection : (a b r : List Value) (v : Value) (t : Bool) → IsAscending a → v ≡ SetOf r → IsAscending r → IsTrue t ↔ IsGraph b a r → t ≡ false
-    → IsTrue t ↔ IsRelationThat (λ r. IsFunctional r × IsInjective r × IsTotal a r) a b v
-no_total_injection a b r v t h e g k f =
-    relation_at (λ r. IsFunctional r × IsInjective r × IsTotal a r) a b r v t e g (
-      λ m. absurd (both_ways t f m),
-      λ p. k.1 (graph_to a b r h ((g, p.0, p.1.0), p.1.2)),
-    )
-
-pub plain_relation_at : (a b r : List Value) (v : Value) (t : Bool) → v ≡ SetOf r → IsAscending r → IsTrue t ↔ IsBetween a b r → IsTrue t ↔ IsRelationThat (λ r. Unit {0}) a b v
-plain_relation_at a b r v t e h k = relation_at (λ r. Unit {0}) a b r v t e h (λ m. (k.0 m, tt), λ p. k.1 p.0)
-
-pub function_at : (a b r : List Value) (v : Value) (t : Bool) → v ≡ SetOf r → IsAscending r → IsTrue t ↔ IsFunctionFrom a b r → IsTrue t ↔ IsRelationThat IsFunctional a b v
-unfolding IsFunctionFrom
-function_at a b r v t e h k = relation_at IsFunctional a b r v t e h k
-
-pub injection_at : (a b r : List Value) (v : Value) (t : Bool) → v ≡ SetOf r → IsAscending r → IsTrue t ↔ IsInjectionFrom a b r → IsTrue t ↔ IsRelationThat (λ r. IsFunctional r × IsInjective r) a b v
-unfolding IsInjectionFrom
-injection_at a b r v t e h k = relation_at (λ r. IsFunctional r × IsInjective r) a b r v t e h k
+pub no_arrow : (arrow : Arrow) (a b : List Value) (v : Value) → ((r : List Value) → v ≡ SetOf r → ⊥) → IsTrue false ↔ IsArrow arrow a b v
+unfolding IsArrow
+no_arrow arrow a b v h = (λ e. absurd (false≢true e), λ p. absurd (h p.0 p.1))
 
 pub subset_at : (a r : List Value) (v : Value) (t : Bool) → v ≡ SetOf r → IsAscending r → IsTrue t ↔ AreAmong r a → IsTrue t ↔ IsSubset a v
 subset_at a r v t e h k = (

@@ -8,7 +8,7 @@ pub mod Subsets
 pub mod Tuples
 pub mod Functions
 pub mod FunctionLaws
-pub mod Families
+pub mod Constant
 pub mod Counts
 pub mod RelationSets
 pub mod Tested
@@ -16,3 +16,4 @@ pub mod Belonging
 pub mod InjectionCounts
 pub mod CutCounts
 pub mod Injections
+pub mod ByKind

@@ -15,13 +15,13 @@ pub use Rattle.zf_value.proofs.Among.{every_also, every_at, every_from, member_a
 pub use Rattle.zf_value.proofs.Exact.{cmp_is, exact, ties}
 pub use Rattle.zf_value.proofs.Seen.{members-SetOf, parts-Tuple}
 pub use Rattle.zf_value.specs.{AreFrom, IsAscending, IsBetween, IsFunctional, IsInjective, IsMember, IsRelationThat, IsSetOf, IsSubset, IsTotal, members, pair, parts, Relates, row_order, value_order, level_order}
-unfoldable pub use Rattle.zf_value.specs.{AreAmong, ArePartialFunctions, ArePartialInjections, AreRelations, AreTotalFunctions, AreTotalInjections, IsCross, IsPower}
+unfoldable pub use Rattle.zf_value.specs.{AreAmong, IsCross, IsPower}
 pub use Rattle.zf_value.specs.declared.TheConstants.{SET_MAX}
 pub use Rattle.zf_value.specs.declared.plain.Value.{out-Value, SetOf, Tuple, Value}
 pub use Rattle.zf_value.specs.declared.plain.Value.TheOpen.{Value-F}
 pub use Rattle.zf_value.specs.declared.plain.Value.TheVariants.{outs-SetOf, outs-Tuple}
 pub use Rattle.zf_value.specs.declared.value.Outcome.{Outcome}
 pub use Rattle.zf_value.specs.declared.value.Outcome.TheVariants.{Is, Out}
-pub use Rattle.zf_families.specs.{AllAscend, AreSets, extended, extensions, falling, first, first_at, firsts_rise, fits_any, fits_apart, fitting, IsGraph, pairs, partial_injection_count, second, second_at, seconds_apart, singles, sizes, some, stepped, whole}
-unfoldable pub use Rattle.zf_families.specs.{IsFunctionFrom, IsInjectionFrom, IsPairFrom, IsPairOn, IsPartialFunction, IsPartialInjection, IsRelation, IsTotalFunction, IsTotalInjection, IsTupleFrom}
+pub use Rattle.zf_families.specs.{AllAscend, AreSets, arrow_count, arrow_rows, extended, extensions, falling, first, first_at, firsts_rise, fits_any, fits_apart, fitting, IsGraph, IsOfKind, pairs, partial_injection_count, second, second_at, seconds_apart, singles, sizes, some, stepped, whole}
+unfoldable pub use Rattle.zf_families.specs.{AreArrows, IsArrow, IsArrowFrom, IsPairFrom, IsPairOn, IsTupleFrom}
 pub use Rattle.zf_value.specs.contracts.plain.ValueOrd.TheImpl.Laws.{total-law}

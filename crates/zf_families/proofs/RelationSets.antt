@@ -1,7 +1,6 @@
 -- The relations from a set to a set are the subsets of the product.
-use Rattle.zf_families.proofs.Prelude.{◌*◌, ◌++◌, ◌+◌, ◌<◌, ◌^◌, ◌∙◌, ◌∷◌, ◌≡◌, [], ap, arith, inl, inr, length, Less, List, ltb, map, min, refl, Result, subst, suc, sym, zero, ℕ, ⊎_elim, pow-succ', pow-zero, cases_lt, length-append, length-map, flat_map, IfOk, AllocError, every_from, members-append, IsRelationThat, pair, AreRelations, IsAscending, IsMember, value_order, AreAmong, SET_MAX, SetOf, Value, Outcome, Is, Out, AreSets, fits_any, pairs, singles, some, IsPairFrom, AllByRecursion}
-use Rattle.zf_families.proofs.Told.{TellsOut, are_sets, ascends, Tells, out_by_size, built_result}
-use Rattle.zf_families.proofs.Counts.{length_some, sizes_same}
+use Rattle.zf_families.proofs.Prelude.{◌*◌, ◌++◌, ◌+◌, ◌<◌, ◌^◌, ◌∙◌, ◌∷◌, ◌≡◌, [], ap, arith, inl, inr, length, Less, List, map, min, refl, subst, suc, sym, zero, ℕ, ⊎_elim, pow-succ', pow-zero, cases_lt, length-append, length-map, flat_map, every_from, members-append, IsRelationThat, pair, IsAscending, IsMember, value_order, AreAmong, SetOf, Value, fits_any, pairs, singles, some, IsPairFrom, AllByRecursion}
+use Rattle.zf_families.proofs.Told.{Tells}
 use Rattle.zf_families.proofs.Subsets.{power_told}
 use Rattle.zf_families.proofs.Comparisons.{member_map, from_member_map, below_rest, first_below, pairs_ascending}
 
@@ -43,7 +42,7 @@ product_ascending (x ∷ a) b h k =
     let q = product_to a b v n in
     subst (λ w. value_order w v ≡ Less) p.1 (subst (λ w. value_order (pair x p.0) w ≡ Less) (sym q.2) (first_below x p.0 q.0 q.1 (below_rest x a q.0 h q.3))))
 
-relations_told : (a b : List Value) → IsAscending a → IsAscending b → Tells SetOf (IsRelationThat (λ r. Unit {0}) a b) ([] ∷ some fits_any (singles (product_of a b)))
+pub relations_told : (a b : List Value) → IsAscending a → IsAscending b → Tells SetOf (IsRelationThat (λ r. Unit {0}) a b) ([] ∷ some fits_any (singles (product_of a b)))
 unfolding AreAmong IsPairFrom
 relations_told a b h k =
     let t = power_told (product_of a b) (product_ascending a b h k) in
@@ -54,7 +53,7 @@ relations_told a b h k =
       found = λ z p. t.found z (p.0, p.1, p.2, λ u n. let q = p.3 u n in subst (λ w. IsMember w (product_of a b)) (sym q.2) (product_from a b q.0 q.1 q.3 q.4));
     }
 
-length_product : (a b : List Value) → length (product_of a b) ≡ length a * length b
+pub length_product : (a b : List Value) → length (product_of a b) ≡ length a * length b
 length_product [] b = grind arith
 length_product (x ∷ a) b =
     let here : length (pairs b x) ≡ length b = length-map b (pair x) in
@@ -65,7 +64,7 @@ lt_two_pow zero = let e : 2 ^ zero ≡ 1 = pow-zero 2 in omega (arith, e)
 lt_two_pow (suc n) = let e : 2 ^ suc n ≡ 2 * 2 ^ n = pow-succ' 2 n in let h = lt_two_pow n in omega (arith, e, h)
 
 -- a power of two of a count that was cut
-min_power : (n c : ℕ) → min (2 ^ min n c) c ≡ min (2 ^ n) c
+pub min_power : (n c : ℕ) → min (2 ^ min n c) c ≡ min (2 ^ n) c
 min_power n c = ⊎_elim
     (λ l. let e : min n c ≡ n = omega arith in ap (λ k. min (2 ^ k) c) e)
     (λ l. let e : min n c ≡ c = omega arith in
@@ -73,25 +72,3 @@ min_power n c = ⊎_elim
     let q : n < 2 ^ n = lt_two_pow n in
     ap (λ k. min (2 ^ k) c) e ∙ omega (arith, p, q))
     (cases_lt n c)
-
-pub relations_out : (a b : List Value) → IsAscending a → IsAscending b → (size count : ℕ) → size ≡ min (length a * length b) (SET_MAX + 1)
-    → count ≡ min (2 ^ size) (SET_MAX + 1) → TellsOut (AreRelations a b) (ltb SET_MAX count)
-unfolding AreRelations
-relations_out a b h k size count e f =
-    let all : length ([] ∷ some fits_any (singles (product_of a b))) ≡ 2 ^ (length a * length b) =
-    length_some (singles (product_of a b)) ∙ sizes_same suc 1 (λ x. x ∷ []) (product_of a b) (λ x. refl) ∙ ap (λ n. 2 ^ n) (length_product a b) in
-    out_by_size SetOf (IsRelationThat (λ r. Unit {0}) a b) ([] ∷ some fits_any (singles (product_of a b))) (relations_told a b h k) (2 ^ (length a * length b)) count all
-    (f ∙ ap (λ n. min (2 ^ n) (SET_MAX + 1)) e ∙ min_power (length a * length b) (SET_MAX + 1))
-
-pub relations_built : (a b : List Value) → IsAscending a → IsAscending b → (AreRelations a b Out → ⊥) → (rows : List (List Value))
-    → rows ≡ [] ∷ some fits_any (singles (product_of a b)) → (r : Result Outcome AllocError) → IfOk r (λ o. o ≡ Is (SetOf (map SetOf rows)))
-    → IfOk r (AreRelations a b)
-unfolding AreRelations
-relations_built a b h k few rows e r g = built_result SetOf (IsRelationThat (λ r. Unit {0}) a b) ([] ∷ some fits_any (singles (product_of a b))) rows (relations_told a b h k) few e r g
-
--- a relation ascends
-pub relation_ascends : (P : List Value → Type 0) (a b r : List Value) → IsRelationThat P a b (SetOf r) → IsAscending r
-relation_ascends P a b r p = ascends r p.0 p.1 p.2
-
-pub relations_sets : (a b : List Value) → IsAscending a → IsAscending b → (rows : List (List Value)) → rows ≡ [] ∷ some fits_any (singles (product_of a b)) → AreSets rows
-relations_sets a b h k rows e = are_sets (IsRelationThat (λ r. Unit {0}) a b) ([] ∷ some fits_any (singles (product_of a b))) rows (relations_told a b h k) (relation_ascends (λ r. Unit {0}) a b) e

@@ -2,6 +2,8 @@
 use Rattle.std.specs.Prelude.{Bool, true, not, List, [], ◌∷◌, ◌++◌, map, filter}
 use Rattle.std.specs.List.{flat_map, list_all}
 use Rattle.std.specs.Ordering.{is_eq}
+use Rattle.zf_tree.specs.declared.symbol.Arrow.{Arrow}
+use Rattle.zf_tree.specs.declared.symbol.Arrow.TheVariants.{Relation, PartialFunction, TotalFunction, PartialInjection, TotalInjection}
 use Rattle.zf_value.specs.declared.plain.Value.{Value, SetOf, out-Value}
 use Rattle.zf_value.specs.declared.plain.Value.TheOpen.{Value-F}
 use Rattle.zf_value.specs.{IsAscending, pair, value_order}
@@ -53,6 +55,14 @@ fits_apart p r = list_all (λ q. not (is_eq (value_order (second p) (second q)))
 abbrev pub fitting : Fits → Value → List Value → Bool
 fitting Any = fits_any
 fitting Apart = fits_apart
+
+-- the rows of pairs that are relations of each kind
+abbrev pub arrow_rows : Arrow → List Value → List Value → List (List Value)
+arrow_rows Relation a b = [] ∷ some fits_any (singles (flat_map (pairs b) a))
+arrow_rows PartialFunction a b = [] ∷ some fits_any (map (pairs b) a)
+arrow_rows TotalFunction a b = whole fits_any (map (pairs b) a)
+arrow_rows PartialInjection a b = [] ∷ some fits_apart (map (pairs b) a)
+arrow_rows TotalInjection a b = whole fits_apart (map (pairs b) a)
 
 -- each row ascends
 abbrev pub AllAscend : List (List Value) → Type 0

@@ -3,7 +3,9 @@ use Rattle.std.specs.Prelude.{◌≡◌, Bool, true, ◌&&◌, List, [], ◌∷�
 use Rattle.std.specs.Ordering.{is_lt}
 use Rattle.zf_value.specs.declared.plain.Value.{Value, out-Value}
 use Rattle.zf_value.specs.declared.plain.Value.TheOpen.{Value-F}
-use Rattle.zf_value.specs.{IsBetween, IsFunctional, IsInjective, IsMember, pair, value_order}
+use Rattle.zf_tree.specs.declared.symbol.Arrow.{Arrow}
+use Rattle.zf_value.specs.{IsBetween, IsMember, pair, value_order}
+use Rattle.zf_families.specs.Families.{IsOfKind}
 use Rattle.zf_families.specs.Selections.{fits_apart}
 
 -- a pair of members of the two sets
@@ -40,10 +42,6 @@ abbrev pub seconds_apart : List Value → Bool
 seconds_apart [] = true
 seconds_apart (z ∷ r) = fits_apart z r && seconds_apart r
 
--- a function between two sets, by its pairs
-unfoldable pub IsFunctionFrom : List Value → List Value → List Value → Type 0
-IsFunctionFrom a b r = IsBetween a b r × IsFunctional r
-
--- an injection between two sets, by its pairs
-unfoldable pub IsInjectionFrom : List Value → List Value → List Value → Type 0
-IsInjectionFrom a b r = IsBetween a b r × (IsFunctional r × IsInjective r)
+-- a relation of this kind between two sets, by its pairs
+unfoldable pub IsArrowFrom : Arrow → List Value → List Value → List Value → Type 0
+IsArrowFrom kind a b r = IsBetween a b r × IsOfKind kind a r

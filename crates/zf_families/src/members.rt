@@ -2,14 +2,16 @@
 ghost use Rattle.std.specs.Prelude.{◌≡◌, ◌↔◌, IsTrue};
 ghost use Rattle.zf_value.specs.{IsAscending, IsBetween, members};
 ghost use Rattle.zf_families.specs.Tests as tests;
-ghost use Rattle.zf_families.specs.{firsts_rise, IsFunctionFrom, IsGraph, IsInjectionFrom, IsPairFrom, IsPairOn, seconds_apart};
+ghost use Rattle.zf_tree.specs.declared.symbol.Arrow.TheVariants as kind;
+ghost use Rattle.zf_families.specs.{firsts_rise, IsArrowFrom, IsGraph, IsPairFrom, IsPairOn, seconds_apart};
 
 use crate::rows::is_apart;
+use zf_tree::Arrow;
 use zf_value::set::is_member;
 use zf_value::{Form, Value};
 
 /// Whether the pairs go from the one set to the other.
-pub fn is_between(r: &[Value], a: &Value, b: &Value) -> bool
+fn is_between(r: &[Value], a: &Value, b: &Value) -> bool
     ensures { IsTrue result ↔ IsBetween (members a.now) (members b.now) r.now }
 {
     for z in r {
@@ -30,7 +32,7 @@ fn is_pair_from(z: &Value, a: &Value, b: &Value) -> bool
 }
 
 /// Whether the pairs take each member of the one set, in its order, to a member of the other.
-pub fn is_graph(r: &[Value], a: &[Value], b: &Value) -> bool
+fn is_graph(r: &[Value], a: &[Value], b: &Value) -> bool
     ensures { IsTrue result ↔ IsGraph (members b.now) a.now r.now }
 {
     if r.len() != a.len() {
@@ -79,7 +81,7 @@ fn first(z: &Value) -> &Value
 }
 
 /// Whether no two of the pairs have one second.
-pub fn are_seconds_apart(r: &[Value]) -> bool
+fn are_seconds_apart(r: &[Value]) -> bool
     ensures { result ≡ seconds_apart r.now }
 {
     for place in 0..r.len() {
@@ -91,17 +93,23 @@ pub fn are_seconds_apart(r: &[Value]) -> bool
 }
 
 /// Whether the pairs are a function between the two sets.
-pub fn is_function(r: &[Value], a: &Value, b: &Value) -> bool
+fn is_function(r: &[Value], a: &Value, b: &Value) -> bool
     requires { IsAscending r.now }
-    ensures { IsTrue result ↔ IsFunctionFrom (members a.now) (members b.now) r.now }
+    ensures { IsTrue result ↔ IsArrowFrom kind.PartialFunction (members a.now) (members b.now) r.now }
 {
     is_between(r, a, b) && do_firsts_rise(r)
 }
 
-/// Whether the pairs are an injection between the two sets.
-pub fn is_injection(r: &[Value], a: &Value, b: &Value) -> bool
+/// Whether the pairs are a relation of the kind between the two sets.
+pub fn are_of_kind(kind: Arrow, r: &[Value], a: &Value, b: &Value) -> bool
     requires { IsAscending r.now }
-    ensures { IsTrue result ↔ IsInjectionFrom (members a.now) (members b.now) r.now }
+    ensures { IsTrue result ↔ IsArrowFrom kind (members a.now) (members b.now) r.now }
 {
-    is_function(r, a, b) && are_seconds_apart(r)
+    match kind {
+        Arrow::Relation => is_between(r, a, b),
+        Arrow::PartialFunction => is_function(r, a, b),
+        Arrow::TotalFunction => is_graph(r, a.members(), b),
+        Arrow::PartialInjection => is_function(r, a, b) && are_seconds_apart(r),
+        Arrow::TotalInjection => is_graph(r, a.members(), b) && are_seconds_apart(r),
+    }
 }

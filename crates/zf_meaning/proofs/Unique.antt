@@ -1,6 +1,5 @@
 -- A term has one outcome at most, and one truth.
-use Rattle.zf_meaning.proofs.Prelude.{◌∙◌, ◌≡◌, List, None, Option, refl, Some, subst, sym, ⊎_elim, pos, one_Modulus, one_Quotient, HasOne, one_number, one_on_number, one_on_numbers, one_set, IsDifference, IsModulus, IsNegation, IsProduct, IsSum, IsInterval, IsQuotient, AreFrom, Outcome, Is, Out, Undefined, Truth, Value, Listed, Operator, Unary, Arrow, Connective, Infix, Composition, Difference, Div, DomainRestriction, DomainSubtraction, Intersection, Maplet, Minus, Mod, Overriding, Plus, RangeRestriction, RangeSubtraction, Times, Union, UpTo, Quantifier, Relation, absent, binary, bracket, comprehension, chain, constant, empty_set, link, listed, no_links, no_ranges, no_terms, number, present, quantified, range, Ranges, reference, ResolvedLinks, ResolvedPart, ResolvedTree, ResolvedTrees, term, unary, Infinite, Context, within, AreLinked, Builds, HasOutcome, HaveOutcomes, HaveRanges, infinite_right, IsBuilt, IsBuiltBy, IsBuiltOver, IsConstraint, IsLink, IsOutOfBounds, IsTruth, IsWithinBounds, OnBoth, one_out, one_undefined, OnOne, OnSeveral, Several, values, ArrowOutcome, BinaryOutcome, Holds, HoldsOf, InfixOutcome, ListedOutcome, PrefixOutcome, SignOutcome, UnaryOutcome, IsAtom, IsConjunction, IsConnected, IsDisjunction, IsEquivalence, IsExists, IsExistsOne, IsForAll, IsOver, IsQuantified, IsTest, IsTold, opposite, Tells, ℕ, Constant, Num, Nat, Nat1, IsConstantOutcome, IsNumberSet}
-use Rattle.zf_tree.specs.declared.symbol.Arrow.TheVariants as arrow
+use Rattle.zf_meaning.proofs.Prelude.{◌∙◌, ◌≡◌, List, None, Option, refl, Some, subst, sym, ⊎_elim, pos, one_Modulus, one_Quotient, HasOne, one_number, one_on_number, one_on_numbers, one_set, IsDifference, IsModulus, IsNegation, IsProduct, IsSum, IsInterval, IsQuotient, AreFrom, Outcome, Is, Out, Undefined, Truth, Value, Listed, Operator, Unary, Connective, Infix, Composition, Difference, Div, DomainRestriction, DomainSubtraction, Intersection, Maplet, Minus, Mod, Overriding, Plus, RangeRestriction, RangeSubtraction, Times, Union, UpTo, Quantifier, Relation, absent, binary, bracket, comprehension, chain, constant, empty_set, link, listed, no_links, no_ranges, no_terms, number, present, quantified, range, Ranges, reference, ResolvedLinks, ResolvedPart, ResolvedTree, ResolvedTrees, term, unary, Infinite, Context, within, AreLinked, Builds, HasOutcome, HaveOutcomes, HaveRanges, infinite_right, IsBuilt, IsBuiltBy, IsBuiltOver, IsConstraint, IsLink, IsOutOfBounds, IsTruth, IsWithinBounds, OnBoth, one_out, one_undefined, OnOne, OnSeveral, Several, values, AreArrows, BinaryOutcome, Holds, HoldsOf, InfixOutcome, ListedOutcome, PrefixOutcome, SignOutcome, UnaryOutcome, IsAtom, IsConjunction, IsConnected, IsDisjunction, IsEquivalence, IsExists, IsExistsOne, IsForAll, IsOver, IsQuantified, IsTest, IsTold, opposite, Tells, ℕ, Constant, Num, Nat, Nat1, IsConstantOutcome, IsNumberSet}
 use Rattle.zf_tree.specs.declared.symbol.Connective.TheVariants as connective
 use Rattle.zf_tree.specs.declared.symbol.Constant.TheVariants as the_constant
 use Rattle.zf_tree.specs.declared.symbol.Prefix.{Prefix}
@@ -32,16 +31,10 @@ one_infix RangeRestriction v w o p h k = once.one_RangeRestriction _ _ o p h k
 one_infix DomainSubtraction v w o p h k = once.one_DomainSubtraction _ _ o p h k
 one_infix RangeSubtraction v w o p h k = once.one_RangeSubtraction _ _ o p h k
 
-one_arrow : (op : Arrow) (v w : Value) → HasOne (ArrowOutcome op v w)
-one_arrow arrow.Relation v w o p h k = once.one_Relations _ _ o p h k
-one_arrow arrow.PartialFunction v w o p h k = once.one_PartialFunctions _ _ o p h k
-one_arrow arrow.TotalFunction v w o p h k = once.one_TotalFunctions _ _ o p h k
-one_arrow arrow.PartialInjection v w o p h k = once.one_PartialInjections _ _ o p h k
-one_arrow arrow.TotalInjection v w o p h k = once.one_TotalInjections _ _ o p h k
-
 one_binary : (op : Operator) (v w : Value) → HasOne (BinaryOutcome op v w)
+unfolding AreArrows
 one_binary (operator.Function op) v w o p h k = one_infix op v w o p h k
-one_binary (operator.Generic op) v w o p h k = one_arrow op v w o p h k
+one_binary (operator.Generic op) v w o p h k = one_set _ o p h k
 one_binary (operator.Connective x) v w o p h k = h ∙ sym k
 one_binary operator.Application v w o p h k = once.one_Applied _ _ o p h k
 one_binary operator.Image v w o p h k = once.one_Image _ _ o p h k

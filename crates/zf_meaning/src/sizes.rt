@@ -2,6 +2,7 @@
 ghost use Rattle.std.specs.Prelude.{◌≡◌, [], ◌∷◌, ◌++◌, ◌↔◌, ℕ, Option, option_to_list, Contains, IsTrue, IfOk, IfErr, OnOk, MatchOption};
 ghost use Rattle.zf_meaning.specs.Prelude.{globals_of};
 ghost use Rattle.zf_meaning.specs.{AreAccepted, AreComplete, AreSizes, CountsAt, given_at, given_sets, IsAccepted, IsRefusal, IsSizeFault, IsStated, names};
+ghost use Rattle.zf_meaning.specs.declared.sizes.SizeFault.TheVariants.{OutOfMemory};
 
 use std::alloc::{AllocError, AllocFailed, Global};
 use thiserror::Error;
@@ -32,8 +33,6 @@ pub enum SizeFault {
 }
 
 impl From<AllocError> for SizeFault {
-    ghost use Rattle.zf_meaning.specs.declared.sizes.SizeFault.TheVariants.{OutOfMemory};
-
     ghost from_gives = { λ _ fault. fault ≡ OutOfMemory };
 
     fn from(_error: AllocError) -> SizeFault {
@@ -42,8 +41,6 @@ impl From<AllocError> for SizeFault {
 }
 
 impl<T: Drop> From<AllocFailed<T>> for SizeFault {
-    ghost use Rattle.zf_meaning.specs.declared.sizes.SizeFault.TheVariants.{OutOfMemory};
-
     ghost from_gives = { λ _ fault. fault ≡ OutOfMemory };
 
     fn from(_error: AllocFailed<T>) -> SizeFault {

@@ -6,18 +6,18 @@ pub use Rattle.zf_value.proofs.Divisions.{either_way}
 pub use Rattle.zf_value.proofs.Exactly.{same}
 pub use Rattle.zf_value.proofs.Seen.{is_Int, members-SetOf, number_of-Int}
 pub use Rattle.zf_value.specs.{AreFrom, IsMember, IsSetOf, IsSubset, members, number_of, OnNumbers, value_order, level_order}
-unfoldable pub use Rattle.zf_value.specs.{ArePartialFunctions, ArePartialInjections, AreRelations, AreTotalFunctions, AreTotalInjections, IsBetweenNumbers, IsCross, IsInterval, IsPower}
+unfoldable pub use Rattle.zf_value.specs.{IsBetweenNumbers, IsCross, IsInterval, IsPower}
 pub use Rattle.zf_value.specs.declared.value.Outcome.{Outcome}
 pub use Rattle.zf_value.specs.declared.value.Outcome.TheVariants.{Is, Out, Undefined}
 pub use Rattle.zf_value.specs.declared.value.Truth.{Truth}
 pub use Rattle.zf_value.specs.declared.plain.Value.{Int, out-Value, SetOf, Tuple, Value}
 pub use Rattle.zf_value.specs.declared.plain.Value.TheOpen.{Value-F}
 pub use Rattle.zf_value.specs.declared.plain.Value.TheVariants.{outs-Int}
-unfoldable pub use Rattle.zf_families.specs.{IsPartialFunction, IsPartialInjection, IsRelation, IsTotalFunction, IsTotalInjection, IsTupleFrom}
+unfoldable pub use Rattle.zf_families.specs.{AreArrows, IsArrow, IsTupleFrom}
 pub use Rattle.zf_tree.specs.declared.symbol.Arrow.{Arrow}
 pub use Rattle.zf_tree.specs.declared.symbol.Relation.{Relation}
 pub use Rattle.zf_extent.specs.{is_membership}
-pub use Rattle.zf_outcome.specs.{ArrowOutcome, found_outcome, Holds, IsAtom, IsDescribed, IsOfArrow, IsUnbuilt, IsWithin, one_out, one_undefined, OnOne, OnSeveral, Several, several_by, several_of, Tells, told_in, values, Compares, IsFrom, IsIn, AreOrdered}
+pub use Rattle.zf_outcome.specs.{found_outcome, Holds, IsAtom, IsDescribed, IsUnbuilt, IsWithin, one_out, one_undefined, OnOne, OnSeveral, Several, several_by, several_of, Tells, told_in, values, Compares, IsFrom, IsIn, AreOrdered}
 unfoldable pub use Rattle.zf_outcome.specs.{Describes, IsInDescribed, IsTruthIn}
 pub use Rattle.zf_outcome.specs.declared.described.Described.{Described}
 pub use Rattle.zf_outcome.specs.declared.described.Described.TheVariants.{Arrows, Interval, Plain, Power, Product}

@@ -1,8 +1,7 @@
 -- Sets that are described by what they are made of: each that is not out is there, and its members are reported.
-use Rattle.zf_outcome.proofs.Prelude.{cases_lt, ◌+ℤ◌, ◌<ℤ◌, pos, either_way, members-SetOf, OnNumbers, IsBetweenNumbers, IsInterval, AreFrom, IsSubset, ArePartialFunctions, ArePartialInjections, AreRelations, AreTotalFunctions, AreTotalInjections, IsCross, IsPower, IsMember, IsSetOf, members, value_order, Outcome, Is, Out, Undefined, Truth, Int, out-Value, SetOf, Tuple, Value, Value-F, outs-Int, IsPartialFunction, IsPartialInjection, IsRelation, IsTotalFunction, IsTotalInjection, IsTupleFrom, Arrow, Relation, is_membership, IsDescribed, IsOfArrow, IsUnbuilt, told_in, Describes, IsInDescribed, IsTruthIn, found_outcome, one_out, one_undefined, OnOne, OnSeveral, Several, values, ArrowOutcome, Holds, IsAtom, Described, Arrows, Interval, Plain, Power, Product, IsWithin, ◌≡◌, ◌↔◌, ◌⊎◌, inl, inr, ◌≤◌, ◌<◌, ℕ, Bool, true, false, ℤ, Option, Some, None, List, [], refl, sym, ap, ◌∙◌, subst, ⊎_elim, Less, arith, IsTrue, Vec, Global, false≢true, level_order}
+use Rattle.zf_outcome.proofs.Prelude.{cases_lt, ◌+ℤ◌, ◌<ℤ◌, pos, either_way, members-SetOf, OnNumbers, IsBetweenNumbers, IsInterval, AreFrom, IsSubset, IsCross, IsPower, IsMember, IsSetOf, members, value_order, Outcome, Is, Out, Undefined, Truth, Int, out-Value, SetOf, Tuple, Value, Value-F, outs-Int, AreArrows, IsArrow, IsTupleFrom, Arrow, Relation, is_membership, IsDescribed, IsUnbuilt, told_in, Describes, IsInDescribed, IsTruthIn, found_outcome, one_out, one_undefined, OnOne, OnSeveral, Several, values, Holds, IsAtom, Described, Arrows, Interval, Plain, Power, Product, IsWithin, ◌≡◌, ◌↔◌, ◌⊎◌, inl, inr, ◌≤◌, ◌<◌, ℕ, Bool, true, false, ℤ, Option, Some, None, List, [], refl, sym, ap, ◌∙◌, subst, ⊎_elim, Less, arith, IsTrue, Vec, Global, false≢true, level_order}
 use Rattle.std.proofs.lemmas.Int.{ints}
 use Rattle.std.specs.Cmp.{int_cmp_is}
-use Rattle.zf_tree.specs.declared.symbol.Arrow.TheVariants as arrow
 use Rattle.zf_tree.specs.declared.symbol.Relation.TheVariants as relation
 use Rattle.zf_value.specs.declared.TheConstants.{SET_MAX}
 use Rattle.zf_value.specs.declared.value.Truth.TheVariants as truth
@@ -50,14 +49,10 @@ set-there P Out s f = absurd (f s)
 
 -- a set that is described and not out is there
 pub there : (d : Described) → IsUnbuilt d → IsWithin d → IsThere (IsDescribed d)
-unfolding IsPower IsInterval IsCross AreRelations ArePartialFunctions AreTotalFunctions ArePartialInjections AreTotalInjections
+unfolding IsPower IsInterval IsCross AreArrows
 there (Plain found) u h = absurd u
 there (Power v) u h = set-there _ h.0 h.1 h.2
-there (Arrows arrow.Relation v w) u h = set-there _ h.0 h.1 h.2
-there (Arrows arrow.PartialFunction v w) u h = set-there _ h.0 h.1 h.2
-there (Arrows arrow.TotalFunction v w) u h = set-there _ h.0 h.1 h.2
-there (Arrows arrow.PartialInjection v w) u h = set-there _ h.0 h.1 h.2
-there (Arrows arrow.TotalInjection v w) u h = set-there _ h.0 h.1 h.2
+there (Arrows kind v w) u h = set-there _ h.0 h.1 h.2
 there (Interval a b) u h = set-there _ h.0 h.1 h.2
 there (Product sets) u h = set-there _ h.0 h.1 h.2
 
@@ -79,8 +74,8 @@ plain-within d f b e h = subst (λ k. IsTrue b ⊎ IsWithin k) (sym e) (within-b
 pub power-within : (d : Described) (s : Value) (b : Bool) → d ≡ Power s → IsTrue b ↔ IsPower (members s) Out → IsTrue b ⊎ IsThere (IsPower (members s)) → IsTrue b ⊎ IsWithin d
 power-within d s b e h t = subst (λ k. IsTrue b ⊎ IsWithin k) (sym e) (within-there (Power s) b h t)
 
-pub arrows-within : (d : Described) (kind : Arrow) (x y : Value) (b : Bool) → d ≡ Arrows kind x y → IsTrue b ↔ ArrowOutcome kind x y Out
-    → IsTrue b ⊎ IsThere (ArrowOutcome kind x y) → IsTrue b ⊎ IsWithin d
+pub arrows-within : (d : Described) (kind : Arrow) (x y : Value) (b : Bool) → d ≡ Arrows kind x y → IsTrue b ↔ AreArrows kind (members x) (members y) Out
+    → IsTrue b ⊎ IsThere (AreArrows kind (members x) (members y)) → IsTrue b ⊎ IsWithin d
 arrows-within d kind x y b e h t = subst (λ k. IsTrue b ⊎ IsWithin k) (sym e) (within-there (Arrows kind x y) b h t)
 
 pub interval-within : (d : Described) (m n : ℤ) (b : Bool) → d ≡ Interval m n → IsTrue b ↔ IsInterval m n Out → IsTrue b ⊎ IsWithin d
@@ -155,15 +150,11 @@ in-power s v b w h = in-set (IsSubset (members s)) v b (there (Power s) tt w) h
 pub has-power : (d : Described) (s v : Value) (b : Bool) → d ≡ Power s → IsWithin d → IsTrue b ↔ IsSubset (members s) v → IsTrue b ↔ IsInDescribed d v
 has-power d s v b e w h = subst (λ k. IsTrue b ↔ IsInDescribed k v) (sym e) (in-power s v b (subst IsWithin e w) h)
 
-in-arrows : (kind : Arrow) (x y v : Value) (b : Bool) → IsWithin (Arrows kind x y) → IsTrue b ↔ IsOfArrow kind x y v → IsTrue b ↔ IsInDescribed (Arrows kind x y) v
-unfolding IsInDescribed AreRelations ArePartialFunctions AreTotalFunctions ArePartialInjections AreTotalInjections IsRelation IsPartialFunction IsTotalFunction IsPartialInjection IsTotalInjection
-in-arrows arrow.Relation x y v b w h = in-set (IsRelation (members x) (members y)) v b (there (Arrows arrow.Relation x y) tt w) h
-in-arrows arrow.PartialFunction x y v b w h = in-set (IsPartialFunction (members x) (members y)) v b (there (Arrows arrow.PartialFunction x y) tt w) h
-in-arrows arrow.TotalFunction x y v b w h = in-set (IsTotalFunction (members x) (members y)) v b (there (Arrows arrow.TotalFunction x y) tt w) h
-in-arrows arrow.PartialInjection x y v b w h = in-set (IsPartialInjection (members x) (members y)) v b (there (Arrows arrow.PartialInjection x y) tt w) h
-in-arrows arrow.TotalInjection x y v b w h = in-set (IsTotalInjection (members x) (members y)) v b (there (Arrows arrow.TotalInjection x y) tt w) h
+in-arrows : (kind : Arrow) (x y v : Value) (b : Bool) → IsWithin (Arrows kind x y) → IsTrue b ↔ IsArrow kind (members x) (members y) v → IsTrue b ↔ IsInDescribed (Arrows kind x y) v
+unfolding IsInDescribed AreArrows
+in-arrows kind x y v b w h = in-set (IsArrow kind (members x) (members y)) v b (there (Arrows kind x y) tt w) h
 
-pub has-arrows : (d : Described) (kind : Arrow) (x y v : Value) (b : Bool) → d ≡ Arrows kind x y → IsWithin d → IsTrue b ↔ IsOfArrow kind x y v → IsTrue b ↔ IsInDescribed d v
+pub has-arrows : (d : Described) (kind : Arrow) (x y v : Value) (b : Bool) → d ≡ Arrows kind x y → IsWithin d → IsTrue b ↔ IsArrow kind (members x) (members y) v → IsTrue b ↔ IsInDescribed d v
 has-arrows d kind x y v b e w h = subst (λ k. IsTrue b ↔ IsInDescribed k v) (sym e) (in-arrows kind x y v b (subst IsWithin e w) h)
 
 pub in-interval : (m n : ℤ) (v : Value) (b : Bool) → (IsInterval m n Out → ⊥) → IsTrue b ↔ IsBetweenNumbers m n v → IsTrue b ↔ IsInDescribed (Interval m n) v

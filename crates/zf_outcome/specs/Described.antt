@@ -1,21 +1,20 @@
 -- Sets that are described by what they are made of, so that they can be tested for members without being built.
 use Rattle.std.specs.Prelude.{◌≡◌, Bool, true, false}
-use Rattle.zf_outcome.specs.Prelude.{Arrow, Relation, Value, Outcome, Truth, True, False, IsCross, IsInterval, IsMember, IsPower, members}
-use Rattle.zf_tree.specs.declared.symbol.Arrow.TheVariants as arrow
+use Rattle.zf_outcome.specs.Prelude.{Relation, Value, Outcome, Truth, True, False, IsCross, IsInterval, IsMember, IsPower, members}
 use Rattle.zf_tree.specs.declared.symbol.Relation.TheVariants.{NotMember}
-use Rattle.zf_families.specs.{IsPartialFunction, IsPartialInjection, IsRelation, IsTotalFunction, IsTotalInjection}
+use Rattle.zf_families.specs.{AreArrows}
 use Rattle.zf_value.specs.declared.value.Outcome.TheVariants.{Is, Out}
 use Rattle.zf_outcome.specs.declared.described.Described.{Described}
 use Rattle.zf_outcome.specs.declared.described.Described.TheVariants.{Plain, Power, Arrows, Interval, Product}
 use Rattle.zf_outcome.specs.Found.{found_outcome}
-use Rattle.zf_outcome.specs.Symbols.{ArrowOutcome, Holds}
+use Rattle.zf_outcome.specs.Symbols.{Holds}
 use Rattle.zf_outcome.specs.Truths.{IsAtom}
 
 -- o is the outcome that is described
 abbrev pub IsDescribed : Described → Outcome → Type 0
 IsDescribed (Plain found) o = o ≡ found_outcome found
 IsDescribed (Power v) o = IsPower (members v) o
-IsDescribed (Arrows kind v w) o = ArrowOutcome kind v w o
+IsDescribed (Arrows kind v w) o = AreArrows kind (members v) (members w) o
 IsDescribed (Interval a b) o = IsInterval a b o
 IsDescribed (Product sets) o = IsCross sets.items o
 
@@ -49,11 +48,3 @@ told_in NotMember true = False
 told_in NotMember false = True
 told_in _ true = True
 told_in _ false = False
-
--- a relation or function of this kind from the members of the first to those of the second
-abbrev pub IsOfArrow : Arrow → Value → Value → Value → Type 0
-IsOfArrow arrow.Relation v w = IsRelation (members v) (members w)
-IsOfArrow arrow.PartialFunction v w = IsPartialFunction (members v) (members w)
-IsOfArrow arrow.TotalFunction v w = IsTotalFunction (members v) (members w)
-IsOfArrow arrow.PartialInjection v w = IsPartialInjection (members v) (members w)
-IsOfArrow arrow.TotalInjection v w = IsTotalInjection (members v) (members w)

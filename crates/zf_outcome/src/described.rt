@@ -3,9 +3,8 @@ ghost use Rattle.std.specs.Prelude.{◌≡◌, ◌↔◌, ◌⊎◌, IsTrue, IfO
 ghost use Rattle.zf_outcome.specs.Prelude.{IsCross, IsInterval, IsPower, members, number_of, OnNumbers};
 ghost use Rattle.zf_extent.specs.{is_membership};
 ghost use Rattle.zf_value.specs.declared.value.Outcome.TheVariants as outcome;
-ghost use Rattle.zf_value.specs.declared.plain.Value as value;
 ghost use Rattle.zf_outcome.specs.declared.described.Described.TheVariants as form;
-ghost use Rattle.zf_outcome.specs.{ArrowOutcome, Describes, found_outcome, IsDescribed, IsInDescribed, IsOfArrow, IsTruthIn, IsUnbuilt, IsWithin, OnOne, OnSeveral, several_of, told_in};
+ghost use Rattle.zf_outcome.specs.{Describes, found_outcome, IsDescribed, IsInDescribed, IsTruthIn, IsUnbuilt, IsWithin, OnOne, OnSeveral, several_of, told_in};
 
 use crate::found::Found;
 use crate::gathered::{Gathered, Lack};
@@ -13,11 +12,7 @@ use crate::relation::atom;
 use std::alloc::{AllocError, Global};
 use zf_families::cross::{is_cross_out, is_in_cross};
 use zf_families::power::{is_in_power, is_power_out};
-use zf_families::{
-    are_partial_functions_out, are_partial_injections_out, are_relations_out,
-    are_total_functions_out, are_total_injections_out, is_partial_function, is_partial_injection,
-    is_relation, is_total_function, is_total_injection,
-};
+use zf_families::{are_arrows_out, is_arrow};
 use zf_tree::{Arrow, Relation};
 use zf_value::set::is_member;
 use zf_value::{Lent, Outcome, Truth, Value, is_in_interval, is_interval_out};
@@ -115,7 +110,7 @@ impl<'v> Described<'v> {
         match self {
             Described::Plain(found) => is_found_in(found, v),
             Described::Power(set) => is_in_power(v, set),
-            Described::Arrows(kind, from, to) => is_of_arrow(*kind, v, from, to),
+            Described::Arrows(kind, from, to) => is_arrow(*kind, v, from, to),
             Described::Interval(from, to) => is_between(v, *from, *to),
             Described::Product(sets) => is_in_cross(v, sets.as_slice()),
         }
@@ -188,30 +183,4 @@ fn is_between(v: &Value, from: i64, to: i64) -> bool
     ensures { IsTrue result ↔ IsInDescribed (form.Interval from to) v.now }
 {
     is_in_interval(v, from, to)
-}
-
-fn are_arrows_out(kind: Arrow, v: &Value, w: &Value) -> bool
-    ensures out { IsTrue result ↔ ArrowOutcome kind v.now w.now outcome.Out }
-    ensures there { IsTrue result ⊎ ((s : value.Value) × ArrowOutcome kind v.now w.now (outcome.Is s)) }
-{
-    match kind {
-        Arrow::Relation => are_relations_out(v, w),
-        Arrow::PartialFunction => are_partial_functions_out(v, w),
-        Arrow::TotalFunction => are_total_functions_out(v, w),
-        Arrow::PartialInjection => are_partial_injections_out(v, w),
-        Arrow::TotalInjection => are_total_injections_out(v, w),
-    }
-}
-
-/// Whether it is a relation or function of this kind from the members of the one to those of the other.
-fn is_of_arrow(kind: Arrow, f: &Value, v: &Value, w: &Value) -> bool
-    ensures { IsTrue result ↔ IsOfArrow kind v.now w.now f.now }
-{
-    match kind {
-        Arrow::Relation => is_relation(f, v, w),
-        Arrow::PartialFunction => is_partial_function(f, v, w),
-        Arrow::TotalFunction => is_total_function(f, v, w),
-        Arrow::PartialInjection => is_partial_injection(f, v, w),
-        Arrow::TotalInjection => is_total_injection(f, v, w),
-    }
 }

@@ -1,17 +1,15 @@
 //! What each symbol makes of the outcomes of its operands.
 ghost use Rattle.std.specs.Prelude.{◌≡◌, IfOk};
 ghost use Rattle.zf_outcome.specs.Prelude.{IsCross, number_of, OnNumbers};
-ghost use Rattle.zf_outcome.specs.{ArrowOutcome, BinaryOutcome, found_outcome, InfixOutcome, ListedOutcome, NumbersOutcome, OnBoth, OnOne, OnSeveral, PrefixOutcome, several_of, SignOutcome, UnaryOutcome};
+ghost use Rattle.zf_outcome.specs.{BinaryOutcome, found_outcome, InfixOutcome, ListedOutcome, NumbersOutcome, OnBoth, OnOne, OnSeveral, PrefixOutcome, several_of, SignOutcome, UnaryOutcome};
 
 use crate::found::Found;
 use crate::gathered::{Gathered, Lack};
 use std::alloc::{AllocError, Global};
+use zf_families::arrows;
 use zf_families::cross::cross;
 use zf_families::power::power;
-use zf_families::{
-    partial_functions, partial_injections, relations, total_functions, total_injections,
-};
-use zf_tree::{Arrow, Infix, Listed, Operator, Prefix, Sign, Unary};
+use zf_tree::{Infix, Listed, Operator, Prefix, Sign, Unary};
 use zf_value::set::{display, intersection, pair, set_difference, size, tuple, union};
 use zf_value::{
     Lent, Outcome, Value, applied, composition, difference, domain, domain_restriction,
@@ -93,7 +91,7 @@ fn binary(alloc: Global, op: Operator, v: &Value, w: &Value) -> Result<Outcome, 
 {
     match op {
         Operator::Function(infix) => function(alloc, infix, v, w),
-        Operator::Generic(kind) => arrow(alloc, kind, v, w),
+        Operator::Generic(kind) => arrows(alloc, kind, v, w),
         Operator::Connective(_) => Ok(Outcome::Undefined),
         Operator::Application => application(alloc, v, w),
         Operator::Image => image(alloc, v, w),
@@ -185,17 +183,5 @@ fn arithmetic(alloc: Global, op: Infix, a: i64, b: i64) -> Result<Outcome, Alloc
         Infix::Div => Ok(quotient(a, b)),
         Infix::Mod => Ok(modulus(a, b)),
         _ => Ok(Outcome::Undefined),
-    }
-}
-
-fn arrow(alloc: Global, op: Arrow, v: &Value, w: &Value) -> Result<Outcome, AllocError>
-    ensures { IfOk result (ArrowOutcome op v.now w.now) }
-{
-    match op {
-        Arrow::Relation => relations(alloc, v, w),
-        Arrow::PartialFunction => partial_functions(alloc, v, w),
-        Arrow::TotalFunction => total_functions(alloc, v, w),
-        Arrow::PartialInjection => partial_injections(alloc, v, w),
-        Arrow::TotalInjection => total_injections(alloc, v, w),
     }
 }

@@ -136,26 +136,6 @@ pub one_RangeSubtraction : (a b : List Value) → HasOne (op.IsRangeSubtraction 
 unfolding op.IsRangeSubtraction
 one_RangeSubtraction a b o p h k = one_set _ o p h k
 
-pub one_Relations : (a b : List Value) → HasOne (op.AreRelations a b)
-unfolding op.AreRelations
-one_Relations a b o p h k = one_set _ o p h k
-
-pub one_PartialFunctions : (a b : List Value) → HasOne (op.ArePartialFunctions a b)
-unfolding op.ArePartialFunctions
-one_PartialFunctions a b o p h k = one_set _ o p h k
-
-pub one_TotalFunctions : (a b : List Value) → HasOne (op.AreTotalFunctions a b)
-unfolding op.AreTotalFunctions
-one_TotalFunctions a b o p h k = one_set _ o p h k
-
-pub one_PartialInjections : (a b : List Value) → HasOne (op.ArePartialInjections a b)
-unfolding op.ArePartialInjections
-one_PartialInjections a b o p h k = one_set _ o p h k
-
-pub one_TotalInjections : (a b : List Value) → HasOne (op.AreTotalInjections a b)
-unfolding op.AreTotalInjections
-one_TotalInjections a b o p h k = one_set _ o p h k
-
 pub one_Size : (a : List Value) → HasOne (op.IsSize a)
 unfolding op.IsSize
 one_Size a o p h k = one_number _ o p h k

@@ -8,7 +8,7 @@ returns-in-Power c = has-power c.args.self.now c.in-Power.set c.args.v.now c.is_
 pub returns-in-Arrows : goal.returns-in-Arrows
 returns-in-Arrows c =
     let i = c.in-Arrows in
-    has-arrows c.args.self.now i.kind i.from i.to c.args.v.now c.is_of_arrow.result i.is c.requires c.is_of_arrow.ensures
+    has-arrows c.args.self.now i.kind i.from i.to c.args.v.now c.is_arrow.result i.is c.requires c.is_arrow.ensures
 
 pub is_between-requires : goal.is_between-requires
 is_between-requires c = let w = subst IsWithin c.in-Interval.is c.requires in let n = w.2 in search (rules, n)

@@ -1,9 +1,0 @@
-use Rattle.zf_families.proofs.Prelude.{◌∙◌, ◌∷◌, ◌≡◌, [], IfOk-weaker}
-use Rattle.zf_families.proofs.Families.{total_rows, constant_rows}
-use Rattle.zf_families.proofs.function.total_rows.Goals as goal
-
-pub returns-in-len1 : goal.returns-in-len1
-returns-in-len1 c =
-    let same : c.in_ok-constant.field-0.items ∷ [] ≡ total_rows c.args.a.now c.args.b.now =
-    constant_rows c.args.a.now c.args.b.now c.y-item.result c.in_ok-constant.field-0.items c.in-len1.len_at_least c.in-len1.len_below c.y-item.is c.in_ok-constant.ensures in
-    IfOk-weaker c.one_row_of.result (λ rows. rows.items ≡ c.in_ok-constant.field-0.items ∷ []) (λ rows. rows.items ≡ total_rows c.args.a.now c.args.b.now) (λ rows e. e ∙ same) c.one_row_of.ensures

@@ -1,8 +1,0 @@
-use Rattle.zf_families.proofs.Prelude.{◌∷◌, ◌≡◌, [], IfOk-weaker}
-use Rattle.zf_families.proofs.Injections.{single_pairs, single_pair_rows, partial_injection_rows}
-use Rattle.zf_families.proofs.injection.partial_rows.Goals as goal
-
-pub returns-in-len1 : goal.returns-in-len1
-returns-in-len1 c =
-    IfOk-weaker c.single_pairs.result (λ rows. rows.items ≡ [] ∷ single_pairs c.args.a.now c.y-item.result) (λ rows. rows.items ≡ partial_injection_rows c.args.a.now c.args.b.now)
-    (λ rows e. single_pair_rows c.args.a.now c.args.b.now c.y-item.result rows.items c.in-len1.len_at_least c.in-len1.len_below c.y-item.is e) c.single_pairs.ensures
