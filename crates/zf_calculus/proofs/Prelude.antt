@@ -27,7 +27,7 @@ pub use Rattle.zf_term.specs.declared.resolved.Resolved.{Resolved}
 pub use Rattle.zf_term.specs.declared.resolved.ResolvedLink.{ResolvedLink}
 pub use Rattle.zf_term.specs.declared.ztype.ZType.{ZType}
 pub use Rattle.zf_shape.proofs.Heights.{below_nodes}
-pub use Rattle.zf_calculus.specs.{Agree, Agrees, all_unchanged, AreAt, AreOnce, carried, Clashes, comp, comp_named, conjoined, constrained, counted, decorated, delta, disjoined, disjoined_over, either_comp, equalities, equality, grown, IfStopped, IsGrowing, IsNext, new_place, OneClashes, place_found, place_named, place_of, place_or, prime, sets_on, Stops, unchanged, with_comp, with_comps, xi, schema_with, either_comps, empty_schema}
+pub use Rattle.zf_calculus.specs.{Agree, Agrees, all_unchanged, AreAt, AreOnce, carried, Clashes, comp, comp_named, conjoined, constrained, counted, decorated, delta, disjoined, disjoined_over, either_comp, equalities, equality, grown, IfStopped, IsNext, measured, new_place, OneClashes, place_found, place_named, place_of, place_or, prime, sets_on, Stops, unchanged, with_comp, with_comps, xi, schema_with, either_comps, empty_schema}
 pub use Rattle.zf_constraints.specs.{enriched, constraints}
 pub use Rattle.std.proofs.Math.Path.{fun_ext}
 pub use Rattle.zf_shape.proofs.Nodes.{none_left}

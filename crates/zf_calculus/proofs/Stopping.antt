@@ -17,7 +17,3 @@ pub one_clashes : (cs : List Comp) (ds : List Component) (i : ℕ) (d : Componen
 one_clashes cs [] i d l e k h = absurd (omega arith)
 one_clashes cs (x ∷ ds) zero d l e k h = inl (subst (λ (y : Component). Clashes cs (comp_of y) k) e h)
 one_clashes cs (x ∷ ds) (suc i) d l e k h = inr (one_clashes cs ds i d (omega (arith, l)) e k h)
-
-pub if_ok : {T E : Type 0} (r : Result T E) (P Q : T → Type 0) → ((x : T) → P x → Q x) → IfOk r P → IfOk r Q
-if_ok (Ok x) P Q f h = f x h
-if_ok (Err e) P Q f h = tt

@@ -1,20 +1,13 @@
 -- A schema that grows within the limits, and what stops it.
 use Rattle.std.specs.Prelude.{◌≡◌, ℕ, ◌+◌, ◌++◌, List, [], ◌∷◌, Option, Some, None}
-use Rattle.zf_calculus.specs.Prelude.{sum_by, option_map_or, Equal, Component, AreFew, chain, clash, Comp, DeclaredSet, HasLeft, link, no_links, Offence, one_holds, reference, ResolvedTree, Schema, schema_of, sets_of, sides, too_large, type_of, constraints}
+use Rattle.zf_calculus.specs.Prelude.{sum_by, option_map_or, Equal, Component, chain, clash, Comp, DeclaredSet, link, no_links, Offence, one_holds, reference, ResolvedTree, Schema, set_count, set_nodes, sets_of, sides, too_large, type_of, constraints}
 use Rattle.zf_reference.specs.declared.reference.Reference.TheVariants as place
-use Rattle.zf_calculus.specs.declared.growing.Growing.{Growing}
+use Rattle.zf_calculus.specs.declared.room.Measure.{Measure}
+use Rattle.zf_calculus.specs.declared.room.Measure.TheVariants.{Nodes, Sets}
 use Rattle.zf_calculus.specs.declared.stop.Stop.{Stop}
 use Rattle.zf_calculus.specs.declared.stop.Stop.TheVariants.{Clash, TooLarge, OutOfMemory}
 use Rattle.zf_calculus.specs.Calculus as calculus
-use Rattle.zf_calculus.specs.Calculus.{with_comp, with_comps}
-
--- its numbers are what is left of the limits
-abbrev pub IsGrowing : Growing → Type 0
-IsGrowing g = HasLeft (schema_of g.flat) g.sets_left g.nodes_left
-
--- what is left of two of them beside another schema, once its components are joined
-abbrev pub HasLeftBeside : Schema → Schema → ℕ × ℕ → Type 0
-HasLeftBeside a b left = AreFew (with_comps a.comps b.comps) → HasLeft (calculus.conjoined a b) left.0 left.1
+use Rattle.zf_calculus.specs.Calculus.{with_comp}
 
 -- the place of the first component that has the name
 abbrev pub place_found : Option (ℕ × Comp) → Option ℕ
@@ -44,6 +37,11 @@ grown a c = calculus.schema_with (with_comp a.comps c) a.conjuncts
 -- with further conjuncts
 abbrev pub constrained : Schema → List ResolvedTree → Schema
 constrained a ts = calculus.schema_with a.comps (a.conjuncts ++ ts)
+
+-- what is counted of a declared set
+abbrev pub measured : Measure → DeclaredSet → ℕ
+measured Sets = set_count
+measured Nodes = set_nodes
 
 -- what is counted of the declared sets of all components
 abbrev pub counted : (DeclaredSet → ℕ) → List Comp → ℕ

@@ -5,7 +5,7 @@ ghost use Rattle.zf_term.specs.Shapes as shape;
 ghost use Rattle.zf_term.specs.ShapeViews as shape_views;
 ghost use Rattle.zf_term.specs.declared.fault.Limit.TheVariants as limit;
 ghost use Rattle.zf_calculus.specs.Calculus as spec;
-ghost use Rattle.zf_calculus.specs.{Agree, comp_named, disjoined, disjoined_over, either_comp, either_comps, IfStopped, IsGrowing, IsNext, new_place, OneClashes, Stops, with_comp, with_comps};
+ghost use Rattle.zf_calculus.specs.{Agree, comp_named, disjoined, disjoined_over, either_comp, either_comps, IfStopped, IsNext, new_place, OneClashes, Stops, with_comp, with_comps};
 
 use crate::components::{agree, new_places, place_of};
 use crate::growing::{Growing, are_own};
@@ -154,8 +154,7 @@ pub fn disjoin<'a>(
     right: &Flat<'a>,
 ) -> Result<Growing<'a>, Stop<'a>>
     ensures agree { IfOk result (λ g. Agree (schema_of left.now).comps (schema_of right.now).comps) }
-    ensures ok { IfOk result (λ g. IsNext (disjoined line (schema_of left.now) (schema_of right.now)) (schema_of g.flat)) }
-    ensures growing { IfOk result (λ g. IsGrowing g) }
+    ensures ok { IfOk result (λ g. IsNext (disjoined line (schema_of left.now) (schema_of right.now)) (schema_of g)) }
     ensures err { IfErr result (λ e. IfStopped e (Stops (OneClashes (schema_of left.now).comps (schema_of right.now).comps) (Agree (schema_of left.now).comps (schema_of right.now).comps) (disjoined line (schema_of left.now) (schema_of right.now)))) }
 {
     agree(left.components.as_slice(), right.components.as_slice())?;
@@ -169,8 +168,7 @@ pub fn disjoin<'a>(
 
 /// The schema, if it is within the limits.
 fn within<'a>(flat: Flat<'a>) -> Result<Growing<'a>, Stop<'a>>
-    ensures ok { IfOk result (λ g. IsNext (schema_of flat.entry) (schema_of g.flat)) }
-    ensures growing { IfOk result (λ g. IsGrowing g) }
+    ensures ok { IfOk result (λ g. IsNext (schema_of flat.entry) (schema_of g)) }
     ensures err { IfErr result (λ e. IfStopped e (IsTooLarge (schema_of flat.entry))) }
 {
     match Growing::of(flat) {

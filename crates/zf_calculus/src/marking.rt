@@ -2,7 +2,7 @@
 ghost use Rattle.std.specs.Prelude.{◌≡◌, ◌++◌, ℕ, IfErr, IfOk, List, OnOk, length, map};
 ghost use Rattle.zf_calculus.specs.Prelude.{comp_of, IsTooLarge, schema_of, place_in};
 ghost use Rattle.zf_calculus.specs.Calculus as spec;
-ghost use Rattle.zf_calculus.specs.{Agree, comp, conjoined, decorated, delta, IfStopped, IsGrowing, IsNext, MarkAgrees, MarkClashes, new_place, OneClashes, prime, Stops, xi};
+ghost use Rattle.zf_calculus.specs.{Agree, comp, conjoined, decorated, delta, IfStopped, IsNext, MarkAgrees, MarkClashes, new_place, OneClashes, prime, Stops, xi};
 
 use crate::components::agree;
 use crate::growing::Growing;
@@ -25,8 +25,7 @@ pub fn marked<'a>(
     spare: Spare,
 ) -> Result<Growing<'a>, Stop<'a>>
     ensures agree { IfOk result (λ g. MarkAgrees mark (schema_of schema.now)) }
-    ensures ok { IfOk result (λ g. IsNext (spec.marked mark line (schema_of schema.now)) (schema_of g.flat)) }
-    ensures growing { IfOk result (λ g. IsGrowing g) }
+    ensures ok { IfOk result (λ g. IsNext (spec.marked mark line (schema_of schema.now)) (schema_of g)) }
     ensures err { IfErr result (λ e. IfStopped e (Stops (MarkClashes mark (schema_of schema.now)) (MarkAgrees mark (schema_of schema.now)) (spec.marked mark line (schema_of schema.now)))) }
 {
     match mark {
@@ -44,8 +43,7 @@ fn no_change<'a>(
     spare: Spare,
 ) -> Result<Growing<'a>, Stop<'a>>
     ensures agree { IfOk result (λ g. Agree (schema_of schema.now).comps (decorated prime (schema_of schema.now)).comps) }
-    ensures ok { IfOk result (λ g. IsNext (xi line (schema_of schema.now)) (schema_of g.flat)) }
-    ensures growing { IfOk result (λ g. IsGrowing g) }
+    ensures ok { IfOk result (λ g. IsNext (xi line (schema_of schema.now)) (schema_of g)) }
     ensures err { IfErr result (λ e. IfStopped e (Stops (OneClashes (schema_of schema.now).comps (decorated prime (schema_of schema.now)).comps) (Agree (schema_of schema.now).comps (decorated prime (schema_of schema.now)).comps) (xi line (schema_of schema.now)))) }
 {
     let spare = spare.and_conjuncts(schema.flat().components.len());
@@ -61,15 +59,15 @@ fn change<'a>(
     spare: Spare,
 ) -> Result<(Growing<'a>, Lasting<'a, Items<'a, usize>>), Stop<'a>>
     ensures agree { IfOk result (λ p. Agree (schema_of schema.now).comps (decorated prime (schema_of schema.now)).comps) }
-    ensures ok { IfOk result (λ p. IsNext (delta (schema_of schema.now)) (schema_of p.0.flat)) }
-    ensures growing { IfOk result (λ p. IsGrowing p.0) }
+    ensures ok { IfOk result (λ p. IsNext (delta (schema_of schema.now)) (schema_of p.0)) }
     ensures places { IfOk result (λ p. place_in p.1 ≡ new_place (decorated prime (schema_of schema.now)).comps (delta (schema_of schema.now)).comps) }
     ensures each { IfOk result (λ p. length p.1 ≡ length (schema_of schema.now).comps) }
     ensures err { IfErr result (λ e. IfStopped e (Stops (OneClashes (schema_of schema.now).comps (decorated prime (schema_of schema.now)).comps) (Agree (schema_of schema.now).comps (decorated prime (schema_of schema.now)).comps) (delta (schema_of schema.now)))) }
 {
     let after = state_after(arena, schema)?;
     let before = copy(arena, schema, spare.and(&after))?;
-    both_states(arena, before, after)
+    let after = alike(&before, after);
+    before.merge(arena, after)
 }
 
 /// The state after an operation, if its components agree with those of the schema.
@@ -84,52 +82,22 @@ fn state_after<'a>(arena: &'a Bump, schema: &Measured<'a>) -> Result<Flat<'a>, S
     Ok(after)
 }
 
-/// A schema and its state after an operation, taken in; and where the components of that state are.
-fn both_states<'a>(
-    arena: &'a Bump,
-    before: Growing<'a>,
-    after: Flat<'a>,
-) -> Result<(Growing<'a>, Lasting<'a, Items<'a, usize>>), Stop<'a>>
-    requires limits { IsGrowing before }
-    requires alike { (strokes : List ℕ) × (schema_of after ≡ decorated strokes (schema_of before.flat)) }
-    ensures ok { IfOk result (λ p. IsNext (conjoined (schema_of before.entry.flat) (schema_of after.entry)) (schema_of p.0.flat)) }
-    ensures growing { IfOk result (λ p. IsGrowing p.0) }
-    ensures places { IfOk result (λ p. place_in p.1 ≡ new_place (schema_of after.entry).comps (conjoined (schema_of before.entry.flat) (schema_of after.entry)).comps) }
-    ensures each { IfOk result (λ p. length p.1 ≡ length (schema_of after.entry).comps) }
-    ensures err { IfErr result (λ e. IfStopped e (IsTooLarge (conjoined (schema_of before.entry.flat) (schema_of after.entry)))) }
-{
-    let after = alike(&before, after);
-    let mut growing = before;
-    let places = growing.merge(arena, after)?;
-    Ok((growing, places))
-}
-
 /// The same schema, with room for what is expected of it.
 fn copy<'a>(arena: &'a Bump, schema: &Measured<'a>, spare: Spare) -> Result<Growing<'a>, AllocError>
-    ensures ok { IfOk result (λ g. IsNext (schema_of schema.now) (schema_of g.flat)) }
-    ensures growing { IfOk result (λ g. IsGrowing g) }
+    ensures { IfOk result (λ g. IsNext (schema_of schema.now) (schema_of g)) }
 {
-    let left = schema.left();
     let flat = decorate(arena, b"", schema.flat(), spare)?;
-    Ok(Growing {
-        flat,
-        sets_left: left.sets,
-        nodes_left: left.nodes,
-    })
+    let left = schema.left();
+    Ok(Growing { flat, left })
 }
 
 /// A schema that is another one decorated, so that as much is left of the limits.
 fn alike<'a>(growing: &Growing<'a>, flat: Flat<'a>) -> Growing<'a>
-    requires limits { IsGrowing growing.now }
-    requires alike { (strokes : List ℕ) × (schema_of flat ≡ decorated strokes (schema_of growing.now.flat)) }
-    ensures same { result.flat ≡ flat.entry }
-    ensures growing { IsGrowing result }
+    requires { (strokes : List ℕ) × (schema_of flat ≡ decorated strokes (schema_of growing.now)) }
+    ensures { result ≡ flat.entry }
 {
-    Growing {
-        flat,
-        sets_left: growing.sets_left,
-        nodes_left: growing.nodes_left,
-    }
+    let left = growing.left;
+    Growing { flat, left }
 }
 
 /// The schema with strokes at the end of the name of each component, of which nothing else is copied.
@@ -138,16 +106,15 @@ pub fn decorate_own<'a>(
     strokes: &[u8],
     growing: Growing<'a>,
 ) -> Result<Growing<'a>, AllocError>
-    requires { IsGrowing growing }
-    ensures ok { IfOk result (λ g. schema_of g.flat ≡ decorated strokes.now (schema_of growing.entry.flat)) }
-    ensures growing { IfOk result (λ g. IsGrowing g) }
+    ensures { IfOk result (λ g. schema_of g ≡ decorated strokes.now (schema_of growing.entry)) }
 {
     if strokes.is_empty() {
         return Ok(growing);
     }
-    let mut whole = growing;
-    add_strokes(arena, strokes, &mut whole.flat.components)?;
-    Ok(whole)
+    let left = growing.left;
+    let mut flat = growing.flat;
+    add_strokes(arena, strokes, &mut flat.components)?;
+    Ok(Growing { flat, left })
 }
 
 /// Strokes are added to the name of each component.

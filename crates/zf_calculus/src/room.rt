@@ -1,53 +1,49 @@
 //! How much of the limits is left after parts of a schema.
 ghost use Rattle.std.specs.Prelude.{◌≡◌, ◌+◌, ◌<◌, ◌↔◌, IsTrue, MatchOption, map};
-ghost use Rattle.zf_calculus.specs.Prelude.{AllByRecursion, sum_by, comp_of, conjunct_of, IsLow, nodes, set_count, set_nodes, set_of};
-ghost use Rattle.zf_calculus.specs.{counted};
+ghost use Rattle.zf_calculus.specs.Prelude.{AllByRecursion, sum_by, comp_of, conjunct_of, IsLow, nodes, set_of};
+ghost use Rattle.zf_calculus.specs.{counted, measured};
 
 use crate::limits::HEIGHT_MAX;
 use zf_data::arena::Chunked;
 use zf_shape::{conjunct, room_after_nodes, room_after_sets};
 use zf_term::{Component, Conjunct, Domain};
 
-/// How much of the room for declared sets is left after these, where there is enough.
-pub fn after_sets<'a>(domains: &Chunked<'a, Domain<'a>>, room: usize) -> Option<usize>
-    ensures { MatchOption result (room < sum_by set_count (map set_of domains.now)) (λ left. left + sum_by set_count (map set_of domains.now) ≡ room) }
-{
-    let mut left = room;
-    for domain in domains.iter() {
-        left = room_after_sets(domain, left)?;
-    }
-    Some(left)
+/// What is counted of declared sets.
+#[derive(Clone, Copy)]
+pub enum Measure {
+    Sets,
+    Nodes,
 }
 
-/// How much of the room for nodes is left after these, where there is enough.
-pub fn after_nodes<'a>(domains: &Chunked<'a, Domain<'a>>, room: usize) -> Option<usize>
-    ensures { MatchOption result (room < sum_by set_nodes (map set_of domains.now)) (λ left. left + sum_by set_nodes (map set_of domains.now) ≡ room) }
+/// How much of the room for what is counted is left after a declared set, where there is enough.
+#[inline]
+fn after_one(measure: Measure, domain: &Domain<'_>, room: usize) -> Option<usize>
+    ensures { MatchOption result (room < measured measure (set_of domain.now)) (λ left. left + measured measure (set_of domain.now) ≡ room) }
+{
+    match measure {
+        Measure::Sets => room_after_sets(domain, room),
+        Measure::Nodes => room_after_nodes(domain, room),
+    }
+}
+
+/// The same of several declared sets.
+pub fn after<'a>(measure: Measure, domains: &Chunked<'a, Domain<'a>>, room: usize) -> Option<usize>
+    ensures { MatchOption result (room < sum_by (measured measure) (map set_of domains.now)) (λ left. left + sum_by (measured measure) (map set_of domains.now) ≡ room) }
 {
     let mut left = room;
     for domain in domains.iter() {
-        left = room_after_nodes(domain, left)?;
+        left = after_one(measure, domain, left)?;
     }
     Some(left)
 }
 
 /// The same of all declared sets of components.
-pub fn after_all_sets(components: &[Component<'_>], room: usize) -> Option<usize>
-    ensures { MatchOption result (room < counted set_count (map comp_of components.now)) (λ left. left + counted set_count (map comp_of components.now) ≡ room) }
+pub fn after_all(measure: Measure, components: &[Component<'_>], room: usize) -> Option<usize>
+    ensures { MatchOption result (room < counted (measured measure) (map comp_of components.now)) (λ left. left + counted (measured measure) (map comp_of components.now) ≡ room) }
 {
     let mut left = room;
     for component in components {
-        left = after_sets(component.domains.get(), left)?;
-    }
-    Some(left)
-}
-
-/// The same of the nodes of all declared sets of components.
-pub fn after_all_nodes(components: &[Component<'_>], room: usize) -> Option<usize>
-    ensures { MatchOption result (room < counted set_nodes (map comp_of components.now)) (λ left. left + counted set_nodes (map comp_of components.now) ≡ room) }
-{
-    let mut left = room;
-    for component in components {
-        left = after_nodes(component.domains.get(), left)?;
+        left = after(measure, component.domains.get(), left)?;
     }
     Some(left)
 }

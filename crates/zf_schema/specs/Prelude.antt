@@ -5,4 +5,4 @@ pub use Rattle.zf_term.specs.{abbreviation, already_defined, constructor, Define
 pub use Rattle.zf_typing.specs.{IsOf, Offends, resolved, Scope, scope_of}
 pub use Rattle.zf_sorts.specs.{typed, predicate, set_sort, IsRefusal, IfFault, offence_of}
 pub use Rattle.zf_tree.specs.declared.tree.SchemaRef.{SchemaRef}
-pub use Rattle.zf_calculus.specs.{Adds, Agree, comp, conjoined, decorated, disjoined, empty_schema, Includes, IsNext, MarkAgrees, marked, schema_with, Agrees, Clashes, constrained, grown, OneClashes, Stops, all_unchanged, AreOnce, comp_named, delta, EachOnce, new_place, prime, sets_on, with_comps, xi, MarkClashes, with_comp, IsGrowing}
+pub use Rattle.zf_calculus.specs.{Adds, Agree, comp, conjoined, decorated, disjoined, empty_schema, Includes, IsNext, MarkAgrees, marked, schema_with, Agrees, Clashes, constrained, grown, OneClashes, Stops, all_unchanged, AreOnce, comp_named, delta, EachOnce, new_place, prime, sets_on, with_comps, xi, MarkClashes, with_comp}

@@ -1,6 +1,6 @@
 //! The schemas that schema expressions are.
 ghost use Rattle.std.specs.Prelude.{◌≡◌, IfErr, IfOk, map};
-ghost use Rattle.zf_schema.specs.Prelude.{decl_of, globals_of, schema_of, IfFault, Agree, conjoined, disjoined, IsGrowing, IsNext, OneClashes};
+ghost use Rattle.zf_schema.specs.Prelude.{decl_of, globals_of, schema_of, IfFault, Agree, conjoined, disjoined, IsNext, OneClashes};
 ghost use Rattle.zf_tree.specs.TreeViews as tree;
 ghost use Rattle.zf_schema.specs.{CantConjoin, IsSchema, OffendsSchema, StopsEither};
 ghost use Rattle.zf_schema.specs.SchemaOffences as spec;
@@ -11,7 +11,7 @@ use crate::text::growing_text;
 use bumpalo::Bump;
 use zf_calculus::{Growing, Spare, disjoin};
 use zf_sorts::Refusal;
-use zf_term::{Flat, Globals, Measured};
+use zf_term::{Globals, Measured};
 use zf_tree::{Decl, Name, SchemaExp};
 
 /// The schema that the expression is.
@@ -33,8 +33,7 @@ fn growing_schema<'a>(
     arena: &'a Bump,
     globals: &Globals<'a>,
 ) -> Result<Growing<'a>, Refusal<'a>>
-    ensures ok { IfOk result (λ g. IsSchema (globals_of globals.now) (tree.schema_tree_of exp.now) (schema_of g.flat)) }
-    ensures growing { IfOk result (λ g. IsGrowing g) }
+    ensures ok { IfOk result (λ g. IsSchema (globals_of globals.now) (tree.schema_tree_of exp.now) (schema_of g)) }
     ensures wrong { IfErr result (λ e. IfFault e (OffendsSchema (globals_of globals.now) (tree.schema_tree_of exp.now))) }
 {
     match exp {
@@ -53,13 +52,7 @@ fn growing_schema<'a>(
         SchemaExp::Or(line, left, right) => {
             let of_left = growing_schema(left.get(), arena, globals)?;
             let of_right = growing_schema(right.get(), arena, globals)?;
-            disjunction(
-                arena,
-                *line,
-                name_line(right.get()),
-                &of_left.flat,
-                &of_right.flat,
-            )
+            disjunction(arena, *line, name_line(right.get()), &of_left, &of_right)
         }
         SchemaExp::Bracket(inner) => growing_schema(inner.get(), arena, globals),
     }
@@ -72,12 +65,9 @@ fn conjunction<'a>(
     left: Growing<'a>,
     right: Growing<'a>,
 ) -> Result<Growing<'a>, Refusal<'a>>
-    requires first { IsGrowing left }
-    requires second { IsGrowing right }
-    ensures agree { IfOk result (λ g. Agree (schema_of left.entry.flat).comps (schema_of right.entry.flat).comps) }
-    ensures ok { IfOk result (λ g. IsNext (conjoined (schema_of left.entry.flat) (schema_of right.entry.flat)) (schema_of g.flat)) }
-    ensures growing { IfOk result (λ g. IsGrowing g) }
-    ensures wrong { IfErr result (λ e. IfFault e (CantConjoin line (schema_of left.entry.flat) (schema_of right.entry.flat))) }
+    ensures agree { IfOk result (λ g. Agree (schema_of left.entry).comps (schema_of right.entry).comps) }
+    ensures ok { IfOk result (λ g. IsNext (conjoined (schema_of left.entry) (schema_of right.entry)) (schema_of g)) }
+    ensures wrong { IfErr result (λ e. IfFault e (CantConjoin line (schema_of left.entry) (schema_of right.entry))) }
 {
     let mut whole = left;
     match whole.include(arena, right) {
@@ -91,15 +81,14 @@ fn disjunction<'a>(
     arena: &'a Bump,
     line: u32,
     name: u32,
-    left: &Flat<'a>,
-    right: &Flat<'a>,
+    left: &Growing<'a>,
+    right: &Growing<'a>,
 ) -> Result<Growing<'a>, Refusal<'a>>
     ensures agree { IfOk result (λ g. Agree (schema_of left.now).comps (schema_of right.now).comps) }
-    ensures ok { IfOk result (λ g. IsNext (disjoined line (schema_of left.now) (schema_of right.now)) (schema_of g.flat)) }
-    ensures growing { IfOk result (λ g. IsGrowing g) }
+    ensures ok { IfOk result (λ g. IsNext (disjoined line (schema_of left.now) (schema_of right.now)) (schema_of g)) }
     ensures wrong { IfErr result (λ e. IfFault e (StopsEither (OneClashes (schema_of left.now).comps (schema_of right.now).comps) (Agree (schema_of left.now).comps (schema_of right.now).comps) (disjoined line (schema_of left.now) (schema_of right.now)) line name)) }
 {
-    match disjoin(arena, line, left, right) {
+    match disjoin(arena, line, left.flat(), right.flat()) {
         Ok(growing) => Ok(growing),
         Err(stop) => {
             let line = either_line(&stop, line, name);

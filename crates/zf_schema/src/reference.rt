@@ -1,6 +1,6 @@
 //! References to schemas.
 ghost use Rattle.std.specs.Prelude.{◌≡◌, IfErr, IfOk, MatchOption, Some, None};
-ghost use Rattle.zf_schema.specs.Prelude.{definition_of, globals_of, schema, schema_of, IfFault, offence_of, IsGrowing};
+ghost use Rattle.zf_schema.specs.Prelude.{definition_of, globals_of, schema, schema_of, IfFault, offence_of};
 ghost use Rattle.zf_schema.specs.{IsNamed, IsNoSchema, LacksSchema, OffendsRef, Refers};
 
 use crate::stop::refusal;
@@ -18,8 +18,7 @@ pub fn referred<'a>(
     reference: &SchemaRef<'a>,
     spare: Spare,
 ) -> Result<Growing<'a>, Refusal<'a>>
-    ensures ok { IfOk result (λ g. Refers (globals_of globals.now) reference.now (schema_of g.flat)) }
-    ensures growing { IfOk result (λ g. IsGrowing g) }
+    ensures ok { IfOk result (λ g. Refers (globals_of globals.now) reference.now (schema_of g)) }
     ensures fault { IfErr result (λ e. IfFault e (OffendsRef (globals_of globals.now) reference.now)) }
 {
     let name = &reference.name;

@@ -1,6 +1,6 @@
 //! The schemas of boxes and of horizontal texts: declarations, and predicates over them.
 ghost use Rattle.std.specs.Prelude.{◌≡◌, ◌∷◌, [], IfErr, IfOk, OnOk, map};
-ghost use Rattle.zf_schema.specs.Prelude.{decl_of, include, spelling, tree_of, vars, comp_of, globals_of, plain, resolved_of, schema_of, type_of, IsOf, Offends, resolved, scope_of, IfFault, Adds, comp, constrained, IsGrowing, IsNext};
+ghost use Rattle.zf_schema.specs.Prelude.{decl_of, include, spelling, tree_of, vars, comp_of, globals_of, plain, resolved_of, schema_of, type_of, IsOf, Offends, resolved, scope_of, IfFault, Adds, comp, constrained, IsNext};
 ghost use Rattle.zf_tree.specs.declared.operator.Need.TheVariants as needs;
 ghost use Rattle.zf_sorts.specs.Rules as rules;
 ghost use Rattle.zf_schema.specs.{AddsAll, CantAdd, CantConstrain, CantDeclare, CantTake, Constrains, ConstrainsOne, Declares, DeclaresOne, IsText, OffendsConjuncts, OffendsDecls, OffendsNames, OffendsPredicates, OffendsText, over, TakesAll};
@@ -39,8 +39,7 @@ pub fn growing_text<'a>(
     decls: &[Decl<'a>],
     predicates: &[Boxed<'a, Term<'a>>],
 ) -> Result<Growing<'a>, Refusal<'a>>
-    ensures ok { IfOk result (λ g. IsText (globals_of globals.now) (map decl_of decls.now) (map tree_of predicates.now) (schema_of g.flat)) }
-    ensures growing { IfOk result (λ g. IsGrowing g) }
+    ensures ok { IfOk result (λ g. IsText (globals_of globals.now) (map decl_of decls.now) (map tree_of predicates.now) (schema_of g)) }
     ensures wrong { IfErr result (λ e. IfFault e (OffendsText (globals_of globals.now) (map decl_of decls.now) (map tree_of predicates.now))) }
 {
     let spare = expected(decls, predicates);
@@ -81,10 +80,8 @@ fn declare_all<'a>(
     decls: &[Decl<'a>],
     spare: Spare,
 ) -> Result<(), Refusal<'a>>
-    requires { IsGrowing growing.old }
-    ensures ok { OnOk result (Declares (globals_of globals.now) (schema_of growing.old.flat) (map decl_of decls.now) (schema_of growing.new.flat)) }
-    ensures growing { OnOk result (IsGrowing growing.new) }
-    ensures wrong { IfErr result (λ e. IfFault e (OffendsDecls (globals_of globals.now) (schema_of growing.old.flat) (map decl_of decls.now))) }
+    ensures ok { OnOk result (Declares (globals_of globals.now) (schema_of growing.old) (map decl_of decls.now) (schema_of growing.new)) }
+    ensures wrong { IfErr result (λ e. IfFault e (OffendsDecls (globals_of globals.now) (schema_of growing.old) (map decl_of decls.now))) }
 {
     for decl in decls {
         declare(arena, globals, growing, decl, spare)?;
@@ -100,10 +97,8 @@ fn declare<'a>(
     decl: &Decl<'a>,
     spare: Spare,
 ) -> Result<(), Refusal<'a>>
-    requires { IsGrowing growing.old }
-    ensures ok { OnOk result (DeclaresOne (globals_of globals.now) (schema_of growing.old.flat) (decl_of decl.now) (schema_of growing.new.flat)) }
-    ensures growing { OnOk result (IsGrowing growing.new) }
-    ensures wrong { IfErr result (λ e. IfFault e (CantDeclare (globals_of globals.now) (schema_of growing.old.flat) (decl_of decl.now))) }
+    ensures ok { OnOk result (DeclaresOne (globals_of globals.now) (schema_of growing.old) (decl_of decl.now) (schema_of growing.new)) }
+    ensures wrong { IfErr result (λ e. IfFault e (CantDeclare (globals_of globals.now) (schema_of growing.old) (decl_of decl.now))) }
 {
     match decl {
         Decl::Vars(names, set) => {
@@ -121,10 +116,8 @@ fn declare_names<'a>(
     names: &[Name<'a>],
     set: &Term<'a>,
 ) -> Result<(), Refusal<'a>>
-    requires { IsGrowing growing.old }
-    ensures ok { OnOk result (DeclaresOne (globals_of globals.now) (schema_of growing.old.flat) (vars names.now (tree_of set.now)) (schema_of growing.new.flat)) }
-    ensures growing { OnOk result (IsGrowing growing.new) }
-    ensures wrong { IfErr result (λ e. IfFault e (CantDeclare (globals_of globals.now) (schema_of growing.old.flat) (vars names.now (tree_of set.now)))) }
+    ensures ok { OnOk result (DeclaresOne (globals_of globals.now) (schema_of growing.old) (vars names.now (tree_of set.now)) (schema_of growing.new)) }
+    ensures wrong { IfErr result (λ e. IfFault e (CantDeclare (globals_of globals.now) (schema_of growing.old) (vars names.now (tree_of set.now)))) }
 {
     let Judged { term, sort } = judge(set, arena, Need::Set, &mut scope_over(globals, &[]))?;
     let Some(ztype) = sort.member() else {
@@ -142,10 +135,8 @@ fn include<'a>(
     reference: &SchemaRef<'a>,
     spare: Spare,
 ) -> Result<(), Refusal<'a>>
-    requires { IsGrowing growing.old }
-    ensures ok { OnOk result (DeclaresOne (globals_of globals.now) (schema_of growing.old.flat) (include reference.now) (schema_of growing.new.flat)) }
-    ensures growing { OnOk result (IsGrowing growing.new) }
-    ensures wrong { IfErr result (λ e. IfFault e (CantDeclare (globals_of globals.now) (schema_of growing.old.flat) (include reference.now))) }
+    ensures ok { OnOk result (DeclaresOne (globals_of globals.now) (schema_of growing.old) (include reference.now) (schema_of growing.new)) }
+    ensures wrong { IfErr result (λ e. IfFault e (CantDeclare (globals_of globals.now) (schema_of growing.old) (include reference.now))) }
 {
     let other = referred(arena, globals, reference, room_of(growing, spare))?;
     match growing.include(arena, other) {
@@ -171,10 +162,8 @@ fn add_all<'a>(
     ztype: &ZType<'a>,
     set: &Lasting<'a, Resolved<'a>>,
 ) -> Result<(), Refusal<'a>>
-    requires { IsGrowing growing.old }
-    ensures ok { OnOk result (AddsAll (schema_of growing.old.flat) names.now (type_of ztype.now) (plain (resolved_of set.now)) (schema_of growing.new.flat)) }
-    ensures growing { OnOk result (IsGrowing growing.new) }
-    ensures wrong { IfErr result (λ e. IfFault e (OffendsNames (schema_of growing.old.flat) names.now (type_of ztype.now) (plain (resolved_of set.now)))) }
+    ensures ok { OnOk result (AddsAll (schema_of growing.old) names.now (type_of ztype.now) (plain (resolved_of set.now)) (schema_of growing.new)) }
+    ensures wrong { IfErr result (λ e. IfFault e (OffendsNames (schema_of growing.old) names.now (type_of ztype.now) (plain (resolved_of set.now)))) }
 {
     for name in names {
         add(arena, growing, name, ztype, set)?;
@@ -190,10 +179,8 @@ fn add<'a>(
     ztype: &ZType<'a>,
     set: &Lasting<'a, Resolved<'a>>,
 ) -> Result<(), Refusal<'a>>
-    requires { IsGrowing growing.old }
-    ensures ok { OnOk result (Adds (schema_of growing.old.flat) (comp (spelling name.now) (type_of ztype.now) (plain (resolved_of set.now) ∷ [])) (schema_of growing.new.flat)) }
-    ensures growing { OnOk result (IsGrowing growing.new) }
-    ensures wrong { IfErr result (λ e. IfFault e (CantAdd (schema_of growing.old.flat) name.now (type_of ztype.now) (plain (resolved_of set.now)))) }
+    ensures ok { OnOk result (Adds (schema_of growing.old) (comp (spelling name.now) (type_of ztype.now) (plain (resolved_of set.now) ∷ [])) (schema_of growing.new)) }
+    ensures wrong { IfErr result (λ e. IfFault e (CantAdd (schema_of growing.old) name.now (type_of ztype.now) (plain (resolved_of set.now)))) }
 {
     let component = declared(arena, name, ztype, set)?;
     match growing.add(component) {
@@ -244,10 +231,8 @@ fn constrain_all<'a>(
     growing: &mut Growing<'a>,
     predicates: &[Boxed<'a, Term<'a>>],
 ) -> Result<(), Refusal<'a>>
-    requires { IsGrowing growing.old }
-    ensures ok { OnOk result (Constrains (globals_of globals.now) (schema_of growing.old.flat) (map tree_of predicates.now) (schema_of growing.new.flat)) }
-    ensures growing { OnOk result (IsGrowing growing.new) }
-    ensures wrong { IfErr result (λ e. IfFault e (OffendsPredicates (globals_of globals.now) (schema_of growing.old.flat) (map tree_of predicates.now))) }
+    ensures ok { OnOk result (Constrains (globals_of globals.now) (schema_of growing.old) (map tree_of predicates.now) (schema_of growing.new)) }
+    ensures wrong { IfErr result (λ e. IfFault e (OffendsPredicates (globals_of globals.now) (schema_of growing.old) (map tree_of predicates.now))) }
 {
     for predicate in predicates {
         constrain(arena, globals, growing, predicate)?;
@@ -262,12 +247,10 @@ fn constrain<'a>(
     growing: &mut Growing<'a>,
     predicate: &Boxed<'a, Term<'a>>,
 ) -> Result<(), Refusal<'a>>
-    requires { IsGrowing growing.old }
-    ensures ok { OnOk result (ConstrainsOne (globals_of globals.now) (schema_of growing.old.flat) (tree_of predicate.now) (schema_of growing.new.flat)) }
-    ensures growing { OnOk result (IsGrowing growing.new) }
-    ensures wrong { IfErr result (λ e. IfFault e (CantConstrain (globals_of globals.now) (schema_of growing.old.flat) (tree_of predicate.now))) }
+    ensures ok { OnOk result (ConstrainsOne (globals_of globals.now) (schema_of growing.old) (tree_of predicate.now) (schema_of growing.new)) }
+    ensures wrong { IfErr result (λ e. IfFault e (CantConstrain (globals_of globals.now) (schema_of growing.old) (tree_of predicate.now))) }
 {
-    let components = growing.flat.components.as_slice();
+    let components = growing.flat().components.as_slice();
     let conjuncts = conjuncts_over(arena, globals, components, predicate)?;
     take_all(arena, growing, into_bump_slice(conjuncts.into_vec()))
 }
@@ -295,10 +278,8 @@ fn take_all<'a>(
     growing: &mut Growing<'a>,
     conjuncts: &'a [Resolved<'a>],
 ) -> Result<(), Refusal<'a>>
-    requires { IsGrowing growing.old }
-    ensures ok { OnOk result (TakesAll (schema_of growing.old.flat) (map resolved_of conjuncts.now) (schema_of growing.new.flat)) }
-    ensures growing { OnOk result (IsGrowing growing.new) }
-    ensures wrong { IfErr result (λ e. IfFault e (OffendsConjuncts (schema_of growing.old.flat) (map resolved_of conjuncts.now))) }
+    ensures ok { OnOk result (TakesAll (schema_of growing.old) (map resolved_of conjuncts.now) (schema_of growing.new)) }
+    ensures wrong { IfErr result (λ e. IfFault e (OffendsConjuncts (schema_of growing.old) (map resolved_of conjuncts.now))) }
 {
     for conjunct in conjuncts {
         take(arena, growing, conjunct)?;
@@ -312,10 +293,8 @@ fn take<'a>(
     growing: &mut Growing<'a>,
     conjunct: &'a Resolved<'a>,
 ) -> Result<(), Refusal<'a>>
-    requires { IsGrowing growing.old }
-    ensures ok { OnOk result (IsNext (constrained (schema_of growing.old.flat) (resolved_of conjunct.now ∷ [])) (schema_of growing.new.flat)) }
-    ensures growing { OnOk result (IsGrowing growing.new) }
-    ensures wrong { IfErr result (λ e. IfFault e (CantTake (schema_of growing.old.flat) (resolved_of conjunct.now))) }
+    ensures ok { OnOk result (IsNext (constrained (schema_of growing.old) (resolved_of conjunct.now ∷ [])) (schema_of growing.new)) }
+    ensures wrong { IfErr result (λ e. IfFault e (CantTake (schema_of growing.old) (resolved_of conjunct.now))) }
 {
     match growing.take(Conjunct::lasting(conjunct)) {
         Ok(()) => Ok(()),

@@ -6,39 +6,33 @@ use Rattle.zf_calculus.proofs.Stopping.{weaker}
 use Rattle.zf_calculus.proofs.components.join.Goals as goal
 
 pub gain-requires : goal.gain-requires
-gain-requires c = named_below c.as_slice-2.result.now c.as_slice.result.now c.args.components.now c.in-Some.place c.as_slice.ensures c.in-Some.ensures
+gain-requires c = named_below _ _ c.args.components.now c.in-Some.place c.as_slice.ensures c.in-Some.ensures
 
-pub returns-in_ok-gain-in-Some-clause-ok : goal.returns-in_ok-gain-in-Some-clause-ok
-returns-in_ok-gain-in-Some-clause-ok c =
-    joined_known c.args.component c.as_slice-2.result.now c.as_slice.result.now c.args.components.now c.gain.new.components c.in-Some.place
-    c.as_slice-2.ensures c.as_slice.ensures c.in-Some.ensures c.in_ok-gain-in-Some.ensures
+pub returns-in_ok-gain-in-Some : goal.returns-in_ok-gain-in-Some
+returns-in_ok-gain-in-Some c =
+    let l = length_known c.args.component _ _ c.args.components.now c.in-Some.place c.as_slice-2.ensures c.as_slice.ensures c.in-Some.ensures in
+    record {
+      ok = joined_known c.args.component _ _ c.args.components.now c.gain.new.components c.in-Some.place c.as_slice-2.ensures c.as_slice.ensures
+          c.in-Some.ensures c.in_ok-gain-in-Some.ensures;
+      place = placed_known c.args.component _ _ c.args.components.now c.in-Some.place c.as_slice-2.ensures c.as_slice.ensures c.in-Some.ensures;
+      room = omega (arith, c.requires);
+      err = tt;
+    }
 
-pub returns-in_ok-gain-in-Some-clause-room : goal.returns-in_ok-gain-in-Some-clause-room
-returns-in_ok-gain-in-Some-clause-room c =
-    let l = length_known c.args.component c.as_slice-2.result.now c.as_slice.result.now c.args.components.now c.in-Some.place c.as_slice-2.ensures c.as_slice.ensures c.in-Some.ensures in
-    omega (arith, c.requires)
-
-pub returns-in_ok-gain-in-Some-clause-place : goal.returns-in_ok-gain-in-Some-clause-place
-returns-in_ok-gain-in-Some-clause-place c =
-    placed_known c.args.component c.as_slice-2.result.now c.as_slice.result.now c.args.components.now c.in-Some.place c.as_slice-2.ensures c.as_slice.ensures c.in-Some.ensures
-
-pub returns-in_ok-add_new-in-None-clause-ok : goal.returns-in_ok-add_new-in-None-clause-ok
-returns-in_ok-add_new-in-None-clause-ok c =
-    joined_new c.args.component c.as_slice-2.result.now c.as_slice.result.now c.args.components.now c.add_new.new.components c.as_slice-2.ensures
-    c.as_slice.ensures c.in-None.ensures c.in_ok-add_new-in-None.ensures.ok
-
-pub returns-in_ok-add_new-in-None-clause-place : goal.returns-in_ok-add_new-in-None-clause-place
-returns-in_ok-add_new-in-None-clause-place c =
-    placed_new c.args.component c.as_slice-2.result.now c.as_slice.result.now c.args.components.now c.len-place.result c.as_slice-2.ensures c.as_slice.ensures c.in-None.ensures c.len-place.ensures
-
-pub returns-in_ok-add_new-in-None-clause-room : goal.returns-in_ok-add_new-in-None-clause-room
-returns-in_ok-add_new-in-None-clause-room c =
-    let l = length_new c.args.component c.as_slice-2.result.now c.as_slice.result.now c.args.components.now c.as_slice-2.ensures c.as_slice.ensures c.in-None.ensures in
-    omega (arith, c.in_ok-add_new-in-None.ensures.room)
+pub returns-in_ok-add_new-in-None : goal.returns-in_ok-add_new-in-None
+returns-in_ok-add_new-in-None c =
+    let l = length_new c.args.component _ _ c.args.components.now c.as_slice-2.ensures c.as_slice.ensures c.in-None.ensures in
+    record {
+      ok = joined_new c.args.component _ _ c.args.components.now c.add_new.new.components c.as_slice-2.ensures c.as_slice.ensures c.in-None.ensures
+          c.in_ok-add_new-in-None.ensures.ok;
+      place = placed_new c.args.component _ _ c.args.components.now c.len-place.result c.as_slice-2.ensures c.as_slice.ensures c.in-None.ensures c.len-place.ensures;
+      room = omega (arith, c.in_ok-add_new-in-None.ensures.room);
+      err = tt;
+    }
 
 pub returns-in_err-add_new-in-None-clause-err : goal.returns-in_err-add_new-in-None-clause-err
 returns-in_err-add_new-in-None-clause-err c =
-    let l = length_new c.args.component c.as_slice-2.result.now c.as_slice.result.now c.args.components.now c.as_slice-2.ensures c.as_slice.ensures c.in-None.ensures in
+    let l = length_new c.args.component _ _ c.args.components.now c.as_slice-2.ensures c.as_slice.ensures c.in-None.ensures in
     let step : (k : Offence) → (k ≡ too_large limit.Components) × (64 ≤ length c.args.components.now) → (k ≡ too_large limit.Components)
     × (length (with_comp (map comp_of c.args.components.now) (comp_of c.args.component)) ≤ 64 → ⊥) =
     λ k h. (h.0, λ w. omega (arith, h.1)) in

@@ -1,4 +1,4 @@
-use Rattle.zf_calculus.proofs.Prelude.{◌∙◌, rules, subst, schema_of, equalities, IsWithin}
+use Rattle.zf_calculus.proofs.Prelude.{◌∙◌, rules, subst, Schema, schema_of, equalities, IsNext}
 use Rattle.zf_calculus.proofs.Changing.{stops_change, xi_made, stops_xi}
 use Rattle.zf_calculus.proofs.Stopping.{weaker}
 use Rattle.zf_calculus.proofs.marking.no_change.Goals as goal
@@ -11,7 +11,7 @@ returns-in_err-growing-clause-err c =
 pub returns-in_err-take_equalities-clause-err : goal.returns-in_err-take_equalities-clause-err
 returns-in_err-take_equalities-clause-err c =
     let a = schema_of c.args.schema.now in
-    let m = schema_of c.in_ok-growing.growing.flat in
+    let m = schema_of c.in_ok-growing.growing in
     let made = xi_made c.args.line a m c.in_ok-growing.places c.as_slice.result.now c.in_ok-growing.ensures.ok.0
     (c.as_slice.ensures ∙ c.get.ensures) c.in_ok-growing.ensures.places c.in_ok-growing.ensures.each in
     let fact = weaker _ _ _ (stops_xi c.args.line a m (equalities c.args.line 0 c.as_slice.result.now) made c.in_ok-growing.ensures.agree) c.in_err-take_equalities.ensures.err in
@@ -19,8 +19,6 @@ returns-in_err-take_equalities-clause-err c =
 
 pub returns-clause-ok : goal.returns-clause-ok
 returns-clause-ok c =
-    let a = schema_of c.args.schema.now in
-    let m = schema_of c.in_ok-growing.growing.flat in
-    let made = c.in_ok-take_equalities.ensures.ok ∙ xi_made c.args.line a m c.in_ok-growing.places c.as_slice.result.now c.in_ok-growing.ensures.ok.0
-    (c.as_slice.ensures ∙ c.get.ensures) c.in_ok-growing.ensures.places c.in_ok-growing.ensures.each in
-    (made, subst IsWithin made c.in_ok-take_equalities.ensures.growing.within)
+    let made = xi_made c.args.line (schema_of c.args.schema.now) (schema_of c.in_ok-growing.growing) c.in_ok-growing.places c.as_slice.result.now
+    c.in_ok-growing.ensures.ok.0 (c.as_slice.ensures ∙ c.get.ensures) c.in_ok-growing.ensures.places c.in_ok-growing.ensures.each in
+    subst (λ (s : Schema). IsNext s (schema_of c.take_equalities.new.self)) made c.in_ok-take_equalities.ensures.ok

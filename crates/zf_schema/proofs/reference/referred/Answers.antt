@@ -7,11 +7,11 @@ pub returns-in_ok-decorate_own-in-Ok-marked-clause-ok : goal.returns-in_ok-decor
 returns-in_ok-decorate_own-in-Ok-marked-clause-ok c =
     let r = c.args.reference.now in
     let a = schema_of c.in-Ok.schema.now in
-    let m = schema_of c.in-Ok-marked.growing.flat in
+    let m = schema_of c.in-Ok-marked.growing in
     let next = subst (λ l. IsNext (marked r.mark l a) m) (ap (λ n. n.line) c.name.view_is) c.in-Ok-marked.ensures.ok in
     refers (globals_of c.args.globals.now) r r.name.base c.strokes.result.now a m
-    (schema_of c.in_ok-decorate_own-in-Ok-marked.field-0.flat) c.in-Ok.ensures.ok refl c.strokes.ensures c.in-Ok-marked.ensures.agree next
-    c.in_ok-decorate_own-in-Ok-marked.ensures.ok
+    (schema_of c.in_ok-decorate_own-in-Ok-marked.field-0) c.in-Ok.ensures.ok refl c.strokes.ensures c.in-Ok-marked.ensures.agree next
+    c.in_ok-decorate_own-in-Ok-marked.ensures
 
 pub returns-in-Err-marked-clause-fault : goal.returns-in-Err-marked-clause-fault
 returns-in-Err-marked-clause-fault c =

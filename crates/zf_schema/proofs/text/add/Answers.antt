@@ -4,7 +4,7 @@ use Rattle.zf_schema.proofs.text.add.Goals as goal
 
 pub returns-in-Err-clause-wrong : goal.returns-in-Err-clause-wrong
 returns-in-Err-clause-wrong c =
-    let a = schema_of c.args.growing.now.flat in
+    let a = schema_of c.args.growing.now in
     let n = c.args.name.now in
     let t = type_of c.args.ztype.now in
     let d = plain (resolved_of c.args.set.now) in

@@ -5,10 +5,9 @@ use Rattle.zf_schema.proofs.text.constrain_all.Goals as goal
 pub loop-predicate-preserved : goal.loop-predicate-preserved
 loop-predicate-preserved c =
     let g = globals_of c.args.globals.now in
-    let a = schema_of c.loop-predicate.growing.flat in
-    let b = schema_of c.constrain.new.growing.flat in
+    let a = schema_of c.loop-predicate.growing in
+    let b = schema_of c.constrain.new.growing in
     record {
-      growing = c.in_ok-constrain.ensures.growing;
       constrains = λ out r. c.loop-predicate.invariant.constrains out (at_step
           (λ ds. Constrains g a (map tree_of ds) out) c.args.predicates.now c.loop-predicate.predicate-index c.predicate-item.result c.predicate-item.is
           c.loop-predicate-test.true (b, c.in_ok-constrain.ensures.ok, r));
@@ -20,8 +19,8 @@ loop-predicate-preserved c =
 pub returns-in_err-constrain-clause-wrong : goal.returns-in_err-constrain-clause-wrong
 returns-in_err-constrain-clause-wrong c =
     let g = globals_of c.args.globals.now in
-    let a = schema_of c.loop-predicate.growing.flat in
-    let step : (k : Offence) (m : ℕ) → CantConstrain g a (tree_of c.predicate-item.result) k m → OffendsPredicates g (schema_of c.args.growing.now.flat) (map tree_of c.args.predicates.now) k m =
+    let a = schema_of c.loop-predicate.growing in
+    let step : (k : Offence) (m : ℕ) → CantConstrain g a (tree_of c.predicate-item.result) k m → OffendsPredicates g (schema_of c.args.growing.now) (map tree_of c.args.predicates.now) k m =
     λ k m o. c.loop-predicate.invariant.offends k m (at_step (λ ds. OffendsPredicates g a (map tree_of ds) k m) c.args.predicates.now
     c.loop-predicate.predicate-index c.predicate-item.result c.predicate-item.is c.loop-predicate-test.true (first_constrains g a _ _ k m o)) in
     let fact = if_fault _ _ _ step c.in_err-constrain.ensures.wrong in
@@ -30,5 +29,5 @@ returns-in_err-constrain-clause-wrong c =
 pub returns-clause-ok : goal.returns-clause-ok
 returns-clause-ok c =
     let g = globals_of c.args.globals.now in
-    let a = schema_of c.loop-predicate.growing.flat in
+    let a = schema_of c.loop-predicate.growing in
     c.loop-predicate.invariant.constrains a (at_end (λ ds. Constrains g a (map tree_of ds) a) c.args.predicates.now c.loop-predicate.predicate-index c.loop-predicate-test.false refl)

@@ -4,7 +4,7 @@ use Rattle.zf_schema.proofs.text.take.Goals as goal
 
 pub returns-in-Err-clause-wrong : goal.returns-in-Err-clause-wrong
 returns-in-Err-clause-wrong c =
-    let a = schema_of c.args.growing.now.flat in
+    let a = schema_of c.args.growing.now in
     let t = resolved_of c.args.conjunct.now in
     let u = conjunct_of c.lasting.result in
     refused_by c.in-Err.stop c.line.result c.refusal.result (IsTooLarge (constrained a (u ∷ []))) (CantTake a t)

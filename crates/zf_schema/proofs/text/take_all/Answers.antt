@@ -3,10 +3,9 @@ use Rattle.zf_schema.proofs.text.take_all.Goals as goal
 
 pub loop-conjunct-preserved : goal.loop-conjunct-preserved
 loop-conjunct-preserved c =
-    let a = schema_of c.loop-conjunct.growing.flat in
-    let b = schema_of c.take.new.growing.flat in
+    let a = schema_of c.loop-conjunct.growing in
+    let b = schema_of c.take.new.growing in
     record {
-      growing = c.in_ok-take.ensures.growing;
       takes = λ out r. c.loop-conjunct.invariant.takes out (at_step (λ ts. TakesAll a (map resolved_of ts) out) c.args.conjuncts.now
           c.loop-conjunct.conjunct-index c.conjunct-item.result c.conjunct-item.is c.loop-conjunct-test.true (b, c.in_ok-take.ensures.ok, r));
       offends = λ k m o. c.loop-conjunct.invariant.offends k m (at_step (λ ts. OffendsConjuncts a (map resolved_of ts) k m) c.args.conjuncts.now
@@ -15,8 +14,8 @@ loop-conjunct-preserved c =
 
 pub returns-in_err-take-clause-wrong : goal.returns-in_err-take-clause-wrong
 returns-in_err-take-clause-wrong c =
-    let a = schema_of c.loop-conjunct.growing.flat in
-    let step : (k : Offence) (m : ℕ) → CantTake a (resolved_of c.conjunct-item.result) k m → OffendsConjuncts (schema_of c.args.growing.now.flat) (map resolved_of c.args.conjuncts.now) k m =
+    let a = schema_of c.loop-conjunct.growing in
+    let step : (k : Offence) (m : ℕ) → CantTake a (resolved_of c.conjunct-item.result) k m → OffendsConjuncts (schema_of c.args.growing.now) (map resolved_of c.args.conjuncts.now) k m =
     λ k m o. c.loop-conjunct.invariant.offends k m (at_step (λ ts. OffendsConjuncts a (map resolved_of ts) k m) c.args.conjuncts.now
     c.loop-conjunct.conjunct-index c.conjunct-item.result c.conjunct-item.is c.loop-conjunct-test.true (inl o)) in
     let fact = if_fault _ _ _ step c.in_err-take.ensures.wrong in
@@ -24,5 +23,5 @@ returns-in_err-take-clause-wrong c =
 
 pub returns-clause-ok : goal.returns-clause-ok
 returns-clause-ok c =
-    let a = schema_of c.loop-conjunct.growing.flat in
+    let a = schema_of c.loop-conjunct.growing in
     c.loop-conjunct.invariant.takes a (at_end (λ ts. TakesAll a (map resolved_of ts) a) c.args.conjuncts.now c.loop-conjunct.conjunct-index c.loop-conjunct-test.false refl)
