@@ -56,22 +56,11 @@ fn append_error(alloc: Global, error: &Error, lines: &mut String) -> Result<(), 
 
 /// The arguments that are missing, which the text has one a line.
 fn append_missing(text: &str, lines: &mut String) -> Result<(), AllocError> {
-    if text.contains("\n  <FILE>") {
-        append_line("no FILE", lines)?;
-    }
-    if text.contains("\n  <SCHEMA>") {
-        append_line("no SCHEMA", lines)?;
-    }
-    if text.contains("\n  <STATE>") {
-        append_line("no STATE", lines)?;
-    }
-    if text.contains("\n  <INIT>") {
-        append_line("no INIT", lines)?;
-    }
-    if text.contains("\n  <OPERATION>") {
-        append_line(NO_OPERATION, lines)?;
-    }
-    Ok(())
+    append_if(text.contains("\n  <FILE>"), "no FILE", lines)?;
+    append_if(text.contains("\n  <SCHEMA>"), "no SCHEMA", lines)?;
+    append_if(text.contains("\n  <STATE>"), "no STATE", lines)?;
+    append_if(text.contains("\n  <INIT>"), "no INIT", lines)?;
+    append_if(text.contains("\n  <OPERATION>"), NO_OPERATION, lines)
 }
 
 /// The lines of the text up to those on how the command is used.
@@ -93,25 +82,25 @@ fn append_bad_values(
     lines: &mut String,
 ) -> Result<(), AllocError> {
     if name == "check" {
-        return append_clash(lists_objects(matches), "-t: not with --json", lines);
+        return append_if(lists_objects(matches), "-t: not with --json", lines);
     }
     if name == "reach" {
         let words = all_in(matches, "OPERATION").unwrap_or(&[]);
         append_bad_words(words, lines)?;
         append_bad_numbers(matches, STATES_MAX, lines)?;
-        return append_clash(draws_objects(matches), "--dot: not with --json", lines);
+        return append_if(draws_objects(matches), "--dot: not with --json", lines);
     }
     append_bad_sizes(all_in(matches, "NAME=SIZE").unwrap_or(&[]), lines)?;
     append_bad_numbers(matches, LIMIT_MAX, lines)?;
     if name == "why" {
         return Ok(());
     }
-    append_clash(counts_parts(matches), "--only: not with --tests", lines)
+    append_if(counts_parts(matches), "--only: not with --tests", lines)
 }
 
-/// The line for what excludes one another, if both are asked for.
-fn append_clash(clashes: bool, line: &str, lines: &mut String) -> Result<(), AllocError> {
-    if !clashes {
+/// A line, if it applies.
+fn append_if(applies: bool, line: &str, lines: &mut String) -> Result<(), AllocError> {
+    if !applies {
         return Ok(());
     }
     append_line(line, lines)
@@ -142,10 +131,7 @@ fn append_bad_words(words: &[&str], lines: &mut String) -> Result<(), AllocError
             has_operation = true;
         }
     }
-    if !has_operation {
-        append_line(NO_OPERATION, lines)?;
-    }
-    Ok(())
+    append_if(!has_operation, NO_OPERATION, lines)
 }
 
 /// The options that are no number or no limit.

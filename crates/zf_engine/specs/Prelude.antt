@@ -41,6 +41,6 @@ pub use Rattle.zf_why.specs.declared.told.Sides.{Sides}
 pub use Rattle.zf_why.specs.declared.told.Told.{Told}
 pub use Rattle.zf_why.specs.{AreTold, EmptiedBy, nothing_beside, others_beside, RefutedBy, RefutedTogetherBy, disjunction_at, Explains, RuleOut}
 pub use Rattle.std.specs.Str.{bytes_eq}
-pub use Rattle.zf_tree.specs.{BoxTree, boxes_of}
+pub use Rattle.zf_tree.specs.{BoxTree}
 pub use Rattle.std.specs.declared.alloc.Global.{Global}
 pub use Rattle.std.specs.Option.{option_copied}

@@ -1,6 +1,6 @@
 //! What a source defines, its faults, and the answer of `check`.
 ghost use Rattle.std.specs.Prelude.{◌≡◌, [], IfOk, IfErr, map};
-ghost use Rattle.zf_engine.specs.Prelude.{AreLines, cited_of, ReadsSource, boxes_of, globals_of};
+ghost use Rattle.zf_engine.specs.Prelude.{AreLines, cited_of, globals_of};
 ghost use Rattle.zf_engine.specs.{check_status, Checks, IfAnswered, IsCheckText, IsFaultLine, UnreadAnswer};
 ghost use Rattle.zf_sorts.specs.{fault_of};
 
@@ -14,7 +14,6 @@ use zf_messages::{Quoting, Report, text_fault_lines, type_fault_lines};
 use zf_parse::{About, read_spec};
 use zf_scan::{TextFault, TextFaultKind};
 use zf_sorts::TypeFault;
-use zf_tree::Spec;
 
 /// What a source defines, and its faults of types. Its trees stand in an arena of their own, which asks for its room while the
 /// symbols of the source still have theirs: what is made of the trees gets the room of the symbols.
@@ -27,9 +26,23 @@ pub fn check_source<'a>(
     ensures checks { IfOk result (λ c. Checks report.entry.source.now (globals_of c.globals) (map fault_of c.faults)) }
     ensures stop { IfErr result (λ s. IfAnswered s (UnreadAnswer report.entry.details report.entry.file.now report.entry.source.now)) }
 {
-    let spec = spec_in(alloc, trees, report.details, report.file, report.source)?;
-    let checked = check_spec(alloc, arena, &spec)?;
-    Ok(checked)
+    match read_spec(alloc, trees, report.source) {
+        Ok(spec) => Ok(check_spec(alloc, arena, &spec)?),
+        Err(unread) => Err(refusal(alloc, report, unread.fault, &unread.about)),
+    }
+}
+
+/// The answer for a fault of a text, which is about these symbols.
+fn refusal(alloc: Global, report: Report<'_>, fault: TextFault, about: &About<'_>) -> Stop
+    ensures { IfAnswered result (IsFaultLine report.entry.details report.entry.file.now fault (cited_of about.now)) }
+{
+    if fault.kind == TextFaultKind::OutOfMemory {
+        return Stop::OutOfMemory;
+    }
+    match text_fault_lines(alloc, report.details, report.file, fault, about) {
+        Ok(lines) => Stop::Answered(lines, Status::BadSpec),
+        Err(_) => Stop::OutOfMemory,
+    }
 }
 
 /// The text and the status that answer `check`.
@@ -78,34 +91,4 @@ pub fn fault_lines(
         lines.extend_from_slice(&further)?;
     }
     Ok(lines)
-}
-
-/// The tree of a source.
-fn spec_in<'a>(
-    alloc: Global,
-    arena: &'a Bump,
-    details: bool,
-    file: &[u8],
-    source: &'a [u8],
-) -> Result<Spec<'a>, Stop>
-    ensures reads { IfOk result (λ s. ReadsSource (boxes_of s) source.now) }
-    ensures stop { IfErr result (λ s. IfAnswered s (UnreadAnswer details file.now source.now)) }
-{
-    match read_spec(alloc, arena, source) {
-        Ok(spec) => Ok(spec),
-        Err(unread) => Err(refusal(alloc, details, file, unread.fault, &unread.about)),
-    }
-}
-
-/// The answer for a fault of a text, which is about these symbols.
-fn refusal(alloc: Global, details: bool, file: &[u8], fault: TextFault, about: &About<'_>) -> Stop
-    ensures { IfAnswered result (IsFaultLine details file.now fault (cited_of about.now)) }
-{
-    if fault.kind == TextFaultKind::OutOfMemory {
-        return Stop::OutOfMemory;
-    }
-    match text_fault_lines(alloc, details, file, fault, about) {
-        Ok(lines) => Stop::Answered(lines, Status::BadSpec),
-        Err(_) => Stop::OutOfMemory,
-    }
 }

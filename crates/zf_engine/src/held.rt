@@ -1,7 +1,7 @@
 //! The values that are held.
-ghost use Rattle.std.specs.Prelude.{◌≡◌, Some, IfOk, IfErr};
+ghost use Rattle.std.specs.Prelude.{◌≡◌, IfOk, IfErr};
 ghost use Rattle.zf_engine.specs.Prelude.{environment_of, schema_of, AreClear, spellings, HaveClearNames};
-ghost use Rattle.zf_engine.specs.{AreHeld, IfAnswered, TellsNoValues, TellsPlaceHeld};
+ghost use Rattle.zf_engine.specs.{AreHeld, IfAnswered, TellsNoValues};
 
 use crate::stop::Stop;
 use std::alloc::Global;
@@ -27,37 +27,15 @@ pub fn values_held(
     ensures held { IfOk result (λ values. AreHeld (environment_of env.now) (schema_of flat.now).comps held.now values.items) }
     ensures stop { IfErr result (λ s. AreClear elements.now (environment_of env.now).sizes → HaveClearNames (schema_of flat.now).comps → IfAnswered s (TellsNoValues (environment_of env.now) (schema_of flat.now).comps held.now)) }
 {
-    match held {
-        None => Ok(Vec::new(alloc)),
-        Some(text) => values_of(alloc, flat, env, elements, text),
-    }
-}
-
-/// The values of the components whose line the text is.
-fn values_of(
-    alloc: Global,
-    flat: &Flat<'_>,
-    env: &Env<'_, '_>,
-    elements: &[Spelling],
-    text: &Word,
-) -> Result<Vec<Option<Value>>, Stop>
-    requires { elements.now ≡ spellings (environment_of env.now).globals }
-    ensures held { IfOk result (λ values. AreHeld (environment_of env.now) (schema_of flat.now).comps (Some text.now) values.items) }
-    ensures stop { IfErr result (λ s. AreClear elements.now (environment_of env.now).sizes → HaveClearNames (schema_of flat.now).comps → IfAnswered s (TellsNoValues (environment_of env.now) (schema_of flat.now).comps (Some text.now))) }
-{
+    let Some(text) = held else {
+        return Ok(Vec::new(alloc));
+    };
     match read_held(alloc, text.as_bytes(), flat, env, elements) {
         Ok(values) => Ok(values),
-        Err(AfterFault::NotABinding(place)) => Err(not_held(alloc, place)),
+        Err(AfterFault::NotABinding(place)) => {
+            let line = texts::not_held_line(alloc, place)?;
+            Err(Stop::Answered(line, Status::BadRequest))
+        }
         Err(AfterFault::OutOfMemory) => Err(Stop::OutOfMemory),
-    }
-}
-
-/// The answer for a text that does not fit at a place.
-fn not_held(alloc: Global, place: usize) -> Stop
-    ensures { IfAnswered result (TellsPlaceHeld place) }
-{
-    match texts::not_held_line(alloc, place) {
-        Ok(line) => Stop::Answered(line, Status::BadRequest),
-        Err(_) => Stop::OutOfMemory,
     }
 }

@@ -1,7 +1,7 @@
 //! The binding that a search comes after.
 ghost use Rattle.std.specs.Prelude.{◌≡◌, IfOk, IfErr, option_map};
 ghost use Rattle.zf_engine.specs.Prelude.{environment_of, schema_of, AreClear, spellings};
-ghost use Rattle.zf_engine.specs.{IfAnswered, IsLineOf, IsNamedRow, TellsNoRow, TellsPlace};
+ghost use Rattle.zf_engine.specs.{IfAnswered, IsNamedRow, TellsNoRow};
 
 use crate::stop::Stop;
 use std::alloc::Global;
@@ -26,37 +26,15 @@ pub fn named_row(
     ensures named { IfOk result (λ row. IsNamedRow (environment_of env.now) (schema_of flat.now).comps after.now (option_map (λ v. v.items) row)) }
     ensures stop { IfErr result (λ s. AreClear elements.now (environment_of env.now).sizes → IfAnswered s (TellsNoRow (environment_of env.now) (schema_of flat.now).comps after.now)) }
 {
-    match after {
-        None => Ok(None),
-        Some(text) => Ok(Some(row_of(alloc, flat, env, elements, text)?)),
-    }
-}
-
-/// The row whose line the text is.
-fn row_of(
-    alloc: Global,
-    flat: &Flat<'_>,
-    env: &Env<'_, '_>,
-    elements: &[Spelling],
-    text: &Word,
-) -> Result<Vec<Value>, Stop>
-    requires { elements.now ≡ spellings (environment_of env.now).globals }
-    ensures named { IfOk result (λ row. IsLineOf (environment_of env.now) (schema_of flat.now).comps text.now row.items) }
-    ensures stop { IfErr result (λ s. AreClear elements.now (environment_of env.now).sizes → IfAnswered s (TellsNoRow (environment_of env.now) (schema_of flat.now).comps (Some text.now))) }
-{
+    let Some(text) = after else {
+        return Ok(None);
+    };
     match read_binding(alloc, text.as_bytes(), flat, env, elements) {
-        Ok(row) => Ok(row),
-        Err(AfterFault::NotABinding(place)) => Err(not_a_binding(alloc, place)),
+        Ok(row) => Ok(Some(row)),
+        Err(AfterFault::NotABinding(place)) => {
+            let line = texts::not_a_binding_line(alloc, place)?;
+            Err(Stop::Answered(line, Status::BadRequest))
+        }
         Err(AfterFault::OutOfMemory) => Err(Stop::OutOfMemory),
-    }
-}
-
-/// The answer for a text that does not fit at a place.
-fn not_a_binding(alloc: Global, place: usize) -> Stop
-    ensures { IfAnswered result (TellsPlace place) }
-{
-    match texts::not_a_binding_line(alloc, place) {
-        Ok(line) => Stop::Answered(line, Status::BadRequest),
-        Err(_) => Stop::OutOfMemory,
     }
 }

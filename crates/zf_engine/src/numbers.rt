@@ -1,5 +1,5 @@
 //! The greatest number that a request states.
-ghost use Rattle.std.specs.Prelude.{◌≡◌, IfErr, IfOk, OnOk, Some};
+ghost use Rattle.std.specs.Prelude.{◌≡◌, IfErr, IfOk, OnOk};
 ghost use Rattle.zf_engine.specs.{AreSmall, IfAnswered, TellsNumbers};
 
 use crate::stop::Stop;
@@ -19,21 +19,12 @@ pub fn greatest_number(alloc: Global, stated: Option<u64>) -> Result<Option<u16>
     ensures same { IfOk result (λ numbers. numbers ≡ stated) }
     ensures stop { IfErr result (λ s. IfAnswered s (TellsNumbers stated)) }
 {
-    match stated {
-        None => Ok(None),
-        Some(number) => Ok(Some(small(alloc, number)?)),
-    }
-}
-
-/// The number, if it is not too large.
-fn small(alloc: Global, number: u64) -> Result<u16, Stop>
-    ensures small { OnOk result (AreSmall (Some number)) }
-    ensures same { IfOk result (λ n. n ≡ number) }
-    ensures stop { IfErr result (λ s. IfAnswered s (TellsNumbers (Some number))) }
-{
+    let Some(number) = stated else {
+        return Ok(None);
+    };
     if number > NUMBERS_MAX {
         let line = texts::numbers_too_large_line(alloc)?;
         return Err(Stop::Answered(line, Status::BadRequest));
     }
-    Ok(number as u16)
+    Ok(Some(number as u16))
 }

@@ -9,7 +9,7 @@ use std::alloc::{AllocError, Global};
 use zf_finite::is_bounded;
 use zf_parse::read_spec;
 use zf_scan::TextFaultKind;
-use zf_term::{Component, Entry, Flat, Globals, component_of, global_of};
+use zf_term::{Component, Entry, Globals, component_of, global_of};
 use zf_tree::{Decl, Name, Paragraph, RefMark, SchemaExp, SchemaRef, ZBox};
 
 /// A component of a schema, by the places of both.
@@ -126,22 +126,19 @@ fn undeclared_in(boxes: &[ZBox<'_>], globals: &Globals<'_>, first: Unbounded) ->
 
 /// Why nothing bounds the component, by the definition of its schema.
 fn cause_of(boxes: &[ZBox<'_>], globals: &Globals<'_>, at: Unbounded) -> Option<Cause> {
-    let component = component_name(globals, at)?;
+    let component = component_at(globals, at)?.name.as_slice();
     cause_in_boxes(globals, boxes, name_at(globals, at.schema), component)
-}
-
-/// The name of the component at these places.
-fn component_name<'g>(globals: &'g Globals<'_>, at: Unbounded) -> Option<&'g [u8]> {
-    match component_at(globals, at) {
-        Some(component) => Some(component.name.as_slice()),
-        None => None,
-    }
 }
 
 /// The component at these places.
 fn component_at<'g, 'a>(globals: &'g Globals<'a>, at: Unbounded) -> Option<&'g Component<'a>> {
-    match globals.in_order(at.schema) {
-        Some((_, Entry::Schema(schema))) => schema.flat().components.as_slice().get(at.component),
+    components_at(globals, at.schema)?.get(at.component)
+}
+
+/// The components of the schema at a place.
+fn components_at<'g, 'a>(globals: &'g Globals<'a>, place: usize) -> Option<&'g [Component<'a>]> {
+    match globals.in_order(place) {
+        Some((_, Entry::Schema(schema))) => Some(schema.flat().components.as_slice()),
         _ => None,
     }
 }
@@ -202,7 +199,6 @@ fn is_spelled(name: &Name<'_>, spelling: &[u8]) -> bool {
 }
 
 /// Why nothing bounds the component of the schema expression.
-#[cycle(causes)]
 fn cause_in_schema(globals: &Globals<'_>, exp: &SchemaExp<'_>, component: &[u8]) -> Option<Cause> {
     match exp {
         SchemaExp::Text(decls, _) => cause_in_decls(globals, decls.as_slice(), component),
@@ -212,19 +208,13 @@ fn cause_in_schema(globals: &Globals<'_>, exp: &SchemaExp<'_>, component: &[u8])
             let cause = cause_in_schema(globals, left.get(), component);
             cause.or(cause_in_schema(globals, right.get(), component))
         }
-        SchemaExp::Or(_, _, _) => cause_in_sides(globals, exp, component),
+        SchemaExp::Or(_, left, right) => {
+            let lacking = lacking_side(globals, left.get(), component);
+            let lacking = lacking.or(lacking_side(globals, right.get(), component));
+            let cause = lacking.or(cause_in_schema(globals, left.get(), component));
+            cause.or(cause_in_schema(globals, right.get(), component))
+        }
     }
-}
-
-#[cycle(causes)]
-fn cause_in_sides(globals: &Globals<'_>, exp: &SchemaExp<'_>, component: &[u8]) -> Option<Cause> {
-    let SchemaExp::Or(_, left, right) = exp else {
-        return None;
-    };
-    let lacking = lacking_sides(globals, left.get(), right.get(), component);
-    let within = cause_in_schema(globals, left.get(), component);
-    let within = within.or(cause_in_schema(globals, right.get(), component));
-    lacking.or(within)
 }
 
 /// Why nothing bounds the component that the declarations take from a schema.
@@ -248,49 +238,22 @@ fn cause_in_reference(
     let (schema, component) = referred_to(globals, reference, component)?;
     let component = component?;
     let at = Unbounded { schema, component };
-    if is_bounded_at(globals, at) {
+    if is_bounded(None, component_at(globals, at)?.domains.get(), globals) {
         return None;
     }
     Some(Cause::Within(at))
 }
 
-/// Whether something bounds the component at these places, if there is one.
-fn is_bounded_at(globals: &Globals<'_>, at: Unbounded) -> bool {
-    match component_at(globals, at) {
-        Some(component) => is_bounded(None, component.domains.get(), globals),
-        None => true,
-    }
-}
-
 // ---- which components there are
-
-/// The first of two sides that is a schema without the component.
-fn lacking_sides(
-    globals: &Globals<'_>,
-    left: &SchemaExp<'_>,
-    right: &SchemaExp<'_>,
-    component: &[u8],
-) -> Option<Cause> {
-    let lacking = lacking_side(globals, left, component);
-    lacking.or(lacking_side(globals, right, component))
-}
 
 /// The side, if it is a schema that does not have the component.
 fn lacking_side(globals: &Globals<'_>, side: &SchemaExp<'_>, component: &[u8]) -> Option<Cause> {
     match side {
         SchemaExp::Bracket(inner) => lacking_side(globals, inner.get(), component),
-        SchemaExp::Ref(reference) => lacking_reference(globals, reference, component),
-        _ => None,
-    }
-}
-
-fn lacking_reference(
-    globals: &Globals<'_>,
-    reference: &SchemaRef<'_>,
-    component: &[u8],
-) -> Option<Cause> {
-    match referred_to(globals, reference, component) {
-        Some((schema, None)) => Some(Cause::Undeclared(schema)),
+        SchemaExp::Ref(reference) => match referred_to(globals, reference, component) {
+            Some((schema, None)) => Some(Cause::Undeclared(schema)),
+            _ => None,
+        },
         _ => None,
     }
 }
@@ -323,13 +286,6 @@ fn referred(
 
 /// The place of the component of this name in the schema at a place.
 fn place_in(globals: &Globals<'_>, schema: usize, name: &[u8]) -> Option<usize> {
-    match globals.in_order(schema) {
-        Some((_, Entry::Schema(schema))) => place_of(schema.flat(), name),
-        _ => None,
-    }
-}
-
-fn place_of(flat: &Flat<'_>, name: &[u8]) -> Option<usize> {
-    let (place, _) = component_of(flat.components.as_slice(), name)?;
+    let (place, _) = component_of(components_at(globals, schema)?, name)?;
     Some(place)
 }

@@ -1,6 +1,0 @@
-use Rattle.zf_engine.proofs.Refusing.{no_row_told}
-use Rattle.zf_engine.proofs.named.row_of.Goals as goal
-
-pub returns-in-Err-NotABinding-clause-stop : goal.returns-in-Err-NotABinding-clause-stop
-returns-in-Err-NotABinding-clause-stop c =
-    no_row_told _ _ _ _ _ _ _ c.requires c.as_bytes.ensures (rw c.in-Err-NotABinding.field-0-is at c.in-Err-NotABinding.ensures.refused) c.not_a_binding.ensures
