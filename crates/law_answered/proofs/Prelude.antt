@@ -3,9 +3,9 @@ pub use Rattle.std.proofs.Common.{if◌then◌else◌, ◌++◌, ◌+◌, ◌<�
 pub use Rattle.std.proofs.lemmas.Bool.{cases_eq, cases_order, cases_lt}
 pub use Rattle.std.proofs.lemmas.Grind.{flat_map-append}
 pub use Rattle.std.proofs.lemmas.List.{length-map, map-append, take_all}
-pub use Rattle.std.proofs.lemmas.List.Elements.{All-append, All-cons, All-contains, All-head, All-nil, All-tail, Contains-push_cases}
+pub use Rattle.std.proofs.lemmas.List.Elements.{All-append, All-cons, All-contains, All-head, All-nil, All-tail}
 pub use Rattle.std.proofs.lemmas.List.Folds.{flat_map-map}
-pub use Rattle.std.proofs.lemmas.Option.{none-some, same_Some, slice_get_within}
+pub use Rattle.std.proofs.lemmas.Option.{same_Some, slice_get_within}
 pub use Rattle.std.specs.Cmp.{IsTotalOrder}
 pub use Rattle.std.specs.Cmp.Lexicographic.{lists_total, slice_cmp}
 pub use Rattle.std.specs.List.{AllByRecursion, flat_map, AllZip}
@@ -27,7 +27,7 @@ pub use Rattle.zf_scan.specs.declared.token.Token.{Token}
 pub use Rattle.zf_parse.proofs.Answers.{only_one, parsed, refused}
 pub use Rattle.zf_grammar.specs.{height_limit, read_all, Refused, TooDeep}
 pub use Rattle.zf_parse.specs.{IsGrammarFault, ReadsLow, ReadsSource, RefusesSource, RefusesTokens}
-pub use Rattle.zf_term.specs.{abbreviation, basic, Comp, constructor, Defined, Definition, Fault, free_type, given_set, int, no_types, power, product, Schema, schema, sets_of, Ty, type, types, Tys, ResolvedTree, first_named, later, references, term_line}
+pub use Rattle.zf_term.specs.{basic, Comp, Defined, Definition, Fault, free_type, given_set, int, no_types, power, product, Schema, schema, sets_of, Ty, type, types, Tys, ResolvedTree, first_named, references, term_line}
 pub use Rattle.zf_extent.specs.{first}
 pub use Rattle.zf_finite.proofs.FiniteSchemas.{finite_without_cause}
 pub use Rattle.zf_finite.specs.declared.not_finite.NotFinite.{NotFinite}
@@ -35,10 +35,10 @@ pub use Rattle.zf_finite.specs.{causes, IsFinite, one_bounds}
 pub use Rattle.zf_meaning.specs.{AreComplete, AreOfTypes, Environment, given_sets, IsEnvironment, IsExistingElement, IsOfType, IsRefusal, IsRow, type_number, AddsSize, AreAccepted, AreSizes, Context, IsAccepted, IsNumberSet, IsSizeFault, IsStated, IsTruth, LacksSize, RefusesSize, in_row, least, names}
 pub use Rattle.zf_meaning.specs.declared.sizes.Size.{Size}
 pub use Rattle.zf_meaning.specs.declared.sizes.SizeFault.{SizeFault}
-pub use Rattle.law_total.proofs.Listed.{Decided, decided_lists, decided_same, decided_some, HasSome, Listed, listed_either, listed_image, listed_kept, listed_none, listed_one, listed_pairs, listed_same}
+pub use Rattle.law_total.proofs.Listed.{Decided, decided_lists, decided_some, HasSome, Listed, listed_either, listed_image, listed_kept, listed_none, listed_one, listed_pairs, listed_same}
 pub use Rattle.law_total.proofs.Orders.{AllPairs-mapped, Contains-map, Contains-mapped}
 pub use Rattle.zf_print.proofs.OneRow.{one_row}
-pub use Rattle.zf_print.specs.{AreClear, binding_text, component_text, Ends, is_in_word, spellings, row_text}
+pub use Rattle.zf_print.specs.{AreClear, binding_text, spellings, row_text}
 pub use Rattle.zf_read.specs.{HaveClearNames, held_comps, held_values}
 pub use Rattle.zf_enum.proofs.EventLaws.{one_ranges}
 pub use Rattle.zf_enum.specs.{behind, HasTruth, Portion, portion, property, AreTests}
@@ -55,7 +55,7 @@ pub use Rattle.zf_lines.specs.declared.fault.Status.TheVariants.{BadRequest, Bad
 pub use Rattle.law_total.proofs.Rows.{AreTold, one_truth_of}
 pub use Rattle.law_exists.proofs.Searches.{some_search, some_tests_line, some_list}
 pub use Rattle.zf_parts.proofs.Told.{property_told}
-pub use Rattle.zf_engine.specs.{Answer, AreHeld, AreMessages, AreShown, AreSmall, AreTooLarge, check_status, CheckAnswer, Checks, empty_lines, format_of, HasSchema, HoldsNoValues, IsAsked, IsLimited, IsLineOf, IsNamed, IsNamedRow, IsSearch, JobAnswer, JobBegins, NamesNoParts, NamesNoRow, NamesParts, no_binding_line, numbers_of, RefusesRequest, RequestAnswer, row_after, satisfied_line, ShowAnswer, ShowBegins, ShowsEvents, ShowsParts, size_fault_lines, stated, TellsConjuncts, TellsShown, TellsWhy, told_lines, UnreadAnswer, wants_details, wording, AreSchemasOf, ExplorationAnswer, ExplorationBegins, ExploresMachine, HasInfinite, HasLacking, HasOut, HasSchemas, IsBounded, IsSchemaOf, IsSearchable, IsSettled, LacksSchema, RefusesExploration, Seeks, TellsFaults, TellsInfinite, TellsMachine, TellsMisfit, TellsNoSchema, TellsNumbers, TellsOut, component_place, ending_status, form_of, names_between, names_of, result_status, states_limit}
+pub use Rattle.zf_engine.specs.{Answer, AreHeld, AreMessages, AreShown, AreSmall, AreTooLarge, check_status, CheckAnswer, Checks, empty_lines, format_of, HasSchema, HoldsNoValues, IsAsked, IsLimited, IsLineOf, IsNamed, IsNamedRow, IsSearch, JobAnswer, JobBegins, NamesNoParts, NamesNoRow, NamesParts, no_binding_line, numbers_of, RefusesRequest, RequestAnswer, row_after, satisfied_line, ShowBegins, ShowsEvents, ShowsParts, size_fault_lines, stated, TellsConjuncts, TellsShown, TellsWhy, told_lines, UnreadAnswer, wants_details, wording, AreSchemasOf, ExplorationAnswer, ExplorationBegins, ExploresMachine, HasInfinite, HasLacking, HasOut, HasSchemas, IsBounded, IsSchemaOf, IsSearchable, IsSettled, LacksSchema, RefusesExploration, Seeks, TellsFaults, TellsInfinite, TellsMachine, TellsMisfit, TellsNoSchema, TellsNumbers, TellsOut, component_place, ending_status, form_of, names_between, names_of, result_status, states_limit}
 pub use Rattle.zf_messages.specs.{AreLines, Cited, declared_out_line, no_schema_lines, not_a_binding_line, not_components_line, not_finite_lines, not_held_line, numbers_too_large_line, text_fault_lines, IsReportedBeside, Reported, no_component_line, nothing, reported_lines, type_fault_line}
 pub use Rattle.law_answered.specs.{AnswersRequest, AreAlike, AreMessagesAlike, AreOfSame, EachBindingIsShown, EndsLines, EventsAreShown, EveryHeldLineIsJudged, EveryLineIsJudged, EveryRequestIsAnswered, EverySourceIsRead, FirstLinesAreAFront, IsBefore, IsBinding, IsGranted, IsInDoubt, IsNotPast, IsShownInOneWay, limited, OneStatus, OneText, PartsAreFronts, ReasonIsTold, resumed, RunsMakeOne, ShowsBindings, together, EachPartIsShown, IsFirstInDoubt, IsPartOfBinding, IsSchemaAt, OneRowOfALine, OneRowOfAnObject, PlainLines, ReachableAreMet, RefusedLinesAreOfNoRow, SatisfiesAt, Says, ShowsEachPart, ShowsWay, WhatIsReachedIsTold, WhatIsSoughtIsTold, graph_in}
 pub use Rattle.law_exists.proofs.Ranges.{first_out_or_none, some_ranges}
@@ -68,7 +68,7 @@ pub use Rattle.zf_cores.specs.{HasChosen, IsChosen, IsFewer, IsLeft, IsMinimal, 
 pub use Rattle.zf_engine.specs.Explorations.{IsOfSchema}
 pub use Rattle.zf_format.specs.declared.format.Format.TheVariants.{Lines, Objects}
 pub use Rattle.zf_graph.proofs.Meeting.{finds_shortest, has_each_step, meets_once, meets_reachable, meets_shortly}
-pub use Rattle.zf_machines.proofs.Sole.{of_operations, of_test, one_machine}
+pub use Rattle.zf_machines.proofs.Sole.{one_machine}
 pub use Rattle.zf_machines.specs.{AllowsSought, CanBeInitial, CanStep, FirstFails, HasShape, IsMachineOf, LacksBehind, LacksFirst, LacksStepFirst, Named, Schemas, SoughtLacks, all_of, state_of, test_of}
 pub use Rattle.zf_parts.proofs.Growing.{has_each_part, one_list_of_parts, some_list_of_parts}
 pub use Rattle.zf_parts.specs.{AllHold, AreParts, ArePartsWritten, HasParts, IsFirstWith, Part, part_lines, part_wording}

@@ -15,7 +15,7 @@ pub use Rattle.zf_scan.specs.declared.token.Kind.{Kind}
 pub use Rattle.zf_grammar.specs.{Next, PartedBy, Spells, SpellsBoxes, SpellsDecl, SpellsMarked, SpellsName, SpellsParagraph, SpellsPredicates, SpellsSchema}
 pub use Rattle.zf_parse.specs.{ReadsSource}
 pub use Rattle.zf_term.specs.{abbreviation, constructor, Defined, Definition, free_type, given_set, schema, Comp, DeclaredSet, Fault, Schema, Ty, first_named, later, plain}
-pub use Rattle.zf_schema.specs.{a_box, a_paragraph, Constructs, Item, items, items_in, with_global, HasCompsOnce, HaveCompsOnce, elements}
+pub use Rattle.zf_schema.specs.{a_box, a_paragraph, Constructs, Item, items, items_in, with_global, HasCompsOnce, elements}
 pub use Rattle.zf_print.specs.{AreApart, AreNames, is_in_name, IsClear, IsName, IsNoneOf, spellings, with_spelling}
 pub use Rattle.std.proofs.lemmas.List.Folds.{list_all-append}
 pub use Rattle.zf_calculus.specs.{AreOnce, comp, comp_named, decorated, either_comps, empty_schema, marked, prime, with_comp, with_comps}

@@ -1,5 +1,5 @@
 -- What the proofs of this crate take from elsewhere, passed on from one place.
-pub use Rattle.std.proofs.Common.{◌++◌, ◌+◌, ◌-◌, ◌<◌, ◌^◌, ◌↔◌, ◌∙◌, ◌∷◌, ◌≡◌, ◌≤◌, ◌⊎◌, [], add-one, ap, ap₂, arith, Bool, cond, drop, eqb, false, get_or, IfOk, IfSome, inl, inr, length, length-append, List, map, max, None, Option, refl, rules, Some, subst, suc, sym, take, true, zero, ℕ, ⊎_elim, Err, Ok, of_z, to_z}
+pub use Rattle.std.proofs.Common.{◌++◌, ◌+◌, ◌-◌, ◌<◌, ◌^◌, ◌↔◌, ◌∙◌, ◌∷◌, ◌≡◌, ◌≤◌, ◌⊎◌, [], add-one, ap, ap₂, arith, Bool, cond, eqb, false, get_or, IfOk, IfSome, inl, inr, length, length-append, List, map, max, None, Option, refl, rules, Some, subst, suc, sym, take, true, zero, ℕ, ⊎_elim, Err, Ok, of_z, to_z}
 pub use Rattle.std.proofs.lemmas.Bool.{cases_Bool, cases_lt, eqb-true, false≢true, eq-eqb, ltb-true}
 pub use Rattle.std.proofs.lemmas.List.{length-map, get_or_default}
 pub use Rattle.std.proofs.lemmas.Result.{IfOk-weaker, on_ok_weaker}
@@ -24,9 +24,8 @@ pub use Rattle.zf_value.specs.declared.value.Outcome.TheVariants.{Is, Out, Undef
 pub use Rattle.zf_value.specs.declared.plain.Value.{Value, Int, out-Value}
 pub use Rattle.zf_tree.specs.declared.operator.Unary.TheVariants.{Not}
 pub use Rattle.zf_tree.specs.declared.symbol.Relation.TheVariants.{Equal}
-pub use Rattle.zf_term.proofs.ResolvedSeen.{link-seen, of-Binary, of-Chain, of-Name, of-Unary, range-seen, of-Number}
-pub use Rattle.zf_term.specs.{absent, binary, bracket, comprehension, chain, Comp, comp_of, conjunct_of, constant, empty_set, link, links, listed, no_links, no_ranges, no_terms, number, present, quantified, range, range_of, Ranges, ranges, reference, references, resolved_link_of, resolved_of, ResolvedLinks, ResolvedPart, ResolvedTree, schema_of, term, terms, unary, all_onto, links_onto, onto, part_onto, ranges_onto}
-pub use Rattle.zf_term.specs.ResolvedTrees.{ResolvedTrees}
+pub use Rattle.zf_term.proofs.ResolvedSeen.{link-seen, of-Binary, of-Chain, of-Name, of-Unary, of-Number}
+pub use Rattle.zf_term.specs.{absent, binary, bracket, comprehension, chain, Comp, comp_of, conjunct_of, constant, empty_set, link, links, listed, no_links, number, present, quantified, range_of, reference, references, resolved_link_of, resolved_of, ResolvedPart, ResolvedTree, schema_of, unary}
 pub use Rattle.zf_term.specs.declared.conjunct.Conjunct.{Conjunct}
 pub use Rattle.zf_term.specs.declared.resolved.Resolved.{Resolved}
 pub use Rattle.zf_term.specs.declared.resolved.ResolvedLink.{ResolvedLink}

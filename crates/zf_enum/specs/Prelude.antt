@@ -1,7 +1,7 @@
 -- What the definitions of this crate and its contracts take from elsewhere, passed on from one place.
 pub use Rattle.zf_reference.specs.declared.reference.Reference.{Reference}
 pub use Rattle.zf_reference.specs.declared.reference.Reference.TheVariants.{Component, Local, Global}
-pub use Rattle.zf_term.specs.{absent, binary, bracket, comprehension, chain, constant, empty_set, link, listed, no_links, no_ranges, no_terms, number, present, quantified, range, Ranges, reference, ResolvedLinks, ResolvedPart, ResolvedTree, term, unary, Schema, resolved_of, references, links, part_of, range_of, ranges, resolved_link_of, terms, schema_of, conjunct_of}
+pub use Rattle.zf_term.specs.{absent, binary, bracket, comprehension, chain, link, no_links, present, quantified, reference, ResolvedTree, Schema, resolved_of, references, range_of, ranges, schema_of, conjunct_of}
 pub use Rattle.zf_value.specs.declared.plain.Value.{Value, Int}
 pub use Rattle.zf_value.specs.{value_order, IsMember, members}
 pub use Rattle.zf_walk.specs.{Event, IsBound, IsEvents, IsNumberOfTests, IsRowOf, IsEvent, FollowUsed, HaveOneTruth, KeepTruths, AreAllAhead, Stage, picked, Advances, AreAscending, AreDueWithin, AreTests, ended, HasLength, IsBounded, SameProblem, Stays, AreWithin, past, SameRanges}
@@ -14,7 +14,7 @@ pub use Rattle.zf_plan.specs.{SayTheSame, planted, Tree, Grove, HasLeavesWithin,
 pub use Rattle.std.specs.Option.{option_map_or, option_copied}
 pub use Rattle.zf_value.specs.declared.value.Truth.{Truth}
 pub use Rattle.zf_walk.specs.Conjuncts.{Conjuncts}
-pub use Rattle.std.proofs.Common.{refl, sym, ap, ◌∙◌, subst, arith}
+pub use Rattle.std.proofs.Common.{refl, sym, ap, subst, arith}
 pub use Rattle.std.specs.Int.{w32}
 pub use Rattle.zf_extent.specs.{is_membership}
 pub use Rattle.zf_outcome.specs.{Holds, InfixOutcome}

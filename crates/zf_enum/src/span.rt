@@ -2,6 +2,7 @@
 ghost use Rattle.std.specs.Prelude.{◌≡◌, ℤ, ◌+ℤ◌, ◌-ℤ◌, ◌*ℤ◌, IfOk, Some};
 ghost use Rattle.zf_enum.specs.{IsSmall};
 ghost use Rattle.zf_enum.specs.Spans.{Spans};
+ghost use Rattle.zf_enum.specs.declared.span.Untold.TheVariants.{OutOfMemory};
 
 use std::alloc::AllocError;
 
@@ -21,9 +22,6 @@ pub(crate) enum Untold {
 }
 
 impl From<AllocError> for Untold {
-    ghost use Rattle.std.specs.Prelude.{◌≡◌};
-    ghost use Rattle.zf_enum.specs.declared.span.Untold.TheVariants.{OutOfMemory};
-
     ghost from_gives = { λ _ why. why ≡ OutOfMemory };
 
     fn from(_error: AllocError) -> Untold {

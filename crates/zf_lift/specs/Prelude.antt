@@ -1,5 +1,5 @@
 -- What the definitions of this crate and its contracts take from elsewhere, passed on from one place.
-pub use Rattle.zf_term.specs.{ResolvedTree, binary, bracket, comprehension, chain, constant, empty_set, listed, no_ranges, number, quantified, range, Ranges, reference, ResolvedLinks, ResolvedPart, unary, absent, link, no_links, no_terms, present, term, resolved_of}
+pub use Rattle.zf_term.specs.{ResolvedTree, binary, bracket, comprehension, chain, constant, empty_set, listed, no_ranges, number, quantified, range, Ranges, reference, ResolvedLinks, ResolvedPart, unary, resolved_of}
 pub use Rattle.zf_value.specs.declared.value.Outcome.{Outcome}
 pub use Rattle.zf_meaning.specs.{Environment, environment_of, IsBehind, in_row, IsTruth, longer, UsesFirst, Context, AreLinked, Builds, HasOutcome, HaveOutcomes, HaveRanges, infinite_in, IsConstraint}
 pub use Rattle.zf_value.specs.declared.plain.Value.{Value}

@@ -1,4 +1,7 @@
 //! Why a predicate stays as it is.
+ghost use Rattle.std.specs.Prelude.{◌≡◌};
+ghost use Rattle.zf_lift.specs.declared.unlifted.Unlifted.TheVariants.{OutOfMemory};
+
 use std::alloc::{AllocError, AllocFailed};
 
 /// Why a predicate stays as it is.
@@ -10,9 +13,6 @@ pub(crate) enum Unlifted {
 }
 
 impl From<AllocError> for Unlifted {
-    ghost use Rattle.std.specs.Prelude.{◌≡◌};
-    ghost use Rattle.zf_lift.specs.declared.unlifted.Unlifted.TheVariants.{OutOfMemory};
-
     ghost from_gives = { λ _ why. why ≡ OutOfMemory };
 
     fn from(_error: AllocError) -> Unlifted {
@@ -21,9 +21,6 @@ impl From<AllocError> for Unlifted {
 }
 
 impl<T: Drop> From<AllocFailed<T>> for Unlifted {
-    ghost use Rattle.std.specs.Prelude.{◌≡◌};
-    ghost use Rattle.zf_lift.specs.declared.unlifted.Unlifted.TheVariants.{OutOfMemory};
-
     ghost from_gives = { λ _ why. why ≡ OutOfMemory };
 
     fn from(_error: AllocFailed<T>) -> Unlifted {

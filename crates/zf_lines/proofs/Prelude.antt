@@ -4,17 +4,17 @@ pub use Rattle.std.proofs.KnownBytes.{Appends-nil, Appends-trans}
 pub use Rattle.std.proofs.Math.ListN.{set}
 pub use Rattle.std.proofs.lemmas.Bool.{false≢true}
 pub use Rattle.std.proofs.lemmas.List.{length-map, length-set, length-take-le, map_more, take_all, take_rest}
-pub use Rattle.std.proofs.lemmas.Option.{get_or_from_slice_get, slice_get_read}
+pub use Rattle.std.proofs.lemmas.Option.{slice_get_read}
 pub use Rattle.std.specs.Cmp.{IsTotalOrder}
 pub use Rattle.std.specs.Cmp.Lexicographic.{lists_total, slice_cmp}
 pub use Rattle.std.specs.Io.KnownBytes.{Appends}
 pub use Rattle.std.specs.Ordering.{ordering_reverse, ordering_then}
-pub use Rattle.std.specs.Prelude.{AllPairs, Contains, IfSome, IsSomeAnd, option_map, slice_get, slice_index_or, unwrap_or}
+pub use Rattle.std.specs.Prelude.{AllPairs, Contains, option_map, slice_get, slice_index_or, unwrap_or}
 pub use Rattle.std.specs.declared.cmp.Ordering.{Ordering}
 pub use Rattle.std.specs.declared.cmp.Ordering.TheVariants.{Equal, Greater, Less}
 pub use Rattle.zf_walk.proofs.Lists.{AllPairs-across, AllPairs-cons, AllPairs-head, AllPairs-nil, AllPairs-tail, Contains-cases, Contains-either, Contains-head, Contains-later, Contains-left, Contains-nil, Contains-right}
 pub use Rattle.zf_walk.specs.Conjuncts.{Conjuncts}
-pub use Rattle.zf_walk.specs.{Advances, Ahead, AreAllAhead, ComesAfter, Event, IsAhead, IsEvent, IsNoneAhead, IsRowOf, past, SameAhead, SameRanges, Stage, Takes, first_of, reaches, IsNumberOfTests}
+pub use Rattle.zf_walk.specs.{Advances, Ahead, AreAllAhead, ComesAfter, Event, IsAhead, IsEvent, IsNoneAhead, IsRowOf, past, SameRanges, Stage, Takes, first_of, reaches, IsNumberOfTests}
 pub use Rattle.zf_walk.specs.Progress.{Progress}
 pub use Rattle.zf_walk.specs.declared.judge.Truth.TheVariants.{Out, True}
 pub use Rattle.zf_walk.specs.declared.step.Step.TheVariants.{Breaks, End, Holds}
@@ -22,7 +22,7 @@ pub use Rattle.zf_value.specs.{value_order}
 pub use Rattle.zf_value.specs.declared.plain.Value.{Value}
 pub use Rattle.zf_term.specs.{Comp, comp_of, Schema, schema_of, ResolvedTree}
 pub use Rattle.zf_meaning.specs.{Environment}
-pub use Rattle.zf_print.specs.{comma_before, component_in, components_in, later_parts, name_in, parted, row_text, value_in}
+pub use Rattle.zf_print.specs.{comma_before, component_in, components_in, later_parts, name_in, parted, value_in}
 pub use Rattle.zf_print.specs.declared.spelling.Spelling.{Spelling}
 pub use Rattle.zf_enum.specs.{conjuncts_of, counted_goal, Goal, judged, property, Begins, BeginsCounting, Portion}
 pub use Rattle.zf_enum.specs.declared.bindings.Bindings.{Bindings}

@@ -19,7 +19,7 @@ pub use Rattle.zf_walk.specs.declared.judge.Truth.{Truth}
 pub use Rattle.zf_walk.specs.declared.judge.Truth.TheVariants.{False, Out, True}
 pub use Rattle.zf_walk.specs.declared.step.Step.{Step}
 pub use Rattle.zf_walk.specs.declared.step.Step.TheVariants.{Breaks, End, Holds}
-pub use Rattle.zf_plan.specs.{above, ahead_of, AreBelow, below, both, bound, conjoined, due_of, either, Gives, Goes, GoesOn, Grove, Grows, HasLeavesWithin, HaveLeavesWithin, is_over, IsAt, IsChoice, IsChosen, IsHopeless, IsKnown, IsNextChoice, IsOfBoth, IsOfEither, IsOver, IsPlan, IsSettled, IsSound, IsTreeTruth, joined, KeepsEvents, Lands, LandsNext, leaf, Narrows, negated, opposite, path, planted, Remembers, Stands, steps_left, Tells, Tree, tree_at, tree_of, trees_made, trees_of, SayTheSame, AreAlike, Covers, HasBits, IsBlamed, IsFailed, IsRefuted, StaysChoice, touches, exchanged, AreDues, Forgets, Memory, Accuses, IsCounted, IsKept, Jumps, mark_at, Passes, PassesOpen, AreKeys, IsKeyOf, StaysIn, AreStamped, AreUnknown, IsNew, known_by, memory_of, AreKept, AreNew, EachLeaf, is_still, unmarked, UsesFirst, Renews, AreChoosers, AreDue, AreLasts, AreTouched, IsLeafDue, touches_inside, AreLeaves, AreSeen, AreSeenOf, IsTold, seen_at, AreSifted, IsGreatest, IsOneFalse, KeepsChosen, passing, cleared, IsFlat, IsAmong, ArePassed, Tests, IsBare, IsLayer, AreKeyed, counted, view_of, IsPlain, all_of, below_it, CountsFound, Finds, IsFound, NeedsWithin, AreHeld, CountsOn, IsLeafOrBelow, IsWalk}
+pub use Rattle.zf_plan.specs.{above, ahead_of, AreBelow, below, both, bound, conjoined, due_of, either, Gives, Goes, GoesOn, Grove, Grows, HasLeavesWithin, HaveLeavesWithin, is_over, IsAt, IsChoice, IsChosen, IsHopeless, IsKnown, IsNextChoice, IsOfBoth, IsOfEither, IsOver, IsPlan, IsSettled, IsSound, IsTreeTruth, KeepsEvents, Lands, LandsNext, leaf, Narrows, negated, opposite, path, planted, Remembers, Stands, steps_left, Tells, Tree, tree_at, tree_of, trees_made, trees_of, SayTheSame, AreAlike, Covers, HasBits, IsBlamed, IsFailed, IsRefuted, StaysChoice, touches, exchanged, AreDues, Forgets, Memory, Accuses, IsCounted, IsKept, Jumps, mark_at, Passes, PassesOpen, AreKeys, IsKeyOf, StaysIn, AreStamped, AreUnknown, IsNew, known_by, memory_of, AreKept, AreNew, EachLeaf, is_still, unmarked, UsesFirst, Renews, AreChoosers, AreDue, AreLasts, AreTouched, IsLeafDue, touches_inside, AreLeaves, AreSeen, AreSeenOf, IsTold, seen_at, AreSifted, IsGreatest, IsOneFalse, KeepsChosen, passing, cleared, IsFlat, IsAmong, ArePassed, Tests, IsBare, IsLayer, AreKeyed, counted, view_of, IsPlain, all_of, below_it, CountsFound, Finds, IsFound, NeedsWithin, AreHeld, CountsOn, IsLeafOrBelow, IsWalk}
 unfoldable pub use Rattle.zf_plan.specs.{IsSoFar}
 pub use Rattle.zf_plan.specs.declared.place.Place.{Place}
 pub use Rattle.std.proofs.lemmas.Nat.Bits.{bit_at-lt, bit_at_or, bit_at_ones}

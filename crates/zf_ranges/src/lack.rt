@@ -1,4 +1,7 @@
 //! Why values can't be listed.
+ghost use Rattle.std.specs.Prelude.{◌≡◌};
+ghost use Rattle.zf_ranges.specs.declared.lack.Lack.TheVariants.{OutOfMemory};
+
 use std::alloc::AllocError;
 
 /// Why values can't be listed.
@@ -10,9 +13,6 @@ pub(crate) enum Lack {
 }
 
 impl From<AllocError> for Lack {
-    ghost use Rattle.std.specs.Prelude.{◌≡◌};
-    ghost use Rattle.zf_ranges.specs.declared.lack.Lack.TheVariants.{OutOfMemory};
-
     ghost from_gives = { λ _ lack. lack ≡ OutOfMemory };
 
     fn from(_error: AllocError) -> Lack {

@@ -1,4 +1,7 @@
 //! Why no search can be started.
+ghost use Rattle.std.specs.Prelude.{◌≡◌};
+ghost use Rattle.zf_ranges.specs.declared.start_fault.StartFault.TheVariants.{OutOfMemory};
+
 use std::alloc::{AllocError, AllocFailed};
 
 /// Why no search can be started.
@@ -10,9 +13,6 @@ pub enum StartFault {
 }
 
 impl From<AllocError> for StartFault {
-    ghost use Rattle.std.specs.Prelude.{◌≡◌};
-    ghost use Rattle.zf_ranges.specs.declared.start_fault.StartFault.TheVariants.{OutOfMemory};
-
     ghost from_gives = { λ _ fault. fault ≡ OutOfMemory };
 
     fn from(_error: AllocError) -> StartFault {
@@ -21,9 +21,6 @@ impl From<AllocError> for StartFault {
 }
 
 impl<T: Drop> From<AllocFailed<T>> for StartFault {
-    ghost use Rattle.std.specs.Prelude.{◌≡◌};
-    ghost use Rattle.zf_ranges.specs.declared.start_fault.StartFault.TheVariants.{OutOfMemory};
-
     ghost from_gives = { λ _ fault. fault ≡ OutOfMemory };
 
     fn from(_error: AllocFailed<T>) -> StartFault {

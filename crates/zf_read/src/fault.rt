@@ -1,5 +1,6 @@
 //! Why a line is not read.
 ghost use Rattle.std.specs.Prelude.{◌≡◌};
+ghost use Rattle.zf_read.specs.declared.fault.AfterFault.TheVariants.{OutOfMemory};
 
 use std::alloc::{AllocError, AllocFailed};
 use thiserror::Error;
@@ -15,8 +16,6 @@ pub enum AfterFault {
 }
 
 impl From<AllocError> for AfterFault {
-    ghost use Rattle.zf_read.specs.declared.fault.AfterFault.TheVariants.{OutOfMemory};
-
     ghost from_gives = { λ _ fault. fault ≡ OutOfMemory };
 
     fn from(_error: AllocError) -> AfterFault {
@@ -25,8 +24,6 @@ impl From<AllocError> for AfterFault {
 }
 
 impl<T: Drop> From<AllocFailed<T>> for AfterFault {
-    ghost use Rattle.zf_read.specs.declared.fault.AfterFault.TheVariants.{OutOfMemory};
-
     ghost from_gives = { λ _ fault. fault ≡ OutOfMemory };
 
     fn from(_error: AllocFailed<T>) -> AfterFault {

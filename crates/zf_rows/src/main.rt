@@ -11,59 +11,25 @@ use std::process::ExitCode;
 use std::rt::Files;
 use std::{fs, io};
 
-static TREES: [&str; 5] = [
-    "examples",
-    "forms_in_places",
-    "prefixes",
-    "separators",
-    "sizes",
-];
+/// The files of rows of trees.
+static TREES: &str = "examples forms_in_places prefixes separators sizes";
 
-static REQUESTS: [&str; 33] = [
-    "answers",
-    "calculus",
-    "command_lines",
-    "details",
-    "disjunction",
-    "examples",
-    "held",
-    "large",
-    "limits",
-    "meaning",
-    "missing",
-    "names",
-    "needed",
-    "numbers",
-    "objects",
-    "order",
-    "out_of_bounds",
-    "parts",
-    "quoted",
-    "ranges",
-    "reach",
-    "refusals",
-    "resuming",
-    "sessions",
-    "sizes",
-    "small",
-    "tests",
-    "truths",
-    "types",
-    "unread",
-    "usual_z",
-    "values",
-    "why",
-];
+/// The files of rows of requests.
+static REQUESTS: &str = "
+    answers calculus command_lines details disjunction examples held large limits meaning
+    missing names needed numbers objects order out_of_bounds parts quoted ranges reach
+    refusals resuming sessions sizes small tests truths types unread usual_z values why
+";
 
 fn main(rt: HostRuntime) -> ExitCode {
     let mut status = 0;
-    for name in TREES {
+    for name in TREES.split_whitespace() {
         if let Err(error) = tell_trees(&rt, name) {
             let _ = println!(&rt; "trees/{name}: {error}");
             status = 1;
         }
     }
-    for name in REQUESTS {
+    for name in REQUESTS.split_whitespace() {
         if let Err(error) = tell_requests(&rt, name) {
             let _ = println!(&rt; "{name}: {error}");
             status = 1;

@@ -3,7 +3,7 @@ pub use Rattle.std.proofs.Common.{◌*◌, ◌++◌, ◌+◌, ◌-◌, ◌/◌, 
 pub use Rattle.std.proofs.Math.Numerals.{one-add}
 pub use Rattle.std.proofs.Math.Seq.{drop-append_seam, take-add, take-append_seam}
 pub use Rattle.std.proofs.lemmas.Bool.Decides.{Decides-eqb, nat_tests}
-pub use Rattle.std.proofs.lemmas.List.{append-nil, drop-append-le, drop-drop, drop-take, get_or-take, map-append, take-append-le, take_all, take_more, take_rest}
+pub use Rattle.std.proofs.lemmas.List.{append-nil, drop-append-le, drop-drop, drop-take, get_or-take, map-append, take-append-le, take_all, take_more}
 pub use Rattle.std.proofs.lemmas.Slice.Eq.{bytes_eq-Decides, starts_is}
 pub use Rattle.std.specs.Cmp.Lexicographic.{bytes_decides}
 pub use Rattle.std.specs.List.{fold, list_all, starts_with}

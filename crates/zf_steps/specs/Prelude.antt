@@ -16,6 +16,6 @@ pub use Rattle.std.specs.List.{AllByRecursion, filter_map}
 pub use Rattle.zf_finite.specs.{IsFinite}
 pub use Rattle.zf_walk.specs.declared.judge.Truth.{Truth}
 pub use Rattle.zf_walk.specs.declared.judge.Truth.TheVariants.{True, False, Out}
-pub use Rattle.std.proofs.Common.{◌∙◌, ap, ap₂, false, inl, inr, refl, subst, sym}
+pub use Rattle.std.proofs.Common.{ap, ap₂, false, inl, inr, refl, subst, sym}
 pub use Rattle.std.specs.Io.KnownBytes.{Appends}
 pub use Rattle.zf_lines.specs.{device_of, failures_of, read_failures, write_failures}
