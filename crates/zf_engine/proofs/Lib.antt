@@ -1,5 +1,4 @@
 mod Prelude
-pub mod Unsized
 pub mod Reported
 pub mod Refusing
 pub mod Parts

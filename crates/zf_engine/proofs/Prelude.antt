@@ -1,8 +1,8 @@
 -- What the proofs of this crate take from elsewhere, passed on from one place.
 pub use Rattle.std.proofs.Common.{if◌then◌else◌, ◌++◌, ◌+◌, ◌-◌, ◌<◌, ◌==◌, ◌∙◌, ◌∷◌, ◌≡◌, ◌≢◌, ◌≤◌, ◌⊎◌, [], ap, append-nil, arith, Bool, Err, false, get_or, IfErr, IfOk, inl, inr, length, length-append, List, map, None, Ok, OnErr, Option, refl, Result, rules, Some, subst, suc, sym, take, true, vec_len, zero, ℕ, append_assoc, add-one}
 pub use Rattle.std.proofs.KnownBytes.{Appends-kept, Appends-nil, Consumes-trans}
-pub use Rattle.std.proofs.lemmas.Bool.{eqb-true, false≢true, cases_lt, eq-eqb}
-pub use Rattle.std.proofs.lemmas.List.{length-map, length-take, get_or_append_left, get_or_default, map-append, take_all, take_more, flat_map_more, drop_all, length-drop}
+pub use Rattle.std.proofs.lemmas.Bool.{eqb-true, false≢true, eq-eqb}
+pub use Rattle.std.proofs.lemmas.List.{length-map, length-take, get_or_append_left, get_or_default, map-append, take_all, take_more, flat_map_more, drop_all}
 pub use Rattle.std.proofs.lemmas.Option.{none-some, same_Some}
 pub use Rattle.std.specs.Io.KnownBytes.{Appends, Consumes, Keeps}
 pub use Rattle.std.specs.Option.{option_copied, option_or}
@@ -24,12 +24,12 @@ pub use Rattle.zf_enum.specs.{counted_goal, due, due_of, Goal, greatest_place, p
 pub use Rattle.zf_command.specs.declared.job.Request.{Request}
 pub use Rattle.zf_lines.proofs.Beginning.{at_start, counting_at_start}
 pub use Rattle.zf_lines.specs.declared.fault.Status.{Status}
-pub use Rattle.zf_engine.specs.{Answer, AnswersExploration, AnswersOver, AnswersReader, AnswersRequest, AnswersSource, AreHeld, AreMessages, AreSmall, Checks, HasSchema, IfAnswered, IsAsked, IsFaultLine, IsNamed, IsNamedRow, IsRefused, IsSearch, IsStatus, IsStatusOfRefused, IsUnexplored, IsUnfit, IsWorkStatus, numbers_of, Reaches, RefusesRequest, RequestAnswer, ShowAnswer, ShowBegins, Shows, stated, stated_size, StopsInReader, StopsInSource, Tells, TellsBounds, TellsInfinite, TellsMisfit, TellsMisnamed, TellsNoParts, TellsNoRow, TellsNoSchema, TellsNoValues, TellsNumbers, TellsOut, TellsPlace, TellsPlaceHeld, ToldOfFaults, UnreadAnswer, without_size, wording, Writes, WritesText, ending_status, ExplorationAnswer, ExplorationBegins, form_of, IsSchemaOf, IsSearchable, names_of, result_status, states_limit, TellsMachine, CanBeSearched, environment_in, HasNone, IsBegunOf, line_in, out_line_in, satisfied_line, schema_in, TellsFirst, TellsWhy, component_place, HasNoPlace, is_comma, IsAdded, names_between, NamesParts, trimmed, Gave, TellsShown, AreSchemasOf, HasInfinite, HasLacking, HasOut, HasSchemas, IsBounded, IsSettled, LacksSchema, RefusesExploration, AreShown, row_after, first_line, further_lines, lines_behind, IsChosenBy, IsSubjectOf, shown_in, operands_lines, operands_lines_of, outcome_text, side_lines, sides_lines, sides_lines_of, source_line, told_line, no_binding_line, TellsNone, TellsOf, told_lines, without_end, without_start, source_object, side_objects, IsMisnamed, empty_line, with_size}
+pub use Rattle.zf_engine.specs.{Answer, AnswersExploration, AnswersOver, AnswersReader, AnswersRequest, AnswersSource, AreHeld, AreMessages, AreSmall, Checks, HasSchema, IfAnswered, IsAsked, IsFaultLine, IsNamed, IsNamedRow, IsRefused, IsSearch, IsStatus, IsStatusOfRefused, IsUnexplored, IsUnfit, IsWorkStatus, numbers_of, Reaches, RefusesRequest, RequestAnswer, ShowAnswer, ShowBegins, Shows, stated, stated_size, StopsInReader, StopsInSource, Tells, TellsBounds, TellsInfinite, TellsMisfit, TellsMisnamed, TellsNoParts, TellsNoRow, TellsNoSchema, TellsNoValues, TellsNumbers, TellsOut, TellsPlace, TellsPlaceHeld, ToldOfFaults, UnreadAnswer, without_size, wording, Writes, WritesText, ending_status, ExplorationAnswer, ExplorationBegins, form_of, IsSchemaOf, IsSearchable, names_of, result_status, states_limit, TellsMachine, CanBeSearched, environment_in, HasNone, IsBegunOf, line_in, out_line_in, satisfied_line, schema_in, TellsFirst, TellsWhy, component_place, HasNoPlace, is_comma, IsAdded, NamesParts, trimmed, Gave, TellsShown, AreSchemasOf, HasInfinite, HasLacking, HasOut, HasSchemas, IsBounded, IsSettled, LacksSchema, RefusesExploration, AreShown, row_after, first_line, further_lines, lines_behind, IsChosenBy, IsSubjectOf, shown_in, operands_lines_of, side_lines, sides_lines_of, source_line, told_line, no_binding_line, TellsNone, TellsOf, told_lines, without_end, without_start, source_object, side_objects, IsMisnamed, empty_line, with_size}
 pub use Rattle.zf_messages.specs.{AreLines, Cited, cited_of, declared_out_line, no_schema_lines, type_fault_lines, Aside, Reported, reported_lines}
 pub use Rattle.zf_engine.specs.declared.stop.Stop.{Stop}
 pub use Rattle.zf_engine.specs.declared.stop.Stop.TheVariants.{Answered, OutOfMemory}
-pub use Rattle.std.specs.Prelude.{drop, slice_get, unwrap_or, not, option_map, AllPairs, Contains, MatchOption, OnOk, option_to_list, codes, IsTrue}
-pub use Rattle.std.specs.List.{flat_map, AllByRecursion, AllZip, after_first, before_first, list_any, position_or_len, slice_split}
+pub use Rattle.std.specs.Prelude.{drop, slice_get, unwrap_or, not, option_map, AllPairs, Contains, OnOk, option_to_list, codes, IsTrue}
+pub use Rattle.std.specs.List.{flat_map, AllByRecursion, AllZip, list_any, slice_split}
 pub use Rattle.std.proofs.lemmas.List.Folds.{flat_map-map, list_any_at}
 pub use Rattle.zf_why.proofs.Lists.{stays_out_at, read_at}
 pub use Rattle.zf_command.specs.declared.job.Exploration.{Exploration}

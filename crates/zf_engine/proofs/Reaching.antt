@@ -1,6 +1,5 @@
 -- The steps before the first state make answers: refusals, in their order.
-use Rattle.zf_engine.proofs.Prelude.{[], ◌+◌, ◌++◌, ◌<◌, ◌∙◌, ◌∷◌, ◌≡◌, ap, Err, get_or, inl, inr, length, List, map, None, Ok, Option, Result, Some, subst, sym, take, ℕ, Defined, Environment, Status, AnswersExploration, Checks, IfAnswered, IsUnexplored, IsUnfit, numbers_of, Reaches, stated, Stop, Tells, TellsMisfit, TellsNumbers, AllByRecursion, AllZip, MatchOption, OnOk, option_map, option_to_list, take_more, Exploration, Reach, IsFinite, RunFault, all_of, FirstFails, HasShape, Named, Schemas, AreComplete, given_sets, IsEnvironment, IsNoneOut, AreSchemasOf, AreSmall, HasInfinite, HasLacking, HasOut, HasSchemas, IsBounded, IsSchemaOf, IsSearchable, IsSettled, LacksSchema, names_of, RefusesExploration, IsOfSchema}
-use Rattle.zf_engine.proofs.Lists.{all_joined}
+use Rattle.zf_engine.proofs.Prelude.{[], ◌+◌, ◌++◌, ◌<◌, ◌∙◌, ◌∷◌, ◌≡◌, ap, get_or, inl, inr, length, List, Option, Result, subst, sym, take, ℕ, Defined, Environment, Status, AnswersExploration, Checks, IfAnswered, IsUnexplored, IsUnfit, numbers_of, Reaches, stated, Stop, Tells, TellsInfinite, TellsMisfit, TellsNumbers, TellsOut, AllByRecursion, AllZip, option_to_list, take_more, Exploration, Reach, IsFinite, RunFault, all_of, FirstFails, HasShape, Named, Schemas, AreComplete, given_sets, IsEnvironment, IsNoneOut, AreSchemasOf, AreSmall, HasInfinite, HasLacking, HasOut, HasSchemas, IsBounded, IsSchemaOf, IsSearchable, IsSettled, LacksSchema, names_of, RefusesExploration, IsOfSchema}
 use Rattle.zf_engine.proofs.Parts.{reach_refused, told_written}
 use Rattle.zf_engine.proofs.Refusing.{weaker}
 
@@ -30,12 +29,6 @@ in_order g x p are = (are.state, (are.init, zip_joined (IsSchemaOf g) x.operatio
 
 -- ---- some, and then others
 
--- what holds of the first ones, and of the last where there is an answer
-pub all_on_ok : {A : Type 0} (P : A → Type 0) (x y : A) (zs us : List A) (result : Result (Unit {0}) Stop) → P x → P y → AllByRecursion P zs → OnOk result (AllByRecursion P us)
-    → OnOk result (AllByRecursion P (x ∷ y ∷ (zs ++ us)))
-all_on_ok P x y zs us (Ok u) px py all last = (px, (py, all_joined P zs us all last))
-all_on_ok P x y zs us (Err stop) px py all last = tt
-
 -- one of them fails
 pub fails_before : {A : Type 0} (P F : A → Type 0) (xs ys : List A) → FirstFails P F xs → FirstFails P F (xs ++ ys)
 fails_before P F [] ys h = absurd h
@@ -53,10 +46,21 @@ all_named g [] (n ∷ ns) named = absurd named
 all_named g (name ∷ names) [] named = absurd named
 all_named g (name ∷ names) (n ∷ ns) named = ((n.schema, named.0.1), all_named g names ns named.1)
 
--- what may be there, as a list
-pub listed : {X A : Type 0} (f : X → A) (o : Option X) (xs : List X) → MatchOption o (xs ≡ []) (λ x. xs ≡ x ∷ []) → map f xs ≡ option_to_list (option_map f o)
-listed f None xs is = ap (map f) is
-listed f (Some x) xs is = ap (map f) is
+-- ---- schemas one after another
+
+-- this one is finite; what is told of one that is not
+abbrev pub Ends : Environment → Named → Type 0
+Ends e n = IsFinite e.numbers e.globals n.schema
+
+abbrev pub TellsEndless : Exploration → (file : List ℕ) → Environment → List ℕ × Status → Named → Type 0
+TellsEndless x file e b n = TellsInfinite e.numbers e.globals n.schema x.details file b.0 b.1
+
+-- this one has no declared set that is out; what is told of one that has
+abbrev pub StaysIn : Environment → Named → Type 0
+StaysIn e n = IsNoneOut e n.schema.comps
+
+abbrev pub TellsLeaving : Environment → List ℕ × Status → Named → Type 0
+TellsLeaving e b n = TellsOut e n.schema.comps b.0 b.1
 
 -- ---- refusals
 

@@ -1,47 +1,45 @@
--- The lines of a source, one after another.
-use Rattle.zf_engine.proofs.Prelude.{if◌then◌else◌, ◌+◌, ◌-◌, ◌<◌, ◌==◌, ◌∙◌, ◌∷◌, ◌≡◌, ◌≤◌, ◌++◌, [], ap, append-nil, arith, Bool, eqb-true, false, get_or, length, List, refl, suc, sym, take, true, ℕ, drop, first_line, further_lines, lines_behind}
-use Rattle.std.proofs.lemmas.List.{append_assoc, drop_all, drop_more, take_all, take_more}
+-- The lines of a source, as what stands between its newlines.
+use Rattle.zf_engine.proofs.Prelude.{◌+◌, ◌==◌, ◌∙◌, ◌∷◌, ◌≡◌, ◌⊎◌, [], add-one, ap, Bool, false, if◌then◌else◌, inl, inr, length, List, None, Option, option_map, refl, Some, suc, sym, true, unwrap_or, zero, ℕ, drop, first_line, further_lines, lines_behind, slice_get, slice_split}
+use Rattle.std.proofs.Common.{Bor, cond}
+use Rattle.std.specs.List.{onto_first}
 
--- ---- a byte further
+abbrev pub is_newline : ℕ → Bool
+is_newline b = b == 10
 
-ends_here : (b : ℕ) (bytes : List ℕ) → b ≡ 10 → first_line (b ∷ bytes) ≡ []
-ends_here b bytes is = ap (λ c. if c == 10 then [] else b ∷ first_line bytes) is
+-- a newline follows the line and others stand behind it, or nothing follows it
+abbrev IsCut : List (List ℕ) → (line bytes : List ℕ) → Type 0
+IsCut lines line bytes =
+    let behind = drop (length line + 1) bytes in
+    (lines ≡ line ∷ slice_split is_newline behind) ⊎ ((lines ≡ line ∷ []) × (behind ≡ []))
 
-goes_on : (b : ℕ) (bytes : List ℕ) → (b ≡ 10 → ⊥) → first_line (b ∷ bytes) ≡ b ∷ first_line bytes
-goes_on b bytes other = ap (λ t. if t then [] else b ∷ first_line bytes) (of (b == 10) refl)
+one_further : (b : ℕ) (line bytes : List ℕ) → drop (length (b ∷ line) + 1) (b ∷ bytes) ≡ drop (length line + 1) bytes
+one_further b line bytes = ap (λ n. drop n (b ∷ bytes)) (add-one (length (b ∷ line))) ∙ ap (λ n. drop n bytes) (sym (add-one (length line)))
+
+cut : (bytes : List ℕ) → IsCut (slice_split is_newline bytes) (first_line bytes) bytes
+cut [] = inr (refl, refl)
+cut (b ∷ bytes) = of (b == 10) (cut bytes)
   where
-    of : (t : Bool) → (b == 10) ≡ t → (b == 10) ≡ false
-    of true e = absurd (other (eqb-true b 10 e))
-    of false e = e
+    of : (ends : Bool) → IsCut (slice_split is_newline bytes) (first_line bytes) bytes
+        → IsCut (cond ends ([] ∷ slice_split is_newline bytes) (onto_first b (slice_split is_newline bytes))) (if ends then [] else b ∷ first_line bytes) (b ∷ bytes)
+    of true others = inl refl
+    of false (inl more) = inl (ap (onto_first b) more ∙ ap (λ rest. (b ∷ first_line bytes) ∷ slice_split is_newline rest) (sym (one_further b (first_line bytes) bytes)))
+    of false (inr last) = inr (ap (onto_first b) last.0, one_further b (first_line bytes) bytes ∙ last.1)
 
-module _ (bytes : List ℕ) (i : ℕ) (l : i < length bytes) (so_far : first_line bytes ≡ take i bytes ++ first_line (drop i bytes)) where
-  abbrev here : ℕ
-  here = get_or bytes i 0
+empty : (n : ℕ) → first_line (lines_behind n []) ≡ []
+empty zero = refl
+empty (suc n) = empty n
 
-  abbrev later : List ℕ
-  later = drop (i + 1) bytes
+-- the one behind so many
+pub line_at : (n : ℕ) (bytes : List ℕ) → unwrap_or (slice_get (slice_split is_newline bytes) n) [] ≡ first_line (lines_behind n bytes)
+line_at zero bytes = elim (cut bytes) [
+  | inl more ↦ ap (λ lines. unwrap_or (slice_get lines 0) []) more
+  | inr last ↦ ap (λ lines. unwrap_or (slice_get lines 0) []) last.0
+]
+line_at (suc n) bytes = elim (cut bytes) [
+  | inl more ↦ ap (λ lines. unwrap_or (slice_get lines (suc n)) []) more ∙ line_at n (further_lines bytes)
+  | inr last ↦ ap (λ lines. unwrap_or (slice_get lines (suc n)) []) last.0 ∙ sym (ap (λ rest. first_line (lines_behind n rest)) last.1 ∙ empty n)
+]
 
-  seen : first_line bytes ≡ take i bytes ++ first_line (here ∷ later)
-  seen = so_far ∙ ap (λ bs. take i bytes ++ first_line bs) (drop_more bytes i 0 l)
-
-  pub at_newline : here ≡ 10 → take i bytes ≡ first_line bytes
-  at_newline is = sym (seen ∙ ap (λ bs. take i bytes ++ bs) (ends_here here later is) ∙ append-nil (take i bytes))
-
-  pub past_byte : (here ≡ 10 → ⊥) → first_line bytes ≡ take (i + 1) bytes ++ first_line later
-  past_byte other =
-      seen ∙ ap (λ bs. take i bytes ++ bs) (goes_on here later other) ∙ sym (append_assoc (take i bytes) (here ∷ []) (first_line later))
-      ∙ ap (λ bs. bs ++ first_line later) (sym (take_more bytes i 0 l))
-
-pub whole_line : (bytes : List ℕ) (i : ℕ) → length bytes ≤ i → first_line bytes ≡ take i bytes ++ first_line (drop i bytes) → bytes ≡ first_line bytes
-whole_line bytes i l h = sym (h ∙ ap (λ bs. take i bytes ++ first_line bs) (drop_all i bytes l) ∙ append-nil (take i bytes) ∙ take_all i bytes l)
-
--- ---- a line further
-
-pub one_line_on : (source rest : List ℕ) (n turn : ℕ) → turn < n → lines_behind (n - 1) source ≡ lines_behind (n - turn) rest
-    → lines_behind (n - 1) source ≡ lines_behind (n - (turn + 1)) (further_lines rest)
-one_line_on source rest n turn l h =
-    let one : n - turn ≡ suc (n - (turn + 1)) = omega (arith, l) in h ∙ ap (λ k. lines_behind k rest) one
-
-pub no_line_on : (source rest : List ℕ) (n turn : ℕ) → n ≤ turn → lines_behind (n - 1) source ≡ lines_behind (n - turn) rest → lines_behind (n - 1) source ≡ rest
-no_line_on source rest n turn l h =
-    let none : n - turn ≡ 0 = omega (arith, l) in h ∙ ap (λ k. lines_behind k rest) none
+pub now_or : (line : Option (Bor (List ℕ))) (other : Bor (List ℕ)) → (unwrap_or line other).now ≡ unwrap_or (option_map (λ x. x.now) line) other.now
+now_or None other = refl
+now_or (Some x) other = refl

@@ -1,9 +1,7 @@
 -- The lines of what is reported, one after another.
-use Rattle.zf_engine.proofs.Prelude.{get_or_default, ◌++◌, ◌+◌, ◌<◌, ◌∙◌, ◌≡◌, ◌≤◌, ◌∷◌, ap, append-nil, get_or, length, List, Result, sym, ℕ, append_assoc, codes, drop, OnOk, Ok, Err, flat_map, drop_all, Spelling, operands_lines, operands_lines_of, outcome_text, side_lines, sides_lines, sides_lines_of, source_line, told_line}
+use Rattle.zf_engine.proofs.Prelude.{get_or_default, ◌++◌, ◌+◌, ◌<◌, ◌∙◌, ◌≡◌, ◌≤◌, ◌∷◌, ap, append-nil, get_or, length, List, Result, sym, ℕ, append_assoc, drop, OnOk, Ok, Err, flat_map, drop_all, Spelling, operands_lines_of, sides_lines_of, source_line, told_line}
 use Rattle.zf_term.proofs.Walk.{dropped}
 use Rattle.zf_format.specs.declared.format.Format.TheVariants.{Lines}
-use Rattle.zf_why.specs.declared.told.Operands.{Operands}
-use Rattle.zf_why.specs.declared.told.Sides.{Sides}
 use Rattle.zf_why.specs.declared.told.Told.{Told}
 
 module _ {A : Type 0} (f : A → List ℕ) where
@@ -34,29 +32,3 @@ module _ (file source : List ℕ) where
       let sides = sides_lines_of file source t.sides in
       let operands = operands_lines_of ss t.operands in
       h ∙ ap (λ ls. ls ++ operands) (two ∙ ap (λ ls. ls ++ sides) one ∙ append_assoc old line sides) ∙ append_assoc old (line ++ sides) operands
-
-  pub both_told : {R E : Type 0} (r : Result R E) (s : Sides) (ns ms : List ℕ) (old first mid new : List ℕ) → ns ≡ s.left.items → ms ≡ s.right.items
-      → first ≡ old ++ side_lines file source ns → mid ≡ first ++ codes "    or\n" → OnOk r (new ≡ mid ++ side_lines file source ms) → OnOk r (new ≡ old ++ sides_lines file source s)
-  both_told (Err x) s ns ms old first mid new left right one two h = tt
-  both_told (Ok x) s ns ms old first mid new left right one two h =
-      let before = side_lines file source s.left.items in
-      let behind = side_lines file source s.right.items in
-      h
-      ∙ ap (λ ls. mid ++ side_lines file source ls) right
-      ∙ ap (λ ls. ls ++ behind) (two ∙ ap (λ ls. ls ++ codes "    or\n") (one ∙ ap (λ ls. old ++ side_lines file source ls) left) ∙ append_assoc old before (codes "    or\n"))
-      ∙ append_assoc old (before ++ codes "    or\n") behind
-
--- what both operands come to, piece by piece
-pub operands_told : (ss : List Spelling) (o : Operands) (old one two three four new : List ℕ) → one ≡ old ++ codes "    left: "
-    → two ≡ one ++ outcome_text ss o.left → three ≡ two ++ codes "\n    right: "
-    → four ≡ three ++ outcome_text ss o.right → new ≡ four ++ codes "\n" → new ≡ old ++ operands_lines ss o
-operands_told ss o old one two three four new a b c d e =
-    let first = codes "    left: " in
-    let left = outcome_text ss o.left in
-    let middle = codes "\n    right: " in
-    let right = outcome_text ss o.right in
-    let last = codes "\n" in
-    let at_two = b ∙ ap (λ ls. ls ++ left) a ∙ append_assoc old first left in
-    let at_three = c ∙ ap (λ ls. ls ++ middle) at_two ∙ append_assoc old (first ++ left) middle in
-    let at_four = d ∙ ap (λ ls. ls ++ right) at_three ∙ append_assoc old (first ++ left ++ middle) right in
-    e ∙ ap (λ ls. ls ++ last) at_four ∙ append_assoc old (first ++ left ++ middle ++ right) last

@@ -24,6 +24,6 @@ pub use Rattle.zf_engine.specs.Only.{AreShown, component_place, is_comma, names_
 pub use Rattle.zf_engine.specs.Adding.{HasNoPlace, IsAdded}
 pub use Rattle.zf_engine.specs.Explorations.{AreSchemasOf, ending_status, ExplorationAnswer, ExplorationBegins, ExploresMachine, form_of, HasInfinite, HasLacking, HasOut, HasSchemas, IsBounded, IsSchemaOf, IsSearchable, IsSettled, LacksSchema, names_of, RefusesExploration, result_status, Seeks, states_limit, TellsMachine}
 pub use Rattle.zf_engine.specs.Answers.{Answer, AnswersReader, AnswersSource, AreHeld, check_status, CheckAnswer, format_of, HoldsNoValues, IsAsked, IsCheckText, IsLimited, IsLineOf, IsNamedRow, IsPartOfAnswer, IsSearch, JobAnswer, JobBegins, NamesNoRow, RefusesRequest, RequestAnswer, row_after, ShowAnswer, ShowBegins, ShowsEvents, ShowsParts, StopsInReader, TellsShown, UnreadAnswer, wants_details, wording}
-pub use Rattle.zf_engine.specs.Stops.{AnswersExploration, AnswersOver, AnswersRequest, IfAnswered, IsFaultLine, IsMisnamed, IsRefused, IsUnexplored, IsUnfit, IsWhole, Reaches, Shows, StopsInSource, Tells, TellsBounds, TellsMisnamed, TellsNoParts, TellsNoRow, TellsNoValues, TellsPlace, TellsPlaceHeld, TellsPlaceMisnamed, ToldOfFaults, Writes, WritesText}
+pub use Rattle.zf_engine.specs.Stops.{AnswersExploration, AnswersOver, AnswersRequest, IfAnswered, IsFaultLine, IsMisnamed, IsRefused, IsUnexplored, IsUnfit, Reaches, Shows, StopsInSource, Tells, TellsBounds, TellsMisnamed, TellsNoParts, TellsNoRow, TellsNoValues, TellsPlace, TellsPlaceHeld, TellsPlaceMisnamed, ToldOfFaults, Writes, WritesText}
 pub use Rattle.zf_engine.specs.Subjects.{AreNamedIn, CanBeSearched, environment_in, HasNone, IsBegunOf, IsChosenBy, IsSubjectOf, line_in, out_line_in, schema_in, shown_in, TellsFirst, TellsNone, TellsOf}
 pub use Rattle.zf_engine.specs.Statuses.{IsStatus, IsStatusOfRefused, IsWorkStatus, refused_number, status_max}

@@ -29,7 +29,7 @@ pub use Rattle.zf_print.specs.declared.spelling.Spelling.{Spelling}
 pub use Rattle.zf_cores.specs.{chosen_of}
 pub use Rattle.zf_why.specs.declared.cause.Cause.{Cause}
 pub use Rattle.zf_why.specs.declared.cause.Cause.TheVariants.{Empty, Alone, Together}
-pub use Rattle.std.specs.List.{AllByRecursion, AllZip, slice_split, flat_map, filter, list_any, prefix_len, suffix_len, before_first}
+pub use Rattle.std.specs.List.{AllByRecursion, AllZip, slice_split, flat_map, filter, list_any, prefix_len, suffix_len}
 pub use Rattle.zf_command.specs.declared.job.Exploration.{Exploration}
 pub use Rattle.zf_format.specs.declared.format.Format.TheVariants.{Lines, Objects}
 pub use Rattle.zf_machines.specs.{all_of, FirstFails, HasShape, IsMachineOf, LacksFirst, Named, Schemas, named_of, schemas_of}

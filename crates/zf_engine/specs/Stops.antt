@@ -1,6 +1,6 @@
 -- What the steps of an answer ensure. No public clause rests on this file.
-use Rattle.std.specs.Prelude.{◌≡◌, ◌≢◌, ◌⊎◌, ℕ, Bool, List, [], Option, Result, Ok, Err, Vec}
-use Rattle.zf_engine.specs.Prelude.{Global, Appends, Reach, Show, TextFault, Comp, Defined, Value, Environment, Status, BadSpec, BadRequest, Exploration, Request, AppendsFront, Cited, not_a_binding_line, not_components_line, not_held_line, text_fault_lines, Job, Format, messages_in}
+use Rattle.std.specs.Prelude.{◌≡◌, ◌≢◌, ◌⊎◌, ℕ, Bool, List, [], Option, Result, Ok, Err}
+use Rattle.zf_engine.specs.Prelude.{Appends, Reach, Show, TextFault, Comp, Defined, Value, Environment, Status, BadSpec, BadRequest, Exploration, Request, AppendsFront, Cited, not_a_binding_line, not_components_line, not_held_line, text_fault_lines, Job, Format, messages_in}
 use Rattle.zf_scan.specs.declared.fault.TextFaultKind.TheVariants as text_faults
 use Rattle.zf_lines.specs.declared.fault.RunFault.{RunFault}
 use Rattle.zf_engine.specs.declared.stop.Stop.{Stop}
@@ -20,11 +20,6 @@ StopsInSource job file source old new = (written : List ℕ) × IsPartOfAnswer j
 abbrev pub IfAnswered : Stop → (List ℕ → Status → Type 0) → Type 0
 IfAnswered (Answered text status) P = P text.items status
 IfAnswered OutOfMemory P = Unit {0}
-
--- it is this text with this status, or this stop
-abbrev pub IsWhole : Result (Vec ℕ Global × Status) Stop → Stop → Type 0
-IsWhole (Ok (text, status)) stop = stop ≡ Answered text status
-IsWhole (Err other) stop = stop ≡ other
 
 abbrev pub IsFaultLine : (details : Bool) → (file : List ℕ) → TextFault → (about : Cited) → List ℕ → Status → Type 0
 IsFaultLine details file fault about text status = (fault.kind ≢ text_faults.OutOfMemory) × (text ≡ text_fault_lines details file fault about) × (status ≡ BadSpec)

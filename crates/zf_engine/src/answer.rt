@@ -1,18 +1,17 @@
 //! What is written of a job on a source.
-ghost use Rattle.std.specs.Prelude.{◌≡◌, [], true, IfOk, IfErr, None, OnErr, Some, option_map};
-ghost use Rattle.zf_engine.specs.Prelude.{option_copied, IsBare, Why, device_of, failures_of, HasLimit, read_failures, write_failures, environment_of, globals_of, schema_of};
-ghost use Rattle.zf_engine.specs.{AnswersRequest, AnswersSource, AreNamedIn, Checks, environment_in, IfAnswered, IsAsked, IsChosenBy, IsLimited, IsNamedRow, IsSubjectOf, schema_in, Shows, StopsInSource, ToldOfFaults, Writes};
+ghost use Rattle.std.specs.Prelude.{◌≡◌, true, IfOk, None, OnErr, Some};
+ghost use Rattle.zf_engine.specs.Prelude.{option_copied, IsBare, Why, device_of, failures_of, HasLimit, read_failures, write_failures, environment_of, schema_of};
+ghost use Rattle.zf_engine.specs.{AnswersRequest, AnswersSource, AreNamedIn, environment_in, IfAnswered, IsAsked, IsChosenBy, IsLimited, IsNamedRow, IsSubjectOf, schema_in, Shows, StopsInSource, ToldOfFaults, Writes};
 
 use crate::asked::{Asked, find_schema};
 use crate::begin::{begin, begin_counting};
 use crate::bounds::{Bounds, Chosen, bounds_in};
-use crate::check::{check_answer, check_source};
+use crate::check::{check_answer, check_source, load};
 use crate::inquiry::Inquiry;
 use crate::reach::reach_source;
-use crate::stop::{Stop, whole};
+use crate::stop::Stop;
 use crate::subject::Subject;
 use crate::telling::{tell, write_whole};
-use crate::typed::load;
 use crate::why::why_source;
 use bumpalo::Bump;
 use std::alloc::Global;
@@ -24,7 +23,7 @@ use zf_meaning::Env;
 use zf_messages::Report;
 use zf_parts::{Parts, are_first, show_fronts, show_parts};
 use zf_print::spellings_of;
-use zf_term::{Flat, Globals};
+use zf_term::Flat;
 use zf_value::Value;
 
 /// Writes the answer of a job for a source, as it is found.
@@ -62,19 +61,6 @@ pub fn answer<W: Write>(
 fn checked(alloc: Global, types: bool, details: bool, file: &[u8], source: &[u8]) -> Stop
     ensures { IfAnswered result (ToldOfFaults types details file.now source.now) }
 {
-    whole(checked_text(alloc, types, details, file, source))
-}
-
-fn checked_text(
-    alloc: Global,
-    types: bool,
-    details: bool,
-    file: &[u8],
-    source: &[u8],
-) -> Result<(Vec<u8>, Status), Stop>
-    ensures answer { IfOk result (λ p. ToldOfFaults types details file.now source.now p.0.items p.1) }
-    ensures stop { IfErr result (λ s. IfAnswered s (ToldOfFaults types details file.now source.now)) }
-{
     let trees = Bump::new(alloc);
     let arena = Bump::new(alloc);
     let report = Report {
@@ -82,8 +68,14 @@ fn checked_text(
         file,
         details,
     };
-    let checked = check_source(alloc, &trees, &arena, report)?;
-    Ok(check_answer(alloc, types, report, &checked)?)
+    let checked = match check_source(alloc, &trees, &arena, report) {
+        Ok(checked) => checked,
+        Err(stop) => return stop,
+    };
+    match check_answer(alloc, types, report, &checked) {
+        Ok((text, status)) => Stop::Answered(text, status),
+        Err(_) => Stop::OutOfMemory,
+    }
 }
 
 /// Writes the answer of `why` for a source.
@@ -132,29 +124,12 @@ fn show_source<W: Write>(
         request,
         report,
     };
-    match load(alloc, &trees, &arena, report) {
-        Ok(globals) => show_globals(inquiry, &arena, &globals, writer),
-        Err(stop) => tell(alloc, request.format, file, stop, writer),
-    }
-}
-
-/// Writes the answer of `show` for a source that is well typed and defines these globals.
-fn show_globals<'a, W: Write>(
-    inquiry: Inquiry<'_>,
-    arena: &'a Bump,
-    globals: &Globals<'a>,
-    writer: &mut Counted<W>,
-) -> Result<Status, RunFault>
-    requires unfailed { failures_of writer.old ≡ 0 }
-    requires limited { HasLimit inquiry.request.now.limit }
-    requires details { inquiry.report.details ≡ inquiry.request.now.details }
-    requires checks { Checks inquiry.report.source.now (globals_of globals.now) [] }
-    ensures shows { Shows inquiry.entry.request.now inquiry.entry.report.file.now inquiry.entry.report.source.now (W.contents (device_of writer.old)) (W.contents (device_of writer.new)) result }
-    ensures count { failures_of writer.new ≡ write_failures result }
-    ensures unread { read_failures result ≡ 0 }
-{
-    match find_schema(inquiry.alloc, globals, inquiry.request, inquiry.report) {
-        Ok(Asked { schema, env }) => show_schema(inquiry, arena, schema, &env, writer),
+    let globals = match load(alloc, &trees, &arena, report) {
+        Ok(globals) => globals,
+        Err(stop) => return refuse(inquiry, stop, writer),
+    };
+    match find_schema(alloc, &globals, request, report) {
+        Ok(Asked { schema, env }) => show_schema(inquiry, &arena, schema, &env, writer),
         Err(stop) => refuse(inquiry, stop, writer),
     }
 }
@@ -231,20 +206,10 @@ fn show_within<'p, 'a, W: Write>(
     ensures count { failures_of writer.new ≡ write_failures result }
     ensures unread { read_failures result ≡ 0 }
 {
-    let after = row_in(&bounds.after);
+    let after = bounds.after.as_deref();
     match &bounds.chosen {
         None => show_after(inquiry, subject, after, writer),
         Some(chosen) => show_chosen(inquiry, subject, chosen, after, writer),
-    }
-}
-
-/// A row, if one is named.
-fn row_in(row: &Option<Vec<Value>>) -> Option<&[Value]>
-    ensures { option_copied result ≡ option_map (λ v. v.items) row.now }
-{
-    match row {
-        None => None,
-        Some(row) => Some(row),
     }
 }
 
@@ -273,8 +238,7 @@ fn show_chosen<'p, 'a, W: Write>(
         after,
     };
     match begin(subject, None) {
-        Ok(found) => {
-            let mut search = found;
+        Ok(mut search) => {
             let limit = inquiry.request.limit;
             if are_first(parts.places, parts.schema.components.len()) {
                 return show_fronts(subject.style, parts, &mut search, limit, writer);
@@ -305,8 +269,7 @@ fn show_after<W: Write>(
         return count_after(inquiry, subject, after, writer);
     }
     match begin(subject, after) {
-        Ok(found) => {
-            let mut search = found;
+        Ok(mut search) => {
             let limit = inquiry.request.limit;
             show(subject.style, subject.schema, &mut search, limit, writer)
         }
@@ -332,8 +295,7 @@ fn count_after<W: Write>(
     ensures unread { read_failures result ≡ 0 }
 {
     match begin_counting(subject, after) {
-        Ok(found) => {
-            let mut bindings = found;
+        Ok(mut bindings) => {
             let limit = inquiry.request.limit;
             show_with_tests(subject.style, subject.schema, &mut bindings, limit, writer)
         }

@@ -128,14 +128,12 @@ pub fn check_finite<'a>(
     ensures stop { IfErr result (λ s. IfAnswered s (TellsInfinite (environment_of env.now).numbers (environment_of env.now).globals (schema_of schema.now) report.entry.details report.entry.file.now)) }
 {
     let globals = env.globals();
-    match finite(env.numbers(), schema, globals) {
-        Ok(()) => Ok(()),
-        Err(cause) => {
-            let side = side_beside(alloc, report, globals, name, &cause)?;
-            let lines = not_finite_lines(alloc, report, globals, &cause, &side)?;
-            Err(Stop::Answered(lines, Status::BadSpec))
-        }
-    }
+    let Err(cause) = finite(env.numbers(), schema, globals) else {
+        return Ok(());
+    };
+    let side = side_beside(alloc, report, globals, name, &cause)?;
+    let lines = not_finite_lines(alloc, report, globals, &cause, &side)?;
+    Err(Stop::Answered(lines, Status::BadSpec))
 }
 
 /// What is reported beside the cause, if details are asked for: the name of a side that does not declare the component.

@@ -78,13 +78,11 @@ fn chosen_in<'a>(
     ensures chosen { IfOk result (IsChosenBy (schema_of flat.now).comps only.now) }
     ensures stop { IfErr result (λ s. IfAnswered s (TellsNoParts (schema_of flat.now).comps only.now)) }
 {
-    match only {
-        None => Ok(None),
-        Some(text) => {
-            let components = flat.components.as_slice();
-            let places = places_named(alloc, components, text.as_bytes())?;
-            let schema = schema_at(arena, components, &places)?;
-            Ok(Some(Chosen { places, schema }))
-        }
-    }
+    let Some(text) = only else {
+        return Ok(None);
+    };
+    let components = flat.components.as_slice();
+    let places = places_named(alloc, components, text.as_bytes())?;
+    let schema = schema_at(arena, components, &places)?;
+    Ok(Some(Chosen { places, schema }))
 }

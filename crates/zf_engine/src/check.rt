@@ -1,7 +1,7 @@
 //! What a source defines, its faults, and the answer of `check`.
 ghost use Rattle.std.specs.Prelude.{◌≡◌, [], IfOk, IfErr, map};
 ghost use Rattle.zf_engine.specs.Prelude.{AreLines, cited_of, globals_of};
-ghost use Rattle.zf_engine.specs.{check_status, Checks, IfAnswered, IsCheckText, IsFaultLine, UnreadAnswer};
+ghost use Rattle.zf_engine.specs.{check_status, Checks, IfAnswered, IsCheckText, IsFaultLine, IsUnfit, UnreadAnswer};
 ghost use Rattle.zf_sorts.specs.{fault_of};
 
 use crate::stop::Stop;
@@ -14,6 +14,7 @@ use zf_messages::{Quoting, Report, text_fault_lines, type_fault_lines};
 use zf_parse::{About, read_spec};
 use zf_scan::{TextFault, TextFaultKind};
 use zf_sorts::TypeFault;
+use zf_term::Globals;
 
 /// What a source defines, and its faults of types. Its trees stand in an arena of their own, which asks for its room while the
 /// symbols of the source still have theirs: what is made of the trees gets the room of the symbols.
@@ -76,7 +77,7 @@ fn check_status(faults: &[TypeFault<'_>]) -> Status
 }
 
 /// The lines of faults.
-pub fn fault_lines(
+fn fault_lines(
     alloc: Global,
     report: Report<'_>,
     faults: &[TypeFault<'_>],
@@ -91,4 +92,22 @@ pub fn fault_lines(
         lines.extend_from_slice(&further)?;
     }
     Ok(lines)
+}
+
+/// What a source that is well typed defines.
+pub fn load<'a>(
+    alloc: Global,
+    trees: &'a Bump,
+    arena: &'a Bump,
+    report: Report<'a>,
+) -> Result<Globals<'a>, Stop>
+    ensures checks { IfOk result (λ g. Checks report.entry.source.now (globals_of g) []) }
+    ensures stop { IfErr result (λ s. IfAnswered s (IsUnfit report.entry.details report.entry.file.now report.entry.source.now)) }
+{
+    let checked = check_source(alloc, trees, arena, report)?;
+    if !checked.faults.as_slice().is_empty() {
+        let lines = fault_lines(alloc, report, checked.faults.as_slice())?;
+        return Err(Stop::Answered(lines, Status::BadSpec));
+    }
+    Ok(checked.globals)
 }

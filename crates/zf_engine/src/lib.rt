@@ -22,5 +22,4 @@ mod stated;
 mod stop;
 mod subject;
 mod telling;
-mod typed;
 mod why;

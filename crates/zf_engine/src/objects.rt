@@ -1,5 +1,5 @@
 //! The objects that say why a schema has no binding, each with its newline.
-ghost use Rattle.std.specs.Prelude.{◌≡◌, ◌++◌, OnOk, codes};
+ghost use Rattle.std.specs.Prelude.{◌≡◌, ◌++◌, OnOk};
 ghost use Rattle.zf_engine.specs.Prelude.{comp_of, comma_before};
 ghost use Rattle.zf_engine.specs.Objects as spec;
 
@@ -81,18 +81,14 @@ fn append_sides(text: &mut Vec<u8>, source: &[u8], sides: &Option<Sides>) -> Res
 {
     match sides {
         None => Ok(()),
-        Some(sides) => append_both(text, source, sides),
+        Some(sides) => {
+            text.extend_from_slice(b", \"sides\": [")?;
+            append_side(text, source, &sides.left)?;
+            text.extend_from_slice(b", ")?;
+            append_side(text, source, &sides.right)?;
+            text.extend_from_slice(b"]")
+        }
     }
-}
-
-fn append_both(text: &mut Vec<u8>, source: &[u8], sides: &Sides) -> Result<(), AllocError>
-    ensures { OnOk result (text.new.items ≡ text.old.items ++ (codes ", \"sides\": [" ++ spec.side_array source.now sides.now.left.items ++ codes ", " ++ spec.side_array source.now sides.now.right.items ++ codes "]")) }
-{
-    text.extend_from_slice(b", \"sides\": [")?;
-    append_side(text, source, &sides.left)?;
-    text.extend_from_slice(b", ")?;
-    append_side(text, source, &sides.right)?;
-    text.extend_from_slice(b"]")
 }
 
 /// Appends one side, an object each line.

@@ -1,7 +1,6 @@
 //! The components that alone are shown.
-ghost use Rattle.std.specs.Prelude.{◌≡◌, IfErr, IfOk, OnOk, Some, map};
-ghost use Rattle.zf_engine.specs.Prelude.{before_first, comp_of};
-ghost use Rattle.zf_engine.specs.Only as spec;
+ghost use Rattle.std.specs.Prelude.{IfErr, IfOk, OnOk, Some, map};
+ghost use Rattle.zf_engine.specs.Prelude.{comp_of};
 ghost use Rattle.zf_engine.specs.{IfAnswered, IsAdded, IsMisnamed, NamesParts, TellsNoParts, TellsPlaceMisnamed};
 
 use crate::stop::Stop;
@@ -9,7 +8,6 @@ use std::alloc::Global;
 use zf_lines::Status;
 use zf_messages::texts;
 use zf_term::{Component, component_of};
-use zf_tree::back;
 
 /// The places of the components that a text names, parted by commas. The answer where it names something else, or one of
 /// them twice.
@@ -22,39 +20,12 @@ pub fn places_named(
     ensures stop { IfErr result (λ s. IfAnswered s (TellsNoParts (map comp_of components.now) (Some text.now))) }
 {
     let mut places = Vec::new(alloc);
-    let mut rest = text;
-    let mut name = name_before(rest);
-    while name.len() < rest.len() {
-        add_place(
-            alloc,
-            components,
-            name,
-            text.len() - rest.len(),
-            &mut places,
-        )?;
-        rest = back(rest, name.len() + 1);
-        name = name_before(rest);
+    let mut at: usize = 0;
+    for name in text.split(|byte| *byte == b',') {
+        add_place(alloc, components, name, at, &mut places)?;
+        at = at.saturating_add(name.len() + 1);
     }
-    add_place(
-        alloc,
-        components,
-        name,
-        text.len() - rest.len(),
-        &mut places,
-    )?;
     Ok(places)
-}
-
-/// What stands before the first comma.
-fn name_before(text: &[u8]) -> &[u8]
-    ensures { result.now ≡ before_first spec.is_comma text.now }
-{
-    for place in 0..text.len() {
-        if text[place] == b',' {
-            return &text[..place];
-        }
-    }
-    text
 }
 
 /// Adds the place of the component that is named between blanks, unless there is none, or it is there already.

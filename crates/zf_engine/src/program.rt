@@ -52,12 +52,9 @@ pub fn refuse<R: Eprint>(rt: &R, fault: UsageFault, explained: bool) -> u8
 
 /// Whether one of the words is the option for details.
 fn ask_for_details<S: AsStr>(words: &[S]) -> bool {
-    for word in words {
-        if word.as_str() == "-d" || word.as_str() == "--details" {
-            return true;
-        }
-    }
-    false
+    words
+        .iter()
+        .any(|word| matches!(word.as_str(), "-d" | "--details"))
 }
 
 /// Says that words are refused, and why, if that is to be explained and memory doesn't run out. The answer is the status.

@@ -2,18 +2,18 @@
 ghost use Rattle.std.specs.Prelude.{◌≡◌, ◌≤◌, [], IfErr, IfOk, OnOk, map, option_map, option_to_list};
 ghost use Rattle.zf_engine.specs.Prelude.{AllByRecursion, AllZip, IsFinite, device_of, failures_of, HasLimit, read_failures, write_failures, all_of, FirstFails, HasShape, named_of, schemas_of, environment_of, IsNoneOut, globals_of, schema_of};
 ghost use Rattle.zf_engine.specs.Explorations as spec;
-ghost use Rattle.zf_engine.specs.{AnswersExploration, AreSchemasOf, Checks, HasInfinite, HasLacking, HasOut, IfAnswered, IsSchemaOf, IsSearchable, LacksSchema, Reaches, TellsInfinite, TellsNoSchema, TellsOut};
+ghost use Rattle.zf_engine.specs.{AnswersExploration, AreSchemasOf, Checks, HasInfinite, HasLacking, HasOut, IfAnswered, IsSchemaOf, IsSearchable, LacksSchema, Reaches, TellsNoSchema, TellsOut};
 ghost use Rattle.zf_engine.specs.Explorations.{IsOfSchema};
 ghost use Rattle.zf_reach.specs.{ending_of, result_of};
 
 use crate::asked::{check_finite, env_in, schema_named};
 use crate::begin::not_begun;
+use crate::check::load;
 use crate::numbers::greatest_number;
 use crate::stop::Stop;
 use crate::telling::tell;
-use crate::typed::load;
 use bumpalo::Bump;
-use std::alloc::Global;
+use std::alloc::{AllocError, Global};
 use std::io::Write;
 use zf_command::{Exploration, STATES_MAX};
 use zf_data::Word;
@@ -69,36 +69,13 @@ pub fn reach_source<W: Write>(
         exploration,
         report,
     };
-    match load(alloc, &trees, &arena, report) {
-        Ok(globals) => reach_globals(task, &arena, &globals, writer),
+    let globals = match load(alloc, &trees, &arena, report) {
+        Ok(globals) => globals,
+        Err(stop) => return tell(alloc, exploration.format, file, stop, writer),
+    };
+    match settled_in(task, &arena, &globals) {
+        Ok(Settled { schemas, env }) => reach_schemas(task, &arena, &schemas, &env, writer),
         Err(stop) => tell(alloc, exploration.format, file, stop, writer),
-    }
-}
-
-/// Writes the answer of `reach` for a source that is well typed and defines these globals.
-fn reach_globals<'a, W: Write>(
-    task: Task<'_>,
-    arena: &'a Bump,
-    globals: &Globals<'a>,
-    writer: &mut Counted<W>,
-) -> Result<Status, RunFault>
-    requires unfailed { failures_of writer.old ≡ 0 }
-    requires limited { HasLimit task.exploration.now.limit }
-    requires details { task.report.details ≡ task.exploration.now.details }
-    requires checks { Checks task.report.source.now (globals_of globals.now) [] }
-    ensures reaches { Reaches task.entry.exploration.now task.entry.report.file.now task.entry.report.source.now (W.contents (device_of writer.old)) (W.contents (device_of writer.new)) result }
-    ensures count { failures_of writer.new ≡ write_failures result }
-    ensures unread { read_failures result ≡ 0 }
-{
-    match settled_in(task, arena, globals) {
-        Ok(Settled { schemas, env }) => reach_schemas(task, arena, &schemas, &env, writer),
-        Err(stop) => tell(
-            task.alloc,
-            task.exploration.format,
-            task.report.file,
-            stop,
-            writer,
-        ),
     }
 }
 
@@ -166,8 +143,7 @@ fn ending_status(ending: Ending) -> Status
     ensures { result ≡ spec.ending_status (ending_of ending []) }
 {
     match ending {
-        Ending::Ended => Status::Done,
-        Ending::Paused => Status::Done,
+        Ending::Ended | Ending::Paused => Status::Done,
         Ending::Broken => Status::PastBounds,
     }
 }
@@ -177,9 +153,7 @@ fn finding_status(finding: Finding) -> Status
     ensures { result ≡ spec.result_status (result_of finding []) }
 {
     match finding {
-        Finding::Found => Status::Done,
-        Finding::Missing => Status::Done,
-        Finding::OpenEnded => Status::Done,
+        Finding::Found | Finding::Missing | Finding::OpenEnded => Status::Done,
         Finding::Untold => Status::PastBounds,
     }
 }
@@ -281,13 +255,26 @@ fn check_shape<'a>(alloc: Global, arena: &'a Bump, schemas: &Schemas<'_, 'a>) ->
     ensures shape { OnOk result (HasShape (schemas_of schemas.now)) }
     ensures stop { IfErr result (λ s. IfAnswered s (HasLacking (schemas_of schemas.now))) }
 {
-    match lack_of(arena, schemas)? {
-        None => Ok(()),
-        Some(lack) => {
-            let line = texts::no_component_line(alloc, lack.schema, lack.component)?;
-            Err(Stop::Answered(line, Status::BadRequest))
-        }
-    }
+    let Some(lack) = lack_of(arena, schemas)? else {
+        return Ok(());
+    };
+    let line = texts::no_component_line(alloc, lack.schema, lack.component)?;
+    Err(Stop::Answered(line, Status::BadRequest))
+}
+
+/// All the schemas, in their order.
+fn all_in<'p, 'a>(
+    alloc: Global,
+    schemas: &Schemas<'p, 'a>,
+) -> Result<Vec<Named<'p, 'a>>, AllocError>
+    ensures { IfOk result (λ all. map named_of all.items ≡ all_of (schemas_of schemas.now)) }
+{
+    let mut all = Vec::new(alloc);
+    all.push(schemas.state)?;
+    all.push(schemas.init)?;
+    all.extend_from_slice(&schemas.operations)?;
+    all.extend_from_slice(schemas.sought.as_slice())?;
+    Ok(all)
 }
 
 // ---- finite schemas
@@ -302,28 +289,8 @@ fn check_all_finite<'a>(
     ensures ok { OnOk result (AllByRecursion (λ n. IsFinite (environment_of env.now).numbers (environment_of env.now).globals n.schema) (all_of (schemas_of schemas.now))) }
     ensures stop { IfErr result (λ s. IfAnswered s (HasInfinite task.entry.exploration.now task.entry.report.file.now (environment_of env.now).numbers (environment_of env.now).globals (schemas_of schemas.now))) }
 {
-    let Schemas {
-        state,
-        init,
-        operations,
-        sought,
-    } = schemas;
-    check_finite(task.alloc, task.report, env, state.name, state.schema)?;
-    check_finite(task.alloc, task.report, env, init.name, init.schema)?;
-    check_finite_among(task, env, operations)?;
-    check_finite_among(task, env, sought.as_slice())
-}
-
-fn check_finite_among<'a>(
-    task: Task<'_>,
-    env: &Env<'_, 'a>,
-    schemas: &[Named<'_, 'a>],
-) -> Result<(), Stop>
-    requires { task.report.details ≡ task.exploration.now.details }
-    ensures ok { OnOk result (AllByRecursion (λ n. IsFinite (environment_of env.now).numbers (environment_of env.now).globals n.schema) (map named_of schemas.now)) }
-    ensures stop { IfErr result (λ s. IfAnswered s (λ text status. FirstFails (λ n. IsFinite (environment_of env.now).numbers (environment_of env.now).globals n.schema) (λ n. TellsInfinite (environment_of env.now).numbers (environment_of env.now).globals n.schema task.entry.exploration.now.details task.entry.report.file.now text status) (map named_of schemas.now))) }
-{
-    for named in schemas {
+    let all = all_in(task.alloc, schemas)?;
+    for named in &all {
         check_finite(task.alloc, task.report, env, named.name, named.schema)?;
     }
     Ok(())
@@ -341,22 +308,8 @@ fn check_all_declared<'a>(
     ensures ok { OnOk result (AllByRecursion (λ n. IsNoneOut (environment_of env.now) n.schema.comps) (all_of (schemas_of schemas.now))) }
     ensures stop { IfErr result (λ s. IfAnswered s (HasOut (environment_of env.now) (schemas_of schemas.now))) }
 {
-    check_declared(alloc, env, schemas.state.schema)?;
-    check_declared(alloc, env, schemas.init.schema)?;
-    check_declared_among(alloc, env, &schemas.operations)?;
-    check_declared_among(alloc, env, schemas.sought.as_slice())
-}
-
-fn check_declared_among<'a>(
-    alloc: Global,
-    env: &Env<'_, 'a>,
-    schemas: &[Named<'_, 'a>],
-) -> Result<(), Stop>
-    requires { AllByRecursion (λ n. IsFinite (environment_of env.now).numbers (environment_of env.now).globals n.schema) (map named_of schemas.now) }
-    ensures ok { OnOk result (AllByRecursion (λ n. IsNoneOut (environment_of env.now) n.schema.comps) (map named_of schemas.now)) }
-    ensures stop { IfErr result (λ s. IfAnswered s (λ text status. FirstFails (λ n. IsNoneOut (environment_of env.now) n.schema.comps) (λ n. TellsOut (environment_of env.now) n.schema.comps text status) (map named_of schemas.now))) }
-{
-    for named in schemas {
+    let all = all_in(alloc, schemas)?;
+    for named in &all {
         check_declared(alloc, env, named.schema)?;
     }
     Ok(())

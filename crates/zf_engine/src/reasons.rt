@@ -30,8 +30,7 @@ pub fn cause_lines(
 {
     match cause {
         Cause::Empty(empty) => empty_lines(style, report, flat.components.as_slice(), empty),
-        Cause::Alone(told) => told_lines(style, report, told),
-        Cause::Together(told) => told_lines(style, report, told),
+        Cause::Alone(told) | Cause::Together(told) => told_lines(style, report, told),
     }
 }
 
@@ -122,11 +121,12 @@ fn append_told_line(
     ensures { OnOk result (lines.new.items ≡ lines.old.items ++ spec.told_line Lines report.entry.file.now report.entry.source.now elements.now told.now) }
 {
     append_line(alloc, lines, report, told.line)?;
-    append_sides_of(alloc, lines, report, &told.sides)?;
-    append_operands_of(lines, elements, &told.operands)
+    append_sides(alloc, lines, report, &told.sides)?;
+    append_operands(lines, elements, &told.operands)
 }
 
-fn append_sides_of(
+/// The lines of both sides of a disjunction, if it is reported by both.
+fn append_sides(
     alloc: Global,
     lines: &mut Vec<u8>,
     report: Report<'_>,
@@ -136,21 +136,12 @@ fn append_sides_of(
 {
     match sides {
         None => Ok(()),
-        Some(sides) => append_sides(alloc, lines, report, sides),
+        Some(sides) => {
+            append_side(alloc, lines, report, &sides.left)?;
+            lines.extend_from_slice(b"    or\n")?;
+            append_side(alloc, lines, report, &sides.right)
+        }
     }
-}
-
-fn append_sides(
-    alloc: Global,
-    lines: &mut Vec<u8>,
-    report: Report<'_>,
-    sides: &Sides,
-) -> Result<(), AllocError>
-    ensures { OnOk result (lines.new.items ≡ lines.old.items ++ spec.sides_lines report.entry.file.now report.entry.source.now sides.now) }
-{
-    append_side(alloc, lines, report, &sides.left)?;
-    lines.extend_from_slice(b"    or\n")?;
-    append_side(alloc, lines, report, &sides.right)
 }
 
 fn append_side(
@@ -168,7 +159,8 @@ fn append_side(
     Ok(())
 }
 
-fn append_operands_of(
+/// What both operands of a relation come to, if they are reported.
+fn append_operands(
     lines: &mut Vec<u8>,
     elements: &[Spelling],
     operands: &Option<Operands>,
@@ -177,24 +169,14 @@ fn append_operands_of(
 {
     match operands {
         None => Ok(()),
-        Some(operands) => append_operands(lines, elements, operands),
+        Some(operands) => {
+            lines.extend_from_slice(b"    left: ")?;
+            append_outcome(lines, elements, &operands.left)?;
+            lines.extend_from_slice(b"\n    right: ")?;
+            append_outcome(lines, elements, &operands.right)?;
+            lines.extend_from_slice(b"\n")
+        }
     }
-}
-
-/// What both operands come to.
-fn append_operands(
-    lines: &mut Vec<u8>,
-    elements: &[Spelling],
-    operands: &Operands,
-) -> Result<(), AllocError>
-    ensures { OnOk result (lines.new.items ≡ lines.old.items ++ spec.operands_lines elements.now operands.now) }
-{
-    lines.extend_from_slice(b"    left: ")?;
-    append_outcome(lines, elements, &operands.left)?;
-    lines.extend_from_slice(b"\n    right: ")?;
-    append_outcome(lines, elements, &operands.right)?;
-    lines.extend_from_slice(b"\n")?;
-    Ok(())
 }
 
 fn append_outcome(

@@ -1,5 +1,5 @@
 //! The sizes that are stated.
-ghost use Rattle.std.specs.Prelude.{◌≡◌, ◌++◌, ◌∷◌, [], IfOk, OnOk, Some, map};
+ghost use Rattle.std.specs.Prelude.{◌≡◌, ◌++◌, IfOk, OnOk, Some, map};
 ghost use Rattle.zf_engine.specs.Prelude.{list_any, bytes_eq, given_sets, globals_of};
 ghost use Rattle.zf_engine.specs.Settings as spec;
 
@@ -19,7 +19,8 @@ pub fn stated_sizes(
 {
     let mut sizes = worded(alloc, setting.sizes.as_slice())?;
     if let Some(count) = setting.size {
-        add_others(alloc, globals, count, &mut sizes)?;
+        let sets = sets_without_size(alloc, globals, &sizes)?;
+        add_sizes(alloc, &sets, count, &mut sizes)?;
     }
     Ok(sizes)
 }
@@ -42,19 +43,6 @@ fn stated_size(alloc: Global, word: &Size) -> Result<StatedSize, AllocError>
         name: Text::of(alloc, word.name.as_bytes())?,
         count: word.count,
     })
-}
-
-/// Adds one size of all given sets that have none.
-fn add_others(
-    alloc: Global,
-    globals: &Globals<'_>,
-    count: u64,
-    sizes: &mut Vec<StatedSize>,
-) -> Result<(), AllocError>
-    ensures { OnOk result (sizes.new.items ≡ sizes.old.items ++ spec.with_size (Some count) (spec.without_size sizes.old.items (given_sets (globals_of globals.now)))) }
-{
-    let sets = sets_without_size(alloc, globals, sizes)?;
-    add_sizes(alloc, &sets, count, sizes)
 }
 
 /// Adds one size of each of the sets.
@@ -81,45 +69,14 @@ pub fn sets_without_size(
 ) -> Result<Vec<Text>, AllocError>
     ensures { IfOk result (λ sets. sets.items ≡ spec.without_size sizes.now (given_sets (globals_of globals.now))) }
 {
-    let sets = given_names(alloc, globals)?;
-    unsized_of(alloc, &sets, sizes)
-}
-
-/// Those of the sets for which no size is stated.
-fn unsized_of(alloc: Global, sets: &[Text], sizes: &[StatedSize]) -> Result<Vec<Text>, AllocError>
-    ensures { IfOk result (λ others. others.items ≡ spec.without_size sizes.now sets.now) }
-{
-    let mut others = Vec::new(alloc);
-    for set in sets {
-        add_unsized(alloc, sizes, set, &mut others)?;
-    }
-    Ok(others)
-}
-
-/// Adds the set, if no size is stated for it.
-fn add_unsized(
-    alloc: Global,
-    sizes: &[StatedSize],
-    set: &Text,
-    others: &mut Vec<Text>,
-) -> Result<(), AllocError>
-    ensures { OnOk result (others.new.items ≡ others.old.items ++ spec.without_size sizes.now (set.now ∷ [])) }
-{
-    if is_sized(sizes, set.as_slice()) {
-        return Ok(());
-    }
-    others.push(set.copy(alloc)?)?;
-    Ok(())
+    let mut sets = given_names(alloc, globals)?;
+    sets.retain(|set| !is_sized(sizes, set.as_slice()));
+    Ok(sets)
 }
 
 /// Whether a size is stated for the set.
 fn is_sized(sizes: &[StatedSize], set: &[u8]) -> bool
     ensures { result ≡ list_any (λ s. bytes_eq s.name set.now) sizes.now }
 {
-    for size in sizes {
-        if size.name.as_slice() == set {
-            return true;
-        }
-    }
-    false
+    sizes.iter().any(|size| size.name.as_slice() == set)
 }

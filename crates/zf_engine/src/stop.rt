@@ -1,6 +1,5 @@
 //! Why no binding is looked for.
 ghost use Rattle.std.specs.Prelude.{◌≡◌};
-ghost use Rattle.zf_engine.specs.{IsWhole};
 ghost use Rattle.zf_engine.specs.declared.stop.Stop.TheVariants.{OutOfMemory};
 
 use std::alloc::{AllocError, AllocFailed};
@@ -27,15 +26,5 @@ impl<T: Drop> From<AllocFailed<T>> for Stop {
 
     fn from(_error: AllocFailed<T>) -> Stop {
         Stop::OutOfMemory
-    }
-}
-
-/// The answer, whether it is whole or a stop.
-pub fn whole(answer: Result<(Vec<u8>, Status), Stop>) -> Stop
-    ensures { IsWhole answer result }
-{
-    match answer {
-        Ok((text, status)) => Stop::Answered(text, status),
-        Err(stop) => stop,
     }
 }

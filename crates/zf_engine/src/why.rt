@@ -1,16 +1,16 @@
 //! The first binding of a schema, or why it has none.
-ghost use Rattle.std.specs.Prelude.{◌≡◌, ◌++◌, [], IfOk, IfErr, MatchOption, OnOk};
-ghost use Rattle.zf_engine.specs.Prelude.{IsBare, Why, IsNoneOut, environment_of, globals_of, schema_of};
-ghost use Rattle.zf_engine.specs.{Answer, AnswersRequest, CanBeSearched, Checks, environment_in, HasNone, IfAnswered, IsAsked, IsBegunOf, line_in, no_binding_line, out_line_in, satisfied_line, schema_in, TellsFirst, TellsNone, TellsOf, TellsOut};
+ghost use Rattle.std.specs.Prelude.{◌≡◌, ◌++◌, IfOk, IfErr, MatchOption, OnOk};
+ghost use Rattle.zf_engine.specs.Prelude.{IsBare, Why, IsNoneOut, environment_of, schema_of};
+ghost use Rattle.zf_engine.specs.{Answer, AnswersRequest, CanBeSearched, environment_in, HasNone, IfAnswered, IsAsked, IsBegunOf, line_in, no_binding_line, out_line_in, satisfied_line, schema_in, TellsFirst, TellsNone, TellsOf, TellsOut};
 
 use crate::asked::find_schema;
 use crate::begin::begin;
+use crate::check::load;
 use crate::held::values_held;
 use crate::inquiry::Inquiry;
 use crate::reasons::cause_lines;
 use crate::stop::Stop;
 use crate::subject::Subject;
-use crate::typed::load;
 use bumpalo::Bump;
 use std::alloc::{AllocError, Global};
 use zf_command::Request;
@@ -20,7 +20,7 @@ use zf_lines::{Status, Style, append_out_line, append_row_line};
 use zf_meaning::{Env, Row};
 use zf_messages::Report;
 use zf_print::spellings_of;
-use zf_term::{Flat, Globals};
+use zf_term::Flat;
 use zf_walk::Step;
 use zf_why::{Question, why};
 
@@ -42,31 +42,14 @@ pub fn why_source(
         file,
         details: request.details,
     };
-    let globals = load(alloc, &trees, &arena, report)?;
-    why_globals(alloc, &arena, &globals, request, report)
-}
-
-/// The answer for a source that is well typed and defines these globals.
-fn why_globals<'a>(
-    alloc: Global,
-    arena: &'a Bump,
-    globals: &Globals<'a>,
-    request: &Request,
-    report: Report<'_>,
-) -> Result<(Vec<u8>, Status), Stop>
-    requires plain { IsBare request.now }
-    requires details { report.details ≡ request.now.details }
-    requires checks { Checks report.source.now (globals_of globals.now) [] }
-    ensures answer { IfOk result (λ p. Answer (Why request.now) report.entry.file.now report.entry.source.now p.0.items p.1) }
-    ensures stop { IfErr result (AnswersRequest request.now report.entry.file.now report.entry.source.now) }
-{
     let inquiry = Inquiry {
         alloc,
         request,
         report,
     };
-    let asked = find_schema(alloc, globals, request, report)?;
-    why_schema(inquiry, arena, asked.schema, &asked.env)
+    let globals = load(alloc, &trees, &arena, report)?;
+    let asked = find_schema(alloc, &globals, request, report)?;
+    why_schema(inquiry, &arena, asked.schema, &asked.env)
 }
 
 /// The answer for a finite schema in an environment.

@@ -20,7 +20,7 @@ returns-in-Ok-clause-shows g c =
     let source = c.args.inquiry.report.source.now in
     let s = c.args.subject.now in
     let is = c.requires.subject in
-    shown r c.args.inquiry.report.file.now source (schema_in s) (counted_goal c.in-Ok.found.walk) c.in-Ok.found.walk.stage _ (environment_in s) (portion (option_copied c.args.after) s.held.now)
+    shown r c.args.inquiry.report.file.now source (schema_in s) (counted_goal c.in-Ok.bindings.walk) c.in-Ok.bindings.walk.stage _ (environment_in s) (portion (option_copied c.args.after) s.held.now)
     (searched_all r source s is c.requires.all (option_copied c.args.after) c.requires.named c.in-Ok.ensures.begins.begins.none_out)
     c.in-Ok.ensures.begins.begins c.requires.all (worded r source s is) true _ _ _
     (sym c.requires.counted) c.show_with_tests.ensures.ok c.show_with_tests.ensures.err

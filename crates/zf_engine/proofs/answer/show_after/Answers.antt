@@ -20,7 +20,7 @@ returns-in-Ok-clause-shows g c =
     let source = c.args.inquiry.report.source.now in
     let s = c.args.subject.now in
     let is = c.requires.subject in
-    shown r c.args.inquiry.report.file.now source (schema_in s) (planted_goal c.in-Ok.found.names c.in-Ok.found.search) c.in-Ok.found.search.stage _
+    shown r c.args.inquiry.report.file.now source (schema_in s) (planted_goal c.in-Ok.search.names c.in-Ok.search.search) c.in-Ok.search.search.stage _
     (environment_in s) (portion (option_copied c.args.after) s.held.now)
     (searched_all r source s is c.requires.all (option_copied c.args.after) c.requires.named c.in-Ok.ensures.begins.none_out) c.in-Ok.ensures.begins
     c.requires.all (worded r source s is) false _ _ _ (search rules) c.show.ensures.ok c.show.ensures.err

@@ -31,7 +31,7 @@ returns-then-are_first-clause-shows g c =
     let names = by.0 in
     let places = c.args.chosen.now.places.items in
     let named = subst (λ cs. IsNamedRow e cs r.after after) by.3 c.requires.named in
-    parts_shown r c.args.inquiry.report.file.now source (schema_in s) (planted_goal c.in-Ok.found.names c.in-Ok.found.search) c.in-Ok.found.search.stage _ e (portion None s.held.now)
+    parts_shown r c.args.inquiry.report.file.now source (schema_in s) (planted_goal c.in-Ok.search.names c.in-Ok.search.search) c.in-Ok.search.search.stage _ e (portion None s.held.now)
     (searched_some r source s is names places after by.1 by.2 named c.in-Ok.ensures.begins.none_out) c.in-Ok.ensures.begins names places after by.1 by.2 named
     (part_worded r source s is places c.args.chosen.now by.3) _ _ _
     (rw c.deref.ensures.value at c.show_fronts.ensures.ok) (rw c.deref.ensures.value at c.show_fronts.ensures.err)
@@ -49,7 +49,7 @@ returns-else-are_first-clause-shows g c =
     let names = by.0 in
     let places = c.args.chosen.now.places.items in
     let named = subst (λ cs. IsNamedRow e cs r.after after) by.3 c.requires.named in
-    parts_shown r c.args.inquiry.report.file.now source (schema_in s) (planted_goal c.in-Ok.found.names c.in-Ok.found.search) c.in-Ok.found.search.stage _ e (portion None s.held.now)
+    parts_shown r c.args.inquiry.report.file.now source (schema_in s) (planted_goal c.in-Ok.search.names c.in-Ok.search.search) c.in-Ok.search.search.stage _ e (portion None s.held.now)
     (searched_some r source s is names places after by.1 by.2 named c.in-Ok.ensures.begins.none_out) c.in-Ok.ensures.begins names places after by.1 by.2 named
     (part_worded r source s is places c.args.chosen.now by.3) _ _ _
     (rw c.deref.ensures.value at c.show_parts.ensures.ok) (rw c.deref.ensures.value at c.show_parts.ensures.err)

@@ -1,8 +1,11 @@
-use Rattle.zf_engine.proofs.Parts.{told}
 use Rattle.zf_engine.proofs.Refusing.{unfit_answers}
 use Rattle.zf_engine.proofs.answer.show_source.Goals as goal
 
-pub returns-clause-shows : goal.returns-clause-shows
-returns-clause-shows g c =
-    told c.args.request.now c.args.file.now c.args.source.now c.in-Err.stop _ _ _
-    (unfit_answers c.args.request.now c.args.file.now c.args.source.now c.in-Err.stop c.in-Err.ensures.stop) c.tell.ensures.told
+pub refuse-requires-clause-answers : goal.refuse-requires-clause-answers
+refuse-requires-clause-answers g c = unfit_answers c.args.request.now c.args.file.now c.args.source.now c.in-Err.stop c.in-Err.ensures.stop
+
+pub show_schema-requires-clause-asked : goal.show_schema-requires-clause-asked
+show_schema-requires-clause-asked g c = c.in-Ok-find_schema.ensures.asked c.args.source.now c.in-Ok.ensures.checks
+
+pub refuse-requires-in-Err-find_schema-clause-answers : goal.refuse-requires-in-Err-find_schema-clause-answers
+refuse-requires-in-Err-find_schema-clause-answers g c = c.in-Err-find_schema.ensures.stop c.args.source.now c.in-Ok.ensures.checks

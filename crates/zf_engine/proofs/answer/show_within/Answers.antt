@@ -12,7 +12,7 @@ pub show_after-requires-clause-named : goal.show_after-requires-clause-named
 show_after-requires-clause-named g c =
     let s = c.args.subject.now in
     let r = c.args.inquiry.request.now in
-    subst (IsNamedRow (environment_in s) (schema_in s).comps r.after) (sym c.row_in-after.ensures)
+    subst (IsNamedRow (environment_in s) (schema_in s).comps r.after) (sym c.as_deref-after.ensures.value)
     (subst (λ k. IsNamedRow (environment_in s) (shown_in (schema_in s).comps k) r.after (option_map (λ (v : Vec Value Global). v.items) c.args.bounds.now.after)) c.in-None.is c.requires.named.after)
 
 pub show_chosen-requires-clause-chosen : goal.show_chosen-requires-clause-chosen
@@ -22,5 +22,5 @@ pub show_chosen-requires-clause-named : goal.show_chosen-requires-clause-named
 show_chosen-requires-clause-named g c =
     let s = c.args.subject.now in
     let r = c.args.inquiry.request.now in
-    subst (IsNamedRow (environment_in s) (schema_of c.in-Some.chosen.schema.now).comps r.after) (sym c.row_in-after.ensures)
+    subst (IsNamedRow (environment_in s) (schema_of c.in-Some.chosen.schema.now).comps r.after) (sym c.as_deref-after.ensures.value)
     (subst (λ k. IsNamedRow (environment_in s) (shown_in (schema_in s).comps k) r.after (option_map (λ (v : Vec Value Global). v.items) c.args.bounds.now.after)) c.in-Some.is c.requires.named.after)
