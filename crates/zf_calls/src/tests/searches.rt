@@ -1,9 +1,12 @@
 //! A search goes on where memory was refused: the steps are the same, and each finished test counts once.
 //! `bench/refuse-growths` refuses each growth of this test in turn.
-ghost use Rattle.std.specs.Prelude.{IfOk};
+ghost use Rattle.std.specs.Prelude.{IfOk, length};
 ghost use Rattle.zf_meaning.specs.{environment_of};
 ghost use Rattle.zf_checker.specs.{AreWellTyped};
-ghost use Rattle.zf_term.specs.{globals_of};
+ghost use Rattle.zf_enum.specs.{property};
+ghost use Rattle.zf_finite.specs.{IsFinite};
+ghost use Rattle.zf_term.specs.{globals_of, schema_of};
+ghost use Rattle.zf_walk.specs.{AreDueWithin};
 
 use crate::tests::holds::holds;
 use bumpalo::Bump;
@@ -15,8 +18,7 @@ use zf_enum::{Bindings, Instances, Search};
 use zf_finite::finite;
 use zf_meaning::{Env, Size};
 use zf_parse::read_spec;
-use zf_ranges::StartFault;
-use zf_term::Globals;
+use zf_term::{Flat, Globals};
 use zf_walk::Step;
 
 const SOURCE: &str = r"\begin{zed}
@@ -52,7 +54,8 @@ fn are_steps<'a>(alloc: Global, arena: &'a Bump, env: &Env<'_, 'a>) -> Result<()
     requires { AreWellTyped (environment_of env.now).globals }
 {
     for (name, holding, tests) in SCHEMAS {
-        let mut search = begun(alloc, arena, env, name)?;
+        let schema = schema_in(env, name)?;
+        let mut search = Bindings::start(alloc, arena, schema, env, None, &[])?;
         are_counted(&mut search, name, holding, tests)?;
     }
     Ok(())
@@ -82,7 +85,8 @@ fn are_uncounted_steps<'a>(alloc: Global, arena: &'a Bump, env: &Env<'_, 'a>) ->
     requires { AreWellTyped (environment_of env.now).globals }
 {
     for (name, holding, _) in SCHEMAS {
-        let mut search = begun_uncounted(alloc, arena, env, name)?;
+        let schema = schema_in(env, name)?;
+        let mut search = Instances::start(alloc, arena, schema, env, None, &[])?;
         are_found(&mut search, name, holding)?;
     }
     Ok(())
@@ -127,14 +131,11 @@ fn env_in<'g, 'a>(alloc: Global, globals: &'g Globals<'a>) -> Result<Env<'g, 'a>
     Ok(Env::new(alloc, globals, &[Size { name, count: 2 }], None)?)
 }
 
-/// The search for the bindings of a schema.
-fn begun<'e, 'g, 'a>(
-    alloc: Global,
-    arena: &'a Bump,
-    env: &'e Env<'g, 'a>,
-    name: &str,
-) -> Result<Bindings<'e, 'e, 'g, 'a>, Fail>
+/// The schema of the name, whose bindings can be searched for.
+fn schema_in<'g, 'a>(env: &Env<'g, 'a>, name: &str) -> Result<&'g Flat<'a>, Fail>
     requires { AreWellTyped (environment_of env.now).globals }
+    ensures finite { IfOk result (λ s. IsFinite (environment_of env.now).numbers (environment_of env.now).globals (schema_of s.now)) }
+    ensures due { IfOk result (λ s. AreDueWithin (property (environment_of env.now) (schema_of s.now).conjuncts) (length (schema_of s.now).comps)) }
 {
     let globals = env.globals();
     let Some(schema) = globals.schema(name) else {
@@ -143,32 +144,5 @@ fn begun<'e, 'g, 'a>(
     let Ok(()) = finite(env.numbers(), schema, globals) else {
         return Err(Fail::new("not finite"));
     };
-    match Bindings::start(alloc, arena, schema, env, None, &[]) {
-        Ok(bindings) => Ok(bindings),
-        Err(StartFault::OutOfMemory) => Err(Fail::new("out of memory")),
-        Err(StartFault::DeclaredOut(_)) => Err(Fail::new("a declared set is out")),
-    }
-}
-
-/// The same of one that counts no tests.
-fn begun_uncounted<'e, 'g, 'a>(
-    alloc: Global,
-    arena: &'a Bump,
-    env: &'e Env<'g, 'a>,
-    name: &str,
-) -> Result<Instances<'e, 'e, 'g, 'a>, Fail>
-    requires { AreWellTyped (environment_of env.now).globals }
-{
-    let globals = env.globals();
-    let Some(schema) = globals.schema(name) else {
-        return Err(Fail::new("no schema"));
-    };
-    let Ok(()) = finite(env.numbers(), schema, globals) else {
-        return Err(Fail::new("not finite"));
-    };
-    match Instances::start(alloc, arena, schema, env, None, &[]) {
-        Ok(instances) => Ok(instances),
-        Err(StartFault::OutOfMemory) => Err(Fail::new("out of memory")),
-        Err(StartFault::DeclaredOut(_)) => Err(Fail::new("a declared set is out")),
-    }
+    Ok(schema)
 }
