@@ -1,5 +1,6 @@
 //! Why there is no next schema.
 ghost use Rattle.std.specs.Prelude.{◌≡◌};
+ghost use Rattle.zf_calculus.specs.declared.stop.Stop.TheVariants.{OutOfMemory};
 
 use std::alloc::{AllocError, AllocFailed};
 use zf_term::{Clash, Limit};
@@ -15,8 +16,6 @@ pub enum Stop<'a> {
 }
 
 impl<'a> From<AllocError> for Stop<'a> {
-    ghost use Rattle.zf_calculus.specs.declared.stop.Stop.TheVariants.{OutOfMemory};
-
     ghost from_gives = { λ _ stop. stop ≡ OutOfMemory };
 
     fn from(_error: AllocError) -> Stop<'a> {
@@ -25,8 +24,6 @@ impl<'a> From<AllocError> for Stop<'a> {
 }
 
 impl<'a, T: Drop> From<AllocFailed<T>> for Stop<'a> {
-    ghost use Rattle.zf_calculus.specs.declared.stop.Stop.TheVariants.{OutOfMemory};
-
     ghost from_gives = { λ _ stop. stop ≡ OutOfMemory };
 
     fn from(_error: AllocFailed<T>) -> Stop<'a> {

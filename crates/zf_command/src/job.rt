@@ -1,5 +1,6 @@
 //! Jobs, and what a command line asks for.
 ghost use Rattle.std.specs.Prelude.{◌≡◌};
+ghost use Rattle.zf_command.specs.declared.job.UsageFault.TheVariants.{OutOfMemory};
 
 use std::alloc::AllocError;
 use thiserror::Error;
@@ -104,8 +105,6 @@ pub enum UsageFault {
 }
 
 impl From<AllocError> for UsageFault {
-    ghost use Rattle.zf_command.specs.declared.job.UsageFault.TheVariants.{OutOfMemory};
-
     ghost from_gives = { λ _ fault. fault ≡ OutOfMemory };
 
     fn from(_error: AllocError) -> UsageFault {

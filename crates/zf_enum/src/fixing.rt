@@ -39,9 +39,7 @@ pub(crate) fn relation_of<'t, 'a>(term: &'t Resolved<'a>) -> Option<Relating<'t,
 pub(crate) fn fixing<'t, 'a>(term: &'t Resolved<'a>, component: usize) -> Option<&'t Resolved<'a>>
     ensures { IfSome result (λ side. Fixes (resolved_of term.now) component (resolved_of side.now)) }
 {
-    let Some(it) = relation_of(term) else {
-        return None;
-    };
+    let it = relation_of(term)?;
     if !is_equality(it.relation) {
         return None;
     }
@@ -51,10 +49,7 @@ pub(crate) fn fixing<'t, 'a>(term: &'t Resolved<'a>, component: usize) -> Option
 pub(crate) fn is_equality(relation: Relation) -> bool
     ensures { IsTrue result → relation ≡ Equal }
 {
-    match relation {
-        Relation::Equal => true,
-        _ => false,
-    }
+    matches!(relation, Relation::Equal)
 }
 
 /// The one of two terms beside which the component stands.

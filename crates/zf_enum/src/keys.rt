@@ -27,9 +27,7 @@ pub(crate) fn keyed<'t, 'a>(term: &'t Resolved<'a>, component: usize) -> Option<
     requires { spec.due (resolved_of term.now) < 2 ^ 64 }
     ensures { IfSome result (λ s. IsKeyed (resolved_of term.now) component (resolved_of s.key.now) (resolved_of s.other.now)) }
 {
-    let Some(it) = relation_of(term) else {
-        return None;
-    };
+    let it = relation_of(term)?;
     if !is_equality(it.relation) {
         return None;
     }

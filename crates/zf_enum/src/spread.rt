@@ -180,11 +180,7 @@ fn copied_range<'a>(arena: &'a Bump, range: &Range<'a>) -> Result<Range<'a>, All
 pub(crate) fn is_there(quantifier: Quantifier) -> bool
     ensures { IsTrue result → IsThere quantifier }
 {
-    match quantifier {
-        Quantifier::ForAll => false,
-        Quantifier::Exists => true,
-        Quantifier::ExistsOne => true,
-    }
+    !matches!(quantifier, Quantifier::ForAll)
 }
 
 /// The expression that a predicate equates the component with, or a side of it that has to hold.

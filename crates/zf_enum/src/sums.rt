@@ -53,11 +53,7 @@ pub(crate) fn compares(relation: Relation) -> bool {
 
 /// Whether the term is a name or a number.
 fn is_bare(term: &Resolved<'_>) -> bool {
-    match term {
-        Resolved::Name(_, _) => true,
-        Resolved::Number(_, _) => true,
-        _ => false,
-    }
+    matches!(term, Resolved::Name(_, _) | Resolved::Number(_, _))
 }
 
 /// Whether a component stands in a sum, by itself or as a factor.
@@ -77,19 +73,11 @@ fn is_summand(term: &Resolved<'_>, component: usize) -> bool {
 fn is_minus(sign: Sign) -> bool
     ensures { IsTrue result → sign ≡ Minus }
 {
-    match sign {
-        Sign::Minus => true,
-        Sign::Symbol(_) => false,
-    }
+    matches!(sign, Sign::Minus)
 }
 
 fn adds(op: Infix) -> bool {
-    match op {
-        Infix::Plus => true,
-        Infix::Minus => true,
-        Infix::Times => true,
-        _ => false,
-    }
+    matches!(op, Infix::Plus | Infix::Minus | Infix::Times)
 }
 
 // ---- what they leave

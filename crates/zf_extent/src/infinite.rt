@@ -242,18 +242,7 @@ fn constant_offender(line: u32, constant: Constant) -> Option<Offender>
 pub(crate) fn is_membership(relation: Relation) -> bool
     ensures { result ≡ spec.is_membership relation }
 {
-    match relation {
-        Relation::Member => true,
-        Relation::NotMember => true,
-        Relation::Equal => false,
-        Relation::NotEqual => false,
-        Relation::Subset => false,
-        Relation::ProperSubset => false,
-        Relation::Less => false,
-        Relation::AtMost => false,
-        Relation::Greater => false,
-        Relation::AtLeast => false,
-    }
+    matches!(relation, Relation::Member | Relation::NotMember)
 }
 
 /// The infinite set that a name of this extent stands for.

@@ -110,10 +110,7 @@ fn offender_in<'a>(domains: &Chunked<'a, Domain<'a>>, globals: &Globals<'a>) -> 
 pub fn first_plain<'a>(domains: &Chunked<'a, Domain<'a>>) -> u32
     ensures { result ≡ spec.first_plain (sets_of (map set_of domains.now)) }
 {
-    match plain_in(domains) {
-        Some(line) => line,
-        None => 0,
-    }
+    plain_in(domains).unwrap_or(0)
 }
 
 /// The line of the first set of a declaration, if there is one.
@@ -191,21 +188,12 @@ fn plain_after<'a>(domain: &Domain<'a>, found: Option<u32>) -> Option<u32>
     ensures { result ≡ option_or found (first (spec.plain_lines (set_of domain.now))) }
 {
     match domain {
-        Domain::Plain(set) => or_line(found, set.get().line()),
+        Domain::Plain(set) => found.or(Some(set.get().line())),
         Domain::Carrier(_) => found,
         Domain::Either(left, right) => all_plain_after(
             right.get(),
             all_plain_after(left.get(), found),
         ),
-    }
-}
-
-fn or_line(found: Option<u32>, line: u32) -> Option<u32>
-    ensures { result ≡ option_or found (Some line) }
-{
-    match found {
-        Some(line) => Some(line),
-        None => Some(line),
     }
 }
 

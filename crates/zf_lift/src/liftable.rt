@@ -65,37 +65,21 @@ fn is_ended_set(symbol: Constant, env: &Env<'_, '_>) -> bool
 fn is_number_set(symbol: Constant) -> bool
     ensures { result ≡ is_some (constant_set symbol) }
 {
-    match symbol {
-        Constant::True => false,
-        Constant::False => false,
-        Constant::Integers => true,
-        Constant::Naturals => true,
-        Constant::Positives => true,
-    }
+    !matches!(symbol, Constant::True | Constant::False)
 }
 
 /// Whether what stands before or after a term makes a value of it.
 fn builds(operator: Unary) -> bool
     ensures { (n : Option ℕ) (l : ℕ) (t : ResolvedTree) → result ≡ spec.is_liftable n (unary l operator t) }
 {
-    match operator {
-        Unary::Not => false,
-        Unary::Sign(_) => true,
-        Unary::Inverse => true,
-    }
+    !matches!(operator, Unary::Not)
 }
 
 /// Whether what stands between two terms makes a value of them.
 fn combines(operator: Operator) -> bool
     ensures { (n : Option ℕ) (l : ℕ) (t u : ResolvedTree) → result ≡ spec.is_liftable n (binary l operator t u) }
 {
-    match operator {
-        Operator::Connective(_) => false,
-        Operator::Function(_) => true,
-        Operator::Generic(_) => true,
-        Operator::Application => true,
-        Operator::Image => true,
-    }
+    !matches!(operator, Operator::Connective(_))
 }
 
 /// The most rows of a set comprehension that is worked out before a quantifier or comprehension around it asks for it.

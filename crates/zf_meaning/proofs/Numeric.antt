@@ -1,5 +1,5 @@
 -- The numbers that terms come to.
-use Rattle.zf_meaning.proofs.Prelude.{◌<◌, ◌∙◌, ◌∷◌, ◌≡◌, [], ap, arith, false, get_or, inl, length, List, map, None, Option, refl, Some, subst, sym, ℕ, ℤ, IfSome, Bor, is_Int, number_of-Int, number_of, OnNumbers, IsApplied, members, Outcome, Is, Truth, Int, Value, Application, Function, Infix, Relation, link-seen, binary, chain, links, resolved_link_of, resolved_of, ResolvedTree, Resolved, ResolvedLink, is_membership, Context, found_of, HasOutcome, infinite_right, IsLink, IsTruth, Holds, InfixOutcome, IsAtom, IsConjunction}
+use Rattle.zf_meaning.proofs.Prelude.{◌<◌, ◌∙◌, ◌∷◌, ◌≡◌, [], ap, arith, false, get_or, inl, length, List, map, None, Option, refl, Some, subst, sym, ℕ, ℤ, IfSome, Bor, is_Int, number_of-Int, number_of, OnNumbers, IsApplied, members, Outcome, Is, Truth, Int, Value, Application, Relation, link-seen, binary, chain, links, resolved_link_of, resolved_of, ResolvedTree, Resolved, ResolvedLink, is_membership, Context, found_of, HasOutcome, infinite_right, IsLink, IsTruth, Holds, IsAtom, IsConjunction}
 use Rattle.zf_value.specs.declared.value.Truth.TheVariants.{True, False, Out}
 
 -- ---- names
@@ -22,12 +22,6 @@ pub on-numbers : (P : ℤ → ℤ → Outcome → Type 0) (m n : ℤ) (o : Outco
     → IfSome r (λ k. OnNumbers (number_of (Int m)) (number_of (Int n)) P (Is (Int k)))
 on-numbers P m n o None h e = tt
 on-numbers P m n o (Some k) h e = rw (number_of-Int m, number_of-Int n) (subst (P m n) e h)
-
-pub both-numbers : (c : Context) (l : ℕ) (op : Infix) (a b : ResolvedTree) (m n : ℤ) (r : Option ℤ) → HasOutcome c a (Is (Int m)) → HasOutcome c b (Is (Int n))
-    → IfSome r (λ k. InfixOutcome op (Int m) (Int n) (Is (Int k)))
-    → IfSome r (λ k. HasOutcome c (binary l (Function op) a b) (Is (Int k)))
-both-numbers c l op a b m n None h g q = tt
-both-numbers c l op a b m n (Some k) h g q = (Is (Int m), Is (Int n), h, g, q)
 
 pub number-applied : (c : Context) (l : ℕ) (a b : ResolvedTree) (f x y : Value) (r : Option ℤ) → HasOutcome c a (Is f) → HasOutcome c b (Is x)
     → IsApplied (members f) x (Is y) → r ≡ number_of y → IfSome r (λ n. HasOutcome c (binary l Application a b) (Is (Int n)))

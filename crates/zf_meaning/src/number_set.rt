@@ -35,10 +35,7 @@ pub(crate) fn described_numbers<'v>(env: &Env<'_, '_>, set: Infinite) -> Describ
 pub fn infinite_in<'a>(term: &Resolved<'a>, env: &Env<'_, 'a>) -> Option<Infinite>
     ensures { result ≡ spec.infinite_in (environment_of env.now) (resolved_of term.now) }
 {
-    match direct(term, env.globals()) {
-        Some(set) => unended(set, env),
-        None => None,
-    }
+    unended(direct(term, env.globals())?, env)
 }
 
 /// The set, if it is infinite.

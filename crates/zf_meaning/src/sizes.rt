@@ -68,13 +68,10 @@ fn add_name(
 ) -> Result<(), AllocError>
     ensures { OnOk result (sets.new.items ≡ sets.old.items ++ given_at place (globals_of globals.now)) }
 {
-    match given_name(globals, place) {
-        Some(name) => {
-            sets.push(Text::of(alloc, name)?)?;
-            Ok(())
-        }
-        None => Ok(()),
+    if let Some(name) = given_name(globals, place) {
+        sets.push(Text::of(alloc, name)?)?;
     }
+    Ok(())
 }
 
 /// The name of the global at this place, if it is a given set.
@@ -146,10 +143,7 @@ fn is_given(sets: &[Text], name: &[u8]) -> bool
 fn is_sized(sizes: &[Size], name: &[u8]) -> bool
     ensures { IsTrue result ↔ Contains (names sizes.now) name.now }
 {
-    match count_of(sizes, name) {
-        Some(_) => true,
-        None => false,
-    }
+    count_of(sizes, name).is_some()
 }
 
 /// The size that is stated for the name, if there is one.
@@ -190,13 +184,10 @@ fn add_count(
     requires { AreComplete (given_sets (globals_of globals.now)) sizes.now }
     ensures { OnOk result ((o : Option ℕ) × CountsAt sizes.now place (globals_of globals.now) o × (counts.new.items ≡ counts.old.items ++ option_to_list o)) }
 {
-    match count_at(globals, place, sizes) {
-        Some(count) => {
-            counts.push(count)?;
-            Ok(())
-        }
-        None => Ok(()),
+    if let Some(count) = count_at(globals, place, sizes) {
+        counts.push(count)?;
     }
+    Ok(())
 }
 
 /// How many elements the global at this place has, if it is a given set or free type.

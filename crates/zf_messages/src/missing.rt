@@ -78,13 +78,10 @@ fn add_schema(
 ) -> Result<(), AllocError>
     ensures { OnOk result (names.new.items ≡ names.old.items ++ schema_at place (globals_of globals.now)) }
 {
-    match schema_at(globals, place) {
-        Some(name) => {
-            names.push(Text::of(alloc, name)?)?;
-            Ok(())
-        }
-        None => Ok(()),
+    if let Some(name) = schema_at(globals, place) {
+        names.push(Text::of(alloc, name)?)?;
     }
+    Ok(())
 }
 
 /// The name of the global at this place, if it is a schema.

@@ -160,11 +160,7 @@ fn told(relation: Relation, is_in: bool) -> Truth
 fn is_found_out(found: &Found<'_>) -> bool
     ensures { IsTrue result ↔ IsDescribed (form.Plain found.now) outcome.Out }
 {
-    match found {
-        Found::Is(_) => false,
-        Found::Undefined => false,
-        Found::Out => true,
-    }
+    matches!(found, Found::Out)
 }
 
 fn is_found_in(found: &Found<'_>, v: &Value) -> bool

@@ -1,5 +1,6 @@
 //! Why a source is not read.
 ghost use Rattle.std.specs.Prelude.{◌≡◌};
+ghost use Rattle.zf_scan.specs.declared.fault.TextFaultKind.TheVariants.{OutOfMemory};
 
 use std::alloc::AllocError;
 use zf_scan::TextFault;
@@ -48,8 +49,6 @@ impl<'a> Unread<'a> {
 }
 
 impl<'a> From<AllocError> for Unread<'a> {
-    ghost use Rattle.zf_scan.specs.declared.fault.TextFaultKind.TheVariants.{OutOfMemory};
-
     ghost from_gives = { λ _ unread. (unread.fault.kind ≡ OutOfMemory) × (unread.fault.line ≡ 0) };
 
     fn from(error: AllocError) -> Unread<'a> {

@@ -1,7 +1,7 @@
 //! Faults of a text.
 ghost use Rattle.std.specs.Prelude.{◌≡◌};
 ghost use Rattle.zf_scan.specs.declared.fault.TextFault.{TextFault};
-ghost use Rattle.zf_scan.specs.declared.fault.TextFaultKind.TheVariants.{NotInProfile};
+ghost use Rattle.zf_scan.specs.declared.fault.TextFaultKind.TheVariants.{NotInProfile, OutOfMemory};
 
 use std::alloc::{AllocError, AllocFailed};
 use thiserror::Error;
@@ -50,8 +50,6 @@ impl TextFault {
 }
 
 impl From<AllocError> for TextFault {
-    ghost use Rattle.zf_scan.specs.declared.fault.TextFaultKind.TheVariants.{OutOfMemory};
-
     ghost from_gives = { λ _ fault. (fault.kind ≡ OutOfMemory) × (fault.line ≡ 0) };
 
     fn from(_error: AllocError) -> TextFault {
@@ -63,8 +61,6 @@ impl From<AllocError> for TextFault {
 }
 
 impl<T: Drop> From<AllocFailed<T>> for TextFault {
-    ghost use Rattle.zf_scan.specs.declared.fault.TextFaultKind.TheVariants.{OutOfMemory};
-
     ghost from_gives = { λ _ fault. (fault.kind ≡ OutOfMemory) × (fault.line ≡ 0) };
 
     fn from(_error: AllocFailed<T>) -> TextFault {

@@ -1,6 +1,7 @@
 //! Faults of types.
 ghost use Rattle.std.specs.Prelude.{◌≡◌, IfOk};
 ghost use Rattle.zf_term.specs.{kind_of, misplaced};
+ghost use Rattle.zf_sorts.specs.declared.fault.Refusal.TheVariants.{OutOfMemory};
 ghost use Rattle.zf_sorts.specs.{fault_of, IsRefusal, offence_of, sort_of};
 
 use crate::sort::Sort;
@@ -158,8 +159,6 @@ pub fn misplaced<'a>(arena: &'a Bump, need: Need, found: &Sort<'a>, line: u32) -
 }
 
 impl<'a> From<AllocError> for Refusal<'a> {
-    ghost use Rattle.zf_sorts.specs.declared.fault.Refusal.TheVariants.{OutOfMemory};
-
     ghost from_gives = { λ _ refusal. refusal ≡ OutOfMemory };
 
     fn from(_error: AllocError) -> Refusal<'a> {
@@ -168,8 +167,6 @@ impl<'a> From<AllocError> for Refusal<'a> {
 }
 
 impl<'a, T: Drop> From<AllocFailed<T>> for Refusal<'a> {
-    ghost use Rattle.zf_sorts.specs.declared.fault.Refusal.TheVariants.{OutOfMemory};
-
     ghost from_gives = { λ _ refusal. refusal ≡ OutOfMemory };
 
     fn from(_error: AllocFailed<T>) -> Refusal<'a> {

@@ -36,18 +36,14 @@ fn lacks_term(fault: &TypeFault<'_>) -> bool {
 }
 
 fn is_of_term(offence: &Offence<'_>) -> bool {
-    match offence {
-        Offence::Mismatch(_, _)
-        | Offence::Unfit(_, _)
-        | Offence::NoMembers
-        | Offence::Misplaced(_, _)
-        | Offence::TooLarge(_) => true,
+    !matches!(
+        offence,
         Offence::NotDeclared(_)
-        | Offence::AlreadyDefined(_)
-        | Offence::NotASchema(_)
-        | Offence::LocalTwice(_)
-        | Offence::Clash(_) => false,
-    }
+            | Offence::AlreadyDefined(_)
+            | Offence::NotASchema(_)
+            | Offence::LocalTwice(_)
+            | Offence::Clash(_)
+    )
 }
 
 /// Whether the term is an application of what the fault quotes, where a relation is needed.
@@ -59,10 +55,7 @@ fn is_of_function<'a>(arena: &'a Bump, fault: &TypeFault<'a>, term: &Term<'a>) -
 }
 
 fn needs_relation(offence: &Offence<'_>) -> bool {
-    match offence {
-        Offence::Misplaced(need, _) => matches!(need, Need::Relation),
-        _ => false,
-    }
+    matches!(offence, Offence::Misplaced(Need::Relation, _))
 }
 
 /// Whether the hint quotes this term, or one that is written like it.

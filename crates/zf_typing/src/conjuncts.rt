@@ -36,12 +36,7 @@ fn is_conjunction(term: &Term<'_>) -> bool
 fn is_and(op: Operator) -> bool
     ensures { result ≡ spec.is_and op }
 {
-    match op {
-        Operator::Connective(connective) => connective == Connective::And,
-        Operator::Function(_) | Operator::Generic(_) | Operator::Application | Operator::Image => {
-            false
-        }
-    }
+    matches!(op, Operator::Connective(Connective::And))
 }
 
 /// Adds the conjuncts of the predicate, where it is one.

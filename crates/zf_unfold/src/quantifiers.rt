@@ -38,11 +38,7 @@ pub(crate) fn universal<'t, 'a>(term: &'t Resolved<'a>) -> Option<Universal<'t, 
 fn is_universal(quantifier: Quantifier) -> bool
     ensures { IsTrue result → quantifier ≡ ForAll }
 {
-    match quantifier {
-        Quantifier::ForAll => true,
-        Quantifier::Exists => false,
-        Quantifier::ExistsOne => false,
-    }
+    matches!(quantifier, Quantifier::ForAll)
 }
 
 /// Whether one of them has a universal quantifier outside of all others.

@@ -24,8 +24,7 @@ impl<'h> Places for Unheld<'h> {
         match reference {
             Reference::Component(place) if is_held(self.held, place) => None,
             Reference::Component(_) => Some(0),
-            Reference::Local(_) => None,
-            Reference::Global(_) => None,
+            _ => None,
         }
     }
 
@@ -48,11 +47,5 @@ pub fn names_held(term: &Resolved<'_>, held: &[Option<Value>]) -> bool
 fn is_held(held: &[Option<Value>], place: usize) -> bool
     ensures { result ≡ is_value (slice_get held.now place) }
 {
-    if place >= held.len() {
-        return false;
-    }
-    match &held[place] {
-        Some(_) => true,
-        None => false,
-    }
+    matches!(held.get(place), Some(Some(_)))
 }

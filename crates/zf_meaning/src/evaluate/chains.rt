@@ -93,11 +93,10 @@ fn last_link<'v, 'a, R: Row>(
 fn is_finite_membership(relation: Relation, infinite: Option<Infinite>) -> bool
     ensures { IsTrue result → IsTrue (is_membership relation) × (infinite ≡ None) }
 {
-    match (relation, infinite) {
-        (Relation::Member, None) => true,
-        (Relation::NotMember, None) => true,
-        _ => false,
-    }
+    matches!(
+        (relation, infinite),
+        (Relation::Member | Relation::NotMember, None)
+    )
 }
 
 /// The infinite set that a link tests for, if the whole right side of a membership is one.
@@ -118,9 +117,5 @@ fn infinite_right<'a>(
 pub(super) fn is_false(truth: Truth) -> bool
     ensures { IsTrue result ↔ (truth ≡ Truth.False) }
 {
-    match truth {
-        Truth::True => false,
-        Truth::False => true,
-        Truth::Out => false,
-    }
+    matches!(truth, Truth::False)
 }

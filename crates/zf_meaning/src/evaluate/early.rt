@@ -213,21 +213,7 @@ fn sides_of<'t, 'a>(term: &'t Resolved<'a>) -> Option<(&'t Resolved<'a>, &'t Res
 fn is_and(operator: Operator) -> bool
     ensures { IsTrue result → operator ≡ symbol.Connective And }
 {
-    match operator {
-        Operator::Connective(connective) => is_conjunction(connective),
-        _ => false,
-    }
-}
-
-fn is_conjunction(connective: Connective) -> bool
-    ensures { IsTrue result → connective ≡ And }
-{
-    match connective {
-        Connective::And => true,
-        Connective::Or => false,
-        Connective::Implies => false,
-        Connective::Iff => false,
-    }
+    matches!(operator, Operator::Connective(Connective::And))
 }
 
 /// Adds a predicate, if it does not need the last variable, or tells which value that has to have.
@@ -302,8 +288,7 @@ fn place_of(reference: Reference) -> Option<usize>
 {
     match reference {
         Reference::Local(place) => Some(place),
-        Reference::Component(_) => None,
-        Reference::Global(_) => None,
+        _ => None,
     }
 }
 

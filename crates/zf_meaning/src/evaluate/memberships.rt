@@ -122,20 +122,16 @@ fn values<'f>(x: &'f Found<'_>, y: &'f Found<'_>) -> Option<(&'f Value, &'f Valu
 fn is_power(op: Unary) -> bool
     ensures { IsTrue result → (op ≡ unaries.Sign (sign.Symbol prefixes.Power)) ⊎ (op ≡ unaries.Sign (sign.Symbol prefixes.Finset)) }
 {
-    match op {
-        Unary::Sign(Sign::Symbol(Prefix::Power)) => true,
-        Unary::Sign(Sign::Symbol(Prefix::Finset)) => true,
-        _ => false,
-    }
+    matches!(
+        op,
+        Unary::Sign(Sign::Symbol(Prefix::Power | Prefix::Finset))
+    )
 }
 
 fn is_interval(op: Operator) -> bool
     ensures { IsTrue result → op ≡ operator.Function infixes.UpTo }
 {
-    match op {
-        Operator::Function(Infix::UpTo) => true,
-        _ => false,
-    }
+    matches!(op, Operator::Function(Infix::UpTo))
 }
 
 /// What several terms make.

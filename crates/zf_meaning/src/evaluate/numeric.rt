@@ -45,12 +45,8 @@ fn compared<'v, 'a, R: Row>(
     if !is_comparison(link.relation) {
         return None;
     }
-    let Some(m) = number_at(first, row, env) else {
-        return None;
-    };
-    let Some(n) = number_at(&link.right, row, env) else {
-        return None;
-    };
+    let m = number_at(first, row, env)?;
+    let n = number_at(&link.right, row, env)?;
     Some(between_numbers(link.relation, m, n))
 }
 
@@ -104,12 +100,8 @@ fn number_within<'v, 'a, R: Row>(
                     if !is_calculated(*infix) {
                         return None;
                     }
-                    let Some(m) = number_at(left, row, env) else {
-                        return None;
-                    };
-                    let Some(n) = number_at(right, row, env) else {
-                        return None;
-                    };
+                    let m = number_at(left, row, env)?;
+                    let n = number_at(right, row, env)?;
                     of_numbers(*infix, m, n)
                 }
                 Operator::Application => number_applied(left, right, row, env),
@@ -121,14 +113,10 @@ fn number_within<'v, 'a, R: Row>(
 }
 
 fn is_calculated(op: Infix) -> bool {
-    match op {
-        Infix::Plus => true,
-        Infix::Minus => true,
-        Infix::Times => true,
-        Infix::Div => true,
-        Infix::Mod => true,
-        _ => false,
-    }
+    matches!(
+        op,
+        Infix::Plus | Infix::Minus | Infix::Times | Infix::Div | Infix::Mod
+    )
 }
 
 #[inline(always)]
@@ -151,8 +139,7 @@ fn number_in(outcome: &Outcome) -> Option<i64>
 {
     match outcome {
         Outcome::Is(value) => value.number(),
-        Outcome::Undefined => None,
-        Outcome::Out => None,
+        _ => None,
     }
 }
 
@@ -165,16 +152,9 @@ fn number_applied<'v, 'a, R: Row>(
 ) -> Option<i64>
     ensures { (line : ℕ) → IfSome result (λ n. HasOutcome (in_row (environment_of env.now) (R.values row.now)) (tree.binary line Application (resolved_of left.now) (resolved_of right.now)) (Is (Int n))) }
 {
-    let Some(f) = value_of_name(left, row, env) else {
-        return None;
-    };
-    let Some(x) = value_of_name(right, row, env) else {
-        return None;
-    };
-    match applied(f, x) {
-        Some(y) => y.number(),
-        None => None,
-    }
+    let f = value_of_name(left, row, env)?;
+    let x = value_of_name(right, row, env)?;
+    applied(f, x)?.number()
 }
 
 /// The value of a term that is a name.
@@ -202,10 +182,7 @@ fn number_named<'v, 'a, R: Row>(
 ) -> Option<i64>
     ensures { IfSome result (λ n. Is (Int n) ≡ spec.outcome_in (in_row (environment_of env.now) (R.values row.now)) reference) }
 {
-    match value_named(reference, row, env) {
-        Some(value) => value.number(),
-        None => None,
-    }
+    value_named(reference, row, env)?.number()
 }
 
 /// The value that a name stands for.
@@ -228,10 +205,7 @@ fn value_named<'v, 'a, R: Row>(
 fn global_value<'v>(env: &'v Env<'_, '_>, place: usize) -> Option<&'v Value>
     ensures { IfSome result (λ v. Is v.now ≡ outcome_or (slice_get (environment_of env.now).outcomes place)) }
 {
-    match env.outcome(place) {
-        Some(outcome) => value_in(outcome),
-        None => None,
-    }
+    value_in(env.outcome(place)?)
 }
 
 /// The value that an outcome is.
@@ -240,16 +214,12 @@ fn value_in(outcome: &Outcome) -> Option<&Value>
 {
     match outcome {
         Outcome::Is(value) => Some(value),
-        Outcome::Undefined => None,
-        Outcome::Out => None,
+        _ => None,
     }
 }
 
 fn signed(value: u64) -> Option<i64>
     ensures { IfSome result (λ n. IsNumber (pos value) (Is (Int n))) }
 {
-    match i64::try_from(value) {
-        Ok(n) => Some(n),
-        Err(_) => None,
-    }
+    i64::try_from(value).ok()
 }

@@ -4,6 +4,6 @@ use Rattle.zf_enum.proofs.fixing.fixing.Goals as goal
 
 pub returns : goal.returns
 returns c =
-    let it = c.in-Some.it in
-    let is = equation_is _ _ _ _ c.in-Some.ensures (c.is_equality.ensures c.if-not-is_equality.false) in
+    let it = c.in_ok-it.it in
+    let is = equation_is _ _ _ _ c.in_ok-it.ensures (c.is_equality.ensures c.if-not-is_equality.false) in
     some_weaker c.beside.result _ _ (λ side h. (is.0, resolved_of it.left.now, resolved_of it.right.now, is.1, h)) c.beside.ensures

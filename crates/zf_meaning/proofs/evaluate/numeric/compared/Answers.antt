@@ -7,9 +7,9 @@ returns g c =
     let k = c.link-item in
     let scope = in_row (environment_of c.args.env.now) (g.R.Row.values c.args.row.now) in
     let one = one-link c.args.links.now k.result (omega (arith, c.in-len1.len_at_least)) (omega (arith, c.in-len1.len_below)) k.is in
-    let f : FitsSigned w64 c.in-Some.m = search rules in
-    let h : FitsSigned w64 c.in-Some-number_at.n = search rules in
-    let told = written-both (λ x y. IsAtom (Is (Int x)) (Is (Int y)) (Holds k.result.relation) c.between_numbers.result) c.in-Some.m c.in-Some-number_at.n f h c.between_numbers.ensures in
+    let f : FitsSigned w64 c.in_ok-m.m = search rules in
+    let h : FitsSigned w64 c.in_ok-n.n = search rules in
+    let told = written-both (λ x y. IsAtom (Is (Int x)) (Is (Int y)) (Holds k.result.relation) c.between_numbers.result) c.in_ok-m.m c.in_ok-n.n f h c.between_numbers.ensures in
     λ line. subst (λ ks. IsTruth scope (chain line (resolved_of c.args.first.now) (links (map resolved_link_of ks))) c.between_numbers.result) (sym one)
-    (compared-told scope line (resolved_of c.args.first.now) k.result c.in-Some.m c.in-Some-number_at.n c.between_numbers.result
-    (c.is_comparison.ensures c.if-not-is_comparison.false) c.in-Some.ensures c.in-Some-number_at.ensures told)
+    (compared-told scope line (resolved_of c.args.first.now) k.result c.in_ok-m.m c.in_ok-n.n c.between_numbers.result
+    (c.is_comparison.ensures c.if-not-is_comparison.false) c.in_ok-m.ensures c.in_ok-n.ensures told)
