@@ -16,42 +16,87 @@ __zf_written() {
     esac
 }
 
-# What `zf check -t` lists as KIND in FILE, or what is written there, where it has faults; each as a word of the shell.
-# The program is given two seconds.
-__zf_listed() {
-    local program=$1 kind=$2 file=$3 listing name
+# A word of the shell without its quotes.
+__zf_plain() {
+    xargs -n 1 printf '%s' <<< "$1" 2> /dev/null
+}
+
+# What `zf check -t` lists in FILE. It is given two seconds, and nothing is compiled for it.
+__zf_listing() {
+    local program=$1 file=$2
     file=${file/#\~/$HOME}
     file=${file//[\\\'\"]/}
-    [[ -r $file && ! -d $file ]] || return 0
-    if listing=$(timeout 2 "$program" check -t "$file" 2> /dev/null); then
+    [[ -r $file && ! -d $file ]] && ZF_COMPILE=no timeout 2 "$program" check -t "$file" 2> /dev/null
+}
+
+# What is listed as KIND in FILE, or what is written there, where it has faults; each as a word of the shell.
+__zf_listed() {
+    local program=$1 kind=$2 file=$3 listing name
+    if listing=$(__zf_listing "$program" "$file"); then
         sed -n "s/^$kind \([^ ]*\).*/\1/p" <<< "$listing"
     else
-        __zf_written "$kind" "$file"
+        file=${file/#\~/$HOME}
+        file=${file//[\\\'\"]/}
+        [[ ! -r $file || -d $file ]] || __zf_written "$kind" "$file"
     fi | sort -u | while read -r name; do
         printf '%q\n' "$name"
     done
 }
 
+# The components that are listed of SCHEMA in FILE.
+__zf_components() {
+    __zf_listing "$1" "$2" | ZF_SCHEMA=$(__zf_plain "$3") awk '
+        $1 == "End" { is_in = 0 }
+        is_in { sub(/^ +/, ""); sub(/: .*/, ""); print }
+        $1 == "Schema" { is_in = $2 == ENVIRON["ZF_SCHEMA"] }'
+}
+
+# Completes the last name of LIST, in which components of SCHEMA in FILE are parted by commas, perhaps with values.
+__zf_list() {
+    local program=$1 file=$2 schema=$3 list=$4 quote='' last name opened closed
+    case $list in
+        [\"\']*) quote=${list:0:1} list=${list:1} ;;
+    esac
+    last=${list##*,}
+    while [[ $last == [\\\ ]* ]]; do last=${last:1}; done
+    list=${list%"$last"}
+    # a value is the author's, also where it is a set or a tuple
+    [[ $last != *=* ]] || return 0
+    opened=${list//[!(\{]/} closed=${list//[!)\}]/}
+    [[ ${#opened} -le ${#closed} ]] || return 0
+    compopt -o nospace
+    while read -r name; do
+        [[ ,${list//[ \\]/} != *,"${name//\\/}"[,=]* ]] || continue
+        [[ -n $quote ]] || printf -v name '%q' "$name"
+        [[ $name != "$last"* ]] || COMPREPLY+=("$list$name")
+    done < <(__zf_components "$program" "$file" "$schema")
+}
+
 _zf() {
-    local current=${COMP_WORDS[COMP_CWORD]} command='' options=yes skip=no word place
-    local words=() places=()
+    local current command='' options=yes skip=no word place at=-1 value_of may_be_option
+    local words=() places=() all=()
     COMPREPLY=()
 
     # bash splits words at `=`: NAME=2 is three of them
-    for ((place = 1; place <= COMP_CWORD; place++)); do
+    for ((place = 1; place < ${#COMP_WORDS[@]}; place++)); do
         word=${COMP_WORDS[place]}
-        if [[ ${#words[@]} -gt 0 && ($word == = || ${words[-1]} == *[!=]=) ]]; then
+        if ((${#words[@]} > 0 && at != ${#words[@]} - 1)) && [[ $word == = || ${words[-1]} == *[!=]= ]]; then
             words[-1]+=$word
         else
             words+=("$word")
         fi
+        ((place != COMP_CWORD)) || at=$((${#words[@]} - 1))
     done
-    current=${words[-1]}
-    unset 'words[-1]'
+    current=${words[at]}
 
-    for word in "${words[@]}"; do
+    # `places` are the words before the current one that are no options, `all` those behind it too
+    for ((place = 0; place < ${#words[@]}; place++)); do
+        word=${words[place]}
+        ((place != at)) || value_of=$skip may_be_option=$options
         if [[ $skip != no ]]; then
             skip=no
+        elif ((place == at)); then
+            continue
         elif [[ $options == yes && $word == -- ]]; then
             options=no
         elif [[ $options == yes && $word =~ ^--(after|with|only|limit|numbers|size|find)$ ]]; then
@@ -61,24 +106,30 @@ _zf() {
         elif [[ -z $command ]]; then
             command=$word
         else
-            places+=("$word")
+            all+=("$word")
+            ((place > at)) || places+=("$word")
         fi
     done
-
-    # the schema that is sought is one of the file, which may stand behind it
-    if [[ $command == reach && ($skip == --find || $options == yes && $current == --find=*) ]]; then
-        current=${current#--find=}
-        for word in "${COMP_WORDS[@]:COMP_CWORD + 1}"; do
-            [[ $word == -* ]] || places+=("$word")
-        done
-        while read -r word; do
-            [[ $word != "$current"* ]] || COMPREPLY+=("$word")
-        done < <(__zf_listed "$1" Schema "${places[0]}")
-        return 0
+    if [[ $value_of == no && $may_be_option == yes && $current =~ ^--(with|only|find)= ]]; then
+        value_of=--${BASH_REMATCH[1]}
+        current=${current#*=}
     fi
+    # what is sought, or named in a list, is of a file and a schema that may stand behind it
+    case $command$value_of in
+        reach--find)
+            while read -r word; do
+                [[ $word != "$current"* ]] || COMPREPLY+=("$word")
+            done < <(__zf_listed "$1" Schema "${all[0]}")
+            return 0
+            ;;
+        show--only | show--with | why--with)
+            [[ ${#all[@]} -lt 2 ]] || __zf_list "$1" "${all[0]}" "${all[1]}" "$current"
+            return 0
+            ;;
+    esac
     # the value of any other option is the author's
-    [[ $skip == no ]] || return 0
-    if [[ $options == yes && $current == -* ]]; then
+    [[ $value_of == no ]] || return 0
+    if [[ $may_be_option == yes && $current == -* ]]; then
         case $command in
             check) mapfile -t COMPREPLY < <(compgen -W '-t --json -d --details -h --help' -- "$current") ;;
             show) mapfile -t COMPREPLY < <(compgen -W '--after --with --only --limit --numbers --size --tests --json -d --details -h --help' -- "$current") ;;

@@ -14,6 +14,25 @@ function __zf_places
     end
 end
 
+# The same of the whole line, without the word at the cursor.
+function __zf_all_places
+    set -l before (commandline --tokenize --current-process --cut-at-cursor)
+    set -l behind (commandline --tokenize --current-process)
+    set -l from (math (count $before) + 1)
+    # the word at the cursor is among those of the whole line, unless it is empty
+    test -z (commandline --current-token | string collect); or set from (math $from + 1)
+    set -l skip no
+    for word in $before '' $behind[$from..-1]
+        if test $skip = yes
+            set skip no
+        else if contains -- "$word" --after --with --only --limit --numbers --size --find
+            set skip yes
+        else if test -n "$word"; and not string match --quiet -- '-?*' $word
+            echo $word
+        end
+    end
+end
+
 function __zf_stands_at -a command count
     set -l places (__zf_places)
     test (count $places) -eq $count; and test "$places[2]" = $command
@@ -38,16 +57,41 @@ function __zf_written -a kind file
     end
 end
 
-# What `zf check -t` lists as a kind in the file, or what is written there, where it has faults. The program is given two seconds.
+# What `zf check -t` lists in a file. It is given two seconds, and nothing is compiled for it.
+function __zf_listing -a program file
+    test -r "$file"; and not test -d "$file"; or return 1
+    ZF_COMPILE=no timeout 2 $program check -t $file 2>/dev/null
+end
+
+# What is listed as a kind in the file, or what is written there, where it has faults.
 function __zf_listed -a kind
-    set -l places (__zf_places)
+    set -l places (__zf_all_places)
     set -l file (string replace --regex '^~' $HOME -- $places[3])
-    test -r "$file"; and not test -d "$file"; or return
-    set -l listing (timeout 2 $places[1] check -t $file 2>/dev/null)
+    set -l listing (__zf_listing $places[1] "$file")
     if test $status -eq 0
         string match --regex --groups-only -- "^$kind (\S+)" $listing
-    else
+    else if test -r "$file"; and not test -d "$file"
         __zf_written $kind $file
+    end
+end
+
+# The components that are listed of the schema, as the last name of a list in which they are parted by commas.
+function __zf_components
+    set -l places (__zf_all_places)
+    test (count $places) -gt 3; or return
+    set -l list (commandline --current-token | string replace --regex '^--(only|with)=' '' | string replace --regex '^["\']' '' | string unescape)
+    # a value is the author's, also where it is a set or a tuple
+    string match --quiet --regex '=[^,]*$|[({][^)}]*$' -- "$list"; and return
+    set -l before (string match --regex '^.*, *' -- "$list")
+    set -l is_in no
+    for line in (__zf_listing $places[1] (string replace --regex '^~' $HOME -- $places[3]))
+        if test "$line" = End
+            set is_in no
+        else if test $is_in = yes
+            echo "$before"(string replace --regex '^ *(.*?): .*' '$1' -- $line)
+        else if test "$line" = "Schema $places[4]"
+            set is_in yes
+        end
     end
 end
 
@@ -69,8 +113,8 @@ complete -c zf -n '__zf_stands_after check 2' -l json -d 'Write an object of JSO
 complete -c zf -n '__zf_stands_after check 2' -s d -l details -d 'Write after each fault what it is about'
 complete -c zf -n '__zf_stands_after show 2' -s h -l help -d 'Print help'
 complete -c zf -n '__zf_stands_after show 2' -x -l after -d 'Write only what follows this binding'
-complete -c zf -n '__zf_stands_after show 2' -x -l with -d 'Write only the bindings with these values'
-complete -c zf -n '__zf_stands_after show 2' -x -l only -d 'Write only what values these components have'
+complete -c zf -n '__zf_stands_after show 2' -x -l with -a '(__zf_components)' -d 'Write only the bindings with these values'
+complete -c zf -n '__zf_stands_after show 2' -x -l only -a '(__zf_components)' -d 'Write only what values these components have'
 complete -c zf -n '__zf_stands_after show 2' -x -l limit -d 'Write at most so many bindings'
 complete -c zf -n '__zf_stands_after show 2' -x -l numbers -d 'The greatest number'
 complete -c zf -n '__zf_stands_after show 2' -x -l size -d 'The size of each other given set'
@@ -78,7 +122,7 @@ complete -c zf -n '__zf_stands_after show 2' -l tests -d 'Write also how many te
 complete -c zf -n '__zf_stands_after show 2' -l json -d 'Write an object of JSON in place of each line'
 complete -c zf -n '__zf_stands_after show 2' -s d -l details -d 'Write after each fault what it is about'
 complete -c zf -n '__zf_stands_after why 2' -s h -l help -d 'Print help'
-complete -c zf -n '__zf_stands_after why 2' -x -l with -d 'Ask only of the bindings with these values'
+complete -c zf -n '__zf_stands_after why 2' -x -l with -a '(__zf_components)' -d 'Ask only of the bindings with these values'
 complete -c zf -n '__zf_stands_after why 2' -x -l numbers -d 'The greatest number'
 complete -c zf -n '__zf_stands_after why 2' -x -l size -d 'The size of each other given set'
 complete -c zf -n '__zf_stands_after why 2' -l json -d 'Write an object of JSON in place of each line'
