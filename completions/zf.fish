@@ -1,6 +1,7 @@
 # Completion of zf for fish: options, files, then the schemas of the file and the sizes of its given sets.
 
-# The words before the cursor that are no options: the program, the command, the file, the schema, the sizes.
+# The words before the cursor that are no options: the program, the command, the file, the schema, the sizes. (Those behind
+# the cursor fish keeps to itself.)
 function __zf_places
     set -l skip no
     for word in (commandline --tokenize --current-process --cut-at-cursor)
@@ -9,25 +10,6 @@ function __zf_places
         else if contains -- $word --after --with --only --limit --numbers --size --find
             set skip yes
         else if not string match --quiet -- '-?*' $word
-            echo $word
-        end
-    end
-end
-
-# The same of the whole line, without the word at the cursor.
-function __zf_all_places
-    set -l before (commandline --tokenize --current-process --cut-at-cursor)
-    set -l behind (commandline --tokenize --current-process)
-    set -l from (math (count $before) + 1)
-    # the word at the cursor is among those of the whole line, unless it is empty
-    test -z (commandline --current-token | string collect); or set from (math $from + 1)
-    set -l skip no
-    for word in $before '' $behind[$from..-1]
-        if test $skip = yes
-            set skip no
-        else if contains -- "$word" --after --with --only --limit --numbers --size --find
-            set skip yes
-        else if test -n "$word"; and not string match --quiet -- '-?*' $word
             echo $word
         end
     end
@@ -65,7 +47,7 @@ end
 
 # What is listed as a kind in the file, or what is written there, where it has faults.
 function __zf_listed -a kind
-    set -l places (__zf_all_places)
+    set -l places (__zf_places)
     set -l file (string replace --regex '^~' $HOME -- $places[3])
     set -l listing (__zf_listing $places[1] "$file")
     if test $status -eq 0
@@ -77,7 +59,7 @@ end
 
 # The components that are listed of the schema, as the last name of a list in which they are parted by commas.
 function __zf_components
-    set -l places (__zf_all_places)
+    set -l places (__zf_places)
     test (count $places) -gt 3; or return
     set -l list (commandline --current-token | string replace --regex '^--(only|with)=' '' | string replace --regex '^["\']' '' | string unescape)
     # a value is the author's, also where it is a set or a tuple
