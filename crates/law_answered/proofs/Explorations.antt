@@ -1,5 +1,5 @@
 -- An answer of an exploration by its stages: at each it is refused, or goes on with what the next one stands on; and there is one.
-use Rattle.law_answered.proofs.Prelude.{◌∙◌, ◌∷◌, ◌≡◌, ◌⊎◌, [], ap, inl, inr, List, None, Option, refl, Some, subst, sym, ℕ, AllByRecursion, AreComplete, Checks, Defined, Environment, given_sets, IsEnvironment, IsFinite, IsNoneOut, numbers_of, Schema, spellings, stated, Status, AreMessages, AreMessagesAlike, AreSmall, messages_in, AllZip, AreSchemasOf, Exploration, ExplorationAnswer, ExploresMachine, HasInfinite, HasLacking, HasOut, HasSchemas, HasShape, IsBounded, IsOfSchema, IsSchemaOf, IsSettled, LacksSchema, Named, RefusesExploration, Schemas, Seeks, System, TellsFaults, TellsInfinite, TellsMachine, TellsMisfit, TellsNoSchema, TellsNumbers, TellsOut, all_of, ending_status, explored_in, form_of, is_searched_once, is_sure, names_of, no_component_line, one_machine, option_to_list, result_status, sought_in, states_limit, verdict, words, IsSearchable}
+use Rattle.law_answered.proofs.Prelude.{◌∙◌, ◌∷◌, ◌≡◌, ◌⊎◌, [], ap, inl, inr, List, None, Option, refl, Some, subst, sym, ℕ, AllByRecursion, AreComplete, Checks, Defined, Environment, given_sets, IsEnvironment, IsFinite, IsNoneOut, numbers_of, Schema, spellings, stated, Status, AreMessages, AreMessagesAlike, AreSmall, Message, messages_text, AllZip, AreSchemasOf, Exploration, ExplorationAnswer, ExploresMachine, HasInfinite, HasLacking, HasOut, HasSchemas, HasShape, IsBounded, IsOfSchema, IsSchemaOf, IsSettled, LacksSchema, Named, RefusesExploration, Schemas, Seeks, System, TellsFaults, TellsInfinite, TellsMachine, TellsMisfit, TellsNoSchema, TellsNumbers, TellsOut, all_of, ending_status, explored_in, form_of, is_searched_once, is_sure, names_of, no_component, one_machine, option_to_list, result_status, sought_in, states_limit, verdict, words, IsSearchable}
 use Rattle.zf_graph.proofs.OneWay.{one_way}
 use Rattle.zf_graph.specs.Seeking as seeking
 use Rattle.zf_graph.specs.Texts as graph
@@ -18,7 +18,7 @@ Finding = List Defined → Schemas → Environment → List ℕ → Status → T
 
 module _ (Tells : Finding) (x : Exploration) (file source text : List ℕ) (status : Status) where
   -- the messages of a refusal
-  abbrev Refused : (List ℕ → Status → Type 0) → Type 0
+  abbrev Refused : (List Message → Status → Type 0) → Type 0
   Refused R = AreMessages x.format file R text status
 
   abbrev AtSets : List Defined → Schemas → Environment → Type 0
@@ -26,7 +26,7 @@ module _ (Tells : Finding) (x : Exploration) (file source text : List ℕ) (stat
 
   abbrev AtFiniteness : List Defined → Schemas → Type 0
   AtFiniteness g p =
-      Refused (HasInfinite x file (numbers_of x.setting) g p)
+      Refused (HasInfinite x source (numbers_of x.setting) g p)
       ⊎ (AllByRecursion (λ n. IsFinite (numbers_of x.setting) g n.schema) (all_of p) × ((e : Environment) × IsEnvironment g (stated g x.setting) (numbers_of x.setting) e × AtSets g p e))
 
   abbrev AtSizes : List Defined → Schemas → Type 0
@@ -42,7 +42,7 @@ module _ (Tells : Finding) (x : Exploration) (file source text : List ℕ) (stat
   AtSchemas g = Refused (LacksSchema x g) ⊎ ((p : Schemas) × AreSchemasOf g x p × AtShape g p)
 
   abbrev pub AtTypes : Type 0
-  AtTypes = Refused (TellsFaults x.details file source) ⊎ ((g : List Defined) × Checks source g [] × AtSchemas g)
+  AtTypes = Refused (TellsFaults x.details source) ⊎ ((g : List Defined) × Checks source g [] × AtSchemas g)
 
   at_shape : (g : List Defined) (p : Schemas) → HasSchemas x source g p → AtShape g p → AtTypes
   at_shape g p has at = inr (g, has.checks, inr (p, has.named, at))
@@ -57,7 +57,7 @@ module _ (Tells : Finding) (x : Exploration) (file source text : List ℕ) (stat
   pub granted : (g : List Defined) (p : Schemas) (e : Environment) → IsSearchable x source g p e → Tells g p e text status → AtTypes
   granted g p e is told = at_sets g p e is.bounded (inr (is.none_out, told))
 
-  refused_at : (told : List ℕ) → RefusesExploration x file source told status → text ≡ messages_in x.format file told → AtTypes
+  refused_at : (told : List Message) → RefusesExploration x source told status → text ≡ messages_text x.format file told → AtTypes
   refused_at told (RefusesExploration.ill_typed ill) is = inl (told, ill, is)
   refused_at told (RefusesExploration.no_schema g checks lacks) is = inr (g, checks, inl (told, lacks, is))
   refused_at told (RefusesExploration.no_component g p has lacks) is = at_shape g p has (inl (told, lacks, is))
@@ -142,15 +142,15 @@ module _ {C : Type 0} (Tells Also : Finding) (x : Exploration) (file source one 
       abbrev NoneOut : Named → Type 0
       NoneOut n = IsNoneOut e n.schema.comps
 
-      abbrev Out : List ℕ → Status → Named → Type 0
-      Out text status n = TellsOut e n.schema.comps text status
+      abbrev Out : List Message → Status → Named → Type 0
+      Out told status n = TellsOut e n.schema.comps told status
 
-      out_apart : (text : List ℕ) (status : Status) (n : Named) → Out text status n → NoneOut n → ⊥
-      out_apart text status n told none = not_out text status e n.schema.comps told none
+      out_apart : (told : List Message) (status : Status) (n : Named) → Out told status n → NoneOut n → ⊥
+      out_apart told status n out none = not_out told status e n.schema.comps out none
 
       at_declared : AtSets Tells x file source one s g p e → AtSets Also x file source two t g p e → C
       at_declared (inl u) (inl v) = refuse u.0 v.0 (one_first NoneOut (Out u.0 s) (Out v.0 t) (out_apart u.0 s) (out_apart v.0 t)
-          (λ n. one_out x.details file source u.0 v.0 s t e n.schema.comps) (all_of p) u.1 v.1) u.2 v.2
+          (λ n. one_out x.details source u.0 v.0 s t e n.schema.comps) (all_of p) u.1 v.1) u.2 v.2
       at_declared (inl u) (inr v) = absurd (not_all_and_first NoneOut (Out u.0 s) (out_apart u.0 s) (all_of p) v.0 u.1)
       at_declared (inr u) (inl v) = absurd (not_all_and_first NoneOut (Out v.0 t) (out_apart v.0 t) (all_of p) u.0 v.1)
       at_declared (inr u) (inr v) = tell g p e u.1 v.1
@@ -162,15 +162,15 @@ module _ {C : Type 0} (Tells Also : Finding) (x : Exploration) (file source one 
     abbrev Ends : Named → Type 0
     Ends n = IsFinite numbers g n.schema
 
-    abbrev Infinite : List ℕ → Status → Named → Type 0
-    Infinite text status n = TellsInfinite numbers g n.schema x.details file text status
+    abbrev Infinite : List Message → Status → Named → Type 0
+    Infinite told status n = TellsInfinite numbers g n.schema x.details source told status
 
-    infinite_apart : (text : List ℕ) (status : Status) (n : Named) → Infinite text status n → Ends n → ⊥
-    infinite_apart text status n told finite = is_finite text status numbers g n.schema x.details file told finite
+    infinite_apart : (told : List Message) (status : Status) (n : Named) → Infinite told status n → Ends n → ⊥
+    infinite_apart told status n infinite finite = is_finite told status numbers g n.schema x.details source infinite finite
 
     at_causes : AreComplete (given_sets g) (stated g x.setting) → AtFiniteness Tells x file source one s g p → AtFiniteness Also x file source two t g p → C
     at_causes complete (inl u) (inl v) = refuse u.0 v.0 (one_first Ends (Infinite u.0 s) (Infinite v.0 t) (infinite_apart u.0 s) (infinite_apart v.0 t)
-        (λ n. one_infinite x.details file source u.0 v.0 s t numbers g n.schema) (all_of p) u.1 v.1) u.2 v.2
+        (λ n. one_infinite x.details source u.0 v.0 s t numbers g n.schema) (all_of p) u.1 v.1) u.2 v.2
     at_causes complete (inl u) (inr v) = absurd (not_all_and_first Ends (Infinite u.0 s) (infinite_apart u.0 s) (all_of p) v.0 u.1)
     at_causes complete (inr u) (inl v) = absurd (not_all_and_first Ends (Infinite v.0 t) (infinite_apart v.0 t) (all_of p) u.0 v.1)
     at_causes complete (inr (ends, (e, is, at))) (inr (also_ends, (f, also, also_at))) =
@@ -179,22 +179,22 @@ module _ {C : Type 0} (Tells Also : Finding) (x : Exploration) (file source one 
 
     -- ---- sizes, numbers, components
     at_sizes : AtSizes Tells x file source one s g p → AtSizes Also x file source two t g p → C
-    at_sizes (inl u) (inl v) = refuse u.0 v.0 (one_misfit x.details file source u.0 v.0 s t g (stated g x.setting) u.1 v.1) u.2 v.2
+    at_sizes (inl u) (inl v) = refuse u.0 v.0 (one_misfit x.details source u.0 v.0 s t g (stated g x.setting) u.1 v.1) u.2 v.2
     at_sizes (inl u) (inr v) = absurd (no_misfit u.0 s x.details g (stated g x.setting) u.1 v.0)
     at_sizes (inr u) (inl v) = absurd (no_misfit v.0 t x.details g (stated g x.setting) v.1 u.0)
     at_sizes (inr u) (inr v) = at_causes v.0 u.1 v.1
 
     at_numbers : AtNumbers Tells x file source one s g p → AtNumbers Also x file source two t g p → C
-    at_numbers (inl u) (inl v) = refuse u.0 v.0 (one_large x.details file source u.0 v.0 s t numbers u.1 v.1) u.2 v.2
+    at_numbers (inl u) (inl v) = refuse u.0 v.0 (one_large x.details source u.0 v.0 s t numbers u.1 v.1) u.2 v.2
     at_numbers (inl u) (inr v) = absurd (small_not_too_large numbers v.0 u.1.0)
     at_numbers (inr u) (inl v) = absurd (small_not_too_large numbers u.0 v.1.0)
     at_numbers (inr u) (inr v) = at_sizes u.1 v.1
 
-    one_lack : (first second : List ℕ) → HasLacking p first s → HasLacking p second t → AreRefusedAlike x.details file source first second s t
+    one_lack : (first second : List Message) → HasLacking p first s → HasLacking p second t → AreRefusedAlike x.details source first second s t
     one_lack first second (n, c, u, told, bad) (m, d, v, also_told, also_bad) =
         let same = one_lacking p n c m d u v in
-        bad_request x.details file source first second s t bad also_bad
-        (AreMessagesAlike.same (told ∙ ap (λ (l : List ℕ). no_component_line l c) same.0 ∙ ap (no_component_line m) same.1 ∙ sym also_told))
+        bad_request x.details source first second s t bad also_bad
+        (AreMessagesAlike.same (told ∙ ap (λ (l : List ℕ). no_component l c ∷ []) same.0 ∙ ap (λ (l : List ℕ). no_component m l ∷ []) same.1 ∙ sym also_told))
 
     at_components : AtShape Tells x file source one s g p → AtShape Also x file source two t g p → C
     at_components (inl u) (inl v) = refuse u.0 v.0 (one_lack u.0 v.0 u.1 v.1) u.2 v.2
@@ -204,14 +204,14 @@ module _ {C : Type 0} (Tells Also : Finding) (x : Exploration) (file source one 
 
   -- ---- names, types
   module _ (g : List Defined) where
-    no_schema_apart : (text : List ℕ) (status : Status) (name : List ℕ) → TellsNoSchema x.details g text status name → IsOfSchema g name → ⊥
-    no_schema_apart text status name told named = told.none named.0 named.1
+    no_schema_apart : (told : List Message) (status : Status) (name : List ℕ) → TellsNoSchema x.details g told status name → IsOfSchema g name → ⊥
+    no_schema_apart told status name lacks named = lacks.none named.0 named.1
 
     at_schemas : AtSchemas Tells x file source one s g → AtSchemas Also x file source two t g → C
     at_schemas (inl u) (inl v) =
         refuse u.0 v.0 (one_first (IsOfSchema g) (TellsNoSchema x.details g u.0 s) (TellsNoSchema x.details g v.0 t)
         (no_schema_apart u.0 s) (no_schema_apart v.0 t)
-        (one_no_schema x.details file source u.0 v.0 s t g) (names_of x) u.1 v.1) u.2 v.2
+        (one_no_schema x.details source u.0 v.0 s t g) (names_of x) u.1 v.1) u.2 v.2
     at_schemas (inl u) (inr v) =
         absurd (not_all_and_first (IsOfSchema g) (TellsNoSchema x.details g u.0 s) (no_schema_apart u.0 s) (names_of x) (named_all g x v.0 v.1) u.1)
     at_schemas (inr u) (inl v) =
@@ -219,8 +219,8 @@ module _ {C : Type 0} (Tells Also : Finding) (x : Exploration) (file source one 
     at_schemas (inr u) (inr v) = at_components g v.0 (subst (λ (q : Schemas). AtShape Tells x file source one s g q) (one_schemas x g u.0 v.0 u.1 v.1) u.2) v.2
 
   pub both_answers : AtTypes Tells x file source one s → AtTypes Also x file source two t → C
-  both_answers (inl u) (inl v) = refuse u.0 v.0 (one_ill x.details file source u.0 v.0 s t u.1 v.1) u.2 v.2
-  both_answers (inl u) (inr v) = absurd (well_typed u.0 s x.details file source v.0 u.1 v.1)
-  both_answers (inr u) (inl v) = absurd (well_typed v.0 t x.details file source u.0 v.1 u.1)
+  both_answers (inl u) (inl v) = refuse u.0 v.0 (one_ill x.details source u.0 v.0 s t u.1 v.1) u.2 v.2
+  both_answers (inl u) (inr v) = absurd (well_typed u.0 s x.details source v.0 u.1 v.1)
+  both_answers (inr u) (inl v) = absurd (well_typed v.0 t x.details source u.0 v.1 u.1)
   both_answers (inr u) (inr v) =
       at_schemas v.0 (subst (λ (h : List Defined). AtSchemas Tells x file source one s h) (one_checked source u.0 v.0 [] [] u.1 v.1).0 u.2) v.2

@@ -10,7 +10,7 @@ mod Refusals
 mod NamedParts
 mod OneParts
 pub mod Stages
-pub mod FaultLines
+pub mod FaultMessages
 mod Machines
 mod Explorations
 pub mod OneAnswer

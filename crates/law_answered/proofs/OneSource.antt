@@ -1,5 +1,5 @@
 -- A source is read by one tree or refused, and defines one list of globals.
-use Rattle.law_answered.proofs.Prelude.{◌++◌, ◌∙◌, ◌∷◌, ◌≡◌, [], ap, Bool, inl, inr, List, refl, subst, sym, ℕ, ◌≢◌, BoxTree, TextFault, Token, only_one, IsGrammarFault, ReadsLow, ReadsSource, RefusesTokens, RefusesSource, Defined, Schema, Fault, Checks, IsNamed, Cited, text_fault_lines, AreMessagesAlike, AreOfSame}
+use Rattle.law_answered.proofs.Prelude.{◌++◌, ◌∙◌, ◌∷◌, ◌≡◌, [], ap, Bool, inl, inr, List, refl, subst, sym, ℕ, ◌≢◌, BoxTree, TextFault, Token, only_one, IsGrammarFault, ReadsLow, ReadsSource, RefusesTokens, RefusesSource, Defined, Schema, Fault, Checks, IsNamed, Cited, Message, Span, text_fault_message, AreMessagesAlike, AreOfSame}
 use Rattle.zf_scan.specs.declared.fault.TextFaultKind.{TextFaultKind}
 use Rattle.zf_scan.specs.declared.fault.TextFaultKind.TheVariants as fault
 use Rattle.zf_scan.proofs.Laws.{is_cut_once, is_not_both, faults_once}
@@ -17,29 +17,31 @@ one_tree source a b p q =
     only_one a b q.0 (subst (λ ts. ReadsLow a ts) tokens p.2).reads q.2.reads
 
 -- no tree that is low enough reads what is refused with a fault of the grammar
-none_reads : (kind : TextFaultKind) (line : ℕ) (tokens : List Token) (boxes : List BoxTree) → IsGrammarFault kind → RefusesTokens kind line tokens → ReadsLow boxes tokens → ⊥
-none_reads fault.Unexpected line tokens boxes g r low = r boxes low.reads
-none_reads fault.NotInProfile line tokens boxes g r low = r boxes low.reads
-none_reads fault.TooDeep line tokens boxes g r low = r boxes low
-none_reads _ line tokens boxes g r low = absurd g
+none_reads : (kind : TextFaultKind) (span : Span) (tokens : List Token) (boxes : List BoxTree)
+    → IsGrammarFault kind → RefusesTokens kind span tokens → ReadsLow boxes tokens → ⊥
+none_reads fault.Unexpected span tokens boxes g r low = r boxes low.reads
+none_reads fault.NotInProfile span tokens boxes g r low = r boxes low.reads
+none_reads fault.TooDeep span tokens boxes g r low = r boxes low
+none_reads _ span tokens boxes g r low = absurd g
 
 -- a source that is read is not refused
 pub unread : (source : List ℕ) (fault : TextFault) (boxes : List BoxTree) → RefusesSource source fault → ReadsSource boxes source → ⊥
 unread source fault boxes (inl f) r = is_not_both source r.0 fault r.1 f
 unread source fault boxes (inr f) r =
     let tokens = (is_cut_once source r.0 f.0 r.1 f.1).1 in
-    none_reads fault.kind fault.line f.0 boxes f.3 f.2 (subst (λ ts. ReadsLow boxes ts) tokens r.2)
+    none_reads fault.kind fault.span f.0 boxes f.3 f.2 (subst (λ ts. ReadsLow boxes ts) tokens r.2)
 
 -- a source is refused with one fault, or with faults of the grammar
-pub one_refused : (details : Bool) (file source one two : List ℕ) (e f : TextFault) (x y : Cited) → RefusesSource source e → RefusesSource source f
-    → one ≡ text_fault_lines details file e x → two ≡ text_fault_lines details file f y → AreMessagesAlike details file source one two
-one_refused details file source one two e f x y (inl p) (inl q) told other_told =
-    AreMessagesAlike.symbols f x y (inl q) (told ∙ ap (λ (fault : TextFault). text_fault_lines details file fault x) (faults_once source e f p q)) other_told
-one_refused details file source one two e f x y (inl p) (inr q) told other_told = absurd (is_not_both source q.0 e q.1 p)
-one_refused details file source one two e f x y (inr p) (inl q) told other_told = absurd (is_not_both source p.0 f p.1 q)
-one_refused details file source one two e f x y (inr p) (inr q) told other_told = AreMessagesAlike.grammar
-    (record { fault = e; about = x; tokens = p.0; cut = p.1; kind = p.3; refused = p.2; told = told })
-    (record { fault = f; about = y; tokens = q.0; cut = q.1; kind = q.3; refused = q.2; told = other_told })
+pub one_refused : (details : Bool) (source : List ℕ) (one two : List Message) (e f : TextFault) (x y : Cited) → RefusesSource source e → RefusesSource source f
+    → one ≡ text_fault_message details source e x ∷ [] → two ≡ text_fault_message details source f y ∷ [] → AreMessagesAlike details source one two
+one_refused details source one two e f x y (inl p) (inl q) told other_told =
+    AreMessagesAlike.symbols f x y (inl q)
+    (told ∙ ap (λ (fault : TextFault). text_fault_message details source fault x ∷ []) (faults_once source e f p q)) other_told
+one_refused details source one two e f x y (inl p) (inr q) told other_told = absurd (is_not_both source q.0 e q.1 p)
+one_refused details source one two e f x y (inr p) (inl q) told other_told = absurd (is_not_both source p.0 f p.1 q)
+one_refused details source one two e f x y (inr p) (inr q) told other_told = AreMessagesAlike.grammar
+    (record { fault = e; about = x; tokens = p.0; cut = p.1; kind = p.3; refused = p.2; messages = told })
+    (record { fault = f; about = y; tokens = q.0; cut = q.1; kind = q.3; refused = q.2; messages = other_told })
 
 -- ---- what it defines
 

@@ -1,8 +1,8 @@
 -- What `why` tells of a search is one first event, or one cause but for which minimal set of conjuncts; and there is something to tell.
-use Rattle.law_answered.proofs.Prelude.{◌++◌, ◌+◌, ◌∙◌, ◌∷◌, ◌≡◌, ◌≤◌, ◌⊎◌, [], All-cons, All-contains, All-nil, ap, arith, Bool, false, inl, inr, length, List, None, Option, refl, Some, subst, sym, ℕ, IsTrue, AllByRecursion, Contains, Contains-head, Contains-nil, Event, IsEvent, Out, True, value_order, Value, Comp, Defined, Schema, sets_of, one_bounds, Environment, Portion, property, spellings, HasEvents, IsWritten, lines, Status, PastBounds, empty_lines, TellsConjuncts, TellsWhy, told_lines, HasSome, Format, no_binding_line, row_wording, satisfied_line, Wording, Done, EmptiedBy, RefutedBy, RefutedTogetherBy, ResolvedTree, RuleOut, chosen_of, event_of, length-append, nothing_beside, others_beside, some_ranges, some_search}
+use Rattle.law_answered.proofs.Prelude.{◌++◌, ◌+◌, ◌∙◌, ◌∷◌, ◌≡◌, ◌≤◌, ◌⊎◌, [], All-cons, All-contains, All-nil, ap, arith, Bool, codes, inl, inr, length, List, None, Option, refl, Some, subst, sym, ℕ, IsTrue, AllByRecursion, Contains, Contains-head, Contains-nil, Event, IsEvent, Out, True, value_order, Value, Comp, Defined, Schema, sets_of, one_bounds, Environment, Portion, property, spellings, HasEvents, IsWritten, lines, Status, PastBounds, empty_lines, TellsConjuncts, TellsWhy, told_lines, HasSome, Format, no_binding_line, row_wording, satisfied_line, Wording, Done, EmptiedBy, RefutedBy, RefutedTogetherBy, ResolvedTree, RuleOut, chosen_of, event_of, length-append, nothing_beside, others_beside, some_ranges, some_search, whole}
 use Rattle.law_answered.proofs.OneCause.{no_row_when_empty, not_both, same_alone, same_empty}
 use Rattle.law_answered.proofs.OneSearch.{one_search}
-use Rattle.law_answered.proofs.SomeCause.{some_cause, some_told_lines}
+use Rattle.law_answered.proofs.SomeCause.{some_cause, some_reported}
 
 -- ---- as `show` would have it, with one binding at most
 
@@ -50,10 +50,11 @@ module _ (f : Format) (details : Bool) (file source : List ℕ) (g : List Define
   -- two texts are one, or tell the same conjuncts with other sides, or two minimal sets of conjuncts
   abbrev pub AreOneReason : (one two : List ℕ) → Type 0
   AreOneReason one two = (one ≡ two)
-      ⊎ (((alone : List Bool) × RefutedBy e a p.held alone × TellsConjuncts f details file source a e p.held nothing_beside alone one
-      × TellsConjuncts f details file source a e p.held nothing_beside alone two)
+      ⊎ (((alone : List Bool) × RefutedBy e a p.held alone × TellsConjuncts f details file source a e p.held nothing_beside alone (codes "each alone") one
+      × TellsConjuncts f details file source a e p.held nothing_beside alone (codes "each alone") two)
       ⊎ ((first : List Bool) × (second : List Bool) × RefutedTogetherBy e a p.held first × RefutedTogetherBy e a p.held second
-      × TellsConjuncts f details file source a e p.held (others_beside a.conjuncts first) first one × TellsConjuncts f details file source a e p.held (others_beside a.conjuncts second) second two))
+      × TellsConjuncts f details file source a e p.held (others_beside a.conjuncts first) first (codes "only together") one
+      × TellsConjuncts f details file source a e p.held (others_beside a.conjuncts second) second (codes "only together") two))
 
   pub record AreOneTold (one two : List ℕ) (s t : Status) : Type 0 where
     pub statuses : s ≡ t
@@ -66,9 +67,10 @@ module _ (f : Format) (details : Bool) (file source : List ℕ) (g : List Define
 
   -- of none the cause is reported
   abbrev TellsCause : (text : List ℕ) → Type 0
-  TellsCause text = ((m : List Bool) × EmptiedBy e a p.held m × (text ≡ empty_lines f file (chosen_of a.comps m) ++ no_binding_line f))
-      ⊎ (((m : List Bool) × RefutedBy e a p.held m × TellsConjuncts f details file source a e p.held nothing_beside m text)
-      ⊎ ((m : List Bool) × RefutedTogetherBy e a p.held m × TellsConjuncts f details file source a e p.held (others_beside a.conjuncts m) m text))
+  TellsCause text = ((m : List Bool) × EmptiedBy e a p.held m × (text ≡ empty_lines f file source (chosen_of a.comps m) ++ no_binding_line f (codes "empty")))
+      ⊎ (((m : List Bool) × RefutedBy e a p.held m × TellsConjuncts f details file source a e p.held nothing_beside m (codes "each alone") text)
+      ⊎ ((m : List Bool) × RefutedTogetherBy e a p.held m
+      × TellsConjuncts f details file source a e p.held (others_beside a.conjuncts m) m (codes "only together") text))
 
   abbrev TellsOf : (last : Option (List Value)) → (text : List ℕ) → Status → Type 0
   TellsOf (Some row) text status = text ≡ first_line status row
@@ -87,7 +89,8 @@ module _ (f : Format) (details : Bool) (file source : List ℕ) (g : List Define
   module _ (one two : List ℕ) (s t : Status) where
     one_cause : TellsCause one → TellsCause two → AreOneReason one two
     one_cause (inl (m, x, is)) (inl (n, y, also)) =
-        inl (is ∙ ap (λ (z : List Bool). empty_lines f file (chosen_of a.comps z) ++ no_binding_line f) (same_empty e a p.held m n x y) ∙ sym also)
+        inl (is ∙ ap (λ (z : List Bool). empty_lines f file source (chosen_of a.comps z) ++ no_binding_line f (codes "empty"))
+        (same_empty e a p.held m n x y) ∙ sym also)
     one_cause (inl (m, x, is)) (inr (inl (n, y, also))) = absurd (no_row_when_empty e a p.held m x y.0)
     one_cause (inl (m, x, is)) (inr (inr (n, y, also))) = absurd (no_row_when_empty e a p.held m x y.2)
     one_cause (inr (inl (m, x, is))) (inl (n, y, also)) = absurd (no_row_when_empty e a p.held n y x.0)
@@ -95,7 +98,7 @@ module _ (f : Format) (details : Bool) (file source : List ℕ) (g : List Define
         inr (inl (
           n,
           y,
-          subst (λ (z : List Bool). TellsConjuncts f details file source a e p.held nothing_beside z one)
+          subst (λ (z : List Bool). TellsConjuncts f details file source a e p.held nothing_beside z (codes "each alone") one)
               (same_alone e a p.held m n x y) is,
           also,
         ))
@@ -150,15 +153,19 @@ module _ (f : Format) (details : Bool) (file source : List ℕ) (g : List Define
       Contains-nil ev.0 ((l.members ev.0).1 (subst (λ after. IsEvent value_order (property e a.conjuncts) h.ranges after ev.0) (sym first) ev.1, tt))
 
   -- without sides
-  some_conjuncts : (beside : ℕ → List ResolvedTree) (m : List Bool) → (text : List ℕ) × TellsConjuncts f details file source a e p.held beside m text
-  some_conjuncts beside m =
-      let told = some_told_lines e a.comps p.held details beside a.conjuncts m in
-      (told_lines f file source (spellings e.globals) told.0 ++ no_binding_line f, ((λ i. false), told.0, told.1, refl))
+  some_conjuncts : (beside : ℕ → List ResolvedTree) (m : List Bool) (cause : List ℕ)
+      → (text : List ℕ) × TellsConjuncts f details file source a e p.held beside m cause text
+  some_conjuncts beside m cause =
+      let told = some_reported e a.comps p.held details beside a.conjuncts m in
+      (told_lines f details file source a.comps (spellings e.globals) told.0 ++ no_binding_line f cause, ((λ i. whole), told.0, told.1, refl))
 
   by_cause : HasEvents e a p None [] → HasSome (EmptiedBy e a p.held) ⊎ (HasSome (RefutedBy e a p.held) ⊎ HasSome (RefutedTogetherBy e a p.held)) → CanTell
-  by_cause none (inl (m, cause)) = (empty_lines f file (chosen_of a.comps m) ++ no_binding_line f, Done, TellsWhy.emptied m none cause refl refl)
-  by_cause none (inr (inl (m, cause))) = let t = some_conjuncts nothing_beside m in (t.0, Done, TellsWhy.refuted m none cause t.1 refl)
-  by_cause none (inr (inr (m, cause))) = let t = some_conjuncts (others_beside a.conjuncts m) m in (t.0, Done, TellsWhy.refuted_together m none cause t.1 refl)
+  by_cause none (inl (m, cause)) =
+      (empty_lines f file source (chosen_of a.comps m) ++ no_binding_line f (codes "empty"), Done, TellsWhy.emptied m none cause refl refl)
+  by_cause none (inr (inl (m, cause))) = let t = some_conjuncts nothing_beside m (codes "each alone") in (t.0, Done, TellsWhy.refuted m none cause t.1 refl)
+  by_cause none (inr (inr (m, cause))) =
+      let t = some_conjuncts (others_beside a.conjuncts m) m (codes "only together") in
+      (t.0, Done, TellsWhy.refuted_together m none cause t.1 refl)
 
   pub some_told : p.after ≡ None → AllByRecursion (λ (c : Comp). IsTrue (one_bounds e.numbers e.globals (sets_of c.sets))) a.comps → CanTell
   some_told first bounded =

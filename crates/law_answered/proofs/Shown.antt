@@ -13,7 +13,7 @@ use Rattle.law_answered.proofs.WrittenRows.{with_truth, written_rows}
 -- what is reported is reported of the search that is granted
 of_answer : (Tells : Telling) (r : Request) (file source : List ℕ) (g : List Defined) (a : Schema) (e : Environment) (p : Portion) (text : List ℕ)
     (status : Status) → IsGranted r source g a e p
-    → AreMessages r.format file (UnreadAnswer r.details file source) text status ⊎ RequestAnswer Tells r file source text status → Tells g a e p text status
+    → AreMessages r.format file (UnreadAnswer r.details source) text status ⊎ RequestAnswer Tells r file source text status → Tells g a e p text status
 of_answer Tells r file source g a e p text status granted (inl (told, (fault, about, refused, lines, bad), is)) =
     let checks = granted.asked.has_schema.checks in absurd (unread source fault checks.boxes refused checks.reads)
 of_answer Tells r file source g a e p text status granted (inr answer) =

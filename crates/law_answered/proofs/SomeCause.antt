@@ -1,8 +1,10 @@
 -- A schema without a binding has a cause.
-use Rattle.law_answered.proofs.Prelude.{◌+◌, ◌++◌, ◌∷◌, ◌≡◌, ◌⊎◌, [], ap, arith, Bool, false, inl, inr, length, List, None, Option, refl, Some, subst, suc, sym, true, zero, ℕ, slice_get, Contains-head, Contains-nil, Event, value_order, Value, Comp, Environment, Decided, HasSome, portion, property, AreRanges, HasChosen, IsChosen, IsEvents, IsFewer, IsLeft, IsMinimal, ResolvedTree, chosen_of, event_of, first_held, held_later, later_held, replicate, row_at, slice_set, some_list, some_row, term_line}
+use Rattle.law_answered.proofs.Prelude.{◌+◌, ◌++◌, ◌∷◌, ◌≡◌, ◌⊎◌, [], ap, arith, Bool, false, inl, inr, length, List, None, Option, refl, Some, subst, suc, sym, true, zero, ℕ, slice_get, Contains-head, Contains-nil, Event, value_order, Value, Comp, Environment, Decided, HasSome, portion, property, AreRanges, HasChosen, IsChosen, IsEvents, IsFewer, IsLeft, IsMinimal, ResolvedTree, chosen_of, event_of, first_held, held_later, later_held, replicate, row_at, slice_set, some_list, some_row, Global, Vec, whole}
+use denote.RawPtr.{null_ptr}
 use Rattle.zf_cores.proofs.Choosing.{all_chosen}
 use Rattle.zf_cores.proofs.LeftOut.{IsTrimmed, all_tried, drops, keeps, untouched}
-use Rattle.zf_why.specs.{ArePicked, AreTellings, AreTold, EmptiedBy, has_fewer, HasNoValue, HasRow, HasValue, IsInHeldRange, IsTelling, RefutedBy, RefutedTogetherBy, RuleOut, schema_with}
+use Rattle.zf_why.specs.{ArePicked, AreTellings, AreTold, EmptiedBy, has_fewer, HasNoValue, HasRow, HasValue, IsInHeldRange, IsTelling, part_of, RefutedBy, RefutedTogetherBy, RuleOut, schema_with}
+use Rattle.zf_why.specs.declared.told.Side.{Side}
 use Rattle.zf_why.specs.declared.told.Told.{Told}
 use Rattle.zf_why.proofs.Picking.{all_left}
 use Rattle.law_answered.proofs.SomeOperands.{some_operands}
@@ -104,8 +106,15 @@ some_tellings R each i (p ∷ ps) (true ∷ m) =
     let rest = some_tellings R each (suc i) ps m in
     (first.0 ∷ rest.0, (first.1, rest.1))
 
-pub some_told_lines : (e : Environment) (cs : List Comp) (held : List (Option Value)) (details : Bool) (beside : ℕ → List ResolvedTree) (ps : List ResolvedTree) (m : List Bool)
-    → HasSome (AreTold e cs held details beside (λ i. false) ps m)
-some_told_lines e cs held details beside =
-    some_tellings (λ i p told. IsTelling e cs held details (beside i) false p told)
-    (λ i p. let operands = some_operands e held details p in (record { line = term_line p; sides = None; operands = operands.0 }, record { line = refl; sides = tt; operands = operands.1 })) 0
+-- no side is reported
+abbrev no_sides : Vec Side Global
+no_sides =
+    record { ptr = null_ptr; len = 0; cap = 0; alloc = record { memory = record { seal = tt } }; items = []; ok = (refl, omega arith); small = omega arith }
+
+pub some_reported : (e : Environment) (cs : List Comp) (held : List (Option Value)) (details : Bool) (beside : ℕ → List ResolvedTree) (ps : List ResolvedTree)
+    (m : List Bool) → HasSome (AreTold e cs held details beside (λ i. whole) ps m)
+some_reported e cs held details beside =
+    some_tellings (λ i p told. IsTelling e cs held details (beside i) whole p told)
+    (λ i p.
+    let operands = some_operands e held details p in
+    (record { part = part_of p; sides = no_sides; operands = operands.0 }, record { part = refl; sides = refl; operands = operands.1 })) 0

@@ -1,12 +1,12 @@
 -- Each exploration has an answer: it is refused at a stage, or what its machine can reach is reported.
-use Rattle.law_answered.proofs.Prelude.{◌∷◌, ◌≡◌, ◌≤◌, ◌⊎◌, [], arith, inl, inr, List, None, Option, refl, Some, subst, sym, ℕ, AllByRecursion, AreSmall, BadRequest, BadSpec, Checks, declared_out_line, Defined, Environment, given_sets, HasLimit, IsFinite, IsNoneOut, no_schema_lines, numbers_of, numbers_too_large_line, PastBounds, size_fault_lines, spellings, stated, Status, messages_in, AllZip, AreSchemasOf, CanExplore, Exploration, ExplorationAnswer, ExploresMachine, Fault, HasSchemas, HasShape, IsBounded, IsMachineOf, IsOfSchema, IsSchemaOf, IsSearchable, IsSettled, Named, Operation, RefusesExploration, Schemas, Seeks, System, TellsInfinite, TellsMachine, TellsNoSchema, TellsOut, all_of, complete_or_refused, ending_status, explored_in, first_out_or_none, form_of, names_of, no_component_line, option_to_list, result_status, some_environment, some_result, some_turns, states_limit, words, ◌++◌}
+use Rattle.law_answered.proofs.Prelude.{◌∷◌, ◌≡◌, ◌≤◌, ◌⊎◌, [], arith, inl, inr, List, None, Option, refl, Some, subst, sym, ℕ, AllByRecursion, AreSmall, BadRequest, BadSpec, Checks, declared_out, Defined, Environment, given_sets, HasLimit, IsFinite, IsNoneOut, no_schema_message, numbers_of, numbers_too_large, PastBounds, size_fault_messages, spellings, stated, Status, Message, messages_text, AllZip, AreSchemasOf, CanExplore, Exploration, ExplorationAnswer, ExploresMachine, Fault, HasSchemas, HasShape, IsBounded, IsMachineOf, IsOfSchema, IsSchemaOf, IsSearchable, IsSettled, Named, Operation, RefusesExploration, Schemas, Seeks, System, TellsInfinite, TellsMachine, TellsNoSchema, TellsOut, all_of, complete_or_refused, ending_status, explored_in, first_out_or_none, form_of, names_of, no_component, option_to_list, result_status, some_environment, some_result, some_turns, states_limit, words, ◌++◌}
 use Rattle.zf_graph.proofs.Existing.{somehow_written}
 use Rattle.zf_steps.specs.{CanSearch}
 use Rattle.zf_machines.proofs.Sole.{can_search_all}
 use Rattle.zf_engine.proofs.Explored.{can_search}
 use Rattle.zf_engine.proofs.Lists.{all_weaker}
 use Rattle.law_answered.proofs.EveryName.{finite_or_told, named_or_none}
-use Rattle.law_answered.proofs.FaultLines.{some_lines}
+use Rattle.law_answered.proofs.FaultMessages.{some_messages}
 use Rattle.law_answered.proofs.Machines.{all_or_first, shape_or_lack, some_machine}
 use Rattle.law_answered.proofs.SmallNumbers.{small_or_too_large}
 
@@ -32,8 +32,8 @@ module _ (x : Exploration) (file source : List ℕ) (limited : HasLimit x.limit)
   abbrev IsAnswered : Type 0
   IsAnswered = (text : List ℕ) × (status : Status) × ExplorationAnswer x file source text status
 
-  refused : (text : List ℕ) (status : Status) → RefusesExploration x file source text status → IsAnswered
-  refused text status h = (messages_in x.format file text, status, ExplorationAnswer.refused (text, h, refl))
+  refused : (told : List Message) (status : Status) → RefusesExploration x source told status → IsAnswered
+  refused told status h = (messages_text x.format file told, status, ExplorationAnswer.refused (told, h, refl))
 
   module _ (g : List Defined) where
     module _ (p : Schemas) where
@@ -62,22 +62,23 @@ module _ (x : Exploration) (file source : List ℕ) (limited : HasLimit x.limit)
       some_explored e is = let some = told e is x.sought in (some.0, some.1, ExplorationAnswer.explored g p e is some.2)
 
       -- one of the schemas has a declared set that is out, and this is reported of it
-      out_or_none : (e : Environment) (n : Named) → IsNoneOut e n.schema.comps ⊎ ((b : List ℕ × Status) × TellsOut e n.schema.comps b.0 b.1)
+      out_or_none : (e : Environment) (n : Named) → IsNoneOut e n.schema.comps ⊎ ((b : List Message × Status) × TellsOut e n.schema.comps b.0 b.1)
       out_or_none e n = elim (first_out_or_none e n.schema.comps) [
         | inr none ↦ inl none
-        | inl out ↦ let here = out.1.here in inr ((declared_out_line here.0.name, PastBounds), (out.0, out.1, (here.0, here.1, refl, refl)))
+        | inl out ↦ let here = out.1.here in inr ((declared_out here.0.name ∷ [], PastBounds), (out.0, out.1, (here.0, here.1, refl, refl)))
       ]
 
       some_at_sets : (e : Environment) → IsBounded x source g p e → IsAnswered
-      some_at_sets e bounded = elim (all_or_first (λ (n : Named). IsNoneOut e n.schema.comps) (λ (b : List ℕ × Status) n. TellsOut e n.schema.comps b.0 b.1) (out_or_none e) (all_of p)) [
-        | inl none ↦ some_explored e (record { bounded = bounded; none_out = none })
-        | inr out ↦ refused out.0.0 out.0.1 (RefusesExploration.declared_out g p e bounded out.1)
-      ]
+      some_at_sets e bounded = elim (all_or_first (λ (n : Named). IsNoneOut e n.schema.comps)
+          (λ (b : List Message × Status) n. TellsOut e n.schema.comps b.0 b.1) (out_or_none e) (all_of p)) [
+            | inl none ↦ some_explored e (record { bounded = bounded; none_out = none })
+            | inr out ↦ refused out.0.0 out.0.1 (RefusesExploration.declared_out g p e bounded out.1)
+          ]
 
       some_at_finiteness : IsSettled x source g p → IsAnswered
       some_at_finiteness settled = elim (all_or_first (λ (n : Named). IsFinite (numbers_of x.setting) g n.schema)
-          (λ (b : List ℕ × Status) n. TellsInfinite (numbers_of x.setting) g n.schema x.details file b.0 b.1)
-          (λ n. finite_or_told (numbers_of x.setting) g n.schema x.details file) (all_of p)) [
+          (λ (b : List Message × Status) n. TellsInfinite (numbers_of x.setting) g n.schema x.details source b.0 b.1)
+          (λ n. finite_or_told (numbers_of x.setting) g n.schema x.details source) (all_of p)) [
             | inl finite ↦
                 let e = some_environment g (stated g x.setting) (numbers_of x.setting) settled.complete in
                 some_at_sets e.0 (record { settled = settled; environment = e.1; finite = subst (λ n. AllByRecursion (λ (m : Named). IsFinite n g m.schema) (all_of p)) (sym e.1.3) finite })
@@ -88,26 +89,27 @@ module _ (x : Exploration) (file source : List ℕ) (limited : HasLimit x.limit)
       some_at_sizes has shape small = elim (complete_or_refused (given_sets g) (stated g x.setting)) [
         | inl complete ↦ some_at_finiteness (record { has_schemas = has; shape = shape; small = small; complete = complete })
         | inr bad ↦
-            refused (size_fault_lines x.details g (stated g x.setting) bad.0) BadRequest (RefusesExploration.bad_sizes g p has shape small (bad.0, bad.1, (bad.2, refl, refl)))
+            refused (size_fault_messages x.details g (stated g x.setting) bad.0) BadRequest
+            (RefusesExploration.bad_sizes g p has shape small (bad.0, bad.1, (bad.2, refl, refl)))
       ]
 
       some_at_numbers : HasSchemas x source g p → HasShape p → IsAnswered
       some_at_numbers has shape = elim (small_or_too_large (numbers_of x.setting)) [
         | inl small ↦ some_at_sizes has shape small
-        | inr large ↦ refused numbers_too_large_line BadRequest (RefusesExploration.large_numbers g p has shape (large, refl, refl))
+        | inr large ↦ refused (numbers_too_large ∷ []) BadRequest (RefusesExploration.large_numbers g p has shape (large, refl, refl))
       ]
 
       some_at_shape : HasSchemas x source g p → IsAnswered
       some_at_shape has = elim (shape_or_lack p) [
         | inl shape ↦ some_at_numbers has shape
-        | inr lacks ↦ refused (no_component_line lacks.0 lacks.1) BadRequest (RefusesExploration.no_component g p has (lacks.0, lacks.1, lacks.2, refl, refl))
+        | inr lacks ↦ refused (no_component lacks.0 lacks.1 ∷ []) BadRequest (RefusesExploration.no_component g p has (lacks.0, lacks.1, lacks.2, refl, refl))
       ]
 
     -- ---- the schemas of the names
-    judged : (name : List ℕ) → IsOfSchema g name ⊎ ((b : List ℕ × Status) × TellsNoSchema x.details g b.0 b.1 name)
+    judged : (name : List ℕ) → IsOfSchema g name ⊎ ((b : List Message × Status) × TellsNoSchema x.details g b.0 b.1 name)
     judged name = elim (named_or_none g name) [
       | inl named ↦ inl named
-      | inr none ↦ inr ((no_schema_lines x.details g name, BadRequest), record { none = none; told = refl; bad = refl })
+      | inr none ↦ inr ((no_schema_message x.details g name ∷ [], BadRequest), record { none = none; message = refl; bad = refl })
     ]
 
     each_named : (names : List (List ℕ)) → AllByRecursion (IsOfSchema g) names → (ns : List Named) × AllZip (IsSchemaOf g) names ns
@@ -135,13 +137,15 @@ module _ (x : Exploration) (file source : List ℕ) (limited : HasLimit x.limit)
         )
 
     some_at_schemas : Checks source g [] → IsAnswered
-    some_at_schemas checks = elim (all_or_first (IsOfSchema g) (λ (b : List ℕ × Status) name. TellsNoSchema x.details g b.0 b.1 name) judged (names_of x)) [
-      | inl all ↦ let p = schemas all in some_at_shape p.0 (record { checks = checks; named = p.1 })
-      | inr none ↦ refused none.0.0 none.0.1 (RefusesExploration.no_schema g checks none.1)
-    ]
+    some_at_schemas checks = elim (all_or_first (IsOfSchema g)
+        (λ (b : List Message × Status) name. TellsNoSchema x.details g b.0 b.1 name) judged (names_of x)) [
+          | inl all ↦ let p = schemas all in some_at_shape p.0 (record { checks = checks; named = p.1 })
+          | inr none ↦ refused none.0.0 none.0.1 (RefusesExploration.no_schema g checks none.1)
+        ]
 
   pub some_at_types : (g : List Defined) (faults : List Fault) → Checks source g faults → IsAnswered
   some_at_types g [] checks = some_at_schemas g checks
   some_at_types g (fault ∷ faults) checks =
-      let some = some_lines x.details file (fault ∷ faults) in
-      refused some.0 BadSpec (RefusesExploration.ill_typed (record { globals = g; faults = fault ∷ faults; checks = checks; some = λ none. cc; told = some.1; bad = refl }))
+      let some = some_messages x.details source (fault ∷ faults) in
+      refused some.0 BadSpec
+      (RefusesExploration.ill_typed (record { globals = g; faults = fault ∷ faults; checks = checks; some = λ none. cc; messages = some.1; bad = refl }))

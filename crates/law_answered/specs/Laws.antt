@@ -1,16 +1,19 @@
 -- What is claimed of the answers.
-use Rattle.std.specs.Prelude.{◌≡◌, ◌≢◌, ◌⊎◌, ℕ, Bool, false, List, [], ◌∷◌, ◌++◌, Option, None, Some}
-use Rattle.law_answered.specs.Prelude.{flat_map, Job, Show, Why, IsCutInto, Comp, Defined, Fault, Schema, Value, Environment, IsEnvironment, Size, Portion, HasLimit, Status, Request, Answer, AreHeld, Checks, format_of, HasSchema, HoldsNoValues, IsLimited, IsNamedRow, IsSearch, NamesNoRow, ShowsEvents, TellsConjuncts, TellsWhy, wants_details}
+use Rattle.std.specs.Prelude.{◌≡◌, ◌≢◌, ◌⊎◌, ℕ, Bool, false, List, [], ◌∷◌, ◌++◌, codes, map, Option, None, Some}
+use Rattle.law_answered.specs.Prelude.{Job, Show, Why, IsCutInto, Comp, Defined, Fault, Schema, Value, Environment, IsEnvironment, Size, Portion, HasLimit, Status, Request, Answer, AreHeld, Checks, format_of, HasSchema, HoldsNoValues, IsLimited, IsNamedRow, IsSearch, NamesNoRow, ShowsEvents, TellsConjuncts, TellsWhy, wants_details}
 use Rattle.zf_format.specs.declared.format.Format.{Format}
-use Rattle.zf_format.specs.{messages_in}
 use Rattle.zf_finite.specs.declared.not_finite.NotFinite.{NotFinite}
 use Rattle.zf_scan.specs.declared.fault.TextFault.{TextFault}
 use Rattle.zf_scan.specs.declared.token.Token.{Token}
 use Rattle.zf_parse.specs.{IsGrammarFault, ReadsSource, RefusesSource, RefusesTokens}
 use Rattle.zf_tree.specs.{BoxTree}
+use Rattle.zf_term.specs.{kind_of}
 use Rattle.zf_schema.specs.{Item, OffendsItem}
 use Rattle.zf_why.specs.{nothing_beside, others_beside, RefutedBy, RefutedTogetherBy}
-use Rattle.zf_messages.specs.{AreLines, Cited, not_a_binding_line, not_components_line, not_finite_lines, not_held_line, text_fault_lines, type_fault_line}
+use Rattle.zf_messages.specs.declared.message.At.TheVariants.{Line}
+use Rattle.zf_messages.specs.declared.message.Message.{Message}
+use Rattle.zf_messages.specs.{AreFaultMessages, Cited, line_at, messages_text, not_a_binding, not_components, not_finite_message, not_held, plain, text_fault_message}
+use Rattle.zf_messages.specs.Texts.{type_fault_text}
 use Rattle.law_answered.specs.Bindings.{ShowsBindings}
 use Rattle.law_answered.specs.Parts.{ShowsEachPart}
 
@@ -65,58 +68,80 @@ ReasonIsTold =
 abbrev pub OneStatus : Type 0
 OneStatus = (job : Job) (file source one two : List ℕ) (s t : Status) → Answer job file source one s → Answer job file source two t → s ≡ t
 
--- the text tells that no tree reads the source, or none that is low enough
-pub record TellsGrammar (details : Bool) (file source text : List ℕ) : Type 0 where
+-- these messages tell that no tree reads the source, or none that is low enough
+pub record TellsGrammar (details : Bool) (source : List ℕ) (told : List Message) : Type 0 where
   pub fault : TextFault
   pub about : Cited
   pub tokens : List Token
   pub cut : IsCutInto source tokens
   pub kind : IsGrammarFault fault.kind
-  pub refused : RefusesTokens fault.kind fault.line tokens
-  pub told : text ≡ text_fault_lines details file fault about
+  pub refused : RefusesTokens fault.kind fault.span tokens
+  pub messages : told ≡ text_fault_message details source fault about ∷ []
 
 -- as many faults in both, and those at one place are offences of one paragraph or box
 abbrev pub AreOfSame : List Fault → List Fault → Type 0
 AreOfSame [] [] = Unit {0}
 AreOfSame [] (f ∷ fs) = ⊥
 AreOfSame (e ∷ es) [] = ⊥
-AreOfSame (e ∷ es) (f ∷ fs) = ((g : List Defined) × (item : Item) × OffendsItem g item e.offence e.line × OffendsItem g item f.offence f.line) × AreOfSame es fs
+AreOfSame (e ∷ es) (f ∷ fs) = ((g : List Defined) × (item : Item) × OffendsItem g item e.offence e.span × OffendsItem g item f.offence f.span) × AreOfSame es fs
 
--- Two texts of messages are one, or differ in what is left open: which fault of the grammar an unread source has, which symbols a fault of it is about, which offence of
--- an ill typed paragraph is reported and what is reported beside it, which schema without a component is reported, and the byte at which a text is no names of components, no binding, or no line of some components.
-pub data AreMessagesAlike (details : Bool) (file source one two : List ℕ) : Type 0 where
-  same : one ≡ two → AreMessagesAlike details file source one two
-  symbols : (fault : TextFault) (first second : Cited) → RefusesSource source fault → one ≡ text_fault_lines details file fault first
-      → two ≡ text_fault_lines details file fault second → AreMessagesAlike details file source one two
-  grammar : TellsGrammar details file source one → TellsGrammar details file source two → AreMessagesAlike details file source one two
-  types : (globals : List Defined) (first second : List Fault) (ones twos listed : List ℕ) → Checks source globals first → Checks source globals second → first ≢ []
-      → AreOfSame first second → AreLines details file first ones → AreLines details file second twos → one ≡ ones ++ listed → two ≡ twos ++ listed
-      → AreMessagesAlike details file source one two
-  infinite : (globals : List Defined) (cause : NotFinite) (first second : List ℕ) → one ≡ not_finite_lines details file globals cause first
-      → two ≡ not_finite_lines details file globals cause second → AreMessagesAlike details file source one two
-  no_components : (first second : ℕ) → one ≡ not_components_line first → two ≡ not_components_line second → AreMessagesAlike details file source one two
-  no_binding : (first second : ℕ) → one ≡ not_a_binding_line first → two ≡ not_a_binding_line second → AreMessagesAlike details file source one two
-  no_values : (first second : ℕ) → one ≡ not_held_line first → two ≡ not_held_line second → AreMessagesAlike details file source one two
+-- two lists of messages are those of faults of the same paragraphs and boxes
+pub record AreFaultsAlike (details : Bool) (source : List ℕ) (one two : List Message) : Type 0 where
+  pub globals : List Defined
+  pub first : List Fault
+  pub second : List Fault
+  pub checks : Checks source globals first
+  pub also_checks : Checks source globals second
+  pub some : first ≢ []
+  pub same : AreOfSame first second
+  pub messages : AreFaultMessages details source first one
+  pub also_messages : AreFaultMessages details source second two
 
--- Two texts in a format are one, or those of messages that are alike, or differ in what is reported of the sides of disjunctions, or in which minimal set of conjuncts that can't hold together is reported.
+-- Two lists of messages are one, or differ in what is left open: which fault of the grammar an unread source has, which symbols a fault of it is about, which
+-- offence of an ill typed paragraph is reported and what is reported beside it, which schema without a component is reported, and the byte at which a text is no
+-- names of components, no binding, or no line of some components.
+pub data AreMessagesAlike (details : Bool) (source : List ℕ) (one two : List Message) : Type 0 where
+  same : one ≡ two → AreMessagesAlike details source one two
+  symbols : (fault : TextFault) (first second : Cited) → RefusesSource source fault → one ≡ text_fault_message details source fault first ∷ []
+      → two ≡ text_fault_message details source fault second ∷ [] → AreMessagesAlike details source one two
+  grammar : TellsGrammar details source one → TellsGrammar details source two → AreMessagesAlike details source one two
+  types : AreFaultsAlike details source one two → AreMessagesAlike details source one two
+  infinite : (globals : List Defined) (cause : NotFinite) (first second : List ℕ) → one ≡ not_finite_message details source globals cause first ∷ []
+      → two ≡ not_finite_message details source globals cause second ∷ [] → AreMessagesAlike details source one two
+  no_components : (first second : ℕ) → one ≡ not_components first ∷ [] → two ≡ not_components second ∷ [] → AreMessagesAlike details source one two
+  no_binding : (first second : ℕ) → one ≡ not_a_binding first ∷ [] → two ≡ not_a_binding second ∷ [] → AreMessagesAlike details source one two
+  no_values : (first second : ℕ) → one ≡ not_held first ∷ [] → two ≡ not_held second ∷ [] → AreMessagesAlike details source one two
+
+-- Two texts in a format are one, or those of messages that are alike, with one listing behind those of faults of types; or they differ in what is reported of the
+-- sides of disjunctions, or in which minimal set of conjuncts that can't hold together is reported.
 pub data AreAlike (f : Format) (details : Bool) (file source one two : List ℕ) : Type 0 where
   same : one ≡ two → AreAlike f details file source one two
-  messages : (first second : List ℕ) → AreMessagesAlike details file source first second → one ≡ messages_in f file first → two ≡ messages_in f file second → AreAlike f details file source one two
+  messages : (first second : List Message) → AreMessagesAlike details source first second → one ≡ messages_text f file first → two ≡ messages_text f file second
+      → AreAlike f details file source one two
+  listed : (first second : List Message) (listing : List ℕ) → AreFaultsAlike details source first second → one ≡ messages_text f file first ++ listing
+      → two ≡ messages_text f file second ++ listing → AreAlike f details file source one two
   sides : (name : List ℕ) (globals : List Defined) (a : Schema) (sizes : List Size) (numbers : Option ℕ) (e : Environment) (held : List (Option Value)) (alone : List Bool) → HasSchema source name globals a
-      → IsEnvironment globals sizes numbers e → RefutedBy e a held alone → TellsConjuncts f details file source a e held nothing_beside alone one
-      → TellsConjuncts f details file source a e held nothing_beside alone two → AreAlike f details file source one two
+      → IsEnvironment globals sizes numbers e → RefutedBy e a held alone
+      → TellsConjuncts f details file source a e held nothing_beside alone (codes "each alone") one
+      → TellsConjuncts f details file source a e held nothing_beside alone (codes "each alone") two → AreAlike f details file source one two
   reasons : (name : List ℕ) (globals : List Defined) (a : Schema) (sizes : List Size) (numbers : Option ℕ) (e : Environment) (held : List (Option Value)) (first second : List Bool) → HasSchema source name globals a
       → IsEnvironment globals sizes numbers e → RefutedTogetherBy e a held first → RefutedTogetherBy e a held second
-      → TellsConjuncts f details file source a e held (others_beside a.conjuncts first) first one
-      → TellsConjuncts f details file source a e held (others_beside a.conjuncts second) second two → AreAlike f details file source one two
+      → TellsConjuncts f details file source a e held (others_beside a.conjuncts first) first (codes "only together") one
+      → TellsConjuncts f details file source a e held (others_beside a.conjuncts second) second (codes "only together") two
+      → AreAlike f details file source one two
 
 -- A source has one text for a job, but for what is left open.
 abbrev pub OneText : Type 0
 OneText = (job : Job) (file source one two : List ℕ) (s t : Status) → Answer job file source one s → Answer job file source two t → AreAlike (format_of job) (wants_details job) file source one two
 
--- Without details nothing is reported beside an offence: each fault has its line, and no more.
-abbrev pub PlainLines : Type 0
-PlainLines = (file : List ℕ) (faults : List Fault) (lines : List ℕ) → AreLines false file faults lines → lines ≡ flat_map (type_fault_line file) faults
+-- the message of a fault of types: its line, and of what kind it is
+abbrev pub plain_message : (source : List ℕ) → Fault → Message
+plain_message source fault = plain (Line (line_at source fault.span.start)) (type_fault_text (kind_of fault.offence))
+
+-- Without details nothing is reported beside an offence: each fault has this message, and no more.
+abbrev pub PlainMessages : Type 0
+PlainMessages =
+    (source : List ℕ) (faults : List Fault) (told : List Message) → AreFaultMessages false source faults told → told ≡ map (plain_message source) faults
 
 -- ---- what is always one of two
 

@@ -9,7 +9,7 @@ pub mod NamedLines
 pub mod Limits
 pub use Rattle.law_answered.specs.Bindings.{EndsLines, IsBefore, IsBinding, IsInDoubt, IsNotPast, ShowsBindings}
 pub use Rattle.law_answered.specs.Parts.{IsFirstInDoubt, IsPartOfBinding, ShowsEachPart}
-pub use Rattle.law_answered.specs.Laws.{AnswersRequest, AreAlike, AreMessagesAlike, AreOfSame, EachBindingIsShown, EachPartIsShown, EventsAreShown, EveryHeldLineIsJudged, EveryLineIsJudged, EveryRequestIsAnswered, EverySourceIsRead, IsGranted, IsShownInOneWay, OneStatus, OneText, PlainLines, ReasonIsTold}
+pub use Rattle.law_answered.specs.Laws.{AnswersRequest, AreAlike, AreFaultsAlike, AreMessagesAlike, AreOfSame, EachBindingIsShown, EachPartIsShown, EventsAreShown, EveryHeldLineIsJudged, EveryLineIsJudged, EveryRequestIsAnswered, EverySourceIsRead, IsGranted, IsShownInOneWay, OneStatus, OneText, plain_message, PlainMessages, ReasonIsTold}
 pub use Rattle.law_answered.specs.Reached.{graph_in, ReachableAreMet, SchemasMakeOneMachine, WhatIsReachedIsTold}
 pub use Rattle.law_answered.specs.Sought.{SatisfiesAt, Says, ShowsWay, WhatIsSoughtIsTold}
 pub use Rattle.law_answered.specs.Runs.{FirstLinesAreAFront, limited, PartsAreFronts, resumed, RunsMakeOne, together}

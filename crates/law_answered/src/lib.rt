@@ -1,7 +1,7 @@
 //! Laws over what is answered, above the answers of the engine: each source has one answer, that of `show` has each binding once, that of `why` the first one, or why there is none, and that of `reach` what can be reached, or a shortest way to a state that is sought.
 #![tactic(auto)]
 
-ghost use Rattle.law_answered.specs.{EachBindingIsShown, EachPartIsShown, EventsAreShown, EveryHeldLineIsJudged, EveryLineIsJudged, EveryRequestIsAnswered, EverySourceIsRead, FirstLinesAreAFront, IsShownInOneWay, LimitsAre, OneRowOfALine, OneRowOfAnObject, OneStatus, OneText, PartsAreFronts, PlainLines, ReachableAreMet, ReasonIsTold, RefusedLinesAreOfNoRow, RunsMakeOne, SchemasMakeOneMachine, WhatIsReachedIsTold, WhatIsSoughtIsTold};
+ghost use Rattle.law_answered.specs.{EachBindingIsShown, EachPartIsShown, EventsAreShown, EveryHeldLineIsJudged, EveryLineIsJudged, EveryRequestIsAnswered, EverySourceIsRead, FirstLinesAreAFront, IsShownInOneWay, LimitsAre, OneRowOfALine, OneRowOfAnObject, OneStatus, OneText, PartsAreFronts, PlainMessages, ReachableAreMet, ReasonIsTold, RefusedLinesAreOfNoRow, RunsMakeOne, SchemasMakeOneMachine, WhatIsReachedIsTold, WhatIsSoughtIsTold};
 
 /// What `show` answers, where nothing stands in its way: the line of each binding, once, in ascending order.
 pub fn each_binding_is_shown()
@@ -36,7 +36,7 @@ pub fn sought_is_found()
 pub fn one_answer()
     ensures status { OneStatus }
     ensures text { OneText }
-    ensures plain { PlainLines }
+    ensures plain { PlainMessages }
 {}
 
 /// Each source is read by a tree, or is refused with a fault.

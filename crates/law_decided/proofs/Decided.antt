@@ -98,7 +98,7 @@ is_apart n [] = inl tt
 is_apart n (m ∷ ms) = by (same_bytes (spelling n) (spelling m)) (is_apart n ms)
   where
     by : Decided (spelling n ≡ spelling m) → IsApart n ms ⊎ SomeOffence (IsRepeated n ms) → IsApart n (m ∷ ms) ⊎ SomeOffence (IsRepeated n (m ∷ ms))
-    by (inl e) rest = inr (local_twice (spelling m), m.line, inl (e, refl, refl))
+    by (inl e) rest = inr (local_twice (spelling m), m.span, inl (e, refl, refl))
     by (inr e) (inl apart) = inl (e, apart)
     by (inr e) (inr o) = inr (o.0, o.1, inr o.2)
 

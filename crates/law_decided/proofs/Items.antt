@@ -1,5 +1,5 @@
 -- A paragraph or box defines something, or has an offence; so a text has its globals and its faults.
-use Rattle.law_decided.proofs.Prelude.{◌+◌, ◌∷◌, ◌≡◌, ◌⊎◌, [], inl, inr, List, map, None, Option, refl, Some, subst, ℕ, spelling, BoxTree, definition, free, given, ParagraphTree, Tree, Name, constructor, Defined, free_type, given_set, Schema, schema, first_named, Ty, already_defined, Fault, Offence, Offends, resolved, typed, IsOf, OffendsSchema, OffendsText, SomeOffence, ChecksAll, Constructs, Defines, DefinesParagraph, Gives, IsChecked, IsNew, IsSchema, IsTaken, IsText, Item, OffendsConstructors, OffendsGiven, OffendsItem, OffendsParagraph, a_box, a_paragraph, abbreviated, items, next_number, outside, with_global}
+use Rattle.law_decided.proofs.Prelude.{◌+◌, ◌∷◌, ◌≡◌, ◌⊎◌, [], inl, inr, List, map, None, Option, refl, Some, subst, ℕ, spelling, BoxTree, definition, free, given, ParagraphTree, Tree, Name, constructor, Defined, free_type, given_set, Schema, schema, first_named, Ty, already_defined, Fault, Offence, Offends, resolved, typed, IsOf, OffendsSchema, OffendsText, SomeOffence, ChecksAll, Constructs, Defines, DefinesParagraph, Gives, IsChecked, IsNew, IsSchema, IsTaken, IsText, Item, OffendsConstructors, OffendsGiven, OffendsItem, OffendsParagraph, a_box, a_paragraph, abbreviated, items, next_number, outside, with_global, Span}
 use Rattle.zf_tree.specs.Trees as text
 use Rattle.zf_tree.specs.declared.operator.Need.TheVariants as need
 use Rattle.zf_checker.proofs.OneDefinition.{no_item_offence}
@@ -16,9 +16,9 @@ is_new g n = by (first_named (λ d. d.name) (spelling n) g)
 
 -- ---- a name is that of a global, or what it is given to is judged
 
-module _ (g : List Defined) (n : Name) (Made : List Defined → Type 0) (Later : Offence → ℕ → Type 0) where
+module _ (g : List Defined) (n : Name) (Made : List Defined → Type 0) (Later : Offence → Span → Type 0) where
   if_new : Decided (IsNew g n) → ((h : List Defined) × Made h) ⊎ SomeOffence Later → ((h : List Defined) × (IsNew g n × Made h)) ⊎ SomeOffence (λ k m. IsTaken g n k m ⊎ Later k m)
-  if_new (inr taken) rest = inr (already_defined (spelling n), n.line, inl (refl, refl, taken))
+  if_new (inr taken) rest = inr (already_defined (spelling n), n.span, inl (refl, refl, taken))
   if_new (inl new) (inl p) = inl (p.0, (new, p.1))
   if_new (inl new) (inr o) = inr (o.0, o.1, inr o.2)
 
@@ -45,7 +45,7 @@ of_term g n e (inl p) = inl (with_global g n (abbreviated g p.2.0 (resolved (out
 of_term g n e (inr o) = inr o
 
 -- what a name of a schema stands for
-module _ (g : List Defined) (n : Name) (IsOne : Schema → Type 0) (Later : Offence → ℕ → Type 0) where
+module _ (g : List Defined) (n : Name) (IsOne : Schema → Type 0) (Later : Offence → Span → Type 0) where
   of_schema : ((a : Schema) × IsOne a) ⊎ SomeOffence Later → ((h : List Defined) × ((a : Schema) × IsOne a × (h ≡ with_global g n (schema a)))) ⊎ SomeOffence Later
   of_schema (inl p) = inl (with_global g n (schema p.0), (p.0, p.1, refl))
   of_schema (inr o) = inr o
@@ -79,7 +79,7 @@ of_item : (g : List Defined) (item : Item) (steps : List Item) → ((h : List De
 of_item g item steps (inl p) rest = let q = rest p.0 in (q.0, q.1, (p.0, [], q.1, inl (p.1, refl), q.2, refl))
 of_item g item steps (inr o) rest =
     let q = rest g in
-    let f : Fault = record { offence = o.0; line = o.1 } in
+    let f : Fault = record { offence = o.0; span = o.1 } in
     (q.0, f ∷ q.1, (g, f ∷ [], q.1, inr (λ other d. no_item_offence g item other o.0 o.1 d o.2, refl, (f, o.2, refl)), q.2, refl))
 
 steps_judged : (g : List Defined) (steps : List Item) → HasVerdict g steps

@@ -1,5 +1,5 @@
 -- What can be decided of schemas: whether their components agree, and whether they are within the limits. So there is a next schema, or it is known why not.
-use Rattle.law_decided.proofs.Prelude.{◌∷◌, ◌≡◌, ◌≤◌, ◌⊎◌, [], inl, inr, length, List, None, Option, refl, Some, ℕ, Comp, Schema, clash, Limit, Offence, too_large, Agree, Agrees, comp_named, decorated, HasTypeOf, MarkAgrees, prime, schema_nodes, AreFew, components_max, conjuncts_max, declared_sets, height_max, IsLow, IsTooLarge, IsWithin, KeepsTo, nodes_max, sets_max, Clashes, Differs, IsNext, MarkClashes, OneClashes, Stops, SomeOffence, AllByRecursion, height}
+use Rattle.law_decided.proofs.Prelude.{◌∷◌, ◌≡◌, ◌≤◌, ◌⊎◌, [], inl, inr, length, List, None, Option, refl, Some, ℕ, Comp, Schema, clash, Limit, Offence, too_large, Agree, Agrees, comp_named, decorated, HasTypeOf, MarkAgrees, prime, schema_nodes, AreFew, components_max, conjuncts_max, declared_sets, height_max, IsLow, IsTooLarge, IsWithin, KeepsTo, nodes_max, sets_max, Clashes, Differs, IsNext, MarkClashes, OneClashes, Stops, SomeOffence, AllByRecursion, height, Span}
 use Rattle.zf_tree.specs.declared.tree.RefMark.{RefMark}
 use Rattle.zf_tree.specs.declared.tree.RefMark.TheVariants.{Plain, Delta, Xi}
 use Rattle.zf_term.specs.declared.fault.Limit.TheVariants as limit
@@ -62,11 +62,11 @@ next_or_stopped Clashing Agreed next (inl agreed) = elim (is_within next) [
   | inr k ↦ inr (k.0, inr (agreed, k.1))
 ]
 
--- where a stop has a line
+-- where a stop has a place
 pub next_at :
-    (line : ℕ) (Clashing : Offence → Type 0) (Agreed : Type 0) (next : Schema) → OrTold Agreed Clashing
-    → ((b : Schema) × (Agreed × IsNext next b)) ⊎ SomeOffence (λ k m. (m ≡ line) × Stops Clashing Agreed next k)
-next_at line Clashing Agreed next agreed = elim (next_or_stopped Clashing Agreed next agreed) [
+    (span : Span) (Clashing : Offence → Type 0) (Agreed : Type 0) (next : Schema) → OrTold Agreed Clashing
+    → ((b : Schema) × (Agreed × IsNext next b)) ⊎ SomeOffence (λ k m. (m ≡ span) × Stops Clashing Agreed next k)
+next_at span Clashing Agreed next agreed = elim (next_or_stopped Clashing Agreed next agreed) [
   | inl p ↦ inl (next, p)
-  | inr k ↦ inr (k.0, line, (refl, k.1))
+  | inr k ↦ inr (k.0, span, (refl, k.1))
 ]

@@ -1,5 +1,5 @@
 -- A term has a sort that its place takes, or an offence there: its parts are judged first.
-use Rattle.law_decided.proofs.Prelude.{◌++◌, ◌≡◌, ◌⊎◌, [], inl, inr, List, None, Option, refl, Some, subst, sym, ℕ, spelling, left_need, need_of, relation_rule, right_need, rule_of, absent, binary, bracket, comprehension, chain, constant, empty_set, line_of, link, Links, listed, named, no_decls, no_links, no_trees, numeral, Perhaps, present, quantified, Tree, tree, Trees, unary, var_decl, VarDecls, Need, Unary, Relation, Name, IsSmall, no_types, power, Ty, type, Tys, mismatch, no_members, not_declared, Offence, too_large, TypeNodes, Differ, LinksOffend, Misplaced, Offends, OneDiffers, OneOffends, PartOffends, Repeats, SetsOffend, a_schema, constant_sort, IsSmallSort, Meets, number_sort, predicate, set_sort, Sort, Takes, typed, UnaryTakes, AreAll, AreApart, LinksAreTyped, AreMembers, HasMemberType, PartIsPredicate, Declare, declared, IsOf, Makes, member_need, member_sort, row_type, variables, SomeOffence, Scope, Var, meaning, with_variables}
+use Rattle.law_decided.proofs.Prelude.{◌++◌, ◌≡◌, ◌⊎◌, [], inl, inr, List, None, Option, refl, Some, subst, sym, ℕ, spelling, left_need, need_of, relation_rule, right_need, rule_of, absent, binary, bracket, comprehension, chain, constant, empty_set, span_of, link, Links, listed, named, no_decls, no_links, no_trees, numeral, Perhaps, present, quantified, Tree, tree, Trees, unary, var_decl, VarDecls, Need, Unary, Relation, Name, IsSmall, no_types, power, Ty, type, Tys, mismatch, no_members, not_declared, Offence, too_large, TypeNodes, Differ, LinksOffend, Misplaced, Offends, OneDiffers, OneOffends, PartOffends, Repeats, SetsOffend, a_schema, constant_sort, IsSmallSort, Meets, number_sort, predicate, set_sort, Sort, Takes, typed, UnaryTakes, AreAll, AreApart, LinksAreTyped, AreMembers, HasMemberType, PartIsPredicate, Declare, declared, IsOf, Makes, member_need, member_sort, row_type, variables, SomeOffence, Scope, Var, meaning, with_variables, Span}
 use Rattle.zf_tree.specs.declared.symbol.Quantifier.{Quantifier}
 use Rattle.zf_tree.specs.declared.operator.Need.TheVariants as need
 use Rattle.zf_tree.specs.declared.operator.Listed.{Listed}
@@ -18,19 +18,19 @@ IsJudged s n e = ((x : Sort) × IsOf s e x × Meets n x) ⊎ SomeOffence (Offend
 -- ---- a term whose sort is known: its place takes it, or it is misplaced
 
 module _ (s : Scope) (n : Need) (e : Tree) where
-  placed : (x : Sort) → IsOf s e x → ((k : Offence) (m : ℕ) → Misplaced s n e k m → Offends s n e k m) → IsJudged s n e
+  placed : (x : Sort) → IsOf s e x → ((k : Offence) (m : Span) → Misplaced s n e k m → Offends s n e k m) → IsJudged s n e
   placed x p offends = elim (meets n x) [
     | inl h ↦ inl (x, p, h)
-    | inr h ↦ inr (fault.misplaced n x, line_of e, offends (fault.misplaced n x) (line_of e) (x, p, h, refl, refl))
+    | inr h ↦ inr (fault.misplaced n x, span_of e, offends (fault.misplaced n x) (span_of e) (x, p, h, refl, refl))
   ]
 
 -- ---- forms, from what is judged of their parts
 
 of_name : (s : Scope) (n : Need) (x : Name) (o : Option (Reference × Sort)) → meaning s (spelling x) ≡ o → IsJudged s n (named x)
-of_name s n x None e = inr (not_declared (spelling x), x.line, inl (e, refl, refl))
+of_name s n x None e = inr (not_declared (spelling x), x.span, inl (e, refl, refl))
 of_name s n x (Some r) e = placed s n (named x) r.1 (r.0, e) (λ k m o. inr o)
 
-of_empty_set : (s : Scope) (n : Need) (l : ℕ) (e : Tree) → IsJudged s need.Set e → IsJudged s n (empty_set l e)
+of_empty_set : (s : Scope) (n : Need) (l : Span) (e : Tree) → IsJudged s need.Set e → IsJudged s n (empty_set l e)
 of_empty_set s n l e (inl p) = placed s n (empty_set l e) (set_sort p.2.0) (p.2.0, subst (IsOf s e) p.2.1 p.1, refl) (λ k m o. inr o)
 of_empty_set s n l e (inr o) = inr (o.0, o.1, inl o.2)
 
@@ -38,7 +38,7 @@ not_a_schema : (n : Need) (x : Sort) → Meets n x → x ≡ a_schema → ⊥
 not_a_schema need.Expression x p e = (cc)
 not_a_schema _ x p e = (cc)
 
-of_bracket : (s : Scope) (n : Need) (l : ℕ) (e : Tree) → IsJudged s n e → IsJudged s n (bracket l e)
+of_bracket : (s : Scope) (n : Need) (l : Span) (e : Tree) → IsJudged s n e → IsJudged s n (bracket l e)
 of_bracket s n l e (inl p) = inl (p.0, (p.1, not_a_schema n p.0 p.2), p.2)
 of_bracket s n l e (inr o) = inr (o.0, o.1, inl o.2)
 
@@ -58,10 +58,11 @@ alike s u (tree e es) us p = by (same_type u p.0) (alike s u es p.1 p.3)
     by : Decided (u ≡ p.0) → AreAll (type u p.1) u ⊎ SomeOffence (OneDiffers s u es) → AreAll (type u us) u ⊎ SomeOffence (OneDiffers s u (tree e es))
     by (inl h) (inl all) = inl (subst (λ vs. AreAll (type u vs) u) (sym p.4) (then all h))
     by (inl h) (inr o) = inr (o.0, o.1, inr o.2)
-    by (inr h) rest = inr (mismatch (typed u) (typed p.0), line_of e, inl (p.0, p.2, h, refl, refl))
+    by (inr h) rest = inr (mismatch (typed u) (typed p.0), span_of e, inl (p.0, p.2, h, refl, refl))
 
 -- members make something, or those of a display differ
-makes : (form : Listed) (s : Scope) (l : ℕ) (es : Trees) (us : Tys) → AreMembers form s es us → ((u : Ty) × Makes form us u) ⊎ SomeOffence (Differ form s l es)
+makes : (form : Listed) (s : Scope) (l : Span) (es : Trees) (us : Tys) → AreMembers form s es us
+    → ((u : Ty) × Makes form us u) ⊎ SomeOffence (Differ form s l es)
 makes Tuple s l es us p = inl (t.product us, refl)
 makes Product s l es us p = inl (power (t.product us), refl)
 makes Display s l no_trees us p = inr (no_members, l, (refl, refl))
@@ -70,7 +71,7 @@ makes Display s l (tree e es) us p = elim (alike s p.0 es p.1 p.3) [
   | inr o ↦ inr (o.0, o.1, (p.0, p.2, o.2))
 ]
 
-of_listed : (s : Scope) (n : Need) (l : ℕ) (form : Listed) (es : Trees) → ((us : Tys) × AreMembers form s es us) ⊎ SomeOffence (OneOffends s (member_need form) es) → IsJudged s n (listed l form es)
+of_listed : (s : Scope) (n : Need) (l : Span) (form : Listed) (es : Trees) → ((us : Tys) × AreMembers form s es us) ⊎ SomeOffence (OneOffends s (member_need form) es) → IsJudged s n (listed l form es)
 of_listed s n l form es (inr o) = inr (o.0, o.1, inl o.2)
 of_listed s n l form es (inl p) = by (makes form s l es p.0 p.1)
   where
@@ -82,7 +83,7 @@ of_listed s n l form es (inl p) = by (makes form s l es p.0 p.1)
     by (inl a) = sized a.0 a.1 (is_small a.0)
     by (inr o) = inr (o.0, o.1, inr (inl o.2))
 
-of_unary : (s : Scope) (n : Need) (l : ℕ) (op : Unary) (a : Tree) → IsJudged s (need_of op) a → IsJudged s n (unary l op a)
+of_unary : (s : Scope) (n : Need) (l : Span) (op : Unary) (a : Tree) → IsJudged s (need_of op) a → IsJudged s n (unary l op a)
 of_unary s n l op a (inr o) = inr (o.0, o.1, inl o.2)
 of_unary s n l op a (inl p) = by (made op p.0 p.2)
   where
@@ -94,7 +95,7 @@ of_unary s n l op a (inl p) = by (made op p.0 p.2)
     by w = sized w.0 w.1 (is_small_sort w.0)
 
 of_binary :
-    (s : Scope) (n : Need) (l : ℕ) (op : Operator) (a b : Tree) → IsJudged s (left_need (rule_of op)) a → IsJudged s (right_need (rule_of op)) b → IsJudged s n (binary l op a b)
+    (s : Scope) (n : Need) (l : Span) (op : Operator) (a b : Tree) → IsJudged s (left_need (rule_of op)) a → IsJudged s (right_need (rule_of op)) b → IsJudged s n (binary l op a b)
 of_binary s n l op a b (inr o) right = inr (o.0, o.1, inl o.2)
 of_binary s n l op a b (inl p) (inr o) = inr (o.0, o.1, inr (inl o.2))
 of_binary s n l op a b (inl p) (inl q) = by (combined (rule_of op) p.0 q.0 p.2 q.2)
@@ -107,7 +108,7 @@ of_binary s n l op a b (inl p) (inl q) = by (combined (rule_of op) p.0 q.0 p.2 q
     by (inl w) = sized w.0 w.1 (is_small_sort w.0)
     by (inr none) =
         let is = disagreement (rule_of op) p.0 q.0 p.2 q.2 in
-        inr (is.0, line_of b, inr (inr (inl (inl (p.0, q.0, p.1, q.1, p.2, q.2, none, is.1, refl)))))
+        inr (is.0, span_of b, inr (inr (inl (inl (p.0, q.0, p.1, q.1, p.2, q.2, none, is.1, refl)))))
 
 -- a chain after an operand
 module _ (s : Scope) (left : Tree) (x : Sort) (r : Relation) (e : Tree) (ks : Links) where
@@ -115,7 +116,7 @@ module _ (s : Scope) (left : Tree) (x : Sort) (r : Relation) (e : Tree) (ks : Li
       IsOf s left x → Decided (Meets (left_need (relation_rule r)) x) → IsJudged s (right_need (relation_rule r)) e
       → ((y : Sort) → IsOf s e y → LinksAreTyped s y ks ⊎ SomeOffence (LinksOffend s e ks))
       → LinksAreTyped s x (link r e ks) ⊎ SomeOffence (LinksOffend s left (link r e ks))
-  of_link p (inr h) right rest = inr (fault.misplaced (left_need (relation_rule r)) x, line_of left, inl (x, p, h, refl, refl))
+  of_link p (inr h) right rest = inr (fault.misplaced (left_need (relation_rule r)) x, span_of left, inl (x, p, h, refl, refl))
   of_link p (inl h) (inr o) rest = inr (o.0, o.1, inr (inl o.2))
   of_link p (inl h) (inl q) rest = by (combined (relation_rule r) x q.0 h q.2)
     where
@@ -128,10 +129,10 @@ module _ (s : Scope) (left : Tree) (x : Sort) (r : Relation) (e : Tree) (ks : Li
       by (inl w) = linked w.0 w.1 (rest q.0 q.1)
       by (inr none) =
           let is = disagreement (relation_rule r) x q.0 h q.2 in
-          inr (is.0, line_of e, inr (inr (inl (x, q.0, p, q.1, h, q.2, none, is.1, refl))))
+          inr (is.0, span_of e, inr (inr (inl (x, q.0, p, q.1, h, q.2, none, is.1, refl))))
 
 of_chain :
-    (s : Scope) (n : Need) (l : ℕ) (e : Tree) (ks : Links) → IsJudged s need.Expression e
+    (s : Scope) (n : Need) (l : Span) (e : Tree) (ks : Links) → IsJudged s need.Expression e
     → ((x : Sort) → IsOf s e x → LinksAreTyped s x ks ⊎ SomeOffence (LinksOffend s e ks)) → IsJudged s n (chain l e ks)
 of_chain s n l e ks (inr o) rest = inr (o.0, o.1, inl o.2)
 of_chain s n l e ks (inl p) rest = let is = subst (IsOf s e) p.2.1 p.1 in by is (rest (typed p.2.0) is)
@@ -141,7 +142,7 @@ of_chain s n l e ks (inl p) rest = let is = subst (IsOf s e) p.2.1 p.1 in by is 
     by is (inr o) = inr (o.0, o.1, inr (inl o.2))
 
 -- what binds variables: a comprehension
-module _ (s : Scope) (n : Need) (l : ℕ) (ds : VarDecls) (p e : Perhaps) where
+module _ (s : Scope) (n : Need) (l : Span) (ds : VarDecls) (p e : Perhaps) where
   of_comprehension :
       AreApart (declared ds) ⊎ SomeOffence (Repeats (declared ds)) → ((vs : List Var) × Declare s ds vs) ⊎ SomeOffence (SetsOffend s ds)
       → ((w : Scope) → PartIsPredicate w p ⊎ SomeOffence (PartOffends w need.Predicate p))
@@ -163,7 +164,7 @@ module _ (s : Scope) (n : Need) (l : ℕ) (ds : VarDecls) (p e : Perhaps) where
       by (inl c) (inl b) = sized c b.0 b.1 (is_small (power b.0))
 
 -- a quantifier
-module _ (s : Scope) (n : Need) (l : ℕ) (q : Quantifier) (ds : VarDecls) (p : Perhaps) (e : Tree) where
+module _ (s : Scope) (n : Need) (l : Span) (q : Quantifier) (ds : VarDecls) (p : Perhaps) (e : Tree) where
   of_quantifier :
       AreApart (declared ds) ⊎ SomeOffence (Repeats (declared ds)) → ((vs : List Var) × Declare s ds vs) ⊎ SomeOffence (SetsOffend s ds)
       → ((w : Scope) → PartIsPredicate w p ⊎ SomeOffence (PartOffends w need.Predicate p))

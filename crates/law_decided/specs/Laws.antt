@@ -1,5 +1,6 @@
 -- What is not well typed has an offence: of the two, one always holds.
 use Rattle.std.specs.Prelude.{◌⊎◌, ℕ, List}
+use Rattle.zf_tree.specs.declared.span.Span.{Span}
 use Rattle.zf_tree.specs.{BoxTree, DeclTree, SchemaTree, Tree}
 use Rattle.zf_tree.specs.declared.operator.Need.{Need}
 use Rattle.zf_term.specs.{Defined, Fault, Offence, Schema}
@@ -7,9 +8,9 @@ use Rattle.zf_typing.specs.{IsOf, Offends, Scope}
 use Rattle.zf_sorts.specs.{Meets, Sort}
 use Rattle.zf_schema.specs.{Defines, IsChecked, IsSchema, IsText, Item, OffendsItem, OffendsSchema, OffendsText}
 
--- there is an offence, at some line
-abbrev pub SomeOffence : (Offence → ℕ → Type 0) → Type 0
-SomeOffence offends = (offence : Offence) × (line : ℕ) × offends offence line
+-- there is an offence, at some place
+abbrev pub SomeOffence : (Offence → Span → Type 0) → Type 0
+SomeOffence offends = (offence : Offence) × (span : Span) × offends offence span
 
 -- a term has a sort that its place takes, or an offence there
 abbrev pub EveryTermIsJudged : Type 0

@@ -1,5 +1,5 @@
 -- The schema calculus makes schemas whose components have names of schemas that are so.
-use Rattle.law_names.proofs.Prelude.{◌++◌, ◌∙◌, ◌∷◌, ◌≡◌, [], arith, Bool, false, length-append, List, map, None, refl, Some, subst, sym, true, ℕ, none-some, list_all, if◌then◌else◌, bytes_eq, and_right, AreApart, AreNames, is_in_name, IsName, IsNoneOf, AreOnce, Comp, Delta, Plain, RefMark, Schema, Xi, comp, comp_named, decorated, either_comps, is_itself, later, list_all-append, marked, prime, with_comp, with_comps}
+use Rattle.law_names.proofs.Prelude.{◌++◌, ◌∙◌, ◌∷◌, ◌≡◌, [], arith, Bool, false, length-append, List, map, None, refl, Some, subst, sym, true, ℕ, none-some, list_all, if◌then◌else◌, bytes_eq, and_right, AreApart, AreNames, is_in_name, IsName, IsNoneOf, AreOnce, Comp, Delta, Plain, RefMark, Schema, Span, Xi, comp, comp_named, decorated, either_comps, is_itself, later, list_all-append, marked, prime, with_comp, with_comps}
 use Rattle.law_names.proofs.Apart.{none_later}
 use Rattle.law_names.proofs.Bytes.{both_true}
 
@@ -44,7 +44,7 @@ strokes_of base strokes named = and_right (list_all is_in_name base) (list_all i
 pub decorated_named : (strokes : List ℕ) (a : Schema) → AreStrokes strokes → HaveNames a.comps → HaveNames (decorated strokes a).comps
 decorated_named strokes a h all = renamed_named (λ c. comp (c.name ++ strokes) c.type c.sets) a.comps (λ c named. stroked_named c.name strokes named h) all
 
-pub marked_named : (mark : RefMark) (l : ℕ) (a : Schema) → HaveNames a.comps → HaveNames (marked mark l a).comps
+pub marked_named : (mark : RefMark) (l : Span) (a : Schema) → HaveNames a.comps → HaveNames (marked mark l a).comps
 marked_named Plain l a all = all
 marked_named Delta l a all = joined_named a.comps (decorated prime a).comps all (decorated_named prime a refl all)
 marked_named Xi l a all = joined_named a.comps (decorated prime a).comps all (decorated_named prime a refl all)

@@ -1,5 +1,5 @@
 -- What a tree spells is a front of the symbols: the rest stands after it.
-use Rattle.law_names.proofs.Prelude.{◌++◌, ◌∙◌, ◌∷◌, ◌≡◌, [], ap, append_assoc, List, sym, DeclTree, include, schema_reference, SchemaTree, Tree, vars, Name, separator, Symbol, symbol, Kind, Next, PartedBy, Spells, SpellsDecl, SpellsMarked, SpellsName, SpellsPredicates, SpellsSchema, And, Delta, Or, Plain, RefMark, Xi}
+use Rattle.law_names.proofs.Prelude.{◌++◌, ◌∙◌, ◌∷◌, ◌≡◌, [], ap, append_assoc, List, sym, DeclTree, include, schema_reference, SchemaTree, Tree, vars, Name, separator, Symbol, symbol, Kind, Begins, Ends, Next, PartedBy, Span, Spells, SpellsDecl, SpellsMarked, SpellsName, SpellsPredicates, SpellsSchema, And, Delta, Or, Plain, RefMark, Xi}
 use Rattle.zf_scan.specs.declared.token.Kind.TheVariants as k
 use Rattle.zf_tree.specs.Trees as shape
 use Rattle.zf_grammar.proofs.TermsApart.{Spelling, Own, names_own, term_own}
@@ -15,8 +15,14 @@ nothing e = record { front = []; whole = e }
 pub next_behind : {kind : Kind} {ts us : List Symbol} → Next kind ts us → Behind ts us
 next_behind {kind = kind} h = record { front = symbol kind h.0 ∷ []; whole = h.1 }
 
+pub begins_behind : {kind : Kind} (s : Span) {ts us : List Symbol} → Begins kind s ts us → Behind ts us
+begins_behind {kind = kind} s h = next_behind {kind = kind} (h.0, h.1)
+
+pub ends_behind : {kind : Kind} (s : Span) {ts us : List Symbol} → Ends kind s ts us → Behind ts us
+ends_behind {kind = kind} s h = next_behind {kind = kind} (h.0, h.1)
+
 pub name_behind : {n : Name} {ts us : List Symbol} → SpellsName n ts us → Behind ts us
-name_behind {n = n} h = record { front = symbol (k.Name n.base n.strokes) n.line ∷ []; whole = h }
+name_behind {n = n} h = next_behind {kind = k.Name n.base n.strokes} (n.span, h)
 
 pub then : {ts a us : List Symbol} → Behind ts a → Behind a us → Behind ts us
 then {us = us} p q = record { front = p.front ++ q.front; whole = p.whole ∙ ap (λ r. p.front ++ r) q.whole ∙ sym (append_assoc p.front q.front us) }
@@ -56,9 +62,11 @@ predicates_behind kind [] h = nothing h
 predicates_behind kind (p ∷ ps) {us = us} h = then (next_behind {kind = kind} h.1) (parted_behind separator Spells (λ t ts us h. term_behind t h) (p ∷ ps) h.0 us h.2)
 
 pub schema_behind : (x : SchemaTree) {ts us : List Symbol} → SpellsSchema x ts us → Behind ts us
-schema_behind (shape.schema_text ds ps) h =
-    then (next_behind {kind = k.OpenSquare} h.3) (then (decls_behind ds h.4) (then (predicates_behind k.Bar ps h.5) (next_behind {kind = k.CloseSquare} h.6)))
-schema_behind (schema_reference r) {ts = ts} {us = us} h = marked_behind r.mark r.name ts us h
-schema_behind (shape.both x y) h = then (schema_behind x h.2) (then (next_behind {kind = k.Connective And} h.3) (schema_behind y h.4))
-schema_behind (shape.either l x y) h = then (schema_behind x h.3) (then (next_behind {kind = k.Connective Or} h.4) (schema_behind y h.5))
-schema_behind (shape.schema_bracket x) h = then (next_behind {kind = k.OpenRound} h.2) (then (schema_behind x h.3) (next_behind {kind = k.CloseRound} h.4))
+schema_behind (shape.schema_text s ds ps) h =
+    then (begins_behind {kind = k.OpenSquare} s h.3)
+    (then (decls_behind ds h.4) (then (predicates_behind k.Bar ps h.5) (ends_behind {kind = k.CloseSquare} s h.6)))
+schema_behind (schema_reference s r) {ts = ts} {us = us} h = marked_behind r.mark r.name ts us h.1
+schema_behind (shape.both s x y) h = then (schema_behind x h.3) (then (next_behind {kind = k.Connective And} h.4) (schema_behind y h.5))
+schema_behind (shape.either s x y) h = then (schema_behind x h.3) (then (next_behind {kind = k.Connective Or} h.4) (schema_behind y h.5))
+schema_behind (shape.schema_bracket s x) h =
+    then (begins_behind {kind = k.OpenRound} s h.2) (then (schema_behind x h.3) (ends_behind {kind = k.CloseRound} s h.4))

@@ -41,7 +41,7 @@ reference_named : (g : List Defined) (r : SchemaRef) (b : Schema) → AreNamed g
 reference_named g r b all p named =
     let base = found_in (λ d. IsNamed d.name d.definition) r.name.base g (p.0, record { name = p.1; definition = schema p.2 }) all p.3 in
     let strokes = strokes_of r.name.base r.name.strokes named in
-    let whole = decorated_named r.name.strokes (marked r.mark r.name.line p.2) strokes (marked_named r.mark r.name.line p.2 base) in
+    let whole = decorated_named r.name.strokes (marked r.mark r.name.span p.2) strokes (marked_named r.mark r.name.span p.2 base) in
     subst (λ v. HaveNames v.comps) (sym p.5.0) whole
 
 all_added_named : (a : Schema) (ns : List Name) (t : Ty) (s : DeclaredSet) (b : Schema) → AddsAll a ns t s b → AreNames (map spelling ns) → HaveNames a.comps → HaveNames b.comps
@@ -63,13 +63,13 @@ text_named : (g : List Defined) (ds : List DeclTree) (es : List Tree) (b : Schem
 text_named g ds es b known p names = subst HaveNames (sym (constrained_comps g p.0 es b p.2)) (declared_named g empty_schema ds p.0 known p.1 names tt)
 
 schema_named : (g : List Defined) (x : SchemaTree) (c : Schema) → AreNamed g → IsSchema g x c → IsSchemaSpelled x → HaveNames c.comps
-schema_named g (text.schema_text ds ps) c known p names = text_named g ds ps c known p names
-schema_named g (text.schema_reference r) c known p names = reference_named g r c known p names
-schema_named g (text.both x y) c known p names =
+schema_named g (text.schema_text s ds ps) c known p names = text_named g ds ps c known p names
+schema_named g (text.schema_reference s r) c known p names = reference_named g r c known p names
+schema_named g (text.both s x y) c known p names =
     subst (λ v. HaveNames v.comps) (sym p.5.0) (joined_named p.0.comps p.1.comps (schema_named g x p.0 known p.2 names.0) (schema_named g y p.1 known p.3 names.1))
-schema_named g (text.either l x y) c known p names =
+schema_named g (text.either s x y) c known p names =
     subst (λ v. HaveNames v.comps) (sym p.5.0) (disjoined_named p.0.comps p.1.comps (schema_named g x p.0 known p.2 names.0) (schema_named g y p.1 known p.3 names.1))
-schema_named g (text.schema_bracket x) c known p names = schema_named g x c known p names
+schema_named g (text.schema_bracket s x) c known p names = schema_named g x c known p names
 
 -- ---- paragraphs and boxes
 

@@ -5,6 +5,7 @@ pub use Rattle.std.specs.List.{list_all, AllByRecursion}
 pub use Rattle.std.specs.Prelude.{if◌then◌else◌, ◌&&◌, ◌==◌, ◌||◌, codes, nat_le}
 pub use Rattle.std.specs.Str.{bytes_eq}
 pub use Rattle.zf_tree.specs.{BoxTree, DeclTree, free, given, include, ParagraphTree, schema_reference, SchemaTree, spelling, Tree, vars}
+pub use Rattle.zf_tree.specs.declared.span.Span.{Span}
 pub use Rattle.zf_tree.specs.declared.tree.Name.{Name}
 pub use Rattle.zf_scan.proofs.Runs.{and_left, and_right}
 pub use Rattle.zf_scan.proofs.Texts.{both, eq_is, pick}
@@ -12,7 +13,7 @@ pub use Rattle.zf_scan.specs.{canonical, is_separator, IsCutInto, opens, past, r
 pub use Rattle.zf_scan.specs.Cuts.{Cuts}
 pub use Rattle.zf_scan.specs.declared.pieces.Piece.{Piece}
 pub use Rattle.zf_scan.specs.declared.token.Kind.{Kind}
-pub use Rattle.zf_grammar.specs.{Next, PartedBy, Spells, SpellsBoxes, SpellsDecl, SpellsMarked, SpellsName, SpellsParagraph, SpellsPredicates, SpellsSchema}
+pub use Rattle.zf_grammar.specs.{Begins, Ends, Next, PartedBy, Spells, SpellsBoxes, SpellsDecl, SpellsMarked, SpellsName, SpellsParagraph, SpellsPredicates, SpellsSchema}
 pub use Rattle.zf_parse.specs.{ReadsSource}
 pub use Rattle.zf_term.specs.{abbreviation, constructor, Defined, Definition, free_type, given_set, schema, Comp, DeclaredSet, Fault, Schema, Ty, first_named, later, plain}
 pub use Rattle.zf_schema.specs.{a_box, a_paragraph, Constructs, Item, items, items_in, with_global, HasCompsOnce, elements}

@@ -3,7 +3,7 @@ use Rattle.law_names.proofs.Prelude.{◌++◌, ◌+◌, ◌∷◌, ◌≡◌, �
 use Rattle.std.proofs.lemmas.List.Concat.{flat_map-cons}
 use Rattle.zf_scan.specs.declared.token.Kind.TheVariants as k
 use Rattle.zf_tree.specs.{abbreviation, both, BoxTree, DeclTree, definition, either, free, given, include, ParagraphTree, schema_box, schema_bracket, schema_reference, schema_text, SchemaTree, vars, zed}
-use Rattle.law_names.proofs.Fronts.{Behind, next_behind, name_behind, then, term_behind, decl_behind, decls_behind, predicates_behind, schema_behind}
+use Rattle.law_names.proofs.Fronts.{begins_behind, Behind, next_behind, name_behind, then, term_behind, decl_behind, decls_behind, predicates_behind, schema_behind}
 use Rattle.law_names.proofs.Tokens.{AreSpelled, symbols_spelled}
 
 -- the symbols that are left, of which each is spelled so; with what was made they are no more than this
@@ -47,11 +47,11 @@ IsDeclSpelled (vars ns e) = AreNames (map spelling ns)
 IsDeclSpelled (include r) = IsName (spelling r.name)
 
 abbrev pub IsSchemaSpelled : SchemaTree → Type 0
-IsSchemaSpelled (schema_text ds ps) = AllByRecursion IsDeclSpelled ds
-IsSchemaSpelled (schema_reference r) = IsName (spelling r.name)
-IsSchemaSpelled (both x y) = IsSchemaSpelled x × IsSchemaSpelled y
-IsSchemaSpelled (either l x y) = IsSchemaSpelled x × IsSchemaSpelled y
-IsSchemaSpelled (schema_bracket x) = IsSchemaSpelled x
+IsSchemaSpelled (schema_text s ds ps) = AllByRecursion IsDeclSpelled ds
+IsSchemaSpelled (schema_reference s r) = IsName (spelling r.name)
+IsSchemaSpelled (both s x y) = IsSchemaSpelled x × IsSchemaSpelled y
+IsSchemaSpelled (either s x y) = IsSchemaSpelled x × IsSchemaSpelled y
+IsSchemaSpelled (schema_bracket s x) = IsSchemaSpelled x
 
 rest_spelled : {ts us : List Symbol} → Behind ts us → AreSpelled ts → AreSpelled us
 rest_spelled {us = us} b s = behind_spelled b.front us (subst AreSpelled b.whole s)
@@ -76,17 +76,17 @@ decls_spelled (d ∷ (e ∷ ds)) ts us h s =
     (decl_spelled d ts h.0 h.2 s, decls_spelled (e ∷ ds) h.1 us h.4 next)
 
 schema_spelled : (x : SchemaTree) (ts us : List Symbol) → SpellsSchema x ts us → AreSpelled ts → IsSchemaSpelled x
-schema_spelled (schema_text ds ps) ts us h s = decls_spelled ds h.0 h.1 h.4 (rest_spelled (next_behind {kind = k.OpenSquare} h.3) s)
-schema_spelled (schema_reference r) ts us h s = marked_spelled r.mark r.name ts us h s
-schema_spelled (both x y) ts us h s = (
-  schema_spelled x ts h.0 h.2 s,
-  schema_spelled y h.1 us h.4 (rest_spelled (then (schema_behind x h.2) (next_behind {kind = k.Connective And} h.3)) s),
+schema_spelled (schema_text s ds ps) ts us h all = decls_spelled ds h.0 h.1 h.4 (rest_spelled (begins_behind {kind = k.OpenSquare} s h.3) all)
+schema_spelled (schema_reference s r) ts us h all = marked_spelled r.mark r.name ts us h.1 all
+schema_spelled (both s x y) ts us h all = (
+  schema_spelled x ts h.0 h.3 all,
+  schema_spelled y h.1 us h.5 (rest_spelled (then (schema_behind x h.3) (next_behind {kind = k.Connective And} h.4)) all),
 )
-schema_spelled (either l x y) ts us h s = (
-  schema_spelled x ts h.0 h.3 s,
-  schema_spelled y h.1 us h.5 (rest_spelled (then (schema_behind x h.3) (next_behind {kind = k.Connective Or} h.4)) s),
+schema_spelled (either s x y) ts us h all = (
+  schema_spelled x ts h.0 h.3 all,
+  schema_spelled y h.1 us h.5 (rest_spelled (then (schema_behind x h.3) (next_behind {kind = k.Connective Or} h.4)) all),
 )
-schema_spelled (schema_bracket x) ts us h s = schema_spelled x h.0 h.1 h.3 (rest_spelled (next_behind {kind = k.OpenRound} h.2) s)
+schema_spelled (schema_bracket s x) ts us h all = schema_spelled x h.0 h.1 h.3 (rest_spelled (begins_behind {kind = k.OpenRound} s h.2) all)
 
 -- ---- paragraphs
 
@@ -148,7 +148,7 @@ boxes_left most made (zed ps ∷ bs) ts h l =
     (λ made l. boxes_left most made bs h.0 h.2 (left_behind (next_behind {kind = k.EndBox} box.4) l)))
 boxes_left most made (schema_box n ds ps ∷ bs) ts h l =
     let box = h.1 in
-    let begins : Behind ts box.0 = next_behind {kind = k.BeginSchema n.base} (n.line, box.4) in
+    let begins : Behind ts box.0 = next_behind {kind = k.BeginSchema n.base} (n.span, box.4) in
     let all = then begins (then (decls_behind ds box.5) (then (predicates_behind k.Where ps box.6) (next_behind {kind = k.EndBox} box.7))) in
     subst (AreItemsSpelled most made) (sym (flat_map-cons items_in (schema_box n ds ps) bs))
     (decls_spelled ds box.0 box.1 box.5 (rest_spelled begins l.spelled), boxes_left most (made + 0) bs h.0 h.2 (weaker (left_behind all l) (made + 0) (omega arith)))

@@ -1,5 +1,6 @@
 -- The declared sets of components are sets for them, and stay so where schemas are made of others.
 use Rattle.law_sound.proofs.Prelude.{AllByRecursion, if◌then◌else◌, ◌++◌, ◌∙◌, ◌∷◌, ◌≡◌, [], ap, Bool, false, List, map, None, Option, refl, Some, subst, suc, sym, true, zero, ℕ, none-some, same_Some, slice_get, bytes_eq, swapped, Comp, DeclaredSet, Defined, Schema, sets_of, later, Ty, joined_type, named_there, type_of_once, type_one_more, decorated_once, joined_once, type_found, type_named, option_or, Agree, Agrees, AreOnce, HasTypeOf, MarkAgrees, comp, comp_named, decorated, either_comps, marked, prime, sets_on, with_comp, with_comps}
+use Rattle.zf_tree.specs.declared.span.Span.{Span}
 use Rattle.zf_tree.specs.declared.tree.RefMark.{RefMark}
 use Rattle.zf_tree.specs.declared.tree.RefMark.TheVariants.{Plain, Delta, Xi}
 use Rattle.zf_term.proofs.Choices.{or_none}
@@ -76,7 +77,7 @@ decorated_for g strokes (c ∷ cs) h = (h.0, decorated_for g strokes cs h.1)
 delta_for : (g : List Defined) (a : Schema) → AreCompsFor g a.comps → AreOnce a.comps → Agree a.comps (decorated prime a).comps → AreCompsFor g (with_comps a.comps (decorated prime a).comps)
 delta_for g a h once agree = joined_for g a.comps (decorated prime a).comps h (decorated_for g prime a.comps h) (decorated_once prime a once) agree
 
-pub marked_for : (g : List Defined) (mark : RefMark) (l : ℕ) (a : Schema) → AreCompsFor g a.comps → AreOnce a.comps → MarkAgrees mark a → AreCompsFor g (marked mark l a).comps
+pub marked_for : (g : List Defined) (mark : RefMark) (l : Span) (a : Schema) → AreCompsFor g a.comps → AreOnce a.comps → MarkAgrees mark a → AreCompsFor g (marked mark l a).comps
 marked_for g Plain l a h once agree = h
 marked_for g Delta l a h once agree = delta_for g a h once agree
 marked_for g Xi l a h once agree = delta_for g a h once agree

@@ -108,16 +108,16 @@ module _ (e : Environment) (worked : AreWorkedOut e) where
 
   mutual
     same_outcome : (t : Ty) (x : ResolvedTree) (o : Outcome) → Spells e.globals t x → IsCarrier e t o ↔ HasOutcome (globally e) x o
-    same_outcome int x o (line, is) = subst (λ y. IsCarrier e int o ↔ HasOutcome (globally e) y o) (sym is) (λ h. h, λ h. h)
-    same_outcome (basic name) x o (line, place, at, is) = subst (λ y. IsCarrier e (basic name) o ↔ HasOutcome (globally e) y o) (sym is) (
+    same_outcome int x o (span, is) = subst (λ y. IsCarrier e int o ↔ HasOutcome (globally e) y o) (sym is) (λ h. h, λ h. h)
+    same_outcome (basic name) x o (span, place, at, is) = subst (λ y. IsCarrier e (basic name) o ↔ HasOutcome (globally e) y o) (sym is) (
       λ h. one_carrier e (basic name) o (outcome_or (slice_get e.outcomes place)) h (type_outcome name place at),
       λ h. subst (IsCarrier e (basic name)) (sym h) (type_outcome name place at),
     )
-    same_outcome (power t) x o (line, y, spelled, is) = subst (λ z. IsCarrier e (power t) o ↔ HasOutcome (globally e) z o) (sym is) (
+    same_outcome (power t) x o (span, y, spelled, is) = subst (λ z. IsCarrier e (power t) o ↔ HasOutcome (globally e) z o) (sym is) (
       λ h. (h.0, (same_outcome t y h.0 spelled).0 h.1, (same_power h.0 o).0 h.2),
       λ h. (h.0, (same_outcome t y h.0 spelled).1 h.1, (same_power h.0 o).1 h.2),
     )
-    same_outcome (product ts) x o (line, ys, spelled, is) = subst (λ z. IsCarrier e (product ts) o ↔ HasOutcome (globally e) z o) (sym is) (
+    same_outcome (product ts) x o (span, ys, spelled, is) = subst (λ z. IsCarrier e (product ts) o ↔ HasOutcome (globally e) z o) (sym is) (
       λ h. (h.0, (same_outcomes ts ys h.0 spelled).0 h.1, (same_product h.0 o).0 h.2),
       λ h. (h.0, (same_outcomes ts ys h.0 spelled).1 h.1, (same_product h.0 o).1 h.2),
     )

@@ -38,7 +38,7 @@ module _ (g : List Defined) (n : ℕ) (once : HaveCompsOnce (take n g)) (before 
       let front = in_front n p.0 g base there in
       let own = before p.0 p.1 p.2 front.0 front.1 in
       let names = all_at (λ d. HasCompsOnce d.definition) (take n g) p.0 base once there in
-      subst (λ v. AreCompsFor g v.comps) (sym p.5.0) (decorated_for g r.name.strokes (marked r.mark r.name.line p.2).comps (marked_for g r.mark r.name.line p.2 own names p.4))
+      subst (λ v. AreCompsFor g v.comps) (sym p.5.0) (decorated_for g r.name.strokes (marked r.mark r.name.span p.2).comps (marked_for g r.mark r.name.span p.2 own names p.4))
 
   added_for : (a : Schema) (ns : List Name) (t : Ty) (d : DeclaredSet) (b : Schema) → AreCompsFor g a.comps → IsSetFor g t d → AddsAll a ns t d b → AreCompsFor g b.comps
   added_for a [] t d b h k p = subst (λ v. AreCompsFor g v.comps) (sym p) h
@@ -55,13 +55,13 @@ module _ (g : List Defined) (n : ℕ) (once : HaveCompsOnce (take n g)) (before 
   declared_for a (d ∷ ds) b h p = declared_for p.0 ds b (declaration_for a d p.0 h p.1) p.2
 
   schema_for : (x : SchemaTree) (c : Schema) → IsSchema (take n g) x c → AreCompsFor g c.comps
-  schema_for (schema_text ds es) c p = subst (AreCompsFor g) (sym (constrained_comps (take n g) p.0 es c p.2)) (declared_for empty_schema ds p.0 tt p.1)
-  schema_for (schema_reference r) c p = reference_for r c p
-  schema_for (both x y) c p =
+  schema_for (schema_text s ds es) c p = subst (AreCompsFor g) (sym (constrained_comps (take n g) p.0 es c p.2)) (declared_for empty_schema ds p.0 tt p.1)
+  schema_for (schema_reference s r) c p = reference_for r c p
+  schema_for (both s x y) c p =
       subst (λ v. AreCompsFor g v.comps) (sym p.5.0) (joined_for g p.0.comps p.1.comps (schema_for x p.0 p.2) (schema_for y p.1 p.3) (schema_once (take n g) y p.1 once p.3) p.4)
-  schema_for (either l x y) c p =
+  schema_for (either s x y) c p =
       subst (λ v. AreCompsFor g v.comps) (sym p.5.0) (either_for g p.0.comps p.1.comps (schema_for x p.0 p.2) (schema_for y p.1 p.3) (schema_once (take n g) x p.0 once p.2) p.4)
-  schema_for (schema_bracket x) c p = schema_for x c p
+  schema_for (schema_bracket s x) c p = schema_for x c p
 
 for_below : (g : List Defined) → AreWellTyped g → (n : ℕ) → AreForBelow g n
 for_below g well zero i name a l at = absurd (omega (arith, l))

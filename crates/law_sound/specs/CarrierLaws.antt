@@ -1,5 +1,6 @@
 -- What the carrier of a type is: the set of exactly the type's values, and the outcome of the expression that spells the type.
 use Rattle.std.specs.Prelude.{◌≡◌, ◌↔◌, ◌⊎◌, ℕ, false, List, Option, None, Some}
+use Rattle.zf_tree.specs.declared.span.Span.{Span}
 use Rattle.law_sound.specs.Prelude.{basic, constant, Defined, first_named, has_numbers, int, listed, no_terms, no_types, power, product, reference, ResolvedTree, term, Ty, type, Tys, unary, Value, Is, IsMember, members, Size, definition_number, Environment, globally, HasOutcome, IsCarrier, IsEnvironment, IsOfType}
 use Rattle.zf_tree.specs.declared.symbol.Constant.TheVariants.{Integers}
 use Rattle.zf_tree.specs.declared.symbol.Prefix.TheVariants.{Power}
@@ -27,10 +28,10 @@ IsTypeAt g name place = (d : Defined) × (n : ℕ) × (first_named (λ d. d.name
 -- the expression spells the type, by `\num`, given sets, free types, power sets and products
 abbrev mutual
   pub Spells : List Defined → Ty → ResolvedTree → Type 0
-  Spells g int x = (line : ℕ) × (x ≡ constant line Integers)
-  Spells g (basic name) x = (line place : ℕ) × IsTypeAt g name place × (x ≡ reference line (Global place))
-  Spells g (power t) x = (line : ℕ) × (y : ResolvedTree) × Spells g t y × (x ≡ unary line (Sign (Symbol Power)) y)
-  Spells g (product ts) x = (line : ℕ) × (ys : ResolvedTrees) × SpellAll g ts ys × (x ≡ listed line Product ys)
+  Spells g int x = (span : Span) × (x ≡ constant span Integers)
+  Spells g (basic name) x = (span : Span) × (place : ℕ) × IsTypeAt g name place × (x ≡ reference span (Global place))
+  Spells g (power t) x = (span : Span) × (y : ResolvedTree) × Spells g t y × (x ≡ unary span (Sign (Symbol Power)) y)
+  Spells g (product ts) x = (span : Span) × (ys : ResolvedTrees) × SpellAll g ts ys × (x ≡ listed span Product ys)
 
   pub SpellAll : List Defined → Tys → ResolvedTrees → Type 0
   SpellAll g no_types ys = ys ≡ no_terms

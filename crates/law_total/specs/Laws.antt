@@ -1,5 +1,6 @@
 -- Everything has a meaning: there is an outcome, a truth, a carrier, an environment. That there is no second one are laws of `zf_meaning`.
 use Rattle.std.specs.Prelude.{◌≡◌, ◌≢◌, ◌⊎◌, ◌↔◌, ℕ, List, Option}
+use Rattle.zf_tree.specs.declared.span.Span.{Span}
 use Rattle.zf_tree.specs.declared.operator.Operator.TheVariants as operator
 use Rattle.zf_tree.specs.declared.symbol.Connective.{Connective}
 use Rattle.zf_term.specs.{binary, Defined, ResolvedTree, Ty}
@@ -21,7 +22,7 @@ EveryTruth = (c : Context) (t : ResolvedTree) → (u : Truth) × IsTruth c t u
 
 -- The truth of a connective is the one that its table makes of the truths of its sides.
 abbrev pub ConnectivesByTable : Type 0
-ConnectivesByTable = (c : Context) (l : ℕ) (k : Connective) (a b : ResolvedTree) (u : Truth) → IsTruth c (binary l (operator.Connective k) a b) u ↔ ((p q : Truth) × IsTruth c a p × IsTruth c b q × (u ≡ connected k p q))
+ConnectivesByTable = (c : Context) (l : Span) (k : Connective) (a b : ResolvedTree) (u : Truth) → IsTruth c (binary l (operator.Connective k) a b) u ↔ ((p q : Truth) × IsTruth c a p × IsTruth c b q × (u ≡ connected k p q))
 
 -- Every type has a carrier.
 abbrev pub EveryCarrier : Type 0

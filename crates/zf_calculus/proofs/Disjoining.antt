@@ -1,5 +1,5 @@
 -- The components of disjunctions, and the places of a side's components.
-use Rattle.zf_calculus.proofs.Prelude.{if◌then◌else◌, ◌++◌, ◌+◌, ◌<◌, ◌∙◌, ◌∷◌, ◌≡◌, ◌≤◌, [], add-one, all_of, ap, arith, batch_of, bytes_eq, Batch, Bool, carried, Conjunct, conjunct_of, Comp, comp, comp_named, comp_of, Component, DeclaredSet, disjoined, disjoined_over, Domain, either_comp, false, Flat, get_or, inr, IsNext, IsTooLarge, IsWithin, later, length, length-append, length-map, List, map, map-append, moved, new_place, None, none-some, numbering, Offence, of-Either, one_holds, Option, place_found, place_in, place_named, place_of, place_or, refl, ResolvedTree, same_Some, Schema, schema_of, set_of, sets_of, sets_on, sides, slice_get, Some, Stops, subst, suc, sym, take, too_large, true, type_of, unmoved, with_comp, with_comps, zero, ZType, ℕ, fun_ext, constraints, either_comps}
+use Rattle.zf_calculus.proofs.Prelude.{if◌then◌else◌, ◌++◌, ◌+◌, ◌<◌, ◌∙◌, ◌∷◌, ◌≡◌, ◌≤◌, [], add-one, all_of, ap, arith, batch_of, bytes_eq, Batch, Bool, carried, Conjunct, conjunct_of, Comp, comp, comp_named, comp_of, Component, DeclaredSet, disjoined, disjoined_over, Domain, either_comp, false, Flat, get_or, inr, IsNext, IsTooLarge, IsWithin, later, length, length-append, length-map, List, map, map-append, moved, new_place, None, none-some, numbering, Offence, of-Either, one_holds, Option, place_found, place_in, place_named, place_of, place_or, refl, ResolvedTree, same_Some, Schema, schema_of, set_of, sets_of, sets_on, sides, slice_get, Some, Stops, subst, suc, sym, take, too_large, true, type_of, unmoved, with_comp, with_comps, zero, ZType, ℕ, fun_ext, constraints, either_comps, Span}
 use Rattle.std.proofs.Math.Seq.{map-set_same}
 use Rattle.zf_term.specs.declared.schema.Domain.TheVariants as v
 use Rattle.zf_term.specs.declared.fault.Limit.TheVariants as limit
@@ -143,7 +143,7 @@ further_places f ps qs e places t = ap (λ (rs : List ℕ). moved (place_in rs) 
 
 -- the one conjunct, that one side holds or the other
 pub sides_seen :
-    (l : ℕ) (all : List Comp) (a b : Schema) (c : Conjunct) (conjuncts : List Conjunct) (left right : List Batch) (ps : Option (List ℕ)) → conjuncts ≡ c ∷ []
+    (l : Span) (all : List Comp) (a b : Schema) (c : Conjunct) (conjuncts : List Conjunct) (left right : List Batch) (ps : Option (List ℕ)) → conjuncts ≡ c ∷ []
     → conjunct_of c ≡ one_holds l (all_of (map batch_of left)) (all_of (map batch_of right))
     → all_of (map batch_of left) ≡ map (moved (numbering None)) (constraints a)
     → all_of (map batch_of right) ≡ map (moved (numbering ps)) (constraints b)
@@ -155,7 +155,7 @@ sides_seen l all a b c conjuncts left right ps made is first second places =
     ∙ ap (λ (ts : List ResolvedTree). one_holds l ts (all_of (map batch_of right)) ∷ []) (first ∙ all_same (moved (numbering None)) (constraints a) unmoved)
     ∙ ap (λ (ts : List ResolvedTree). one_holds l (constraints a) ts ∷ []) (second ∙ all_alike (moved (numbering ps)) (moved (new_place b.comps all)) (constraints b) places)
 
-pub disjunction_made : (l : ℕ) (left right flat : Flat) (all given cs ds : List Component)
+pub disjunction_made : (l : Span) (left right flat : Flat) (all given cs ds : List Component)
     → schema_of flat ≡ disjoined_over (map comp_of given) l (schema_of left) (schema_of right) → given ≡ all
     → map comp_of all ≡ either_comps (map comp_of cs) (map comp_of ds) → cs ≡ left.components → ds ≡ right.components
     → schema_of flat ≡ disjoined l (schema_of left) (schema_of right)

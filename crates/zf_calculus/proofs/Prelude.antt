@@ -10,6 +10,7 @@ pub use Rattle.std.specs.Str.{bytes_eq}
 pub use Rattle.std.specs.Vec.Iter.{into_iter_items}
 pub use Rattle.zf_reference.specs.{place_in}
 pub use Rattle.zf_tree.specs.declared.symbol.Relation.TheVariants.{Equal}
+pub use Rattle.zf_tree.specs.declared.span.Span.{Span}
 pub use Rattle.zf_term.proofs.Places.{AreFirst, in_full, unmoved}
 pub use Rattle.zf_term.proofs.ResolvedSeen.{new_link, of-Chain, of-link, of-Name}
 pub use Rattle.zf_term.proofs.SameNames.{is_itself, is_same, swapped}
@@ -17,7 +18,7 @@ pub use Rattle.zf_term.proofs.SetsSeen.{of-Either}
 pub use Rattle.zf_term.proofs.Walk.{at_end, at_step, dropped, pushed}
 pub use Rattle.zf_data.specs.{all_of}
 pub use Rattle.zf_term.specs.declared.conjunct.Batch.{Batch}
-pub use Rattle.zf_term.specs.{AreFew, batch_of, chain, Comp, comp_of, conjunct_of, DeclaredSet, found_as, HasLeft, IsLow, IsTooLarge, IsWithin, KeepsTo, later, link, links, moved, no_links, nodes, numbering, Offence, one_holds, reference, resolved_link_of, resolved_of, ResolvedTree, Schema, schema_of, set_count, set_nodes, set_of, sets_of, sides, too_large, type_of}
+pub use Rattle.zf_term.specs.{AreFew, batch_of, chain, Comp, comp_of, conjunct_of, DeclaredSet, found_as, HasLeft, IsLow, IsTooLarge, IsWithin, KeepsTo, later, link, links, moved, no_links, nodes, numbering, Offence, one_holds, reference, resolved_link_of, resolved_of, ResolvedTree, Schema, schema_of, set_count, set_nodes, set_of, sets_of, sides, sides_span, too_large, type_of}
 pub use Rattle.zf_term.specs.declared.conjunct.Conjunct.{Conjunct}
 pub use Rattle.zf_term.specs.declared.fault.Limit.{Limit}
 pub use Rattle.zf_term.specs.declared.schema.Component.{Component}

@@ -1,6 +1,5 @@
 -- The list of new places says where each component is.
-use Rattle.zf_calculus.proofs.Prelude.{◌++◌, ◌+◌, ◌<◌, ◌∙◌, ◌∷◌, ◌≡◌, ◌≤◌, [], ap, arith, get_or, length, List, map, refl, Some, sym, ℕ, append_assoc, get_or-map, length-map, map-append, slice_get-get_or, slice_get_past, place_in, AreFirst, in_full, unmoved, comp_of, conjunct_of, ResolvedTree, moved, Component, comp_named, new_place, place_of, place_or, Conjunct}
-use borrow.Author.Count.{below_more}
+use Rattle.zf_calculus.proofs.Prelude.{◌++◌, ◌<◌, ◌∙◌, ◌∷◌, ◌≡◌, ◌≤◌, [], ap, arith, get_or, length, List, map, refl, Some, sym, ℕ, append_assoc, get_or-map, length-map, map-append, slice_get-get_or, slice_get_past, place_in, AreFirst, in_full, unmoved, comp_of, conjunct_of, ResolvedTree, moved, Component, comp_named, new_place, place_of, place_or, Conjunct}
 
 -- the places of the first components are known
 abbrev pub ArePlaces : List ℕ → List Component → List Component → Type 0

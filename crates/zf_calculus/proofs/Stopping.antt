@@ -1,5 +1,5 @@
 -- What stops a step says why.
-use Rattle.zf_calculus.proofs.Prelude.{◌<◌, ◌∷◌, ◌≡◌, [], arith, Err, get_or, IfErr, IfOk, inl, inr, length, List, map, Ok, Result, subst, suc, zero, ℕ, Comp, comp_of, Component, Offence, IfStopped, Clashes, OneClashes}
+use Rattle.zf_calculus.proofs.Prelude.{◌<◌, ◌∷◌, ◌≡◌, [], arith, Err, get_or, IfErr, inl, inr, length, List, map, Ok, Result, subst, suc, zero, ℕ, Comp, comp_of, Component, Offence, IfStopped, Clashes, OneClashes}
 use Rattle.zf_calculus.specs.declared.stop.Stop.{Stop}
 use Rattle.zf_calculus.specs.declared.stop.Stop.TheVariants.{Clash, TooLarge, OutOfMemory}
 

@@ -1,6 +1,6 @@
 -- The schema calculus: what schemas are made of others by inclusion, decoration, `\Delta`, `\Xi`, conjunction and disjunction.
 use Rattle.std.specs.Prelude.{◌≡◌, ℕ, ◌+◌, List, [], ◌∷◌, ◌++◌, map, fold, Option, slice_get, if◌then◌else◌}
-use Rattle.zf_calculus.specs.Prelude.{AllByRecursion, IfSome, option_map_or, Equal, RefMark, Plain, Delta, Xi, carrier, chain, Comp, DeclaredSet, first_named, link, moved, no_links, one_holds, reference, ResolvedTree, Schema, sets_of, sides, Ty, constraints}
+use Rattle.zf_calculus.specs.Prelude.{AllByRecursion, IfSome, option_map_or, Equal, RefMark, Plain, Delta, Xi, carrier, chain, Comp, DeclaredSet, first_named, link, moved, no_links, one_holds, reference, ResolvedTree, Schema, sets_of, sides, Ty, constraints, Span}
 use Rattle.std.specs.Str.{bytes_eq}
 use Rattle.zf_reference.specs.declared.reference.Reference.TheVariants.{Component}
 pub use Rattle.zf_term.specs.{joined}
@@ -65,18 +65,18 @@ abbrev pub delta : Schema → Schema
 delta a = conjoined a (decorated prime a)
 
 -- `x = x'`, for the component at a place
-abbrev pub unchanged : (line : ℕ) → List Comp → List Comp → ℕ → ResolvedTree
+abbrev pub unchanged : Span → List Comp → List Comp → ℕ → ResolvedTree
 unchanged l cs all i = chain l (reference l (Component i)) (link Equal (reference l (Component (new_place cs all i))) no_links)
 
-abbrev pub all_unchanged : (line : ℕ) → List Comp → List Comp → ℕ → List Comp → List ResolvedTree
+abbrev pub all_unchanged : Span → List Comp → List Comp → ℕ → List Comp → List ResolvedTree
 all_unchanged l primed all i [] = []
 all_unchanged l primed all i (c ∷ cs) = unchanged l primed all i ∷ all_unchanged l primed all (i + 1) cs
 
 -- `\Delta S`, where no component changes
-abbrev pub xi : (line : ℕ) → Schema → Schema
+abbrev pub xi : Span → Schema → Schema
 xi l a = schema_with (delta a).comps ((delta a).conjuncts ++ all_unchanged l (decorated prime a).comps (delta a).comps 0 a.comps)
 
-abbrev pub marked : RefMark → (line : ℕ) → Schema → Schema
+abbrev pub marked : RefMark → Span → Schema → Schema
 marked Plain l a = a
 marked Delta l a = delta a
 marked Xi l a = xi l a
@@ -97,7 +97,7 @@ either_comps cs ds =
     map (λ c. comp c.name c.type (sides (sets_of (sets_on (comp_named c.name cs) c.type)) (sets_of (sets_on (comp_named c.name ds) c.type)) ∷ []))
     (with_comps cs ds)
 
-abbrev pub disjoined : (line : ℕ) → Schema → Schema → Schema
+abbrev pub disjoined : Span → Schema → Schema → Schema
 disjoined l a b =
     schema_with (either_comps a.comps b.comps)
     (one_holds l (constraints a) (carried b.comps (with_comps a.comps b.comps) (constraints b)) ∷ [])

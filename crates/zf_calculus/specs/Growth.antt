@@ -1,6 +1,6 @@
 -- A schema that grows within the limits, and what stops it.
 use Rattle.std.specs.Prelude.{◌≡◌, ℕ, ◌+◌, ◌++◌, List, [], ◌∷◌, Option, Some, None}
-use Rattle.zf_calculus.specs.Prelude.{sum_by, option_map_or, Equal, Component, chain, clash, Comp, DeclaredSet, link, no_links, Offence, one_holds, reference, ResolvedTree, Schema, set_count, set_nodes, sets_of, sides, too_large, type_of, constraints}
+use Rattle.zf_calculus.specs.Prelude.{sum_by, option_map_or, Equal, chain, clash, Comp, DeclaredSet, link, no_links, Offence, one_holds, reference, ResolvedTree, Schema, set_count, set_nodes, sets_of, sides, too_large, type_of, constraints, Span}
 use Rattle.zf_reference.specs.declared.reference.Reference.TheVariants as place
 use Rattle.zf_calculus.specs.declared.room.Measure.{Measure}
 use Rattle.zf_calculus.specs.declared.room.Measure.TheVariants.{Nodes, Sets}
@@ -48,11 +48,11 @@ abbrev pub counted : (DeclaredSet → ℕ) → List Comp → ℕ
 counted f cs = sum_by (λ c. sum_by f c.sets) cs
 
 -- two components are equal
-abbrev pub equality : (line left right : ℕ) → ResolvedTree
+abbrev pub equality : Span → (left right : ℕ) → ResolvedTree
 equality l i p = chain l (reference l (place.Component i)) (link Equal (reference l (place.Component p)) no_links)
 
 -- each component, from that place on, is equal to the one at the place in the list
-abbrev pub equalities : (line from : ℕ) → List ℕ → List ResolvedTree
+abbrev pub equalities : Span → (from : ℕ) → List ℕ → List ResolvedTree
 equalities l i [] = []
 equalities l i (p ∷ ps) = equality l i p ∷ equalities l (i + 1) ps
 
@@ -63,7 +63,7 @@ abbrev pub either_comp : List Comp → List Comp → Comp → Comp
 either_comp cs ds c = calculus.comp c.name c.type (sides (sets_of (calculus.sets_on (calculus.comp_named c.name cs) c.type)) (sets_of (calculus.sets_on (calculus.comp_named c.name ds) c.type)) ∷ [])
 
 -- the disjunction, which has these components
-abbrev pub disjoined_over : List Comp → (line : ℕ) → Schema → Schema → Schema
+abbrev pub disjoined_over : List Comp → Span → Schema → Schema → Schema
 disjoined_over all l a b = calculus.schema_with all (one_holds l (constraints a) (calculus.carried b.comps all (constraints b)) ∷ [])
 
 -- the place that is found, or else this one

@@ -1,6 +1,6 @@
 //! Disjunctions of schemas.
 ghost use Rattle.std.specs.Prelude.{◌≡◌, IfErr, IfOk, List, OnOk, map};
-ghost use Rattle.zf_calculus.specs.Prelude.{AreFew, Comp, comp_of, IsTooLarge, ResolvedTree, schema_of, set_of, too_large, type_of};
+ghost use Rattle.zf_calculus.specs.Prelude.{AreFew, Comp, comp_of, IsTooLarge, ResolvedTree, schema_of, set_of, sides_span, too_large, type_of};
 ghost use Rattle.zf_term.specs.Shapes as shape;
 ghost use Rattle.zf_term.specs.ShapeViews as shape_views;
 ghost use Rattle.zf_term.specs.declared.fault.Limit.TheVariants as limit;
@@ -15,7 +15,7 @@ use bumpalo::Bump;
 use std::alloc::AllocError;
 use zf_constraints::constraints;
 use zf_data::arena::{Chunked, Items, Lasting, Shared};
-use zf_term::{Component, Conjunct, Domain, Flat, Limit, Places, Side, component_of};
+use zf_term::{Component, Conjunct, Domain, Flat, Limit, Places, Side, Sides, component_of};
 
 /// The component of a disjunction: its declared sets on either side.
 fn either<'a>(
@@ -129,33 +129,33 @@ fn other_places<'a>(
 /// The disjunction, which has these components.
 fn disjunction<'a>(
     arena: &'a Bump,
-    line: u32,
+    sides: Sides,
     left: &Flat<'a>,
     right: &Flat<'a>,
     components: Items<'a, Component<'a>>,
 ) -> Result<Flat<'a>, AllocError>
-    ensures { IfOk result (λ f. schema_of f ≡ disjoined_over (map comp_of components.entry) line (schema_of left.now) (schema_of right.now)) }
+    ensures { IfOk result (λ f. schema_of f ≡ disjoined_over (map comp_of components.entry) (sides_span sides) (schema_of left.now) (schema_of right.now)) }
 {
     let places = other_places(arena, right.components.as_slice(), components.as_slice())?;
     let of_left = constraints(arena, left, &None)?;
     let of_right = constraints(arena, right, &places)?;
-    let conjuncts = Chunked::of(arena, Conjunct::either(line, of_left, of_right))?;
+    let conjuncts = Chunked::of(arena, Conjunct::either(sides, of_left, of_right))?;
     Ok(Flat {
         components,
         conjuncts,
     })
 }
 
-/// The disjunction of two schemas.
+/// The disjunction of two schemas, which stand at these places.
 pub fn disjoin<'a>(
     arena: &'a Bump,
-    line: u32,
+    sides: Sides,
     left: &Flat<'a>,
     right: &Flat<'a>,
 ) -> Result<Growing<'a>, Stop<'a>>
     ensures agree { IfOk result (λ g. Agree (schema_of left.now).comps (schema_of right.now).comps) }
-    ensures ok { IfOk result (λ g. IsNext (disjoined line (schema_of left.now) (schema_of right.now)) (schema_of g)) }
-    ensures err { IfErr result (λ e. IfStopped e (Stops (OneClashes (schema_of left.now).comps (schema_of right.now).comps) (Agree (schema_of left.now).comps (schema_of right.now).comps) (disjoined line (schema_of left.now) (schema_of right.now)))) }
+    ensures ok { IfOk result (λ g. IsNext (disjoined (sides_span sides) (schema_of left.now) (schema_of right.now)) (schema_of g)) }
+    ensures err { IfErr result (λ e. IfStopped e (Stops (OneClashes (schema_of left.now).comps (schema_of right.now).comps) (Agree (schema_of left.now).comps (schema_of right.now).comps) (disjoined (sides_span sides) (schema_of left.now) (schema_of right.now)))) }
 {
     agree(left.components.as_slice(), right.components.as_slice())?;
     let components = either_all(
@@ -163,7 +163,7 @@ pub fn disjoin<'a>(
         left.components.as_slice(),
         right.components.as_slice(),
     )?;
-    within(disjunction(arena, line, left, right, components)?)
+    within(disjunction(arena, sides, left, right, components)?)
 }
 
 /// The schema, if it is within the limits.

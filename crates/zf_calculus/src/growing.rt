@@ -16,7 +16,7 @@ use zf_data::arena::{Boxed, Chunked, Items, Lasting};
 use zf_reference::Reference;
 use zf_shape::conjunct::room_after;
 use zf_term::{Component, Conjunct, Flat, Left, Limit, Measured, Resolved, ResolvedLink};
-use zf_tree::Relation;
+use zf_tree::{Relation, Span};
 
 /// A schema within the limits that contracts see as the schema. It keeps what is left of them, so that each step costs only what it adds.
 #[derive(Drop)]
@@ -245,15 +245,15 @@ impl<'a> Growing<'a> {
     pub fn take_equalities(
         &mut self,
         arena: &'a Bump,
-        line: u32,
+        span: Span,
         places: &[usize],
     ) -> Result<(), Stop<'a>>
-        ensures ok { OnOk result (IsNext (constrained (schema_of self.old) (equalities line 0 places.now)) (schema_of self.new)) }
-        ensures err { IfErr result (λ e. IfStopped e (IsTooLarge (constrained (schema_of self.old) (equalities line 0 places.now)))) }
+        ensures ok { OnOk result (IsNext (constrained (schema_of self.old) (equalities span 0 places.now)) (schema_of self.new)) }
+        ensures err { IfErr result (λ e. IfStopped e (IsTooLarge (constrained (schema_of self.old) (equalities span 0 places.now)))) }
     {
         for place in 0..places.len() {
             let other = places[place];
-            let equality = equality(arena, line, place, other)?;
+            let equality = equality(arena, span, place, other)?;
             self.take(equality)?;
         }
         let _ = &self.left;
@@ -349,14 +349,14 @@ pub(crate) fn are_own(places: &[usize]) -> bool
 #[tactic(auto, using(zf_term::proofs::ResolvedSeen::seen))]
 fn equality<'a>(
     arena: &'a Bump,
-    line: u32,
+    span: Span,
     place: usize,
     other: usize,
 ) -> Result<Conjunct<'a>, AllocError>
-    ensures { IfOk result (λ c. conjunct_of c ≡ equality line place other) }
+    ensures { IfOk result (λ c. conjunct_of c ≡ equality span place other) }
 {
-    let left = Boxed::new(arena, Resolved::Name(line, Reference::Component(place)))?;
-    let right = Resolved::Name(line, Reference::Component(other));
+    let left = Boxed::new(arena, Resolved::Name(span, Reference::Component(place)))?;
+    let right = Resolved::Name(span, Reference::Component(other));
     let links = Items::of(
         arena,
         ResolvedLink {
@@ -364,6 +364,6 @@ fn equality<'a>(
             right,
         },
     )?;
-    let term = Resolved::Chain(line, left, Boxed::new(arena, links)?);
+    let term = Resolved::Chain(span, left, Boxed::new(arena, links)?);
     Conjunct::of(arena, term)
 }

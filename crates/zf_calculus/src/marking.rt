@@ -14,41 +14,41 @@ use std::mem;
 use std::mem::ManuallyDrop;
 use zf_data::arena::{Items, Lasting, Lent};
 use zf_term::{Component, Flat, Measured};
-use zf_tree::RefMark;
+use zf_tree::{RefMark, Span};
 
 /// The schema as it is marked: itself, or it and its state after an operation, and then that no component changes.
 pub fn marked<'a>(
     arena: &'a Bump,
     mark: RefMark,
-    line: u32,
+    span: Span,
     schema: &Measured<'a>,
     spare: Spare,
 ) -> Result<Growing<'a>, Stop<'a>>
     ensures agree { IfOk result (λ g. MarkAgrees mark (schema_of schema.now)) }
-    ensures ok { IfOk result (λ g. IsNext (spec.marked mark line (schema_of schema.now)) (schema_of g)) }
-    ensures err { IfErr result (λ e. IfStopped e (Stops (MarkClashes mark (schema_of schema.now)) (MarkAgrees mark (schema_of schema.now)) (spec.marked mark line (schema_of schema.now)))) }
+    ensures ok { IfOk result (λ g. IsNext (spec.marked mark span (schema_of schema.now)) (schema_of g)) }
+    ensures err { IfErr result (λ e. IfStopped e (Stops (MarkClashes mark (schema_of schema.now)) (MarkAgrees mark (schema_of schema.now)) (spec.marked mark span (schema_of schema.now)))) }
 {
     match mark {
         RefMark::Plain => Ok(copy(arena, schema, spare)?),
         RefMark::Delta => Ok(change(arena, schema, spare)?.0),
-        RefMark::Xi => no_change(arena, line, schema, spare),
+        RefMark::Xi => no_change(arena, span, schema, spare),
     }
 }
 
 /// A schema and its state after an operation, where no component changes.
 fn no_change<'a>(
     arena: &'a Bump,
-    line: u32,
+    span: Span,
     schema: &Measured<'a>,
     spare: Spare,
 ) -> Result<Growing<'a>, Stop<'a>>
     ensures agree { IfOk result (λ g. Agree (schema_of schema.now).comps (decorated prime (schema_of schema.now)).comps) }
-    ensures ok { IfOk result (λ g. IsNext (xi line (schema_of schema.now)) (schema_of g)) }
-    ensures err { IfErr result (λ e. IfStopped e (Stops (OneClashes (schema_of schema.now).comps (decorated prime (schema_of schema.now)).comps) (Agree (schema_of schema.now).comps (decorated prime (schema_of schema.now)).comps) (xi line (schema_of schema.now)))) }
+    ensures ok { IfOk result (λ g. IsNext (xi span (schema_of schema.now)) (schema_of g)) }
+    ensures err { IfErr result (λ e. IfStopped e (Stops (OneClashes (schema_of schema.now).comps (decorated prime (schema_of schema.now)).comps) (Agree (schema_of schema.now).comps (decorated prime (schema_of schema.now)).comps) (xi span (schema_of schema.now)))) }
 {
     let spare = spare.and_conjuncts(schema.flat().components.len());
     let (mut growing, places) = change(arena, schema, spare)?;
-    growing.take_equalities(arena, line, places.get().as_slice())?;
+    growing.take_equalities(arena, span, places.get().as_slice())?;
     Ok(growing)
 }
 

@@ -55,7 +55,7 @@ bound_same s ds vs e more p same = subst (IsSame s.globals more) (sym (resolved_
 
 mutual
   pub term_same : (s : Scope) (e : Tree) (z : Sort) (more : List Defined) → IsOf s e z → IsSame s.globals more (resolved s e)
-  term_same s (text.named n) z more p = let same = name_same s (spelling n) p.0 z more p.1 in (ap extent_set same, ap (name_offenders n.line (referent (meaning s (spelling n)))) same)
+  term_same s (text.named n) z more p = let same = name_same s (spelling n) p.0 z more p.1 in (ap extent_set same, ap (name_offenders n.span (referent (meaning s (spelling n)))) same)
   term_same s (text.numeral l v) z more p = (refl, refl)
   term_same s (text.constant l c) z more p = (refl, refl)
   term_same s (text.empty_set l e) z more p = (refl, refl)

@@ -1,5 +1,5 @@
 -- A paragraph or box defines one thing at most, and one that is well typed has no offence.
-use Rattle.zf_checker.proofs.Prelude.{◌+◌, ◌∙◌, ◌∷◌, ◌≡◌, [], ap, inl, inr, List, map, refl, sym, ℕ, spelling, definition, free, given, ParagraphTree, Name, constructor, Defined, free_type, given_set, schema, Offence, no_offence, one_sort, same_typed, resolved, typed, outside}
+use Rattle.zf_checker.proofs.Prelude.{◌+◌, ◌∙◌, ◌∷◌, ◌≡◌, [], ap, inl, inr, List, map, refl, sym, ℕ, spelling, definition, free, given, ParagraphTree, Name, constructor, Defined, free_type, given_set, schema, Offence, no_offence, one_sort, same_typed, resolved, typed, outside, Span}
 use Rattle.zf_tree.specs.Trees as text
 use Rattle.zf_tree.specs.declared.operator.Need.TheVariants as need
 use Rattle.zf_schema.specs.{a_box, a_paragraph, abbreviated, Constructs, Defines, DefinesParagraph, Gives, Item, next_number, OffendsConstructors, OffendsGiven, OffendsItem, OffendsParagraph, with_global}
@@ -38,20 +38,20 @@ one_definition g (a_box n ds es) h i p q =
 
 -- ---- what defines something has no offence
 
-pub no_given_offends : (g : List Defined) (ns : List Name) (h : List Defined) (k : Offence) (m : ℕ) → Gives g ns h → OffendsGiven g ns k m → ⊥
+pub no_given_offends : (g : List Defined) (ns : List Name) (h : List Defined) (k : Offence) (m : Span) → Gives g ns h → OffendsGiven g ns k m → ⊥
 no_given_offends g [] h k m p o = o
 no_given_offends g (n ∷ ns) h k m p (inl o) = o.2 p.0
 no_given_offends g (n ∷ ns) h k m p (inr o) = no_given_offends (with_global g n (given_set (next_number g))) ns h k m p.1 o
 
 pub no_constructor_offends :
-    (g : List Defined) (number : ℕ) (of_type : List ℕ) (place : ℕ) (ns : List Name) (h : List Defined) (k : Offence) (m : ℕ)
+    (g : List Defined) (number : ℕ) (of_type : List ℕ) (place : ℕ) (ns : List Name) (h : List Defined) (k : Offence) (m : Span)
     → Constructs g number of_type place ns h → OffendsConstructors g number of_type place ns k m → ⊥
 no_constructor_offends g number of_type place [] h k m p o = o
 no_constructor_offends g number of_type place (n ∷ ns) h k m p (inl o) = o.2 p.0
 no_constructor_offends g number of_type place (n ∷ ns) h k m p (inr o) =
     no_constructor_offends (with_global g n (constructor number of_type place)) number of_type (place + 1) ns h k m p.1 o
 
-pub no_paragraph_offence : (g : List Defined) (p : ParagraphTree) (h : List Defined) (k : Offence) (m : ℕ) → DefinesParagraph g p h → OffendsParagraph g p k m → ⊥
+pub no_paragraph_offence : (g : List Defined) (p : ParagraphTree) (h : List Defined) (k : Offence) (m : Span) → DefinesParagraph g p h → OffendsParagraph g p k m → ⊥
 no_paragraph_offence g (given ns) h k m p o = no_given_offends g ns h k m p o
 no_paragraph_offence g (free n ns) h k m p (inl o) = o.2 p.0
 no_paragraph_offence g (free n ns) h k m p (inr o) =
@@ -61,7 +61,7 @@ no_paragraph_offence g (text.abbreviation n e) h k m p (inr o) = no_offence (out
 no_paragraph_offence g (definition n x) h k m p (inl o) = o.2 p.0
 no_paragraph_offence g (definition n x) h k m p (inr o) = no_schema_offence g x p.1.0 k m p.1.1 o
 
-pub no_item_offence : (g : List Defined) (item : Item) (h : List Defined) (k : Offence) (m : ℕ) → Defines g item h → OffendsItem g item k m → ⊥
+pub no_item_offence : (g : List Defined) (item : Item) (h : List Defined) (k : Offence) (m : Span) → Defines g item h → OffendsItem g item k m → ⊥
 no_item_offence g (a_paragraph p) h k m q o = no_paragraph_offence g p h k m q o
 no_item_offence g (a_box n ds es) h k m p (inl o) = o.2 p.0
 no_item_offence g (a_box n ds es) h k m p (inr o) = no_text_offence g ds es p.1.0 k m p.1.1 o

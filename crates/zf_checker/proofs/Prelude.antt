@@ -8,6 +8,7 @@ pub use Rattle.std.specs.Str.{bytes_eq}
 pub use Rattle.zf_tree.specs.{box_of, BoxTree, decl_of, definition, free, given, Links, no_decls, no_trees, paragraph_of, ParagraphTree, Perhaps, schema_text, spelling, Tree, tree, tree_of, var_decl, VarDecls}
 pub use Rattle.zf_tree.specs.Trees.{Trees}
 pub use Rattle.zf_tree.specs.declared.tree.Name.{Name}
+pub use Rattle.zf_tree.specs.declared.span.Span.{Span}
 pub use Rattle.zf_term.proofs.Choices.{or_none}
 pub use Rattle.zf_term.proofs.SameNames.{swapped}
 pub use Rattle.zf_term.proofs.Walk.{at_end, at_step}

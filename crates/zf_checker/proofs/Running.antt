@@ -15,7 +15,7 @@ unfolding RunsOne
 noted a b item (Ok u) ok bad kept notes = ([], inl (ok, refl), ap (map fault_of) notes ∙ sym (append-nil (map fault_of a.faults)))
 noted a b item (Err (refusal.Fault f)) ok bad kept notes = (
   fault_of f ∷ [],
-  inr (λ other d. no_item_offence (globals_of a.globals) item other (offence_of f.offence) f.line d bad, kept, (fault_of f, bad, refl)),
+  inr (λ other d. no_item_offence (globals_of a.globals) item other (offence_of f.offence) f.span d bad, kept, (fault_of f, bad, refl)),
   ap (map fault_of) notes ∙ map-append fault_of a.faults (f ∷ []),
 )
 noted a b item (Err refusal.OutOfMemory) ok bad kept notes = absurd notes

@@ -1,12 +1,12 @@
 -- What `\Xi` adds to `\Delta`.
-use Rattle.zf_checker.proofs.Prelude.{◌++◌, ◌+◌, ◌∙◌, ◌∷◌, ◌≡◌, [], ap, arith, List, refl, slice_get, Some, suc, zero, ℕ, none-some, same_Some, slice_get-map, option_map, Comp, Ty, all_unchanged, comp, decorated, new_place, prime, unchanged, with_comps, signature, StandsAt, XiEquates, decorated_once}
+use Rattle.zf_checker.proofs.Prelude.{◌++◌, ◌+◌, ◌∙◌, ◌∷◌, ◌≡◌, [], ap, arith, List, refl, slice_get, Some, suc, zero, ℕ, none-some, same_Some, slice_get-map, option_map, Comp, Ty, all_unchanged, comp, decorated, new_place, prime, unchanged, with_comps, signature, StandsAt, XiEquates, decorated_once, Span}
 use Rattle.zf_checker.proofs.FirstComponents.{more}
 use Rattle.zf_checker.proofs.Fronts.{in_front}
 use Rattle.zf_checker.proofs.Joined.{carried_place}
 
 -- the equation at a place
 equation_at :
-    (l : ℕ) (primed all : List Comp) (k : ℕ) (cs : List Comp) (i : ℕ) (c : Comp) → slice_get cs i ≡ Some c
+    (l : Span) (primed all : List Comp) (k : ℕ) (cs : List Comp) (i : ℕ) (c : Comp) → slice_get cs i ≡ Some c
     → slice_get (all_unchanged l primed all k cs) i ≡ Some (unchanged l primed all (k + i))
 equation_at l primed all k [] i c at = absurd (none-some c at)
 equation_at l primed all k (d ∷ cs) zero c at =

@@ -55,7 +55,7 @@ paragraph_well g (definition n x) h well p = subst AreWellTyped (sym p.1.2) (one
 
 item_well : (g : List Defined) (item : Item) (h : List Defined) → AreWellTyped g → Defines g item h → AreWellTyped h
 item_well g (a_paragraph p) h well q = paragraph_well g p h well q
-item_well g (a_box n ds es) h well p = subst AreWellTyped (sym p.1.2) (one_more g n (schema p.1.0) (schema_text ds es, p.1.1) well)
+item_well g (a_box n ds es) h well p = subst AreWellTyped (sym p.1.2) (one_more g n (schema p.1.0) (schema_text n.span ds es, p.1.1) well)
 
 step_well : (g : List Defined) (item : Item) (h : List Defined) (fs : List Fault) → AreWellTyped g → ChecksOne g item h fs → AreWellTyped h
 step_well g item h fs well (inl p) = item_well g item h well p.0

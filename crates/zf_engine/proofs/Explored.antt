@@ -9,7 +9,7 @@ use Rattle.zf_reach.specs.{ending_of, result_of, StopsEarly, StopsSearch}
 use Rattle.zf_steps.specs.declared.form.Form.{Form}
 use Rattle.zf_steps.specs.{CanSearch, explored_in, sought_in, System, verdict, words}
 use Rattle.zf_engine.proofs.DueWithin.{due_within}
-use Rattle.zf_engine.proofs.Parts.{nothing_stops}
+use Rattle.zf_engine.proofs.Writing.{nothing_stops}
 use Rattle.zf_engine.proofs.Reaching.{in_order}
 use Rattle.zf_engine.proofs.Refusing.{well_typed}
 

@@ -1,7 +1,7 @@
 mod Prelude
 pub mod Reported
 pub mod Refusing
-pub mod Parts
+pub mod Writing
 pub mod Lists
 pub mod Within
 pub mod OwnComponents
@@ -12,7 +12,6 @@ pub mod Subjects
 pub mod NamedParts
 pub mod FirstEvents
 pub mod WhyAnswers
-pub mod SourceLines
 pub mod ChosenLines
 pub mod ToldLines
 pub mod Reaching

@@ -1,7 +1,8 @@
 -- The conjuncts of each schema that a text defines name its own components alone.
-use Rattle.zf_engine.proofs.Prelude.{inl, inr, [], AllByRecursion, ap, ◌∙◌, false≢true, option_or, if◌then◌else◌, ◌++◌, ◌+◌, ◌<◌, ◌∷◌, ◌≡◌, ◌≤◌, arith, Bool, false, length, List, map, None, Option, refl, Some, subst, suc, sym, true, zero, ℕ, length-map, none-some, same_Some, bytes_eq, Component, spelling, both, DeclTree, either, include, schema_bracket, schema_text, SchemaTree, Tree, vars, carrier, Comp, DeclaredSet, Defined, plain, Schema, schema, sides, binary, ResolvedTree, conjuncts, term_line, moved, resolved, due, Ty}
+use Rattle.zf_engine.proofs.Prelude.{inl, inr, [], AllByRecursion, ap, ◌∙◌, false≢true, option_or, if◌then◌else◌, ◌++◌, ◌+◌, ◌<◌, ◌∷◌, ◌≡◌, ◌≤◌, arith, Bool, false, length, List, map, None, Option, refl, Some, subst, suc, sym, true, zero, ℕ, length-map, none-some, same_Some, bytes_eq, Component, spelling, both, DeclTree, either, include, schema_bracket, schema_text, SchemaTree, Tree, vars, carrier, Comp, DeclaredSet, Defined, plain, Schema, schema, sides, binary, ResolvedTree, conjuncts, term_span, moved, resolved, due, Ty}
 use Rattle.std.specs.Prelude.{flat_map, fold, slice_get}
 use Rattle.zf_tree.specs.declared.symbol.Connective.TheVariants.{And}
+use Rattle.zf_tree.specs.declared.span.Span.{Span}
 use Rattle.zf_tree.specs.declared.tree.Name.{Name}
 use Rattle.zf_tree.specs.declared.tree.RefMark.{RefMark}
 use Rattle.zf_tree.specs.declared.tree.RefMark.TheVariants.{Plain, Delta, Xi}
@@ -11,7 +12,7 @@ use Rattle.zf_tree.specs.declared.operator.Operator.TheVariants.{Connective}
 use Rattle.zf_term.proofs.SameNames.{is_itself}
 use Rattle.zf_constraints.specs.{constraints, membership, memberships}
 use Rattle.zf_calculus.specs.{all_unchanged, carried, comp, comp_named, conjoined, decorated, delta, disjoined, either_comps, empty_schema, joined, marked, new_place, place_of, place_or, prime, with_comp, with_comps, xi}
-use Rattle.zf_schema.specs.{AddsAll, Constrains, Declares, DeclaresOne, inside, IsSchema, outside, Refers, TakesAll}
+use Rattle.zf_schema.specs.{AddsAll, both_span, Constrains, Declares, DeclaresOne, inside, IsSchema, outside, Refers, TakesAll}
 use Rattle.std.proofs.lemmas.Option.{slice_get_cases}
 use Rattle.zf_calculus.proofs.Merging.{known_is, none_shorter, nothing_before}
 use Rattle.zf_schema.proofs.Named.{joined_type, named_there, not_found}
@@ -97,7 +98,8 @@ own_decorated strokes a h = (
   closed_mapped (λ c. comp (c.name ++ strokes) c.type c.sets) a.comps (λ c k. k) h.1,
 )
 
-unchanged_due : (n l : ℕ) (primed all : List Comp) (i : ℕ) (cs : List Comp) → ((j : ℕ) → j < i + length cs → (j < n) × (new_place primed all j < n)) → AreDue n (all_unchanged l primed all i cs)
+unchanged_due : (n : ℕ) (l : Span) (primed all : List Comp) (i : ℕ) (cs : List Comp)
+    → ((j : ℕ) → j < i + length cs → (j < n) × (new_place primed all j < n)) → AreDue n (all_unchanged l primed all i cs)
 unchanged_due n l primed all i [] h = tt
 unchanged_due n l primed all i (c ∷ cs) h = let k = h i (omega arith) in let k0 = k.0 in let k1 = k.1 in (
   omega (arith, k0, k1),
@@ -107,7 +109,7 @@ unchanged_due n l primed all i (c ∷ cs) h = let k = h i (omega arith) in let k
 own_delta : (a : Schema) → IsOwn a → IsOwn (delta a)
 own_delta a h = own_conjoined a (decorated prime a) h (own_decorated prime a h)
 
-own_xi : (l : ℕ) (a : Schema) → IsOwn a → IsOwn (xi l a)
+own_xi : (l : Span) (a : Schema) → IsOwn a → IsOwn (xi l a)
 own_xi l a h =
     let d = own_delta a h in (
       due_joined (length (delta a).comps) (delta a).conjuncts (all_unchanged l (decorated prime a).comps (delta a).comps 0 a.comps) d.0
@@ -118,7 +120,7 @@ own_xi l a h =
       d.1,
     )
 
-own_marked : (mark : RefMark) (l : ℕ) (a : Schema) → IsOwn a → IsOwn (marked mark l a)
+own_marked : (mark : RefMark) (l : Span) (a : Schema) → IsOwn a → IsOwn (marked mark l a)
 own_marked Plain l a h = h
 own_marked Delta l a h = own_delta a h
 own_marked Xi l a h = own_xi l a h
@@ -140,15 +142,17 @@ memberships_due n i (c ∷ cs) l h = due_joined n (flat_map (membership i) c.set
 constraints_due : (a : Schema) → IsOwn a → AreDue (length a.comps) (constraints a)
 constraints_due a h = due_joined (length a.comps) (memberships 0 a.comps) a.conjuncts (memberships_due (length a.comps) 0 a.comps (omega arith) h.1) h.0
 
-folded_due : (n : ℕ) (t : ResolvedTree) (ts : List ResolvedTree) → due t ≤ n → AreDue n ts → due (fold (λ u v. binary (term_line u) (Connective And) u v) t ts) ≤ n
+folded_due : (n : ℕ) (t : ResolvedTree) (ts : List ResolvedTree) → due t ≤ n → AreDue n ts
+    → due (fold (λ u v. binary (term_span u) (Connective And) u v) t ts) ≤ n
 folded_due n t [] h k = h
-folded_due n t (u ∷ us) h k = let here = k.0 in let both = due_both t u in folded_due n (binary (term_line t) (Connective And) t u) us (omega (arith, h, here, both)) k.1
+folded_due n t (u ∷ us) h k =
+    let here = k.0 in let both = due_both t u in folded_due n (binary (term_span t) (Connective And) t u) us (omega (arith, h, here, both)) k.1
 
-joined_due : (n l : ℕ) (ts : List ResolvedTree) → AreDue n ts → due (joined l ts) ≤ n
+joined_due : (n : ℕ) (l : Span) (ts : List ResolvedTree) → AreDue n ts → due (joined l ts) ≤ n
 joined_due n l [] h = omega arith
 joined_due n l (t ∷ ts) h = folded_due n t ts h.0 h.1
 
-own_disjoined : (l : ℕ) (a b : Schema) → IsOwn a → IsOwn b → IsOwn (disjoined l a b)
+own_disjoined : (l : Span) (a b : Schema) → IsOwn a → IsOwn b → IsOwn (disjoined l a b)
 own_disjoined l a b h k =
     let all = with_comps a.comps b.comps in
     let n = length (either_comps a.comps b.comps) in
@@ -169,7 +173,7 @@ AreOwn g = (i : ℕ) (name : List ℕ) (a : Schema) → slice_get g i ≡ Some (
 own_reference : (g : List Defined) (r : SchemaRef) (b : Schema) → AreOwn g → Refers g r b → IsOwn b
 own_reference g r b all p =
     let base = all p.0 p.1 p.2 (named_there (λ d. d.name) r.name.base g (p.0, record { name = p.1; definition = schema p.2 }) p.3).0 in
-    subst IsOwn (sym p.5.0) (own_decorated r.name.strokes (marked r.mark r.name.line p.2) (own_marked r.mark r.name.line p.2 base))
+    subst IsOwn (sym p.5.0) (own_decorated r.name.strokes (marked r.mark r.name.span p.2) (own_marked r.mark r.name.span p.2 base))
 
 own_added : (a : Schema) (ns : List Name) (t : Ty) (s : DeclaredSet) (b : Schema) → IsClosed s → IsOwn a → AddsAll a ns t s b → IsOwn b
 own_added a [] t s b c h p = subst IsOwn (sym p) h
@@ -198,8 +202,8 @@ own_constrained g a (e ∷ es) b h p =
     own_constrained g p.0 es b (own_taken a (conjuncts (resolved (inside g a) e)) p.0 (conjuncts_due (length a.comps) (resolved (inside g a) e) (resolved_within (inside g a) e)) h p.1.1) p.2
 
 pub own_schema : (g : List Defined) (x : SchemaTree) (c : Schema) → AreOwn g → IsSchema g x c → IsOwn c
-own_schema g (schema_text ds es) c all p = own_constrained g p.0 es c (own_declared g empty_schema ds p.0 all (tt, tt) p.1) p.2
-own_schema g (text.schema_reference r) c all p = own_reference g r c all p
-own_schema g (both x y) c all p = subst IsOwn (sym p.5.0) (own_conjoined p.0 p.1 (own_schema g x p.0 all p.2) (own_schema g y p.1 all p.3))
-own_schema g (either l x y) c all p = subst IsOwn (sym p.5.0) (own_disjoined l p.0 p.1 (own_schema g x p.0 all p.2) (own_schema g y p.1 all p.3))
-own_schema g (schema_bracket x) c all p = own_schema g x c all p
+own_schema g (schema_text s ds es) c all p = own_constrained g p.0 es c (own_declared g empty_schema ds p.0 all (tt, tt) p.1) p.2
+own_schema g (text.schema_reference s r) c all p = own_reference g r c all p
+own_schema g (both s x y) c all p = subst IsOwn (sym p.5.0) (own_conjoined p.0 p.1 (own_schema g x p.0 all p.2) (own_schema g y p.1 all p.3))
+own_schema g (either s x y) c all p = subst IsOwn (sym p.5.0) (own_disjoined (both_span x y) p.0 p.1 (own_schema g x p.0 all p.2) (own_schema g y p.1 all p.3))
+own_schema g (schema_bracket s x) c all p = own_schema g x c all p

@@ -13,19 +13,20 @@ pub use Rattle.zf_value.specs.declared.plain.Value.{Value}
 pub use Rattle.zf_tree.specs.{both, DeclTree, either, include, Links, no_decls, no_trees, Perhaps, schema_bracket, schema_text, SchemaTree, spelling, Tree, tree, var_decl, VarDecls, vars}
 pub use Rattle.zf_tree.specs.Trees.{Trees}
 pub use Rattle.zf_term.proofs.Behind.{onto_behind}
-pub use Rattle.zf_term.specs.{binary, bracket, comprehension, carrier, chain, Comp, comp_of, conjuncts, constant, DeclaredSet, Defined, empty_set, first_named, globals_of, is_and, is_conjunction, listed, moved, plain, quantified, references, ResolvedTree, Schema, schema, schema_of, sides, term_line, unary, Ty, Fault, all_onto, links_onto, onto, part_onto, ranges_onto, sets_of}
+pub use Rattle.zf_term.specs.{binary, bracket, comprehension, carrier, chain, Comp, comp_of, conjuncts, constant, DeclaredSet, Defined, empty_set, first_named, globals_of, is_and, is_conjunction, listed, moved, plain, quantified, references, ResolvedTree, Schema, schema, schema_of, sides, term_span, unary, Ty, Fault, all_onto, links_onto, onto, part_onto, ranges_onto, sets_of}
 pub use Rattle.zf_sorts.specs.{fault_of}
 pub use Rattle.zf_typing.specs.{bound, referent, resolved, resolved_all, resolved_links, resolved_part, resolved_ranges, component_meaning, global_meaning, last_named, meaning, Scope, Var, variable_meaning}
 pub use Rattle.zf_checker.specs.{AreWellTyped}
 pub use Rattle.zf_meaning.specs.{Environment, environment_of, IsRow, AreComplete, given_sets, IsEnvironment}
-pub use Rattle.zf_print.specs.{spellings, AreClear, binding_text, goes_on}
+pub use Rattle.zf_print.specs.{spellings, AreClear, binding_text, goes_on, comma_before}
 pub use Rattle.zf_print.specs.declared.spelling.Spelling.{Spelling}
 pub use Rattle.zf_enum.specs.{counted_goal, due, due_of, Goal, greatest_place, place_named, planted_goal, Portion, portion, property, Begins, conjuncts_of}
 pub use Rattle.zf_command.specs.declared.job.Request.{Request}
 pub use Rattle.zf_lines.proofs.Beginning.{at_start, counting_at_start}
 pub use Rattle.zf_lines.specs.declared.fault.Status.{Status}
-pub use Rattle.zf_engine.specs.{Answer, AnswersExploration, AnswersOver, AnswersReader, AnswersRequest, AnswersSource, AreHeld, AreMessages, AreSmall, Checks, HasSchema, IfAnswered, IsAsked, IsFaultLine, IsNamed, IsNamedRow, IsRefused, IsSearch, IsStatus, IsStatusOfRefused, IsUnexplored, IsUnfit, IsWorkStatus, numbers_of, Reaches, RefusesRequest, RequestAnswer, ShowAnswer, ShowBegins, Shows, stated, stated_size, StopsInReader, StopsInSource, Tells, TellsBounds, TellsInfinite, TellsMisfit, TellsMisnamed, TellsNoParts, TellsNoRow, TellsNoSchema, TellsNoValues, TellsNumbers, TellsOut, TellsPlace, TellsPlaceHeld, ToldOfFaults, UnreadAnswer, without_size, wording, Writes, WritesText, ending_status, ExplorationAnswer, ExplorationBegins, form_of, IsSchemaOf, IsSearchable, names_of, result_status, states_limit, TellsMachine, CanBeSearched, environment_in, HasNone, IsBegunOf, line_in, out_line_in, satisfied_line, schema_in, TellsFirst, TellsWhy, component_place, HasNoPlace, is_comma, IsAdded, NamesParts, trimmed, Gave, TellsShown, AreSchemasOf, HasInfinite, HasLacking, HasOut, HasSchemas, IsBounded, IsSettled, LacksSchema, RefusesExploration, AreShown, row_after, first_line, further_lines, lines_behind, IsChosenBy, IsSubjectOf, shown_in, operands_lines_of, side_lines, sides_lines_of, source_line, told_line, no_binding_line, TellsNone, TellsOf, told_lines, without_end, without_start, source_object, side_objects, IsMisnamed, empty_line, with_size}
-pub use Rattle.zf_messages.specs.{AreLines, Cited, cited_of, declared_out_line, no_schema_lines, type_fault_lines, Aside, Reported, reported_lines}
+pub use Rattle.zf_engine.specs.{Answer, AnswersExploration, AnswersOver, AnswersReader, AnswersRequest, AnswersSource, AreHeld, AreMessages, AreSmall, Checks, HasSchema, IfAnswered, IsAsked, IsTextFault, IsNamed, IsNamedRow, IsRefused, IsSearch, IsStatus, IsStatusOfRefused, IsUnexplored, IsUnfit, IsWorkStatus, numbers_of, Reaches, RefusesRequest, RequestAnswer, ShowAnswer, ShowBegins, Shows, stated, stated_size, StopsInReader, StopsInSource, Tells, TellsBounds, TellsInfinite, TellsMisfit, TellsMisnamed, TellsNoParts, TellsNoRow, TellsNoSchema, TellsNoValues, TellsNumbers, TellsOut, TellsPlace, TellsPlaceHeld, UnreadAnswer, without_size, wording, Writes, WritesText, ending_status, ExplorationAnswer, ExplorationBegins, form_of, IsSchemaOf, IsSearchable, names_of, result_status, states_limit, TellsMachine, CanBeSearched, environment_in, HasNone, IsBegunOf, line_in, out_line_in, satisfied_line, schema_in, TellsFirst, TellsWhy, component_place, HasNoPlace, is_comma, IsAdded, NamesParts, trimmed, Gave, TellsShown, AreSchemasOf, HasInfinite, HasLacking, HasOut, HasSchemas, IsBounded, IsSettled, LacksSchema, RefusesExploration, AreShown, row_after, IsChosenBy, IsSubjectOf, shown_in, operands_lines, side_lines, part_line, told_line, no_binding_line, TellsNone, TellsOf, told_lines, without_end, without_start, part_object, side_object, IsMisnamed, empty_line, with_size}
+pub use Rattle.zf_messages.specs.{AreFaultMessages, Cited, cited_of, declared_out, no_schema_message, type_fault_message, Aside, Reported, messages_text, IsKnown}
+pub use Rattle.zf_messages.specs.declared.message.Message.{Message}
 pub use Rattle.zf_engine.specs.declared.stop.Stop.{Stop}
 pub use Rattle.zf_engine.specs.declared.stop.Stop.TheVariants.{Answered, OutOfMemory}
 pub use Rattle.std.specs.Prelude.{drop, slice_get, unwrap_or, not, option_map, AllPairs, Contains, OnOk, option_to_list, codes, IsTrue}
@@ -48,3 +49,4 @@ pub use Rattle.zf_engine.specs.Explorations.{IsOfSchema}
 pub use Rattle.zf_read.specs.{HaveClearNames}
 pub use Rattle.std.proofs.lemmas.Str.Ascii.{trim_ascii_end_is, trim_ascii_start_is}
 pub use Rattle.zf_machines.proofs.Firsts.{all_passed, at_first, failed, mapped_ahead, mapped_end, passed, IsAhead, ahead_at}
+pub use Rattle.zf_engine.specs.{cause_lines, empty_lines, name_in, side_line}

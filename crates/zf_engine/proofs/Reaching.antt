@@ -1,6 +1,6 @@
 -- The steps before the first state make answers: refusals, in their order.
-use Rattle.zf_engine.proofs.Prelude.{[], ◌+◌, ◌++◌, ◌<◌, ◌∙◌, ◌∷◌, ◌≡◌, ap, get_or, inl, inr, length, List, Option, Result, subst, sym, take, ℕ, Defined, Environment, Status, AnswersExploration, Checks, IfAnswered, IsUnexplored, IsUnfit, numbers_of, Reaches, stated, Stop, Tells, TellsInfinite, TellsMisfit, TellsNumbers, TellsOut, AllByRecursion, AllZip, option_to_list, take_more, Exploration, Reach, IsFinite, RunFault, all_of, FirstFails, HasShape, Named, Schemas, AreComplete, given_sets, IsEnvironment, IsNoneOut, AreSchemasOf, AreSmall, HasInfinite, HasLacking, HasOut, HasSchemas, IsBounded, IsSchemaOf, IsSearchable, IsSettled, LacksSchema, names_of, RefusesExploration, IsOfSchema}
-use Rattle.zf_engine.proofs.Parts.{reach_refused, told_written}
+use Rattle.zf_engine.proofs.Prelude.{[], ◌+◌, ◌++◌, ◌<◌, ◌∙◌, ◌∷◌, ◌≡◌, ap, get_or, inl, inr, length, List, Option, Result, subst, sym, take, ℕ, Defined, Environment, Status, AnswersExploration, Checks, IfAnswered, IsUnexplored, IsUnfit, numbers_of, Reaches, stated, Stop, Tells, TellsInfinite, TellsMisfit, TellsNumbers, TellsOut, AllByRecursion, AllZip, option_to_list, take_more, Exploration, Reach, IsFinite, RunFault, Message, all_of, FirstFails, HasShape, Named, Schemas, AreComplete, given_sets, IsEnvironment, IsNoneOut, AreSchemasOf, AreSmall, HasInfinite, HasLacking, HasOut, HasSchemas, IsBounded, IsSchemaOf, IsSearchable, IsSettled, LacksSchema, names_of, RefusesExploration, IsOfSchema}
+use Rattle.zf_engine.proofs.Writing.{reach_refused, told_written}
 use Rattle.zf_engine.proofs.Refusing.{weaker}
 
 -- ---- lists beside each other
@@ -52,65 +52,68 @@ all_named g (name ∷ names) (n ∷ ns) named = ((n.schema, named.0.1), all_name
 abbrev pub Ends : Environment → Named → Type 0
 Ends e n = IsFinite e.numbers e.globals n.schema
 
-abbrev pub TellsEndless : Exploration → (file : List ℕ) → Environment → List ℕ × Status → Named → Type 0
-TellsEndless x file e b n = TellsInfinite e.numbers e.globals n.schema x.details file b.0 b.1
+abbrev pub TellsEndless : Exploration → (source : List ℕ) → Environment → List Message × Status → Named → Type 0
+TellsEndless x source e b n = TellsInfinite e.numbers e.globals n.schema x.details source b.0 b.1
 
 -- this one has no declared set that is out; what is told of one that has
 abbrev pub StaysIn : Environment → Named → Type 0
 StaysIn e n = IsNoneOut e n.schema.comps
 
-abbrev pub TellsLeaving : Environment → List ℕ × Status → Named → Type 0
+abbrev pub TellsLeaving : Environment → List Message × Status → Named → Type 0
 TellsLeaving e b n = TellsOut e n.schema.comps b.0 b.1
 
 -- ---- refusals
 
 pub reach_told : (x : Exploration) (file source : List ℕ) (stop : Stop) (a b : Option (List ℕ)) (result : Result Status RunFault)
-    → AnswersExploration x file source stop → Tells x.format file stop a b result
+    → AnswersExploration x source stop → Tells x.format file stop a b result
     → Reaches x file source a b result
-reach_told x file source stop a b result answer h = told_written (Reach x) x.format (IsUnexplored x file source) file source (reach_refused x file source) stop a b result answer h
+reach_told x file source stop a b result answer h =
+    told_written (Reach x) x.format (IsUnexplored x source) file source (reach_refused x file source) stop a b result answer h
 
-unfit_unexplored : (x : Exploration) (file source text : List ℕ) (status : Status) → IsUnfit x.details file source text status → IsUnexplored x file source text status
-unfit_unexplored x file source text status (inl unread) = inl unread
-unfit_unexplored x file source text status (inr ill) = inr (RefusesExploration.ill_typed ill)
+unfit_unexplored : (x : Exploration) (source : List ℕ) (told : List Message) (status : Status) → IsUnfit x.details source told status
+    → IsUnexplored x source told status
+unfit_unexplored x source told status (inl unread) = inl unread
+unfit_unexplored x source told status (inr ill) = inr (RefusesExploration.ill_typed ill)
 
-pub unfit_explored : (x : Exploration) (file source : List ℕ) (stop : Stop) → IfAnswered stop (IsUnfit x.details file source) → AnswersExploration x file source stop
-unfit_explored x file source stop told = weaker stop (unfit_unexplored x file source) told
+pub unfit_explored : (x : Exploration) (source : List ℕ) (stop : Stop) → IfAnswered stop (IsUnfit x.details source) → AnswersExploration x source stop
+unfit_explored x source stop told = weaker stop (unfit_unexplored x source) told
 
-module _ (x : Exploration) (file source : List ℕ) (g : List Defined) (checks : Checks source g []) where
-  pub lacks_schema : (stop : Stop) → IfAnswered stop (LacksSchema x g) → AnswersExploration x file source stop
-  lacks_schema stop h = weaker stop (λ text status t. inr (RefusesExploration.no_schema g checks t)) h
+module _ (x : Exploration) (source : List ℕ) (g : List Defined) (checks : Checks source g []) where
+  pub lacks_schema : (stop : Stop) → IfAnswered stop (LacksSchema x g) → AnswersExploration x source stop
+  lacks_schema stop h = weaker stop (λ told status t. inr (RefusesExploration.no_schema g checks t)) h
 
   module _ (p : Schemas) (named : AreSchemasOf g x p) where
     has_schemas : HasSchemas x source g p
     has_schemas = record { checks = checks; named = named }
 
-    pub lacks_component : (stop : Stop) → IfAnswered stop (HasLacking p) → AnswersExploration x file source stop
-    lacks_component stop h = weaker stop (λ text status t. inr (RefusesExploration.no_component g p has_schemas t)) h
+    pub lacks_component : (stop : Stop) → IfAnswered stop (HasLacking p) → AnswersExploration x source stop
+    lacks_component stop h = weaker stop (λ told status t. inr (RefusesExploration.no_component g p has_schemas t)) h
 
     module _ (shape : HasShape p) where
-      pub has_large_numbers : (stop : Stop) → IfAnswered stop (TellsNumbers (numbers_of x.setting)) → AnswersExploration x file source stop
-      has_large_numbers stop h = weaker stop (λ text status t. inr (RefusesExploration.large_numbers g p has_schemas shape t)) h
+      pub has_large_numbers : (stop : Stop) → IfAnswered stop (TellsNumbers (numbers_of x.setting)) → AnswersExploration x source stop
+      has_large_numbers stop h = weaker stop (λ told status t. inr (RefusesExploration.large_numbers g p has_schemas shape t)) h
 
       module _ (small : AreSmall (numbers_of x.setting)) where
-        pub has_bad_sizes : (stop : Stop) → IfAnswered stop (TellsMisfit x.details g (stated g x.setting)) → AnswersExploration x file source stop
-        has_bad_sizes stop h = weaker stop (λ text status t. inr (RefusesExploration.bad_sizes g p has_schemas shape small t)) h
+        pub has_bad_sizes : (stop : Stop) → IfAnswered stop (TellsMisfit x.details g (stated g x.setting)) → AnswersExploration x source stop
+        has_bad_sizes stop h = weaker stop (λ told status t. inr (RefusesExploration.bad_sizes g p has_schemas shape small t)) h
 
         module _ (complete : AreComplete (given_sets g) (stated g x.setting)) (e : Environment) (is : IsEnvironment g (stated g x.setting) (numbers_of x.setting) e) where
           settled : IsSettled x source g p
           settled = record { has_schemas = has_schemas; shape = shape; small = small; complete = complete }
 
           -- the globals and the numbers of the environment are those
-          pub has_infinite : (stop : Stop) → IfAnswered stop (HasInfinite x file e.numbers e.globals p) → AnswersExploration x file source stop
+          pub has_infinite : (stop : Stop) → IfAnswered stop (HasInfinite x source e.numbers e.globals p) → AnswersExploration x source stop
           has_infinite stop h =
-              let here = subst (λ n. IfAnswered stop (HasInfinite x file n g p)) is.3 (subst (λ (f : List Defined). IfAnswered stop (HasInfinite x file e.numbers f p)) is.0 h) in
-              weaker stop (λ text status t. inr (RefusesExploration.not_finite g p settled t)) here
+              let here = subst (λ n. IfAnswered stop (HasInfinite x source n g p)) is.3
+              (subst (λ (f : List Defined). IfAnswered stop (HasInfinite x source e.numbers f p)) is.0 h) in
+              weaker stop (λ told status t. inr (RefusesExploration.not_finite g p settled t)) here
 
           module _ (finite : AllByRecursion (λ n. IsFinite e.numbers e.globals n.schema) (all_of p)) where
             bounded : IsBounded x source g p e
             bounded = record { settled = settled; environment = is; finite = subst (λ (f : List Defined). AllByRecursion (λ n. IsFinite e.numbers f n.schema) (all_of p)) is.0 finite }
 
-            pub has_out : (stop : Stop) → IfAnswered stop (HasOut e p) → AnswersExploration x file source stop
-            has_out stop h = weaker stop (λ text status t. inr (RefusesExploration.declared_out g p e bounded t)) h
+            pub has_out : (stop : Stop) → IfAnswered stop (HasOut e p) → AnswersExploration x source stop
+            has_out stop h = weaker stop (λ told status t. inr (RefusesExploration.declared_out g p e bounded t)) h
 
             pub searchable : AllByRecursion (λ n. IsNoneOut e n.schema.comps) (all_of p) → IsSearchable x source e.globals p e
             searchable none = subst (λ f. IsSearchable x source f p e) (sym is.0) (record { bounded = bounded; none_out = none })

@@ -1,5 +1,5 @@
 -- The steps before the first binding make answers: refusals, in their order.
-use Rattle.zf_engine.proofs.Prelude.{◌==◌, ◌∙◌, ◌∷◌, ◌≡◌, ◌⊎◌, [], ap, arith, Bool, Err, false, IfErr, inl, inr, length, List, map, None, Ok, Option, refl, Result, Some, subst, sym, true, ℕ, eqb-true, Value, Comp, Defined, Schema, AreWellTyped, Environment, spellings, Spelling, Status, AreHeld, Checks, HasSchema, IsAsked, IsNamed, IsNamedRow, Request, RefusesRequest, numbers_of, stated, UnreadAnswer, AnswersRequest, IfAnswered, IsRefused, IsUnfit, IsFaultLine, AreSmall, TellsInfinite, TellsMisfit, TellsNoSchema, TellsNumbers, TellsNoRow, TellsNoValues, TellsBounds, TellsMisnamed, TellsOut, TellsPlace, TellsPlaceHeld, Cited, Stop, Answered, OutOfMemory, IsFinite, Fault, AreComplete, given_sets, IsEnvironment, AreClear, binding_text, AreShown, NamesParts, row_after, comps_at}
+use Rattle.zf_engine.proofs.Prelude.{◌==◌, ◌∙◌, ◌∷◌, ◌≡◌, ◌⊎◌, [], ap, arith, Bool, Err, false, IfErr, inl, inr, length, List, map, None, Ok, Option, refl, Result, Some, subst, sym, true, ℕ, eqb-true, Value, Comp, Defined, Schema, AreWellTyped, Environment, spellings, Spelling, Status, AreHeld, Checks, HasSchema, IsAsked, IsNamed, IsNamedRow, Request, RefusesRequest, numbers_of, stated, UnreadAnswer, AnswersRequest, IfAnswered, IsRefused, IsUnfit, IsTextFault, AreSmall, TellsInfinite, TellsMisfit, TellsNoSchema, TellsNumbers, TellsNoRow, TellsNoValues, TellsBounds, TellsMisnamed, TellsOut, TellsPlace, TellsPlaceHeld, Cited, Message, Stop, Answered, OutOfMemory, IsFinite, Fault, AreComplete, given_sets, IsEnvironment, AreClear, binding_text, AreShown, NamesParts, row_after, comps_at}
 use Rattle.zf_scan.specs.declared.fault.TextFault.{TextFault}
 use Rattle.zf_scan.specs.{IsWantOfMemory}
 use Rattle.zf_parse.specs.{RefusesSource}
@@ -8,28 +8,29 @@ use Rattle.zf_read.specs.{HaveClearNames, IsHeldLine, IsNoHeldLine, IsNoLine}
 use Rattle.law_names.proofs.Clear.{components_clear, globals_clear}
 use Rattle.zf_read.proofs.Chosen.{held_is_line, line_is_held}
 
-pub weaker : (stop : Stop) {P Q : List ℕ → Status → Type 0} → ((text : List ℕ) (status : Status) → P text status → Q text status) → IfAnswered stop P → IfAnswered stop Q
-weaker (Answered text status) f h = f text.items status h
+pub weaker : (stop : Stop) {P Q : List Message → Status → Type 0} → ((told : List Message) (status : Status) → P told status → Q told status)
+    → IfAnswered stop P → IfAnswered stop Q
+weaker (Answered told status) f h = f told status h
 weaker OutOfMemory f h = tt
 
 pub weaker_err : {A : Type 0} (r : Result A Stop) (P Q : Stop → Type 0) → ((stop : Stop) → P stop → Q stop) → IfErr r P → IfErr r Q
 weaker_err (Ok x) P Q f h = tt
 weaker_err (Err stop) P Q f h = f stop h
 
-pub unread_answers : (details : Bool) (file source : List ℕ) (fault : TextFault) (about : Cited) (stop : Stop) → IsWantOfMemory fault ⊎ RefusesSource source fault
-    → IfAnswered stop (IsFaultLine details file fault about) → IfAnswered stop (UnreadAnswer details file source)
-unread_answers details file source fault about OutOfMemory (inl memory) h = tt
-unread_answers details file source fault about OutOfMemory (inr refuses) h = tt
-unread_answers details file source fault about (Answered text status) (inl memory) h = absurd (h.0 memory.0)
-unread_answers details file source fault about (Answered text status) (inr refuses) h = (fault, about, refuses, h.1, h.2)
+pub unread_answers : (details : Bool) (source : List ℕ) (fault : TextFault) (about : Cited) (stop : Stop) → IsWantOfMemory fault ⊎ RefusesSource source fault
+    → IfAnswered stop (IsTextFault details source fault about) → IfAnswered stop (UnreadAnswer details source)
+unread_answers details source fault about OutOfMemory (inl memory) h = tt
+unread_answers details source fault about OutOfMemory (inr refuses) h = tt
+unread_answers details source fault about (Answered told status) (inl memory) h = absurd (h.0 memory.0)
+unread_answers details source fault about (Answered told status) (inr refuses) h = (fault, about, refuses, h.1, h.2)
 
 -- a source that is not read or not well typed is answered so, whatever else is asked for
-unfit_refused : (r : Request) (file source text : List ℕ) (status : Status) → IsUnfit r.details file source text status → IsRefused r file source text status
-unfit_refused r file source text status (inl unread) = inl unread
-unfit_refused r file source text status (inr ill) = inr (RefusesRequest.ill_typed ill.globals ill.faults ill.checks ill.some ill.told ill.bad)
+unfit_refused : (r : Request) (source : List ℕ) (told : List Message) (status : Status) → IsUnfit r.details source told status → IsRefused r source told status
+unfit_refused r source told status (inl unread) = inl unread
+unfit_refused r source told status (inr ill) = inr (RefusesRequest.ill_typed ill.globals ill.faults ill.checks ill.some ill.messages ill.bad)
 
-pub unfit_answers : (r : Request) (file source : List ℕ) (stop : Stop) → IfAnswered stop (IsUnfit r.details file source) → AnswersRequest r file source stop
-unfit_answers r file source stop told = weaker stop (unfit_refused r file source) told
+pub unfit_answers : (r : Request) (source : List ℕ) (stop : Stop) → IfAnswered stop (IsUnfit r.details source) → AnswersRequest r source stop
+unfit_answers r source stop told = weaker stop (unfit_refused r source) told
 
 pub some_of : {A : Type 0} (xs : List A) (b : Bool) → b ≡ false → b ≡ (length xs == 0) → xs ≡ [] → ⊥
 some_of xs b unset test none =
@@ -93,30 +94,31 @@ names_of r source a e is =
 
 -- ---- the refusals of a schema
 
-pub no_schema_answers : (r : Request) (file source : List ℕ) (g : List Defined) → Checks source g [] → (stop : Stop)
-    → IfAnswered stop (λ text status. TellsNoSchema r.details g text status r.name) → AnswersRequest r file source stop
-no_schema_answers r file source g checks stop h = weaker stop (λ text status t. inr (RefusesRequest.no_schema g checks t.none t.told t.bad)) h
+pub no_schema_answers : (r : Request) (source : List ℕ) (g : List Defined) → Checks source g [] → (stop : Stop)
+    → IfAnswered stop (λ told status. TellsNoSchema r.details g told status r.name) → AnswersRequest r source stop
+no_schema_answers r source g checks stop h = weaker stop (λ told status t. inr (RefusesRequest.no_schema g checks t.none t.message t.bad)) h
 
-module _ (r : Request) (file source : List ℕ) (g : List Defined) (a : Schema) where
+module _ (r : Request) (source : List ℕ) (g : List Defined) (a : Schema) where
   pub has_schema : Checks source g [] → IsNamed g r.name a → HasSchema source r.name g a
   has_schema checks named = record { checks = checks; named = named }
 
-  pub numbers_answer : HasSchema source r.name g a → (stop : Stop) → IfAnswered stop (TellsNumbers (numbers_of r.setting)) → AnswersRequest r file source stop
-  numbers_answer has stop h = weaker stop (λ text status t. inr (RefusesRequest.large_numbers g a has t.0 t.1 t.2)) h
+  pub numbers_answer : HasSchema source r.name g a → (stop : Stop) → IfAnswered stop (TellsNumbers (numbers_of r.setting)) → AnswersRequest r source stop
+  numbers_answer has stop h = weaker stop (λ told status t. inr (RefusesRequest.large_numbers g a has t.0 t.1 t.2)) h
 
   pub misfit_answers : HasSchema source r.name g a → AreSmall (numbers_of r.setting) → (stop : Stop)
-      → IfAnswered stop (TellsMisfit r.details g (stated g r.setting)) → AnswersRequest r file source stop
-  misfit_answers has small stop h = weaker stop (λ text status t. inr (RefusesRequest.bad_sizes g a t.0 has small t.1 t.2.0 t.2.1 t.2.2)) h
+      → IfAnswered stop (TellsMisfit r.details g (stated g r.setting)) → AnswersRequest r source stop
+  misfit_answers has small stop h = weaker stop (λ told status t. inr (RefusesRequest.bad_sizes g a t.0 has small t.1 t.2.0 t.2.1 t.2.2)) h
 
   pub infinite_answers : HasSchema source r.name g a → AreSmall (numbers_of r.setting) → AreComplete (given_sets g) (stated g r.setting) → (stop : Stop)
-      → IfAnswered stop (TellsInfinite (numbers_of r.setting) g a r.details file) → AnswersRequest r file source stop
-  infinite_answers has small complete stop h = weaker stop (λ text status t. inr (RefusesRequest.not_finite g a t.0 t.1 has small complete t.2 t.3 t.4 t.5)) h
+      → IfAnswered stop (TellsInfinite (numbers_of r.setting) g a r.details source) → AnswersRequest r source stop
+  infinite_answers has small complete stop h = weaker stop (λ told status t. inr (RefusesRequest.not_finite g a t.0 t.1 has small complete t.2 t.3 t.4 t.5)) h
 
   -- the same of the globals and the numbers of this environment
   pub infinite_here : (e : Environment) → IsEnvironment g (stated g r.setting) (numbers_of r.setting) e → (stop : Stop)
-      → IfAnswered stop (TellsInfinite e.numbers e.globals a r.details file) → IfAnswered stop (TellsInfinite (numbers_of r.setting) g a r.details file)
+      → IfAnswered stop (TellsInfinite e.numbers e.globals a r.details source) → IfAnswered stop (TellsInfinite (numbers_of r.setting) g a r.details source)
   infinite_here e is stop h =
-      subst (λ n. IfAnswered stop (TellsInfinite n g a r.details file)) is.3 (subst (λ (h : List Defined). IfAnswered stop (TellsInfinite e.numbers h a r.details file)) is.0 h)
+      subst (λ n. IfAnswered stop (TellsInfinite n g a r.details source)) is.3
+      (subst (λ (h : List Defined). IfAnswered stop (TellsInfinite e.numbers h a r.details source)) is.0 h)
 
   -- the schema is asked for in this environment
   pub asked : (e : Environment) → HasSchema source r.name g a → AreSmall (numbers_of r.setting) → AreComplete (given_sets g) (stated g r.setting)
@@ -126,25 +128,27 @@ module _ (r : Request) (file source : List ℕ) (g : List Defined) (a : Schema) 
 
   module _ (e : Environment) (is : IsAsked r source g a e) where
     pub no_values_answers : (shown : List Comp) (after : Option (List Value)) → AreShown a.comps r.only shown → IsNamedRow e shown r.after after
-        → (stop : Stop) → IfAnswered stop (TellsNoValues e a.comps r.held) → AnswersRequest r file source stop
-    no_values_answers shown after are named stop h = weaker stop (λ text status t. inr (RefusesRequest.holds_nothing g a e shown after t.1.0 is are named t.0 t.1.1.0 t.1.1.1)) h
+        → (stop : Stop) → IfAnswered stop (TellsNoValues e a.comps r.held) → AnswersRequest r source stop
+    no_values_answers shown after are named stop h =
+        weaker stop (λ told status t. inr (RefusesRequest.holds_nothing g a e shown after t.1.0 is are named t.0 t.1.1.0 t.1.1.1)) h
 
-    bounds_refused : (shown : List Comp) → AreShown a.comps r.only shown → (text : List ℕ) (status : Status) → TellsBounds e a.comps shown r text status → IsRefused r file source text status
-    bounds_refused shown are text status (inl t) = inr (RefusesRequest.not_a_binding g a e shown t.1.0 is are t.0 t.1.1.0 t.1.1.1)
-    bounds_refused shown are text status (inr (after, named, t)) = inr (RefusesRequest.holds_nothing g a e shown after t.1.0 is are named t.0 t.1.1.0 t.1.1.1)
+    bounds_refused : (shown : List Comp) → AreShown a.comps r.only shown → (told : List Message) (status : Status)
+        → TellsBounds e a.comps shown r told status → IsRefused r source told status
+    bounds_refused shown are told status (inl t) = inr (RefusesRequest.not_a_binding g a e shown t.1.0 is are t.0 t.1.1.0 t.1.1.1)
+    bounds_refused shown are told status (inr (after, named, t)) = inr (RefusesRequest.holds_nothing g a e shown after t.1.0 is are named t.0 t.1.1.0 t.1.1.1)
 
-    misnamed_refused : (text : List ℕ) (status : Status) → TellsMisnamed e a.comps r text status → IsRefused r file source text status
-    misnamed_refused text status (inl t) = inr (RefusesRequest.not_components g a e t.1.0 is t.0 t.1.1 t.1.2)
-    misnamed_refused text status (inr (shown, are, t)) = bounds_refused shown are text status t
+    misnamed_refused : (told : List Message) (status : Status) → TellsMisnamed e a.comps r told status → IsRefused r source told status
+    misnamed_refused told status (inl t) = inr (RefusesRequest.not_components g a e t.1.0 is t.0 t.1.1 t.1.2)
+    misnamed_refused told status (inr (shown, are, t)) = bounds_refused shown are told status t
 
-    pub misnamed_answers : (stop : Stop) → IfAnswered stop (TellsMisnamed e a.comps r) → AnswersRequest r file source stop
+    pub misnamed_answers : (stop : Stop) → IfAnswered stop (TellsMisnamed e a.comps r) → AnswersRequest r source stop
     misnamed_answers stop h = weaker stop misnamed_refused h
 
     pub out_answers : (shown : List Comp) (after : Option (List Value)) (held : List (Option Value)) → AreShown a.comps r.only shown
         → IsNamedRow e shown r.after after → AreHeld e a.comps r.held held → (stop : Stop)
-        → IfAnswered stop (TellsOut e a.comps) → AnswersRequest r file source stop
+        → IfAnswered stop (TellsOut e a.comps) → AnswersRequest r source stop
     out_answers shown after held are named holds stop h =
-        weaker stop (λ text status t. inr (RefusesRequest.declared_out g a e shown after held t.0 t.2.0 is are named holds t.1 t.2.1 t.2.2 t.2.3)) h
+        weaker stop (λ told status t. inr (RefusesRequest.declared_out g a e shown after held t.0 t.2.0 is are named holds t.1 t.2.1 t.2.2 t.2.3)) h
 
 -- ---- where all components are shown, or some
 

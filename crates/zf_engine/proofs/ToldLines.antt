@@ -1,34 +1,21 @@
--- The lines of what is reported, one after another.
-use Rattle.zf_engine.proofs.Prelude.{get_or_default, ◌++◌, ◌+◌, ◌<◌, ◌∙◌, ◌≡◌, ◌≤◌, ◌∷◌, ap, append-nil, get_or, length, List, Result, sym, ℕ, append_assoc, drop, OnOk, Ok, Err, flat_map, drop_all, Spelling, operands_lines_of, sides_lines_of, source_line, told_line}
-use Rattle.zf_term.proofs.Walk.{dropped}
-use Rattle.zf_format.specs.declared.format.Format.TheVariants.{Lines}
-use Rattle.zf_why.specs.declared.told.Told.{Told}
+-- What is reported piece after piece, where the last may be refused.
+use Rattle.zf_engine.proofs.Prelude.{◌++◌, ◌≡◌, Err, List, Ok, OnOk, Result, ℕ}
+use Rattle.zf_steps.proofs.Pieces.{next_piece}
 
-module _ {A : Type 0} (f : A → List ℕ) where
-  pub one_more : (xs : List A) (i : ℕ) (x : A) (before after whole : List ℕ) → x ≡ get_or xs i x → i < length xs → after ≡ before ++ f x
-      → before ++ flat_map f (drop i xs) ≡ whole → after ++ flat_map f (drop (i + 1) xs) ≡ whole
-  one_more xs i x before after whole at l step is =
-      let rest = flat_map f (drop (i + 1) xs) in
-      ap (λ ls. ls ++ rest) step ∙ append_assoc before (f x) rest ∙ ap (λ ys. before ++ flat_map f ys) (sym (dropped xs i x l at)) ∙ is
+two_told : {R E : Type 0} (r : Result R E) (old a b mid new : List ℕ) → mid ≡ old ++ a → OnOk r (new ≡ mid ++ b) → OnOk r (new ≡ old ++ (a ++ b))
+two_told (Ok x) old a b mid new one last = next_piece old a b mid new one last
+two_told (Err x) old a b mid new one last = tt
 
-  pub no_more : (xs : List A) (i : ℕ) (before whole : List ℕ) → length xs ≤ i → before ++ flat_map f (drop i xs) ≡ whole → before ≡ whole
-  no_more xs i before whole past is = sym (append-nil before) ∙ ap (λ ys. before ++ flat_map f ys) (sym (drop_all i xs past)) ∙ is
+module _ {R E : Type 0} (r : Result R E) (old a b c : List ℕ) where
+  pub three_told : (u v new : List ℕ) → u ≡ old ++ a → v ≡ u ++ b → OnOk r (new ≡ v ++ c) → OnOk r (new ≡ old ++ (a ++ b ++ c))
+  three_told u v new one two last = two_told r old (a ++ b) c v new (next_piece old a b u v one two) last
 
--- what is ahead begins with what is read
-pub read_ahead : (xs : List ℕ) (i d : ℕ) → i < length xs → drop i xs ≡ get_or xs i d ∷ drop (i + 1) xs
-read_ahead xs i d l = dropped xs i (get_or xs i d) l (get_or_default xs i d (get_or xs i d) l)
+  pub four_told : (d u v w new : List ℕ) → u ≡ old ++ a → v ≡ u ++ b → w ≡ v ++ c → OnOk r (new ≡ w ++ d) → OnOk r (new ≡ old ++ (a ++ b ++ c ++ d))
+  four_told d u v w new one two three last =
+      two_told r old (a ++ b ++ c) d w new (next_piece old (a ++ b) c v w (next_piece old a b u v one two) three) last
 
-pub one_read : (f : ℕ → List ℕ) (xs : List ℕ) (i d : ℕ) (before after whole : List ℕ) → i < length xs → after ≡ before ++ f (get_or xs i d)
-    → before ++ flat_map f (drop i xs) ≡ whole → after ++ flat_map f (drop (i + 1) xs) ≡ whole
-one_read f xs i d before after whole l step is = one_more f xs i (get_or xs i d) before after whole (get_or_default xs i d (get_or xs i d) l) l step is
-
-module _ (file source : List ℕ) where
-  pub all_told : {R E : Type 0} (r : Result R E) (ss : List Spelling) (t : Told) (old first mid new : List ℕ) → first ≡ old ++ source_line file source t.line
-      → mid ≡ first ++ sides_lines_of file source t.sides
-      → OnOk r (new ≡ mid ++ operands_lines_of ss t.operands) → OnOk r (new ≡ old ++ told_line Lines file source ss t)
-  all_told (Err x) ss t old first mid new one two h = tt
-  all_told (Ok x) ss t old first mid new one two h =
-      let line = source_line file source t.line in
-      let sides = sides_lines_of file source t.sides in
-      let operands = operands_lines_of ss t.operands in
-      h ∙ ap (λ ls. ls ++ operands) (two ∙ ap (λ ls. ls ++ sides) one ∙ append_assoc old line sides) ∙ append_assoc old (line ++ sides) operands
+  pub five_told : (d e u v w x new : List ℕ) → u ≡ old ++ a → v ≡ u ++ b → w ≡ v ++ c → x ≡ w ++ d → OnOk r (new ≡ x ++ e)
+      → OnOk r (new ≡ old ++ (a ++ b ++ c ++ d ++ e))
+  five_told d e u v w x new one two three four last =
+      two_told r old (a ++ b ++ c ++ d) e x new
+      (next_piece old (a ++ b ++ c) d w x (next_piece old (a ++ b) c v w (next_piece old a b u v one two) three) four) last

@@ -1,7 +1,7 @@
 -- One more place of a component. No public clause rests on this file.
 use Rattle.std.specs.Prelude.{◌≡◌, ◌⊎◌, ℕ, List, [], ◌∷◌, ◌++◌, Some, None, Contains}
 use Rattle.zf_engine.specs.Prelude.{Comp}
-use Rattle.zf_engine.specs.SourceLines.{trimmed}
+use Rattle.zf_engine.specs.Only.{trimmed}
 use Rattle.zf_engine.specs.Only.{component_place}
 
 -- after these places stands that of the component which is named between blanks, and it is none of them

@@ -1,7 +1,8 @@
 -- What a run writes and answers, by the first case that applies.
 use Rattle.std.specs.Prelude.{◌≡◌, ◌≢◌, ◌⊎◌, ℕ, Bool, if◌then◌else◌, List, [], ◌∷◌, ◌++◌, Option, Some, None, IsSomeAnd, slice_get, MatchOption}
-use Rattle.zf_engine.specs.Prelude.{Appends, Job, Check, Reach, Show, Why, Request, IsBare, Format, NotFinite, causes, IsFinite, TextFault, RefusesSource, Comp, Defined, Fault, Schema, first, Value, Event, SizeFault, OutOfMemory, AreComplete, Environment, given_sets, IsEnvironment, IsRefusal, IsRow, Portion, IsFirstOut, IsNoneOut, binding_text, spellings, IsLineOfSome, Status, Done, BadSpec, BadRequest, PastBounds, comps_at, HasEvents, HasLimit, IsBegun, IsTestsLine, IsWritten, row_wording, Wording, AreLines, Cited, declared_out_line, IsReportedBeside, no_schema_lines, not_a_binding_line, not_components_line, not_finite_lines, not_held_line, numbers_too_large_line, text_fault_lines}
+use Rattle.zf_engine.specs.Prelude.{Appends, Job, Check, Reach, Show, Why, Request, IsBare, Format, NotFinite, causes, IsFinite, TextFault, RefusesSource, Comp, Defined, Fault, Schema, first, Value, Event, SizeFault, OutOfMemory, AreComplete, Environment, given_sets, IsEnvironment, IsRefusal, IsRow, Portion, IsFirstOut, IsNoneOut, binding_text, spellings, IsLineOfSome, Status, Done, BadSpec, BadRequest, PastBounds, comps_at, HasEvents, HasLimit, IsBegun, IsTestsLine, IsWritten, row_wording, Wording, Message, messages_text, AreFaultMessages, Cited, IsReportedBeside, no_schema_message, not_finite_message, not_held, numbers_too_large, text_fault_message}
 use Rattle.zf_checker.specs.{listing}
+use Rattle.zf_messages.specs.Texts as messages
 use Rattle.zf_lines.specs.Faults.{IsFront}
 use Rattle.zf_parts.specs.{ArePartsWritten, HasParts, Part, part_wording}
 use Rattle.zf_engine.specs.Faults.{Gave}
@@ -9,7 +10,7 @@ use Rattle.zf_engine.specs.Explorations.{ExplorationAnswer, ExplorationBegins}
 use Rattle.zf_engine.specs.Numbers.{AreSmall, AreTooLarge}
 use Rattle.zf_engine.specs.Only.{AreShown, NamesNoParts, NamesParts}
 use Rattle.zf_engine.specs.Reasons.{TellsWhy}
-use Rattle.zf_engine.specs.Settings.{AreMessages, Checks, HasSchema, IsNamed, numbers_of, size_fault_lines, stated}
+use Rattle.zf_engine.specs.Settings.{AreMessages, Checks, HasSchema, IsNamed, numbers_of, size_fault_messages, stated}
 
 -- ---- `check`
 
@@ -18,15 +19,19 @@ abbrev pub check_status : List Fault → Status
 check_status [] = Done
 check_status (fault ∷ faults) = BadSpec
 
--- the lines of the faults, and the listing if it is asked for
-abbrev pub IsCheckText : (types details : Bool) → (file : List ℕ) → List Defined → List Fault → (text : List ℕ) → Type 0
-IsCheckText types details file globals faults text =
-    (lines : List ℕ) × AreLines details file faults lines × (text ≡ lines ++ (if types then listing globals else []))
+-- what a text defines, if that is asked for
+abbrev pub listed : (types : Bool) → List Defined → List ℕ
+listed types globals = if types then listing globals else []
+
+-- the messages of the faults in this format, and the listing
+abbrev pub IsCheckText : (types details : Bool) → Format → (file source : List ℕ) → List Defined → List Fault → (text : List ℕ) → Type 0
+IsCheckText types details format file source globals faults text =
+    (told : List Message) × AreFaultMessages details source faults told × (text ≡ messages_text format file told ++ listed types globals)
 
 -- what `check` tells of a source that is read
-abbrev pub CheckAnswer : (types details : Bool) → (file source text : List ℕ) → Status → Type 0
-CheckAnswer types details file source text status =
-    (globals : List Defined) × (faults : List Fault) × Checks source globals faults × IsCheckText types details file globals faults text × (status ≡ check_status faults)
+abbrev pub CheckAnswer : (types details : Bool) → Format → (file source text : List ℕ) → Status → Type 0
+CheckAnswer types details format file source text status =
+    (globals : List Defined) × (faults : List Fault) × Checks source globals faults × IsCheckText types details format file source globals faults text × (status ≡ check_status faults)
 
 -- ---- what `show` and `why` are asked for
 
@@ -76,32 +81,32 @@ pub record IsSearch (r : Request) (source : List ℕ) (globals : List Defined) (
 
 -- ---- refusals
 
--- A request is refused for a source that is read, by the first case that applies. The text is written as lines.
-pub data RefusesRequest (r : Request) (file source text : List ℕ) (status : Status) : Type 0 where
-  ill_typed : (globals : List Defined) (faults : List Fault) → Checks source globals faults → faults ≢ [] → AreLines r.details file faults text
-      → status ≡ BadSpec → RefusesRequest r file source text status
-  no_schema : (globals : List Defined) → Checks source globals [] → ((a : Schema) → IsNamed globals r.name a → ⊥) → text ≡ no_schema_lines r.details globals r.name
-      → status ≡ BadRequest → RefusesRequest r file source text status
-  large_numbers : (globals : List Defined) (a : Schema) → HasSchema source r.name globals a → AreTooLarge (numbers_of r.setting) → text ≡ numbers_too_large_line
-      → status ≡ BadRequest → RefusesRequest r file source text status
+-- A request is refused for a source that is read, by the first case that applies. These messages say so.
+pub data RefusesRequest (r : Request) (source : List ℕ) (told : List Message) (status : Status) : Type 0 where
+  ill_typed : (globals : List Defined) (faults : List Fault) → Checks source globals faults → faults ≢ [] → AreFaultMessages r.details source faults told
+      → status ≡ BadSpec → RefusesRequest r source told status
+  no_schema : (globals : List Defined) → Checks source globals [] → ((a : Schema) → IsNamed globals r.name a → ⊥) → told ≡ no_schema_message r.details globals r.name ∷ []
+      → status ≡ BadRequest → RefusesRequest r source told status
+  large_numbers : (globals : List Defined) (a : Schema) → HasSchema source r.name globals a → AreTooLarge (numbers_of r.setting) → told ≡ numbers_too_large ∷ []
+      → status ≡ BadRequest → RefusesRequest r source told status
   bad_sizes : (globals : List Defined) (a : Schema) (fault : SizeFault) → HasSchema source r.name globals a → AreSmall (numbers_of r.setting)
-      → IsRefusal (given_sets globals) (stated globals r.setting) fault → fault ≢ OutOfMemory → text ≡ size_fault_lines r.details globals (stated globals r.setting) fault → status ≡ BadRequest → RefusesRequest r file source text status
+      → IsRefusal (given_sets globals) (stated globals r.setting) fault → fault ≢ OutOfMemory → told ≡ size_fault_messages r.details globals (stated globals r.setting) fault → status ≡ BadRequest → RefusesRequest r source told status
   not_finite : (globals : List Defined) (a : Schema) (cause : NotFinite) (side : List ℕ) → HasSchema source r.name globals a → AreSmall (numbers_of r.setting)
-      → AreComplete (given_sets globals) (stated globals r.setting) → first (causes (numbers_of r.setting) globals a) ≡ Some cause → IsReportedBeside globals cause side → text ≡ not_finite_lines r.details file globals cause side → status ≡ BadSpec
-      → RefusesRequest r file source text status
+      → AreComplete (given_sets globals) (stated globals r.setting) → first (causes (numbers_of r.setting) globals a) ≡ Some cause → IsReportedBeside globals cause side → told ≡ not_finite_message r.details source globals cause side ∷ [] → status ≡ BadSpec
+      → RefusesRequest r source told status
   not_components : (globals : List Defined) (a : Schema) (e : Environment) (place : ℕ) → IsAsked r source globals a e → NamesNoParts a.comps r.only
-      → text ≡ not_components_line place → status ≡ BadRequest → RefusesRequest r file source text status
+      → told ≡ messages.not_components place ∷ [] → status ≡ BadRequest → RefusesRequest r source told status
   not_a_binding : (globals : List Defined) (a : Schema) (e : Environment) (shown : List Comp) (place : ℕ) → IsAsked r source globals a e → AreShown a.comps r.only shown → NamesNoRow e shown r.after
-      → text ≡ not_a_binding_line place → status ≡ BadRequest → RefusesRequest r file source text status
+      → told ≡ messages.not_a_binding place ∷ [] → status ≡ BadRequest → RefusesRequest r source told status
   holds_nothing : (globals : List Defined) (a : Schema) (e : Environment) (shown : List Comp) (after : Option (List Value)) (place : ℕ) → IsAsked r source globals a e
-      → AreShown a.comps r.only shown → IsNamedRow e shown r.after after → HoldsNoValues e a.comps r.held → text ≡ not_held_line place → status ≡ BadRequest → RefusesRequest r file source text status
+      → AreShown a.comps r.only shown → IsNamedRow e shown r.after after → HoldsNoValues e a.comps r.held → told ≡ not_held place ∷ [] → status ≡ BadRequest → RefusesRequest r source told status
   declared_out : (globals : List Defined) (a : Schema) (e : Environment) (shown : List Comp) (after : Option (List Value)) (held : List (Option Value)) (place : ℕ) (c : Comp) → IsAsked r source globals a e
-      → AreShown a.comps r.only shown → IsNamedRow e shown r.after after → AreHeld e a.comps r.held held → IsFirstOut e a.comps place → slice_get a.comps place ≡ Some c → text ≡ declared_out_line c.name
-      → status ≡ PastBounds → RefusesRequest r file source text status
+      → AreShown a.comps r.only shown → IsNamedRow e shown r.after after → AreHeld e a.comps r.held held → IsFirstOut e a.comps place → slice_get a.comps place ≡ Some c → told ≡ messages.declared_out c.name ∷ []
+      → status ≡ PastBounds → RefusesRequest r source told status
 
 -- The answer of a request for a source that is read: it is refused, or this is reported of the search.
 pub data RequestAnswer (Tells : List Defined → Schema → Environment → Portion → (text : List ℕ) → Status → Type 0) (r : Request) (file source text : List ℕ) (status : Status) : Type 0 where
-  refused : AreMessages r.format file (RefusesRequest r file source) text status → RequestAnswer Tells r file source text status
+  refused : AreMessages r.format file (RefusesRequest r source) text status → RequestAnswer Tells r file source text status
   granted : (globals : List Defined) (a : Schema) (e : Environment) (p : Portion) → IsSearch r source globals a e p → Tells globals a e p text status
       → RequestAnswer Tells r file source text status
 
@@ -173,19 +178,19 @@ format_of (Why r) = r.format
 format_of (Reach x) = x.format
 
 -- what is reported of a source with a fault of its text. Which fault of the grammar is reported, on which line, and which symbols any fault is about, is open.
-abbrev pub UnreadAnswer : (details : Bool) → (file source text : List ℕ) → Status → Type 0
-UnreadAnswer details file source text status =
-    (fault : TextFault) × (about : Cited) × RefusesSource source fault × (text ≡ text_fault_lines details file fault about) × (status ≡ BadSpec)
+abbrev pub UnreadAnswer : (details : Bool) → (source : List ℕ) → List Message → Status → Type 0
+UnreadAnswer details source told status =
+    (fault : TextFault) × (about : Cited) × RefusesSource source fault × (told ≡ text_fault_message details source fault about ∷ []) × (status ≡ BadSpec)
 
 abbrev pub JobAnswer : Job → (file source text : List ℕ) → Status → Type 0
-JobAnswer (Check types details format) file source text status = AreMessages format file (CheckAnswer types details file source) text status
+JobAnswer (Check types details format) file source text status = CheckAnswer types details format file source text status
 JobAnswer (Show r) file source text status = ShowAnswer r file source text status
 JobAnswer (Why r) file source text status = WhyAnswer r file source text status
 JobAnswer (Reach x) file source text status = ExplorationAnswer x file source text status
 
 -- the text and the status that answer a job on a source
 abbrev pub Answer : Job → (file source text : List ℕ) → Status → Type 0
-Answer job file source text status = AreMessages (format_of job) file (UnreadAnswer (wants_details job) file source) text status ⊎ JobAnswer job file source text status
+Answer job file source text status = AreMessages (format_of job) file (UnreadAnswer (wants_details job) source) text status ⊎ JobAnswer job file source text status
 
 -- the text is what an answer begins with, whatever follows
 abbrev pub JobBegins : Job → (source text : List ℕ) → Type 0

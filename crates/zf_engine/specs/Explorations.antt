@@ -1,9 +1,10 @@
 -- What `reach` answers: its schemas, by which it is refused, and the text of what can be reached, or of a search for a state.
 use Rattle.std.specs.Prelude.{◌≡◌, ◌++◌, ℕ, List, [], ◌∷◌, cond, Option, None, Some, option_to_list, unwrap_or}
-use Rattle.zf_engine.specs.Prelude.{AllByRecursion, AllZip, Exploration, Format, Lines, Objects, Defined, Schema, IsFinite, AreComplete, Environment, given_sets, IsEnvironment, IsNoneOut, spellings, all_of, FirstFails, HasShape, IsMachineOf, LacksFirst, Named, Schemas, Status, BadRequest, Done, PastBounds, no_component_line}
+use Rattle.zf_engine.specs.Prelude.{AllByRecursion, AllZip, Exploration, Format, Lines, Objects, Defined, Schema, IsFinite, AreComplete, Environment, given_sets, IsEnvironment, IsNoneOut, spellings, all_of, FirstFails, HasShape, IsMachineOf, LacksFirst, Named, Schemas, Status, BadRequest, Done, PastBounds, Message}
 use Rattle.zf_command.specs.declared.limit.TheConstants.{STATES_MAX}
 use Rattle.zf_graph.specs.Seeking as seeking
 use Rattle.zf_graph.specs.Texts as graph
+use Rattle.zf_messages.specs.Texts as messages
 use Rattle.zf_graph.specs.{broken, ended, Ending, paused}
 use Rattle.zf_steps.specs.declared.form.Form.{Form}
 use Rattle.zf_steps.specs.declared.form.Form.TheVariants as form
@@ -70,31 +71,31 @@ form_of x = cond x.graph form.Graph (form_in x.format)
 -- ---- refusals
 
 -- the first of the names that is that of no schema
-abbrev pub LacksSchema : Exploration → List Defined → (text : List ℕ) → Status → Type 0
-LacksSchema x g text status = FirstFails (IsOfSchema g) (TellsNoSchema x.details g text status) (names_of x)
+abbrev pub LacksSchema : Exploration → List Defined → (told : List Message) → Status → Type 0
+LacksSchema x g told status = FirstFails (IsOfSchema g) (TellsNoSchema x.details g told status) (names_of x)
 
 -- the first of the schemas that lacks a component
-abbrev pub HasLacking : Schemas → (text : List ℕ) → Status → Type 0
-HasLacking p text status = (name component : List ℕ) × LacksFirst p name component × (text ≡ no_component_line name component) × (status ≡ BadRequest)
+abbrev pub HasLacking : Schemas → (told : List Message) → Status → Type 0
+HasLacking p told status = (name component : List ℕ) × LacksFirst p name component × (told ≡ messages.no_component name component ∷ []) × (status ≡ BadRequest)
 
 -- the first of the schemas that is not finite, where this is the greatest number, if there is one
-abbrev pub HasInfinite : Exploration → (file : List ℕ) → (numbers : Option ℕ) → List Defined → Schemas → (text : List ℕ) → Status → Type 0
-HasInfinite x file numbers g p text status = FirstFails (λ n. IsFinite numbers g n.schema) (λ n. TellsInfinite numbers g n.schema x.details file text status) (all_of p)
+abbrev pub HasInfinite : Exploration → (source : List ℕ) → (numbers : Option ℕ) → List Defined → Schemas → (told : List Message) → Status → Type 0
+HasInfinite x source numbers g p told status = FirstFails (λ n. IsFinite numbers g n.schema) (λ n. TellsInfinite numbers g n.schema x.details source told status) (all_of p)
 
 -- the first of the schemas with a declared set that is out
-abbrev pub HasOut : Environment → Schemas → (text : List ℕ) → Status → Type 0
-HasOut e p text status = FirstFails (λ n. IsNoneOut e n.schema.comps) (λ n. TellsOut e n.schema.comps text status) (all_of p)
+abbrev pub HasOut : Environment → Schemas → (told : List Message) → Status → Type 0
+HasOut e p told status = FirstFails (λ n. IsNoneOut e n.schema.comps) (λ n. TellsOut e n.schema.comps told status) (all_of p)
 
--- An exploration is refused for a source that is read, by the first case that applies. The text is written as lines.
-pub data RefusesExploration (x : Exploration) (file source text : List ℕ) (status : Status) : Type 0 where
-  ill_typed : TellsFaults x.details file source text status → RefusesExploration x file source text status
-  no_schema : (g : List Defined) → Checks source g [] → LacksSchema x g text status → RefusesExploration x file source text status
-  no_component : (g : List Defined) (p : Schemas) → HasSchemas x source g p → HasLacking p text status → RefusesExploration x file source text status
-  large_numbers : (g : List Defined) (p : Schemas) → HasSchemas x source g p → HasShape p → TellsNumbers (numbers_of x.setting) text status → RefusesExploration x file source text status
+-- An exploration is refused for a source that is read, by the first case that applies. These messages say so.
+pub data RefusesExploration (x : Exploration) (source : List ℕ) (told : List Message) (status : Status) : Type 0 where
+  ill_typed : TellsFaults x.details source told status → RefusesExploration x source told status
+  no_schema : (g : List Defined) → Checks source g [] → LacksSchema x g told status → RefusesExploration x source told status
+  no_component : (g : List Defined) (p : Schemas) → HasSchemas x source g p → HasLacking p told status → RefusesExploration x source told status
+  large_numbers : (g : List Defined) (p : Schemas) → HasSchemas x source g p → HasShape p → TellsNumbers (numbers_of x.setting) told status → RefusesExploration x source told status
   bad_sizes : (g : List Defined) (p : Schemas) → HasSchemas x source g p → HasShape p → AreSmall (numbers_of x.setting)
-      → TellsMisfit x.details g (stated g x.setting) text status → RefusesExploration x file source text status
-  not_finite : (g : List Defined) (p : Schemas) → IsSettled x source g p → HasInfinite x file (numbers_of x.setting) g p text status → RefusesExploration x file source text status
-  declared_out : (g : List Defined) (p : Schemas) (e : Environment) → IsBounded x source g p e → HasOut e p text status → RefusesExploration x file source text status
+      → TellsMisfit x.details g (stated g x.setting) told status → RefusesExploration x source told status
+  not_finite : (g : List Defined) (p : Schemas) → IsSettled x source g p → HasInfinite x source (numbers_of x.setting) g p told status → RefusesExploration x source told status
+  declared_out : (g : List Defined) (p : Schemas) (e : Environment) → IsBounded x source g p e → HasOut e p told status → RefusesExploration x source told status
 
 -- ---- the answer
 
@@ -134,7 +135,7 @@ TellsMachine (Some name) x g p e text status = Seeks x g p e text status
 
 -- The answer of `reach` for a source that is read.
 pub data ExplorationAnswer (x : Exploration) (file source text : List ℕ) (status : Status) : Type 0 where
-  refused : AreMessages x.format file (RefusesExploration x file source) text status → ExplorationAnswer x file source text status
+  refused : AreMessages x.format file (RefusesExploration x source) text status → ExplorationAnswer x file source text status
   explored : (g : List Defined) (p : Schemas) (e : Environment) → IsSearchable x source g p e → TellsMachine x.sought x g p e text status → ExplorationAnswer x file source text status
 
 -- the first lines that it writes, where no state is sought: some turns, and the beginning of the next one

@@ -1,7 +1,17 @@
 -- Which components the lines of `show` have: those that a text names, parted by commas, or all.
-use Rattle.std.specs.Prelude.{◌≡◌, ◌≢◌, ℕ, ◌==◌, Bool, List, map, Option, Some, None, option_map, AllPairs}
-use Rattle.zf_engine.specs.Prelude.{slice_split, Comp, first_named, comps_at}
-use Rattle.zf_engine.specs.SourceLines.{trimmed}
+use Rattle.std.specs.Prelude.{◌≡◌, ◌≢◌, ℕ, ◌-◌, ◌==◌, Bool, List, length, take, drop, map, Option, Some, None, option_map, AllPairs}
+use Rattle.zf_engine.specs.Prelude.{prefix_len, slice_split, suffix_len, Comp, first_named, comps_at}
+use Rattle.std.specs.Char.{is_ascii_whitespace}
+
+-- a text without the blanks round it
+abbrev pub without_start : List ℕ → List ℕ
+without_start text = drop (prefix_len is_ascii_whitespace text) text
+
+abbrev pub without_end : List ℕ → List ℕ
+without_end text = take (length text - suffix_len is_ascii_whitespace text) text
+
+abbrev pub trimmed : List ℕ → List ℕ
+trimmed text = without_end (without_start text)
 
 -- the comma, which is the byte 44
 abbrev pub is_comma : ℕ → Bool

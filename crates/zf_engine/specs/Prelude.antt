@@ -24,7 +24,12 @@ pub use Rattle.zf_lines.specs.declared.fault.Status.{Status}
 pub use Rattle.zf_lines.specs.declared.fault.Status.TheVariants.{Done, BadSpec, BadRequest, PastBounds}
 pub use Rattle.zf_places.specs.{comps_at}
 pub use Rattle.zf_lines.specs.{HasEvents, HasLimit, IsBegun, IsTestsLine, IsWritten, row_wording, Wording, out_line, row_line, number, AppendsFront, device_of, failures_of, read_failures, write_failures}
-pub use Rattle.zf_messages.specs.{AreLines, Cited, declared_out_line, IsReportedBeside, no_schema_lines, not_a_binding_line, not_components_line, not_finite_lines, not_held_line, numbers_too_large_line, text_fault_lines, no_component_line, fault_line, no_size_lines, not_given_line, size_too_large_line, size_twice_line, cited_of}
+pub use Rattle.zf_messages.specs.{AreFaultMessages, Cited, cited_of, declared_out, detail, detail_line, detail_member, IsReportedBeside, line_at, line_range, member, messages_text, no_schema_message, no_size_message, not_a_binding, not_components, not_finite_message, not_given, not_held, numbers_too_large, place_members, place_text, quoted, size_too_large, size_twice, text_fault_message}
+pub use Rattle.zf_messages.specs.declared.message.At.{At}
+pub use Rattle.zf_messages.specs.declared.message.At.TheVariants.{Line}
+pub use Rattle.zf_messages.specs.declared.message.Detail.{Detail}
+pub use Rattle.zf_messages.specs.declared.message.Message.{Message}
+pub use Rattle.zf_tree.specs.declared.span.Span.{Span}
 pub use Rattle.zf_print.specs.declared.spelling.Spelling.{Spelling}
 pub use Rattle.zf_cores.specs.{chosen_of}
 pub use Rattle.zf_why.specs.declared.cause.Cause.{Cause}
@@ -34,12 +39,16 @@ pub use Rattle.zf_command.specs.declared.job.Exploration.{Exploration}
 pub use Rattle.zf_format.specs.declared.format.Format.TheVariants.{Lines, Objects}
 pub use Rattle.zf_machines.specs.{all_of, FirstFails, HasShape, IsMachineOf, LacksFirst, Named, Schemas, named_of, schemas_of}
 pub use Rattle.zf_scan.specs.declared.scan.TheConstants.{SOURCE_MAX}
-pub use Rattle.zf_format.specs.{string_text, messages_in}
+pub use Rattle.zf_format.specs.{string_text}
 pub use Rattle.zf_value.specs.declared.value.Outcome.{Outcome}
 pub use Rattle.zf_why.specs.declared.told.Operands.{Operands}
-pub use Rattle.zf_why.specs.declared.told.Sides.{Sides}
+pub use Rattle.zf_why.specs.declared.part.Part.{Part}
+pub use Rattle.zf_why.specs.declared.part.Part.TheVariants.{Member, Text, Unchanged}
+pub use Rattle.zf_why.specs.declared.told.Operand.{Operand}
+pub use Rattle.zf_why.specs.declared.told.Operand.TheVariants.{Comes, Stands}
+pub use Rattle.zf_why.specs.declared.told.Side.{Side}
 pub use Rattle.zf_why.specs.declared.told.Told.{Told}
-pub use Rattle.zf_why.specs.{AreTold, EmptiedBy, nothing_beside, others_beside, RefutedBy, RefutedTogetherBy, disjunction_at, Explains, RuleOut}
+pub use Rattle.zf_why.specs.{AreTold, EmptiedBy, nothing_beside, others_beside, RefutedBy, RefutedTogetherBy, Split, split_at, Explains, RuleOut}
 pub use Rattle.std.specs.Str.{bytes_eq}
 pub use Rattle.zf_tree.specs.{BoxTree}
 pub use Rattle.std.specs.declared.alloc.Global.{Global}

@@ -1,11 +1,11 @@
 -- What the steps of an answer ensure. No public clause rests on this file.
-use Rattle.std.specs.Prelude.{◌≡◌, ◌≢◌, ◌⊎◌, ℕ, Bool, List, [], Option, Result, Ok, Err}
-use Rattle.zf_engine.specs.Prelude.{Appends, Reach, Show, TextFault, Comp, Defined, Value, Environment, Status, BadSpec, BadRequest, Exploration, Request, AppendsFront, Cited, not_a_binding_line, not_components_line, not_held_line, text_fault_lines, Job, Format, messages_in}
+use Rattle.std.specs.Prelude.{◌≡◌, ◌≢◌, ◌⊎◌, ℕ, Bool, List, [], ◌∷◌, Option, Result, Ok, Err}
+use Rattle.zf_engine.specs.Prelude.{Appends, Reach, Show, TextFault, Comp, Defined, Value, Environment, Status, BadSpec, BadRequest, Exploration, Request, AppendsFront, Cited, Message, not_a_binding, not_components, not_held, text_fault_message, Job, Format, messages_text}
 use Rattle.zf_scan.specs.declared.fault.TextFaultKind.TheVariants as text_faults
 use Rattle.zf_lines.specs.declared.fault.RunFault.{RunFault}
 use Rattle.zf_engine.specs.declared.stop.Stop.{Stop}
 use Rattle.zf_engine.specs.declared.stop.Stop.TheVariants.{Answered, OutOfMemory}
-use Rattle.zf_engine.specs.Answers.{AnswersSource, CheckAnswer, HoldsNoValues, IsNamedRow, NamesNoRow, RefusesRequest, UnreadAnswer, IsPartOfAnswer}
+use Rattle.zf_engine.specs.Answers.{AnswersSource, HoldsNoValues, IsNamedRow, NamesNoRow, RefusesRequest, UnreadAnswer, IsPartOfAnswer}
 use Rattle.zf_engine.specs.Only.{AreShown, NamesNoParts}
 use Rattle.zf_engine.specs.Adding.{HasNoPlace}
 use Rattle.zf_engine.specs.Settings.{Checks, TellsFaults}
@@ -16,67 +16,63 @@ StopsInSource job file source old new = (written : List ℕ) × IsPartOfAnswer j
 
 -- ---- answers that are whole
 
--- the fact holds of the text and the status of an answer, unless memory ran out
-abbrev pub IfAnswered : Stop → (List ℕ → Status → Type 0) → Type 0
-IfAnswered (Answered text status) P = P text.items status
+-- the fact holds of the messages and the status of an answer, unless memory ran out
+abbrev pub IfAnswered : Stop → (List Message → Status → Type 0) → Type 0
+IfAnswered (Answered told status) P = P told status
 IfAnswered OutOfMemory P = Unit {0}
 
-abbrev pub IsFaultLine : (details : Bool) → (file : List ℕ) → TextFault → (about : Cited) → List ℕ → Status → Type 0
-IsFaultLine details file fault about text status = (fault.kind ≢ text_faults.OutOfMemory) × (text ≡ text_fault_lines details file fault about) × (status ≡ BadSpec)
+abbrev pub IsTextFault : (details : Bool) → (source : List ℕ) → TextFault → (about : Cited) → List Message → Status → Type 0
+IsTextFault details source fault about told status = (fault.kind ≢ text_faults.OutOfMemory) × (told ≡ text_fault_message details source fault about ∷ []) × (status ≡ BadSpec)
 
 -- the answer tells a place of a text that is the line of no row
-abbrev pub TellsPlace : ℕ → List ℕ → Status → Type 0
-TellsPlace place text status = (text ≡ not_a_binding_line place) × (status ≡ BadRequest)
+abbrev pub TellsPlace : ℕ → List Message → Status → Type 0
+TellsPlace place told status = (told ≡ not_a_binding place ∷ []) × (status ≡ BadRequest)
 
-abbrev pub TellsNoRow : Environment → List Comp → Option (List ℕ) → List ℕ → Status → Type 0
-TellsNoRow e comps after text status = NamesNoRow e comps after × ((place : ℕ) × TellsPlace place text status)
+abbrev pub TellsNoRow : Environment → List Comp → Option (List ℕ) → List Message → Status → Type 0
+TellsNoRow e comps after told status = NamesNoRow e comps after × ((place : ℕ) × TellsPlace place told status)
 
 -- the answer tells a place of a text that is no line of some components
-abbrev pub TellsPlaceHeld : ℕ → List ℕ → Status → Type 0
-TellsPlaceHeld place text status = (text ≡ not_held_line place) × (status ≡ BadRequest)
+abbrev pub TellsPlaceHeld : ℕ → List Message → Status → Type 0
+TellsPlaceHeld place told status = (told ≡ not_held place ∷ []) × (status ≡ BadRequest)
 
-abbrev pub TellsNoValues : Environment → List Comp → Option (List ℕ) → List ℕ → Status → Type 0
-TellsNoValues e comps held text status = HoldsNoValues e comps held × ((place : ℕ) × TellsPlaceHeld place text status)
+abbrev pub TellsNoValues : Environment → List Comp → Option (List ℕ) → List Message → Status → Type 0
+TellsNoValues e comps held told status = HoldsNoValues e comps held × ((place : ℕ) × TellsPlaceHeld place told status)
 
 -- the answer tells a place of a text that names no components
-abbrev pub TellsPlaceMisnamed : List ℕ → Status → Type 0
-TellsPlaceMisnamed text status = (place : ℕ) × (text ≡ not_components_line place) × (status ≡ BadRequest)
+abbrev pub TellsPlaceMisnamed : List Message → Status → Type 0
+TellsPlaceMisnamed told status = (place : ℕ) × (told ≡ not_components place ∷ []) × (status ≡ BadRequest)
 
-abbrev pub TellsNoParts : List Comp → Option (List ℕ) → List ℕ → Status → Type 0
-TellsNoParts comps only text status = NamesNoParts comps only × TellsPlaceMisnamed text status
+abbrev pub TellsNoParts : List Comp → Option (List ℕ) → List Message → Status → Type 0
+TellsNoParts comps only told status = NamesNoParts comps only × TellsPlaceMisnamed told status
 
 -- the answer tells a place of a name that adds none to these
-abbrev pub IsMisnamed : List Comp → (name : List ℕ) → (places : List ℕ) → List ℕ → Status → Type 0
-IsMisnamed comps name places text status = HasNoPlace comps name places × TellsPlaceMisnamed text status
+abbrev pub IsMisnamed : List Comp → (name : List ℕ) → (places : List ℕ) → List Message → Status → Type 0
+IsMisnamed comps name places told status = HasNoPlace comps name places × TellsPlaceMisnamed told status
 
 -- the answer tells that a text is no line of a row of the components that are shown, or no line of some components
-abbrev pub TellsBounds : Environment → List Comp → (shown : List Comp) → Request → List ℕ → Status → Type 0
-TellsBounds e comps shown r text status =
-    TellsNoRow e shown r.after text status ⊎ ((after : Option (List Value)) × IsNamedRow e shown r.after after × TellsNoValues e comps r.held text status)
+abbrev pub TellsBounds : Environment → List Comp → (shown : List Comp) → Request → List Message → Status → Type 0
+TellsBounds e comps shown r told status =
+    TellsNoRow e shown r.after told status ⊎ ((after : Option (List Value)) × IsNamedRow e shown r.after after × TellsNoValues e comps r.held told status)
 
 -- the answer tells that one of the texts which say what is asked for is not what it has to be
-abbrev pub TellsMisnamed : Environment → List Comp → Request → List ℕ → Status → Type 0
-TellsMisnamed e comps r text status = TellsNoParts comps r.only text status ⊎ ((shown : List Comp) × AreShown comps r.only shown × TellsBounds e comps shown r text status)
-
--- what `check` tells of a source, read or not
-abbrev pub ToldOfFaults : (types details : Bool) → (file source text : List ℕ) → Status → Type 0
-ToldOfFaults types details file source text status = UnreadAnswer details file source text status ⊎ CheckAnswer types details file source text status
+abbrev pub TellsMisnamed : Environment → List Comp → Request → List Message → Status → Type 0
+TellsMisnamed e comps r told status = TellsNoParts comps r.only told status ⊎ ((shown : List Comp) × AreShown comps r.only shown × TellsBounds e comps shown r told status)
 
 -- the source is not read, or the request is refused for it
-abbrev pub IsRefused : Request → (file source text : List ℕ) → Status → Type 0
-IsRefused r file source text status = UnreadAnswer r.details file source text status ⊎ RefusesRequest r file source text status
+abbrev pub IsRefused : Request → (source : List ℕ) → List Message → Status → Type 0
+IsRefused r source told status = UnreadAnswer r.details source told status ⊎ RefusesRequest r source told status
 
 -- this answers the request, whatever would be reported of a search
-abbrev pub AnswersRequest : Request → (file source : List ℕ) → Stop → Type 0
-AnswersRequest r file source stop = IfAnswered stop (IsRefused r file source)
+abbrev pub AnswersRequest : Request → (source : List ℕ) → Stop → Type 0
+AnswersRequest r source stop = IfAnswered stop (IsRefused r source)
 
 -- the source is not read, or not well typed: this is the answer, whatever else is asked for
-abbrev pub IsUnfit : (details : Bool) → (file source text : List ℕ) → Status → Type 0
-IsUnfit details file source text status = UnreadAnswer details file source text status ⊎ TellsFaults details file source text status
+abbrev pub IsUnfit : (details : Bool) → (source : List ℕ) → List Message → Status → Type 0
+IsUnfit details source told status = UnreadAnswer details source told status ⊎ TellsFaults details source told status
 
 -- this answers the request for a source that is well typed and defines these globals
-abbrev pub AnswersOver : List Defined → Request → (file : List ℕ) → Stop → Type 0
-AnswersOver g r file stop = (source : List ℕ) → Checks source g [] → AnswersRequest r file source stop
+abbrev pub AnswersOver : List Defined → Request → (source : List ℕ) → Stop → Type 0
+AnswersOver g r source stop = Checks source g [] → AnswersRequest r source stop
 
 -- a whole text is written, or a front of it
 abbrev pub WritesText : (text : List ℕ) → Status → Option (List ℕ) → Option (List ℕ) → Result Status RunFault → Type 0
@@ -85,7 +81,7 @@ WritesText text status old new (Err fault) = AppendsFront old new text
 
 -- the messages of what is reported are written in this format, or a front of them
 abbrev pub Tells : Format → (file : List ℕ) → Stop → Option (List ℕ) → Option (List ℕ) → Result Status RunFault → Type 0
-Tells format file (Answered text status) old new result = WritesText (messages_in format file text.items) status old new result
+Tells format file (Answered told status) old new result = WritesText (messages_text format file told) status old new result
 Tells format file OutOfMemory old new (Ok given) = ⊥
 Tells format file OutOfMemory old new (Err fault) = Appends old new []
 
@@ -103,8 +99,8 @@ Reaches x file source old new result = Writes (Reach x) file source old new resu
 -- ---- answers of `reach` that are whole
 
 -- the source is not read, or the exploration is refused for it
-abbrev pub IsUnexplored : Exploration → (file source text : List ℕ) → Status → Type 0
-IsUnexplored x file source text status = UnreadAnswer x.details file source text status ⊎ RefusesExploration x file source text status
+abbrev pub IsUnexplored : Exploration → (source : List ℕ) → List Message → Status → Type 0
+IsUnexplored x source told status = UnreadAnswer x.details source told status ⊎ RefusesExploration x source told status
 
-abbrev pub AnswersExploration : Exploration → (file source : List ℕ) → Stop → Type 0
-AnswersExploration x file source stop = IfAnswered stop (IsUnexplored x file source)
+abbrev pub AnswersExploration : Exploration → (source : List ℕ) → Stop → Type 0
+AnswersExploration x source stop = IfAnswered stop (IsUnexplored x source)

@@ -1,11 +1,11 @@
 -- A schema in an environment, and what `why` finds of it. No public clause rests on this file.
-use Rattle.std.specs.Prelude.{◌≡◌, ℕ, Bool, List, [], ◌++◌, length, Option, Some, None, IsSomeAnd, option_map, Vec}
-use Rattle.zf_engine.specs.Prelude.{Global, Comp, Schema, schema_of, IsFinite, Value, AreDueWithin, Stage, Environment, environment_of, Begins, Goal, Portion, portion, property, spellings, disjunction_at, Explains, RuleOut, Cause, Empty, Alone, Together, Status, HasEvents, out_line, row_line, Request, comps_at}
+use Rattle.std.specs.Prelude.{◌≡◌, ℕ, Bool, List, [], length, Option, Some, None, IsSomeAnd, option_map, Vec}
+use Rattle.zf_engine.specs.Prelude.{Global, Comp, Schema, schema_of, IsFinite, Value, AreDueWithin, Stage, Environment, environment_of, Begins, Goal, Portion, portion, property, spellings, split_at, Explains, RuleOut, Cause, Empty, Alone, Together, Status, HasEvents, out_line, row_line, Request, comps_at}
 use Rattle.zf_engine.specs.Answers.{AreHeld, IsAsked, IsNamedRow}
 use Rattle.zf_engine.specs.Only.{NamesParts}
 use Rattle.zf_engine.specs.declared.bounds.Bounds.{Bounds}
 use Rattle.zf_engine.specs.declared.bounds.Chosen.{Chosen}
-use Rattle.zf_engine.specs.Reasons.{TellsWhy, no_binding_line}
+use Rattle.zf_engine.specs.Reasons.{TellsWhy}
 use Rattle.zf_engine.specs.CauseLines.{cause_lines}
 use Rattle.zf_engine.specs.declared.subject.Subject.{Subject}
 
@@ -75,7 +75,7 @@ pub record HasNone (s : Subject) : Type 0 where
 -- the text says why
 abbrev pub TellsNone : Subject → (details : Bool) → (file source text : List ℕ) → Type 0
 TellsNone s details file source text =
-    (cause : Cause) × Explains (environment_in s) (schema_in s) s.held.now details (disjunction_at s.schema.now.conjuncts) cause × (text ≡ cause_lines s.style.now.format file source s.style.now.elements.now (schema_in s) cause ++ no_binding_line s.style.now.format)
+    (cause : Cause) × Explains (environment_in s) (schema_in s) s.held.now details (split_at s.schema.now.conjuncts) cause × (text ≡ cause_lines s.style.now.format details file source s.style.now.elements.now (schema_in s) cause)
 
 -- a cause of empty ranges speaks of each component
 abbrev pub IsOfSchema : Schema → Cause → Type 0

@@ -1,12 +1,12 @@
 //! What is written of a job on a source.
 ghost use Rattle.std.specs.Prelude.{◌≡◌, true, IfOk, None, OnErr, Some};
-ghost use Rattle.zf_engine.specs.Prelude.{option_copied, IsBare, Why, device_of, failures_of, HasLimit, read_failures, write_failures, environment_of, schema_of};
-ghost use Rattle.zf_engine.specs.{AnswersRequest, AnswersSource, AreNamedIn, environment_in, IfAnswered, IsAsked, IsChosenBy, IsLimited, IsNamedRow, IsSubjectOf, schema_in, Shows, StopsInSource, ToldOfFaults, Writes};
+ghost use Rattle.zf_engine.specs.Prelude.{option_copied, Check, IsBare, Why, device_of, failures_of, HasLimit, read_failures, write_failures, environment_of, schema_of};
+ghost use Rattle.zf_engine.specs.{AnswersRequest, AnswersSource, AreNamedIn, environment_in, IsAsked, IsChosenBy, IsLimited, IsNamedRow, IsSubjectOf, schema_in, Shows, StopsInSource, Writes};
 
 use crate::asked::{Asked, find_schema};
 use crate::begin::{begin, begin_counting};
 use crate::bounds::{Bounds, Chosen, bounds_in};
-use crate::check::{check_answer, check_source, load};
+use crate::check::{checked, load};
 use crate::inquiry::Inquiry;
 use crate::reach::reach_source;
 use crate::stop::Stop;
@@ -17,6 +17,7 @@ use bumpalo::Bump;
 use std::alloc::Global;
 use std::io::Write;
 use zf_command::{Job, Request};
+use zf_format::Format;
 use zf_lines::show::{show, show_with_tests};
 use zf_lines::{Counted, RunFault, Status, Style};
 use zf_meaning::Env;
@@ -48,8 +49,12 @@ pub fn answer<W: Write>(
             details,
             format,
         } => {
-            let stop = checked(alloc, *types, *details, file, source);
-            tell(alloc, *format, file, stop, writer)
+            let report = Report {
+                source,
+                file,
+                details: *details,
+            };
+            check_reported(alloc, *types, *format, report, writer)
         }
         Job::Show(request) => show_source(alloc, request, file, source, writer),
         Job::Why(request) => explain_source(alloc, request, file, source, writer),
@@ -57,24 +62,22 @@ pub fn answer<W: Write>(
     }
 }
 
-/// What `check` tells.
-fn checked(alloc: Global, types: bool, details: bool, file: &[u8], source: &[u8]) -> Stop
-    ensures { IfAnswered result (ToldOfFaults types details file.now source.now) }
+/// Writes the answer of `check` for a source.
+fn check_reported<W: Write>(
+    alloc: Global,
+    types: bool,
+    format: Format,
+    report: Report<'_>,
+    writer: &mut Counted<W>,
+) -> Result<Status, RunFault>
+    requires unfailed { failures_of writer.old ≡ 0 }
+    ensures checks { Writes (Check types report.entry.details format) report.entry.file.now report.entry.source.now (W.contents (device_of writer.old)) (W.contents (device_of writer.new)) result }
+    ensures count { failures_of writer.new ≡ write_failures result }
+    ensures unread { read_failures result ≡ 0 }
 {
-    let trees = Bump::new(alloc);
-    let arena = Bump::new(alloc);
-    let report = Report {
-        source,
-        file,
-        details,
-    };
-    let checked = match check_source(alloc, &trees, &arena, report) {
-        Ok(checked) => checked,
-        Err(stop) => return stop,
-    };
-    match check_answer(alloc, types, report, &checked) {
-        Ok((text, status)) => Stop::Answered(text, status),
-        Err(_) => Stop::OutOfMemory,
+    match checked(alloc, types, format, report) {
+        Ok((text, status)) => write_whole(&text, status, writer),
+        Err(stop) => tell(alloc, format, report.file, stop, writer),
     }
 }
 
@@ -141,7 +144,7 @@ fn refuse<W: Write>(
     writer: &mut Counted<W>,
 ) -> Result<Status, RunFault>
     requires unfailed { failures_of writer.old ≡ 0 }
-    requires answers { AnswersRequest inquiry.request.now inquiry.report.file.now inquiry.report.source.now stop }
+    requires answers { AnswersRequest inquiry.request.now inquiry.report.source.now stop }
     ensures shows { Shows inquiry.entry.request.now inquiry.entry.report.file.now inquiry.entry.report.source.now (W.contents (device_of writer.old)) (W.contents (device_of writer.new)) result }
     ensures count { failures_of writer.new ≡ write_failures result }
     ensures unread { read_failures result ≡ 0 }

@@ -14,7 +14,9 @@ use zf_data::Word;
 use zf_finite::{NotFinite, finite};
 use zf_lines::Status;
 use zf_meaning::{Env, Size as StatedSize, SizeFault};
-use zf_messages::{Report, no_schema_lines, no_size_lines, not_finite_lines, side_without, texts};
+use zf_messages::{
+    Message, Report, no_schema_message, no_size_message, not_finite_message, side_without, texts,
+};
 use zf_term::{Flat, Globals};
 
 /// A finite schema in an environment.
@@ -33,7 +35,7 @@ pub fn find_schema<'g, 'a>(
 ) -> Result<Asked<'g, 'a>, Stop>
     requires { report.details ≡ request.now.details }
     ensures asked { IfOk result (λ p. (source : List ℕ) → Checks source (globals_of globals.now) [] → IsAsked request.now source (environment_of p.env).globals (schema_of p.schema.now) (environment_of p.env)) }
-    ensures stop { IfErr result (AnswersOver (globals_of globals.now) request.now report.entry.file.now) }
+    ensures stop { IfErr result (AnswersOver (globals_of globals.now) request.now report.entry.source.now) }
 {
     let schema = schema_named(alloc, globals, &request.name, request.details)?;
     let numbers = greatest_number(alloc, request.setting.numbers)?;
@@ -50,11 +52,11 @@ pub fn schema_named<'g, 'a>(
     details: bool,
 ) -> Result<&'g Flat<'a>, Stop>
     ensures named { IfOk result (λ a. IsNamed (globals_of globals.now) name.now (schema_of a.now)) }
-    ensures stop { IfErr result (λ s. IfAnswered s (λ text status. TellsNoSchema details (globals_of globals.now) text status name.now)) }
+    ensures stop { IfErr result (λ s. IfAnswered s (λ told status. TellsNoSchema details (globals_of globals.now) told status name.now)) }
 {
     let Some(schema) = globals.schema(name.as_str()) else {
-        let lines = no_schema_lines(alloc, details, globals, name.as_bytes())?;
-        return Err(Stop::Answered(lines, Status::BadRequest));
+        let message = no_schema_message(alloc, details, globals, name.as_bytes())?;
+        return Err(Stop::told(alloc, message, Status::BadRequest));
     };
     Ok(schema)
 }
@@ -89,31 +91,31 @@ fn misfit(
 ) -> Stop
     ensures { IfAnswered result (IsMisfit details (globals_of globals.now) sizes.now fault) }
 {
-    let lines = match &fault {
-        SizeFault::NoSize(name) => unsized_lines(alloc, details, globals, sizes, name.as_slice()),
-        SizeFault::NotGiven(name) => texts::not_given_line(alloc, name.as_slice()),
-        SizeFault::SizeTwice(name) => texts::size_twice_line(alloc, name.as_slice()),
-        SizeFault::SizeTooLarge(name) => texts::size_too_large_line(alloc, name.as_slice()),
+    let message = match &fault {
+        SizeFault::NoSize(name) => no_size(alloc, details, globals, sizes, name.as_slice()),
+        SizeFault::NotGiven(name) => texts::not_given(alloc, name.as_slice()),
+        SizeFault::SizeTwice(name) => texts::size_twice(alloc, name.as_slice()),
+        SizeFault::SizeTooLarge(name) => texts::size_too_large(alloc, name.as_slice()),
         SizeFault::OutOfMemory => return Stop::OutOfMemory,
     };
-    match lines {
-        Ok(lines) => Stop::Answered(lines, Status::BadRequest),
+    match message {
+        Ok(message) => Stop::told(alloc, message, Status::BadRequest),
         Err(_) => Stop::OutOfMemory,
     }
 }
 
-/// The lines for a given set without a size.
-fn unsized_lines(
+/// The message for a given set without a size.
+fn no_size(
     alloc: Global,
     details: bool,
     globals: &Globals<'_>,
     sizes: &[StatedSize],
     name: &[u8],
-) -> Result<Vec<u8>, AllocError>
-    ensures { IfOk result (λ v. v.items ≡ spec.no_size_lines details (without_size sizes.now (given_sets (globals_of globals.now))) name.now) }
+) -> Result<Message, AllocError>
+    ensures { IfOk result (λ m. m ≡ spec.no_size_message details (without_size sizes.now (given_sets (globals_of globals.now))) name.now) }
 {
     let sets = sets_without_size(alloc, globals, sizes)?;
-    no_size_lines(alloc, details, &sets, name)
+    no_size_message(alloc, details, &sets, name)
 }
 
 /// Refuses a schema that is not finite.
@@ -125,15 +127,15 @@ pub fn check_finite<'a>(
     schema: &Flat<'a>,
 ) -> Result<(), Stop>
     ensures ok { OnOk result (IsFinite (environment_of env.now).numbers (environment_of env.now).globals (schema_of schema.now)) }
-    ensures stop { IfErr result (λ s. IfAnswered s (TellsInfinite (environment_of env.now).numbers (environment_of env.now).globals (schema_of schema.now) report.entry.details report.entry.file.now)) }
+    ensures stop { IfErr result (λ s. IfAnswered s (TellsInfinite (environment_of env.now).numbers (environment_of env.now).globals (schema_of schema.now) report.entry.details report.entry.source.now)) }
 {
     let globals = env.globals();
     let Err(cause) = finite(env.numbers(), schema, globals) else {
         return Ok(());
     };
     let side = side_beside(alloc, report, globals, name, &cause)?;
-    let lines = not_finite_lines(alloc, report, globals, &cause, &side)?;
-    Err(Stop::Answered(lines, Status::BadSpec))
+    let message = not_finite_message(alloc, report, globals, &cause, &side)?;
+    Err(Stop::told(alloc, message, Status::BadSpec))
 }
 
 /// What is reported beside the cause, if details are asked for: the name of a side that does not declare the component.

@@ -78,8 +78,8 @@ fn declared_out(alloc: Global, flat: &Flat<'_>, place: usize) -> Stop
     ensures { IfAnswered result (TellsComponent (schema_of flat.now).comps place) }
 {
     let component = &flat.components.as_slice()[place];
-    match texts::declared_out_line(alloc, component.name.as_slice()) {
-        Ok(line) => Stop::Answered(line, Status::PastBounds),
+    match texts::declared_out(alloc, component.name.as_slice()) {
+        Ok(message) => Stop::told(alloc, message, Status::PastBounds),
         Err(_) => Stop::OutOfMemory,
     }
 }

@@ -1,7 +1,7 @@
 //! What a source defines, its faults, and the answer of `check`.
 ghost use Rattle.std.specs.Prelude.{◌≡◌, [], IfOk, IfErr, map};
-ghost use Rattle.zf_engine.specs.Prelude.{AreLines, cited_of, globals_of};
-ghost use Rattle.zf_engine.specs.{check_status, Checks, IfAnswered, IsCheckText, IsFaultLine, IsUnfit, UnreadAnswer};
+ghost use Rattle.zf_engine.specs.Prelude.{AreFaultMessages, cited_of, globals_of};
+ghost use Rattle.zf_engine.specs.{check_status, CheckAnswer, Checks, IfAnswered, IsCheckText, IsTextFault, IsUnfit, UnreadAnswer};
 ghost use Rattle.zf_sorts.specs.{fault_of};
 
 use crate::stop::Stop;
@@ -9,8 +9,12 @@ use bumpalo::Bump;
 use std::alloc::{AllocError, Global};
 use zf_checker::listing::listing;
 use zf_checker::{Checked, check_spec};
+use zf_data::Items;
+use zf_format::Format;
 use zf_lines::Status;
-use zf_messages::{Quoting, Report, text_fault_lines, type_fault_lines};
+use zf_messages::{
+    Asides, Known, Message, Report, messages_text, text_fault_message, type_fault_message,
+};
 use zf_parse::{About, read_spec};
 use zf_scan::{TextFault, TextFaultKind};
 use zf_sorts::TypeFault;
@@ -25,7 +29,7 @@ pub fn check_source<'a>(
     report: Report<'a>,
 ) -> Result<Checked<'a>, Stop>
     ensures checks { IfOk result (λ c. Checks report.entry.source.now (globals_of c.globals) (map fault_of c.faults)) }
-    ensures stop { IfErr result (λ s. IfAnswered s (UnreadAnswer report.entry.details report.entry.file.now report.entry.source.now)) }
+    ensures stop { IfErr result (λ s. IfAnswered s (UnreadAnswer report.entry.details report.entry.source.now)) }
 {
     match read_spec(alloc, trees, report.source) {
         Ok(spec) => Ok(check_spec(alloc, arena, &spec)?),
@@ -35,34 +39,51 @@ pub fn check_source<'a>(
 
 /// The answer for a fault of a text, which is about these symbols.
 fn refusal(alloc: Global, report: Report<'_>, fault: TextFault, about: &About<'_>) -> Stop
-    ensures { IfAnswered result (IsFaultLine report.entry.details report.entry.file.now fault (cited_of about.now)) }
+    ensures { IfAnswered result (IsTextFault report.entry.details report.entry.source.now fault (cited_of about.now)) }
 {
     if fault.kind == TextFaultKind::OutOfMemory {
         return Stop::OutOfMemory;
     }
-    match text_fault_lines(alloc, report.details, report.file, fault, about) {
-        Ok(lines) => Stop::Answered(lines, Status::BadSpec),
+    match text_fault_message(alloc, report, fault, about) {
+        Ok(message) => Stop::told(alloc, message, Status::BadSpec),
         Err(_) => Stop::OutOfMemory,
     }
 }
 
-/// The text and the status that answer `check`.
-pub fn check_answer(
+/// The answer of `check` for a source. That it is not read is reported.
+pub fn checked(
     alloc: Global,
     types: bool,
+    format: Format,
+    report: Report<'_>,
+) -> Result<(Vec<u8>, Status), Stop>
+    ensures answer { IfOk result (λ p. CheckAnswer types report.entry.details format report.entry.file.now report.entry.source.now p.0.items p.1) }
+    ensures stop { IfErr result (λ s. IfAnswered s (UnreadAnswer report.entry.details report.entry.source.now)) }
+{
+    let trees = Bump::new(alloc);
+    let arena = Bump::new(alloc);
+    let checked = check_source(alloc, &trees, &arena, report)?;
+    let text = check_text(alloc, types, format, report, &checked)?;
+    Ok((text, check_status(checked.faults.as_slice())))
+}
+
+/// The messages of the faults, and the listing, if it is asked for.
+fn check_text(
+    alloc: Global,
+    types: bool,
+    format: Format,
     report: Report<'_>,
     checked: &Checked<'_>,
-) -> Result<(Vec<u8>, Status), AllocError>
-    ensures text { IfOk result (λ p. IsCheckText types report.entry.details report.entry.file.now (globals_of checked.now.globals) (map fault_of checked.now.faults) p.0.items) }
-    ensures status { IfOk result (λ p. p.1 ≡ check_status (map fault_of checked.now.faults)) }
+) -> Result<Vec<u8>, AllocError>
+    ensures { IfOk result (λ v. IsCheckText types report.entry.details format report.entry.file.now report.entry.source.now (globals_of checked.now.globals) (map fault_of checked.now.faults) v.items) }
 {
-    let faults = checked.faults.as_slice();
-    let mut text = fault_lines(alloc, report, faults)?;
+    let messages = fault_messages(alloc, report, checked.faults.as_slice())?;
+    let mut text = messages_text(alloc, format, report.file, messages.as_slice())?;
     if types {
         let defined = listing(alloc, &checked.globals)?;
         text.extend_from_slice(defined.as_slice())?;
     }
-    Ok((text, check_status(faults)))
+    Ok(text)
 }
 
 /// A text with a fault is a bad specification.
@@ -76,22 +97,23 @@ fn check_status(faults: &[TypeFault<'_>]) -> Status
     }
 }
 
-/// The lines of faults.
-fn fault_lines(
+/// The messages of faults.
+fn fault_messages(
     alloc: Global,
     report: Report<'_>,
     faults: &[TypeFault<'_>],
-) -> Result<Vec<u8>, AllocError>
-    ensures { IfOk result (λ v. AreLines report.entry.details report.entry.file.now (map fault_of faults.now) v.items) }
+) -> Result<Items<Message>, AllocError>
+    ensures { IfOk result (AreFaultMessages report.entry.details report.entry.source.now (map fault_of faults.now)) }
 {
-    let mut quoting = Quoting::of(alloc, report, faults)?;
-    let mut lines = Vec::new(alloc);
+    let asides = Asides::of(alloc, report, faults)?;
+    let mut known = Known::start();
+    let mut messages = Items::new(alloc);
     for fault in faults {
-        let aside = quoting.aside(alloc, fault)?;
-        let further = type_fault_lines(alloc, report.details, report.file, fault, &aside)?;
-        lines.extend_from_slice(&further)?;
+        let aside = asides.aside(fault);
+        let message = type_fault_message(alloc, report, &mut known, fault, &aside)?;
+        messages.push(message)?;
     }
-    Ok(lines)
+    Ok(messages)
 }
 
 /// What a source that is well typed defines.
@@ -102,12 +124,12 @@ pub fn load<'a>(
     report: Report<'a>,
 ) -> Result<Globals<'a>, Stop>
     ensures checks { IfOk result (λ g. Checks report.entry.source.now (globals_of g) []) }
-    ensures stop { IfErr result (λ s. IfAnswered s (IsUnfit report.entry.details report.entry.file.now report.entry.source.now)) }
+    ensures stop { IfErr result (λ s. IfAnswered s (IsUnfit report.entry.details report.entry.source.now)) }
 {
     let checked = check_source(alloc, trees, arena, report)?;
     if !checked.faults.as_slice().is_empty() {
-        let lines = fault_lines(alloc, report, checked.faults.as_slice())?;
-        return Err(Stop::Answered(lines, Status::BadSpec));
+        let messages = fault_messages(alloc, report, checked.faults.as_slice())?;
+        return Err(Stop::Answered(messages, Status::BadSpec));
     }
     Ok(checked.globals)
 }

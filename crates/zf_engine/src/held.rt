@@ -33,8 +33,8 @@ pub fn values_held(
     match read_held(alloc, text.as_bytes(), flat, env, elements) {
         Ok(values) => Ok(values),
         Err(AfterFault::NotABinding(place)) => {
-            let line = texts::not_held_line(alloc, place)?;
-            Err(Stop::Answered(line, Status::BadRequest))
+            let message = texts::not_held(alloc, place)?;
+            Err(Stop::told(alloc, message, Status::BadRequest))
         }
         Err(AfterFault::OutOfMemory) => Err(Stop::OutOfMemory),
     }

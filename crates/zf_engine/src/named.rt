@@ -32,8 +32,8 @@ pub fn named_row(
     match read_binding(alloc, text.as_bytes(), flat, env, elements) {
         Ok(row) => Ok(Some(row)),
         Err(AfterFault::NotABinding(place)) => {
-            let line = texts::not_a_binding_line(alloc, place)?;
-            Err(Stop::Answered(line, Status::BadRequest))
+            let message = texts::not_a_binding(alloc, place)?;
+            Err(Stop::told(alloc, message, Status::BadRequest))
         }
         Err(AfterFault::OutOfMemory) => Err(Stop::OutOfMemory),
     }

@@ -23,8 +23,8 @@ pub fn greatest_number(alloc: Global, stated: Option<u64>) -> Result<Option<u16>
         return Ok(None);
     };
     if number > NUMBERS_MAX {
-        let line = texts::numbers_too_large_line(alloc)?;
-        return Err(Stop::Answered(line, Status::BadRequest));
+        let message = texts::numbers_too_large(alloc)?;
+        return Err(Stop::told(alloc, message, Status::BadRequest));
     }
     Ok(Some(number as u16))
 }

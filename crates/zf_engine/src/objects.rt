@@ -1,113 +1,161 @@
 //! The objects that say why a schema has no binding, each with its newline.
-ghost use Rattle.std.specs.Prelude.{◌≡◌, ◌++◌, OnOk};
-ghost use Rattle.zf_engine.specs.Prelude.{comp_of, comma_before};
+ghost use Rattle.std.specs.Prelude.{◌≡◌, ◌++◌, OnOk, codes, map};
+ghost use Rattle.zf_engine.specs.Prelude.{comma_before, member, parted, place_members};
 ghost use Rattle.zf_engine.specs.Objects as spec;
+ghost use Rattle.zf_engine.specs.{part_text, schema_in};
 
-use crate::lines::trimmed_line;
+use crate::parts::{append_part, line_at, place_of, range_of};
+use crate::subject::Subject;
 use itoa::Buffer;
 use std::alloc::AllocError;
-use zf_finite::first_plain;
-use zf_format::{Format, append_string};
-use zf_messages::Report;
-use zf_print::{Spelling, append_value};
-use zf_term::Component;
+use zf_format::Format;
+use zf_lines::Style;
+use zf_messages::{At, Report, append_detail_members, append_member, append_place_members, quoted};
+use zf_print::append_value;
 use zf_value::Outcome;
-use zf_why::{Operands, Sides, Told};
+use zf_why::{Operand, Operands, Part, Side, Told};
 
-/// Appends that a component is empty. A refusal leaves a part of it.
+/// Appends that a component is empty. As for all that follow, a refusal leaves a part of it.
 pub fn append_empty_object(
     text: &mut Vec<u8>,
     file: &[u8],
-    component: &Component<'_>,
+    at: At,
+    name: &[u8],
 ) -> Result<(), AllocError>
-    ensures { OnOk result (text.new.items ≡ text.old.items ++ spec.empty_object file.now (comp_of component.now)) }
+    ensures { OnOk result (text.new.items ≡ text.old.items ++ (codes "{" ++ place_members file.now at ++ member (codes "empty") name.now ++ codes "}\n")) }
 {
     text.extend_from_slice(b"{")?;
-    append_file(text, file)?;
-    text.extend_from_slice(b", ")?;
-    append_number(text, first_plain(component.domains.get()))?;
-    text.extend_from_slice(b", \"empty\": ")?;
-    append_string(text, component.name.as_slice())?;
+    append_place_members(text, file, at)?;
+    append_member(text, b"empty", name)?;
     text.extend_from_slice(b"}\n")
 }
 
-/// Appends what is reported of a conjunct. A refusal leaves a part of it.
+/// Appends what is reported of a conjunct.
 pub fn append_told_object(
     text: &mut Vec<u8>,
+    subject: &Subject<'_, '_, '_>,
     report: Report<'_>,
-    elements: &[Spelling],
     told: &Told,
 ) -> Result<(), AllocError>
-    ensures { OnOk result (text.new.items ≡ text.old.items ++ spec.told_object report.entry.file.now report.entry.source.now elements.now told.now) }
+    ensures { OnOk result (text.new.items ≡ text.old.items ++ spec.told_object report.entry.details report.entry.file.now report.entry.source.now (schema_in subject.now).comps subject.now.style.now.elements.now told.now) }
 {
+    let at = At::Line(line_at(report.source, place_of(&told.part)));
     text.extend_from_slice(b"{")?;
-    append_file(text, report.file)?;
-    text.extend_from_slice(b", ")?;
-    append_source(text, report.source, told.line)?;
-    append_sides(text, report.source, &told.sides)?;
-    append_operands(text, elements, &told.operands)?;
+    append_place_members(text, report.file, at)?;
+    append_source(text, subject, report.source, &told.part)?;
+    append_told_members(text, subject, report, told)?;
     text.extend_from_slice(b"}\n")
 }
 
-/// Appends `"file": FILE`.
-fn append_file(text: &mut Vec<u8>, file: &[u8]) -> Result<(), AllocError>
-    ensures { OnOk result (text.new.items ≡ text.old.items ++ spec.file_member file.now) }
+/// Appends what follows the predicate: its lines, its sides, and its operands.
+fn append_told_members(
+    text: &mut Vec<u8>,
+    subject: &Subject<'_, '_, '_>,
+    report: Report<'_>,
+    told: &Told,
+) -> Result<(), AllocError>
+    ensures { OnOk result (text.new.items ≡ text.old.items ++ spec.told_members report.entry.details report.entry.source.now (schema_in subject.now).comps subject.now.style.now.elements.now told.now) }
 {
-    text.extend_from_slice(b"\"file\": ")?;
-    append_string(text, file)
+    let range = range_of(subject.style.alloc, report, &told.part)?;
+    append_detail_members(text, range.as_slice())?;
+    append_sides(text, subject, report.source, &told.sides)?;
+    append_operands(text, subject.style, report.source, &told.operands)
 }
 
-/// Appends `"line": LINE`.
-fn append_number(text: &mut Vec<u8>, line: u32) -> Result<(), AllocError>
-    ensures { OnOk result (text.new.items ≡ text.old.items ++ spec.number_member line) }
+/// Appends `"source": PREDICATE`.
+fn append_source(
+    text: &mut Vec<u8>,
+    subject: &Subject<'_, '_, '_>,
+    source: &[u8],
+    part: &Part,
+) -> Result<(), AllocError>
+    ensures { OnOk result (text.new.items ≡ text.old.items ++ member (codes "source") (part_text source.now (schema_in subject.now).comps part.now)) }
 {
-    let mut number = Buffer::new();
-    text.extend_from_slice(b"\"line\": ")?;
-    text.extend_from_slice(number.format(line).as_bytes())
+    let mut predicate = Vec::new(subject.style.alloc);
+    append_part(&mut predicate, subject, source, part)?;
+    append_member(text, b"source", &predicate)
 }
 
-/// Appends `"line": LINE, "source": SOURCE LINE`.
-fn append_source(text: &mut Vec<u8>, source: &[u8], line: u32) -> Result<(), AllocError>
-    ensures { OnOk result (text.new.items ≡ text.old.items ++ spec.source_members source.now line) }
+/// Appends the sides of a disjunction, if it is one.
+fn append_sides(
+    text: &mut Vec<u8>,
+    subject: &Subject<'_, '_, '_>,
+    source: &[u8],
+    sides: &[Side],
+) -> Result<(), AllocError>
+    ensures { OnOk result (text.new.items ≡ text.old.items ++ spec.sides_member source.now (schema_in subject.now).comps sides.now) }
 {
-    append_number(text, line)?;
-    text.extend_from_slice(b", \"source\": ")?;
-    append_string(text, trimmed_line(source, line))
-}
-
-/// Appends both sides of a disjunction, if it is reported by both.
-fn append_sides(text: &mut Vec<u8>, source: &[u8], sides: &Option<Sides>) -> Result<(), AllocError>
-    ensures { OnOk result (text.new.items ≡ text.old.items ++ spec.sides_member source.now sides.now) }
-{
-    match sides {
-        None => Ok(()),
-        Some(sides) => {
-            text.extend_from_slice(b", \"sides\": [")?;
-            append_side(text, source, &sides.left)?;
-            text.extend_from_slice(b", ")?;
-            append_side(text, source, &sides.right)?;
-            text.extend_from_slice(b"]")
-        }
+    if sides.is_empty() {
+        return Ok(());
     }
-}
-
-/// Appends one side, an object each line.
-fn append_side(text: &mut Vec<u8>, source: &[u8], lines: &[u32]) -> Result<(), AllocError>
-    ensures { OnOk result (text.new.items ≡ text.old.items ++ spec.side_array source.now lines.now) }
-{
-    text.extend_from_slice(b"[")?;
-    append_side_objects(text, source, lines)?;
+    text.extend_from_slice(b", \"sides\": [")?;
+    append_side_objects(text, subject, source, sides)?;
     text.extend_from_slice(b"]")
 }
 
-fn append_side_objects(text: &mut Vec<u8>, source: &[u8], lines: &[u32]) -> Result<(), AllocError>
-    ensures { OnOk result (text.new.items ≡ text.old.items ++ spec.side_objects source.now lines.now) }
+fn append_side_objects(
+    text: &mut Vec<u8>,
+    subject: &Subject<'_, '_, '_>,
+    source: &[u8],
+    sides: &[Side],
+) -> Result<(), AllocError>
+    ensures { OnOk result (text.new.items ≡ text.old.items ++ parted (map (spec.side_object source.now (schema_in subject.now).comps) sides.now)) }
 {
-    for place in 0..lines.len() {
+    for place in 0..sides.len() {
         append_separator(text, place)?;
-        append_source_object(text, source, lines[place])?;
+        append_side(text, subject, source, &sides[place])?;
     }
     Ok(())
+}
+
+/// Appends one side, with its predicates.
+fn append_side(
+    text: &mut Vec<u8>,
+    subject: &Subject<'_, '_, '_>,
+    source: &[u8],
+    side: &Side,
+) -> Result<(), AllocError>
+    ensures { OnOk result (text.new.items ≡ text.old.items ++ spec.side_object source.now (schema_in subject.now).comps side.now) }
+{
+    let name = quoted(subject.style.alloc, source, side.span)?;
+    text.extend_from_slice(b"{")?;
+    append_member(text, b"side", &name)?;
+    text.extend_from_slice(b", \"predicates\": [")?;
+    append_part_objects(text, subject, source, &side.blamed)?;
+    text.extend_from_slice(b"]}")
+}
+
+fn append_part_objects(
+    text: &mut Vec<u8>,
+    subject: &Subject<'_, '_, '_>,
+    source: &[u8],
+    parts: &[Part],
+) -> Result<(), AllocError>
+    ensures { OnOk result (text.new.items ≡ text.old.items ++ parted (map (spec.part_object source.now (schema_in subject.now).comps) parts.now)) }
+{
+    for place in 0..parts.len() {
+        append_separator(text, place)?;
+        append_part_object(text, subject, source, &parts[place])?;
+    }
+    Ok(())
+}
+
+/// Appends `{"line": LINE, "source": PREDICATE}`.
+fn append_part_object(
+    text: &mut Vec<u8>,
+    subject: &Subject<'_, '_, '_>,
+    source: &[u8],
+    part: &Part,
+) -> Result<(), AllocError>
+    ensures { OnOk result (text.new.items ≡ text.old.items ++ spec.part_object source.now (schema_in subject.now).comps part.now) }
+{
+    let mut number = Buffer::new();
+    let line = line_at(source, place_of(part));
+    text.extend_from_slice(b"{\"line\": ")?;
+    text.extend_from_slice(number.format(line).as_bytes())?;
+    text.extend_from_slice(b", ")?;
+    append_source(text, subject, source, part)?;
+    text.extend_from_slice(b"}")
 }
 
 /// Appends what stands before an object, after so many others.
@@ -120,42 +168,53 @@ fn append_separator(text: &mut Vec<u8>, count: usize) -> Result<(), AllocError>
     text.extend_from_slice(b", ")
 }
 
-fn append_source_object(text: &mut Vec<u8>, source: &[u8], line: u32) -> Result<(), AllocError>
-    ensures { OnOk result (text.new.items ≡ text.old.items ++ spec.source_object source.now line) }
-{
-    text.extend_from_slice(b"{")?;
-    append_source(text, source, line)?;
-    text.extend_from_slice(b"}")
-}
-
 /// Appends both operands of a relation, if they are reported.
 fn append_operands(
     text: &mut Vec<u8>,
-    elements: &[Spelling],
+    style: &Style<'_>,
+    source: &[u8],
     operands: &Option<Operands>,
 ) -> Result<(), AllocError>
-    ensures { OnOk result (text.new.items ≡ text.old.items ++ spec.operands_members elements.now operands.now) }
+    ensures { OnOk result (text.new.items ≡ text.old.items ++ spec.operands_members source.now style.now.elements.now operands.now) }
 {
-    match operands {
-        None => Ok(()),
-        Some(operands) => {
-            text.extend_from_slice(b", \"left\": ")?;
-            append_outcome(text, elements, &operands.left)?;
-            text.extend_from_slice(b", \"right\": ")?;
-            append_outcome(text, elements, &operands.right)
+    let Some(operands) = operands else {
+        return Ok(());
+    };
+    text.extend_from_slice(b", \"left\": ")?;
+    append_outcome(text, style, &operands.left)?;
+    text.extend_from_slice(b", \"right\": ")?;
+    append_operand(text, style, source, &operands.right)
+}
+
+/// Appends what an operand comes to, or how the source has it.
+fn append_operand(
+    text: &mut Vec<u8>,
+    style: &Style<'_>,
+    source: &[u8],
+    operand: &Operand,
+) -> Result<(), AllocError>
+    ensures { OnOk result (text.new.items ≡ text.old.items ++ spec.operand_object source.now style.now.elements.now operand.now) }
+{
+    match operand {
+        Operand::Comes(outcome) => append_outcome(text, style, outcome),
+        Operand::Stands(span) => {
+            let there = quoted(style.alloc, source, *span)?;
+            text.extend_from_slice(b"{")?;
+            append_member(text, b"set", &there)?;
+            text.extend_from_slice(b"}")
         }
     }
 }
 
 fn append_outcome(
     text: &mut Vec<u8>,
-    elements: &[Spelling],
+    style: &Style<'_>,
     outcome: &Outcome,
 ) -> Result<(), AllocError>
-    ensures { OnOk result (text.new.items ≡ text.old.items ++ spec.outcome_object elements.now outcome.now) }
+    ensures { OnOk result (text.new.items ≡ text.old.items ++ spec.outcome_object style.now.elements.now outcome.now) }
 {
     match outcome {
-        Outcome::Is(value) => append_value(text, Format::Objects, elements, value),
+        Outcome::Is(value) => append_value(text, Format::Objects, style.elements, value),
         Outcome::Undefined => text.extend_from_slice(b"null"),
         Outcome::Out => text.extend_from_slice(b"{\"out of bounds\": true}"),
     }

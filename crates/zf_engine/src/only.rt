@@ -55,8 +55,8 @@ fn not_components(alloc: Global, at: usize, name: &[u8]) -> Stop
     ensures { IfAnswered result TellsPlaceMisnamed }
 {
     let blanks = name.len().saturating_sub(name.trim_ascii_start().len());
-    match texts::not_components_line(alloc, at.saturating_add(blanks)) {
-        Ok(line) => Stop::Answered(line, Status::BadRequest),
+    match texts::not_components(alloc, at.saturating_add(blanks)) {
+        Ok(message) => Stop::told(alloc, message, Status::BadRequest),
         Err(_) => Stop::OutOfMemory,
     }
 }

@@ -167,7 +167,7 @@ fn settled_in<'p, 'a>(
     requires details { task.report.details ≡ task.exploration.now.details }
     requires checks { Checks task.report.source.now (globals_of globals.now) [] }
     ensures searchable { IfOk result (λ s. IsSearchable task.entry.exploration.now task.entry.report.source.now (environment_of s.env).globals (schemas_of s.schemas) (environment_of s.env)) }
-    ensures stop { IfErr result (AnswersExploration task.entry.exploration.now task.entry.report.file.now task.entry.report.source.now) }
+    ensures stop { IfErr result (AnswersExploration task.entry.exploration.now task.entry.report.source.now) }
 {
     let schemas = schemas_in(task, globals)?;
     check_shape(task.alloc, arena, &schemas)?;
@@ -210,7 +210,7 @@ fn named_sought<'p, 'a>(
     globals: &'p Globals<'a>,
 ) -> Result<Option<Named<'p, 'a>>, Stop>
     ensures named { IfOk result (λ s. AllZip (IsSchemaOf (globals_of globals.now)) (option_to_list task.entry.exploration.now.sought) (option_to_list (option_map named_of s))) }
-    ensures stop { IfErr result (λ s. IfAnswered s (λ text status. FirstFails (IsOfSchema (globals_of globals.now)) (TellsNoSchema task.entry.exploration.now.details (globals_of globals.now) text status) (option_to_list task.entry.exploration.now.sought))) }
+    ensures stop { IfErr result (λ s. IfAnswered s (λ told status. FirstFails (IsOfSchema (globals_of globals.now)) (TellsNoSchema task.entry.exploration.now.details (globals_of globals.now) told status) (option_to_list task.entry.exploration.now.sought))) }
 {
     match &task.exploration.sought {
         None => Ok(None),
@@ -225,7 +225,7 @@ fn named_in<'p, 'a>(
     name: &'p Word,
 ) -> Result<Named<'p, 'a>, Stop>
     ensures named { IfOk result (λ n. IsSchemaOf (globals_of globals.now) name.now (named_of n)) }
-    ensures stop { IfErr result (λ s. IfAnswered s (λ text status. TellsNoSchema task.entry.exploration.now.details (globals_of globals.now) text status name.now)) }
+    ensures stop { IfErr result (λ s. IfAnswered s (λ told status. TellsNoSchema task.entry.exploration.now.details (globals_of globals.now) told status name.now)) }
 {
     let schema = schema_named(task.alloc, globals, name, task.exploration.details)?;
     Ok(Named {
@@ -241,7 +241,7 @@ fn operations_in<'p, 'a>(
     names: &'p [Word],
 ) -> Result<Vec<Named<'p, 'a>>, Stop>
     ensures named { IfOk result (λ v. AllZip (IsSchemaOf (globals_of globals.now)) names.now (map named_of v.items)) }
-    ensures stop { IfErr result (λ s. IfAnswered s (λ text status. FirstFails (IsOfSchema (globals_of globals.now)) (TellsNoSchema task.entry.exploration.now.details (globals_of globals.now) text status) names.now)) }
+    ensures stop { IfErr result (λ s. IfAnswered s (λ told status. FirstFails (IsOfSchema (globals_of globals.now)) (TellsNoSchema task.entry.exploration.now.details (globals_of globals.now) told status) names.now)) }
 {
     let mut operations = Vec::with_capacity(task.alloc, names.len())?;
     for name in names {
@@ -258,8 +258,8 @@ fn check_shape<'a>(alloc: Global, arena: &'a Bump, schemas: &Schemas<'_, 'a>) ->
     let Some(lack) = lack_of(arena, schemas)? else {
         return Ok(());
     };
-    let line = texts::no_component_line(alloc, lack.schema, lack.component)?;
-    Err(Stop::Answered(line, Status::BadRequest))
+    let message = texts::no_component(alloc, lack.schema, lack.component)?;
+    Err(Stop::told(alloc, message, Status::BadRequest))
 }
 
 /// All the schemas, in their order.
@@ -287,7 +287,7 @@ fn check_all_finite<'a>(
 ) -> Result<(), Stop>
     requires { task.report.details ≡ task.exploration.now.details }
     ensures ok { OnOk result (AllByRecursion (λ n. IsFinite (environment_of env.now).numbers (environment_of env.now).globals n.schema) (all_of (schemas_of schemas.now))) }
-    ensures stop { IfErr result (λ s. IfAnswered s (HasInfinite task.entry.exploration.now task.entry.report.file.now (environment_of env.now).numbers (environment_of env.now).globals (schemas_of schemas.now))) }
+    ensures stop { IfErr result (λ s. IfAnswered s (HasInfinite task.entry.exploration.now task.entry.report.source.now (environment_of env.now).numbers (environment_of env.now).globals (schemas_of schemas.now))) }
 {
     let all = all_in(task.alloc, schemas)?;
     for named in &all {

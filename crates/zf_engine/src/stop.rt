@@ -1,16 +1,31 @@
 //! Why no binding is looked for.
-ghost use Rattle.std.specs.Prelude.{◌≡◌};
+ghost use Rattle.std.specs.Prelude.{◌≡◌, ◌∷◌, []};
 ghost use Rattle.zf_engine.specs.declared.stop.Stop.TheVariants.{OutOfMemory};
+ghost use Rattle.zf_engine.specs.{IfAnswered};
 
-use std::alloc::{AllocError, AllocFailed};
+use std::alloc::{AllocError, AllocFailed, Global};
+use zf_data::Items;
 use zf_lines::Status;
+use zf_messages::Message;
 
 /// Why no binding is looked for.
 #[derive(Drop)]
 pub enum Stop {
-    /// The text that is the whole answer, and its status.
-    Answered(Vec<u8>, Status),
+    /// The messages that are the whole answer, and its status.
+    Answered(Items<Message>, Status),
     OutOfMemory,
+}
+
+impl Stop {
+    /// The answer of one message.
+    pub fn told(alloc: Global, message: Message, status: Status) -> Stop
+        ensures { IfAnswered result (λ told s. (told ≡ message ∷ []) × (s ≡ status)) }
+    {
+        match Items::of(alloc, message) {
+            Ok(messages) => Stop::Answered(messages, status),
+            Err(_) => Stop::OutOfMemory,
+        }
+    }
 }
 
 impl From<AllocError> for Stop {

@@ -6,8 +6,9 @@ ghost use Rattle.zf_engine.specs.{Tells, WritesText};
 use crate::stop::Stop;
 use std::alloc::Global;
 use std::io::Write;
-use zf_format::{Format, messages_in};
+use zf_format::Format;
 use zf_lines::{Counted, RunFault, Status, write_text};
+use zf_messages::messages_text;
 
 /// Writes the messages of what is reported, in this format.
 pub fn tell<W: Write>(
@@ -24,7 +25,7 @@ pub fn tell<W: Write>(
 {
     match stop {
         Stop::Answered(told, status) => {
-            let text = messages_in(alloc, format, file, told)?;
+            let text = messages_text(alloc, format, file, told.as_slice())?;
             write_whole(&text, status, writer)
         }
         Stop::OutOfMemory => Err(RunFault::OutOfMemory),

@@ -1,11 +1,12 @@
 //! The first binding of a schema, or why it has none.
 ghost use Rattle.std.specs.Prelude.{◌≡◌, ◌++◌, IfOk, IfErr, MatchOption, OnOk};
 ghost use Rattle.zf_engine.specs.Prelude.{IsBare, Why, IsNoneOut, environment_of, schema_of};
-ghost use Rattle.zf_engine.specs.{Answer, AnswersRequest, CanBeSearched, environment_in, HasNone, IfAnswered, IsAsked, IsBegunOf, line_in, no_binding_line, out_line_in, satisfied_line, schema_in, TellsFirst, TellsNone, TellsOf, TellsOut};
+ghost use Rattle.zf_engine.specs.{Answer, AnswersRequest, CanBeSearched, environment_in, HasNone, IfAnswered, IsAsked, IsBegunOf, line_in, out_line_in, satisfied_line, schema_in, TellsFirst, TellsNone, TellsOf, TellsOut};
 
 use crate::asked::find_schema;
 use crate::begin::begin;
 use crate::check::load;
+use crate::endings::satisfied_line;
 use crate::held::values_held;
 use crate::inquiry::Inquiry;
 use crate::reasons::cause_lines;
@@ -15,7 +16,6 @@ use bumpalo::Bump;
 use std::alloc::{AllocError, Global};
 use zf_command::Request;
 use zf_enum::Search;
-use zf_format::Format;
 use zf_lines::{Status, Style, append_out_line, append_row_line};
 use zf_meaning::{Env, Row};
 use zf_messages::Report;
@@ -33,7 +33,7 @@ pub fn why_source(
 ) -> Result<(Vec<u8>, Status), Stop>
     requires { IsBare request.now }
     ensures answer { IfOk result (λ p. Answer (Why request.now) file.now source.now p.0.items p.1) }
-    ensures stop { IfErr result (AnswersRequest request.now file.now source.now) }
+    ensures stop { IfErr result (AnswersRequest request.now source.now) }
 {
     let trees = Bump::new(alloc);
     let arena = Bump::new(alloc);
@@ -63,7 +63,7 @@ fn why_schema<'a>(
     requires details { inquiry.report.details ≡ inquiry.request.now.details }
     requires asked { IsAsked inquiry.request.now inquiry.report.source.now (environment_of env.now).globals (schema_of schema.now) (environment_of env.now) }
     ensures answer { IfOk result (λ p. Answer (Why inquiry.entry.request.now) inquiry.entry.report.file.now inquiry.entry.report.source.now p.0.items p.1) }
-    ensures stop { IfErr result (AnswersRequest inquiry.entry.request.now inquiry.entry.report.file.now inquiry.entry.report.source.now) }
+    ensures stop { IfErr result (AnswersRequest inquiry.entry.request.now inquiry.entry.report.source.now) }
 {
     let request = inquiry.request;
     let elements = spellings_of(inquiry.alloc, env.globals())?;
@@ -163,27 +163,5 @@ fn none_text(subject: &Subject<'_, '_, '_>, report: Report<'_>) -> Result<Vec<u8
         subject.env,
         &question,
     )?;
-    let mut text = cause_lines(style, report, subject.schema, &cause)?;
-    text.extend_from_slice(no_binding_line(style.format))?;
-    Ok(text)
-}
-
-/// The last line where there is a binding.
-fn satisfied_line(format: Format) -> &'static [u8]
-    ensures { result.now ≡ satisfied_line format }
-{
-    match format {
-        Format::Lines => b"satisfied\n",
-        Format::Objects => b"{\"satisfied\": true}\n",
-    }
-}
-
-/// The last line where there is none.
-fn no_binding_line(format: Format) -> &'static [u8]
-    ensures { result.now ≡ no_binding_line format }
-{
-    match format {
-        Format::Lines => b"no binding\n",
-        Format::Objects => b"{\"no binding\": true}\n",
-    }
+    cause_lines(subject, report, &cause)
 }

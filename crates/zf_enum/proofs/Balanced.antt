@@ -1,5 +1,5 @@
 -- Relations between sums: with a value for which the difference of the sides lies elsewhere they are False.
-use Rattle.zf_enum.proofs.Prelude.{◌++◌, ◌+◌, ◌-◌, ◌<◌, ◌∙◌, ◌∷◌, ◌≡◌, ◌≤◌, [], ap, ap₂, arith, Bool, cases_lt, Contains, false, get_or, inl, length, Less, List, refl, slice_get, Some, subst, suc, sym, true, zero, ℕ, ⊎_elim, AllPairs, AreWithin, binary, Component, Environment, HasOutcome, in_row, Is, IsRowOf, IsTruth, Leaves, link, chain, length-picked, no_links, number, of-Binary, of-Name, of-Unary, picked, Reference, reference, Resolved, resolved_of, unary, value_or, property, ResolvedTree, StaysIn, Value, value_order, follows_outcome, uses, ℤ, pos, ◌+ℤ◌, ◌-ℤ◌, ◌*ℤ◌, ◌≤ℤ◌, ◌<ℤ◌, neg_ℤ, negsuc, FitsSigned, if◌then◌else◌, None, w32, w64, ints, Relation, Unary, Operator, Int, out-Value, get_or_default, cmp_is, is_Int, number_of-Int, same_number, InfixOutcome, SignOutcome, Holds, Context, Span, IsSmall, Spans, IsSpanOf, IsSpanAhead, IsDifferenceOf, IsRuledOut, AreRuledOut, int_ranked, int_cmp, Greater, Infix, Function, IsLink, infinite_in, infinite_right, of-Number}
+use Rattle.zf_enum.proofs.Prelude.{◌++◌, ◌+◌, ◌-◌, ◌<◌, ◌∙◌, ◌∷◌, ◌≡◌, ◌≤◌, [], ap, ap₂, arith, Bool, cases_lt, Contains, false, get_or, inl, length, Less, List, refl, slice_get, Some, subst, suc, sym, true, zero, ℕ, ⊎_elim, AllPairs, AreWithin, binary, Component, Environment, HasOutcome, in_row, Is, IsRowOf, IsTruth, Leaves, link, chain, length-picked, no_links, number, of-Binary, of-Name, of-Unary, picked, Reference, reference, Resolved, resolved_of, unary, value_or, property, ResolvedTree, StaysIn, Value, value_order, follows_outcome, uses, ℤ, pos, ◌+ℤ◌, ◌-ℤ◌, ◌*ℤ◌, ◌≤ℤ◌, ◌<ℤ◌, neg_ℤ, negsuc, FitsSigned, if◌then◌else◌, None, w32, w64, ints, Relation, Unary, Operator, Int, out-Value, get_or_default, cmp_is, is_Int, number_of-Int, same_number, InfixOutcome, SignOutcome, Holds, Context, Interval, IsSmall, Spans, IsIntervalOf, IsIntervalAhead, IsDifferenceOf, IsRuledOut, AreRuledOut, int_ranked, int_cmp, Greater, Infix, Function, IsLink, infinite_in, infinite_right, of-Number, Span}
 use Rattle.zf_extent.specs.{is_membership}
 use Rattle.zf_tree.specs.declared.symbol.Infix.TheVariants as infixes
 use Rattle.zf_tree.specs.declared.operator.Sign.TheVariants.{Minus}
@@ -91,13 +91,13 @@ negation_outcome m f = rw (number_of-Int m) (refl, f)
 link_false : (c : Context) (r : Relation) (t : ResolvedTree) (a b : ℤ) → is_membership r ≡ false → (Holds r (Int a) (Int b) → ⊥) → IsLink (infinite_right c r t) r (Is (Int a)) (Is (Int b)) truth.False
 link_false c r t a b e never = subst (λ (q : Bool). IsLink (if q then infinite_in c.environment t else None) r (Is (Int a)) (Is (Int b)) truth.False) (sym e) never
 
-pub balanced : (e : Environment) (ts : List ResolvedTree) (leaf line : ℕ) (left right : ResolvedTree) (r : Relation) (s : Span) (ranges : List (List Value))
-    (places found : List ℕ) → slice_get ts leaf ≡ Some (chain line left (link r right no_links))
+pub balanced : (e : Environment) (ts : List ResolvedTree) (leaf : ℕ) (span : Span) (left right : ResolvedTree) (r : Relation) (s : Interval) (ranges : List (List Value))
+    (places found : List ℕ) → slice_get ts leaf ≡ Some (chain span left (link r right no_links))
     → IsDifferenceOf e left right ranges places s → AreRuledOut r s (get_or ranges (length places) []) found → Leaves (property e ts) leaf ranges places found
-balanced e ts leaf line left right r s ranges places found at differ out i v more there apart is =
+balanced e ts leaf span left right r s ranges places found at differ out i v more there apart is =
     let ruled = out i v there apart in
     let n = ruled.0 in
-    let p = chain line left (link r right no_links) in
+    let p = chain span left (link r right no_links) in
     let d = differ n more ruled.3 (subst (λ (u : Value). IsRowOf ranges (picked ranges places ++ u ∷ more)) ruled.2 is) in
     let row = picked ranges places ++ Int n ∷ more in
     truth_at e (picked ranges places ++ v ∷ more) ts leaf p at
@@ -121,18 +121,18 @@ fits_wide : (n : ℕ) → FitsSigned w32 (pos n) → FitsSigned w64 (pos n)
 fits_wide n f = record { sfits = omega (arith, ints, f.sfits) }
 
 module _ (e : Environment) (ranges : List (List Value)) (places : List ℕ) where
-  pub number_span : (l n : ℕ) (s : Span) → FitsSigned w32 (pos n) → ((v : ℤ) → Spans s v (pos n)) → IsSpanOf e (number l n) ranges places s
-  number_span l n s f p v more g is = (pos n, (refl, fits_wide n f), p v)
+  pub number_interval : (l : Span) (n : ℕ) (s : Interval) → FitsSigned w32 (pos n) → ((v : ℤ) → Spans s v (pos n)) → IsIntervalOf e (number l n) ranges places s
+  number_interval l n s f p v more g is = (pos n, (refl, fits_wide n f), p v)
 
-  pub ahead_span : (l place : ℕ) (s : Span) → AreWithin ranges places → IsSpanAhead ranges (length places) place s → IsSpanOf e (reference l (Component place)) ranges places s
-  ahead_span l place s within p v more g is =
+  pub ahead_interval : (l : Span) (place : ℕ) (s : Interval) → AreWithin ranges places → IsIntervalAhead ranges (length places) place s → IsIntervalOf e (reference l (Component place)) ranges places s
+  ahead_interval l place s within p v more g is =
       let front = picked ranges places in
       let r = p (front ++ Int v ∷ more) v is (get_next front more (Int v) (length places) (sym (length-picked ranges places within))) in
       (r.0, sym (ap value_or r.1), r.2)
 
-  pub value_span : (t : ResolvedTree) (s : Span) (n : ℤ) → AreWithin ranges places → ((k : ℕ) → k < length ranges → uses t k ≡ true → k < length places)
-      → HasOutcome (in_row e (picked ranges places)) t (Is (Int n)) → ((v : ℤ) → Spans s v n) → IsSpanOf e t ranges places s
-  value_span t s n within first here p v more g is =
+  pub value_interval : (t : ResolvedTree) (s : Interval) (n : ℤ) → AreWithin ranges places → ((k : ℕ) → k < length ranges → uses t k ≡ true → k < length places)
+      → HasOutcome (in_row e (picked ranges places)) t (Is (Int n)) → ((v : ℤ) → Spans s v n) → IsIntervalOf e t ranges places s
+  value_interval t s n within first here p v more g is =
       let front = picked ranges places in
       let row = front ++ Int v ∷ more in
       let long = length-picked ranges places within in
@@ -147,44 +147,44 @@ module _ (e : Environment) (ranges : List (List Value)) (places : List ℕ) wher
         p v,
       )
 
-  pub negated_span : (l : ℕ) (t : ResolvedTree) (s u : Span) → IsSmall u → ((v n : ℤ) → Spans s v n → Spans u v (negsuc 0 *ℤ n)) → IsSpanOf e t ranges places s
-      → IsSpanOf e (unary l (unaries.Sign Minus) t) ranges places u
-  negated_span l t s u small op h v more g is =
+  pub negated_interval : (l : Span) (t : ResolvedTree) (s u : Interval) → IsSmall u → ((v n : ℤ) → Spans s v n → Spans u v (negsuc 0 *ℤ n)) → IsIntervalOf e t ranges places s
+      → IsIntervalOf e (unary l (unaries.Sign Minus) t) ranges places u
+  negated_interval l t s u small op h v more g is =
       let r = h v more g is in
       let p = op v r.0 r.2 in
       let same : negsuc 0 *ℤ r.0 ≡ neg_ℤ r.0 = omega (arith, ints) in
       (neg_ℤ r.0, (Is (Int r.0), r.1, negation_outcome r.0 (subst (FitsSigned w64) same (spans_fit u v (negsuc 0 *ℤ r.0) small g p))), subst (λ (k : ℤ). Spans u v k) same p)
 
-  pub combined_span : (l : ℕ) (op : Infix) (a b : ResolvedTree) (s t u : Span)
+  pub combined_interval : (l : Span) (op : Infix) (a b : ResolvedTree) (s t u : Interval)
       → ((v m n : ℤ) → FitsSigned w32 v → Spans s v m → Spans t v n → (k : ℤ) × InfixOutcome op (Int m) (Int n) (Is (Int k)) × Spans u v k)
-      → IsSpanOf e a ranges places s → IsSpanOf e b ranges places t → IsSpanOf e (binary l (Function op) a b) ranges places u
-  combined_span l op a b s t u h p q v more g is =
+      → IsIntervalOf e a ranges places s → IsIntervalOf e b ranges places t → IsIntervalOf e (binary l (Function op) a b) ranges places u
+  combined_interval l op a b s t u h p q v more g is =
       let x = p v more g is in
       let y = q v more g is in
       let r = h v x.0 y.0 g x.2 y.2 in
       (r.0, (Is (Int x.0), Is (Int y.0), x.1, y.1, r.1), r.2)
 
-  pub difference_span : (a b : ResolvedTree) (s t u : Span) → ((v m n : ℤ) → Spans s v m → Spans t v n → Spans u v (m -ℤ n))
-      → IsSpanOf e a ranges places s → IsSpanOf e b ranges places t → IsDifferenceOf e a b ranges places u
-  difference_span a b s t u h p q v more g is =
+  pub difference_interval : (a b : ResolvedTree) (s t u : Interval) → ((v m n : ℤ) → Spans s v m → Spans t v n → Spans u v (m -ℤ n))
+      → IsIntervalOf e a ranges places s → IsIntervalOf e b ranges places t → IsDifferenceOf e a b ranges places u
+  difference_interval a b s t u h p q v more g is =
       let x = p v more g is in
       let y = q v more g is in
       (x.0, y.0, x.1, y.1, h v x.0 y.0 x.2 y.2)
 
 -- ---- terms as they are seen
 
-pub name_is : (t : Resolved) (l k : ℕ) (r : Reference) → t ≡ form.Name l r → r ≡ Component k → resolved_of t ≡ reference l (Component k)
+pub name_is : (t : Resolved) (l : Span) (k : ℕ) (r : Reference) → t ≡ form.Name l r → r ≡ Component k → resolved_of t ≡ reference l (Component k)
 name_is t l k r is of = ap resolved_of is ∙ of-Name l r ∙ ap (λ q. reference l q) of
 
-pub number_is : (t : Resolved) (l n : ℕ) → t ≡ form.Number l n → resolved_of t ≡ number l n
+pub number_is : (t : Resolved) (l : Span) (n : ℕ) → t ≡ form.Number l n → resolved_of t ≡ number l n
 number_is t l n is = ap resolved_of is ∙ of-Number l n
 
-pub minus_is : (t x inner : Resolved) (l : ℕ) (op : Unary) (s : Sign) → t ≡ form.Unary l op inner → x ≡ inner → op ≡ unaries.Sign s → s ≡ Minus
+pub minus_is : (t x inner : Resolved) (l : Span) (op : Unary) (s : Sign) → t ≡ form.Unary l op inner → x ≡ inner → op ≡ unaries.Sign s → s ≡ Minus
     → resolved_of t ≡ unary l (unaries.Sign Minus) (resolved_of x)
 minus_is t x inner l op s is here of minus =
     ap resolved_of is ∙ of-Unary l op inner ∙ ap (λ u. unary l op (resolved_of u)) (sym here) ∙ ap (λ (o : Unary). unary l o (resolved_of x)) (of ∙ ap unaries.Sign minus)
 
-pub function_is : (t x y a b : Resolved) (l : ℕ) (op : Operator) (f : Infix) → t ≡ form.Binary l op a b → x ≡ a → y ≡ b → op ≡ Function f
+pub function_is : (t x y a b : Resolved) (l : Span) (op : Operator) (f : Infix) → t ≡ form.Binary l op a b → x ≡ a → y ≡ b → op ≡ Function f
     → resolved_of t ≡ binary l (Function f) (resolved_of x) (resolved_of y)
 function_is t x y a b l op f is first second of =
     ap resolved_of is ∙ of-Binary l op a b ∙ ap₂ (λ (u v : Resolved). binary l op (resolved_of u) (resolved_of v)) (sym first) (sym second)
@@ -202,7 +202,7 @@ within_range [] i v at = absurd (cc)
 within_range (y ∷ ys) zero v at = omega arith
 within_range (y ∷ ys) (suc i) v at = let r = within_range ys i v at in omega (arith, r)
 
-module _ (r : Relation) (s : Span) (range : List Value) where
+module _ (r : Relation) (s : Interval) (range : List Value) where
   -- each of the first n values stands at one of these places, or is ruled out
   abbrev pub RuledUpTo : ℕ → List ℕ → Type 0
   RuledUpTo n places = (i : ℕ) (v : Value) → i < n → slice_get range i ≡ Some v → (Contains places i → ⊥) → IsRuledOut r s v

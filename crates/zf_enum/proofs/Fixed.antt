@@ -21,11 +21,11 @@ pub uses_below : (t : ResolvedTree) (k : ℕ) → uses t k ≡ true → k < due 
 uses_below t k e = among_below k (references t) e
 
 pub side_need : (m k : ℕ) (p t : ResolvedTree) → Fixes p k t → need m t ≤ need m p
-side_need m k p t (line, left, right, is, (apart, inl (name, same))) =
+side_need m k p t (span, left, right, is, (apart, inl (name, same))) =
     let whole : need m p ≡ max (need m left) (max (need m right) 0) = ap (need m) is in
     let part : need m t ≡ need m right = ap (need m) same in
     omega (arith, whole, part)
-side_need m k p t (line, left, right, is, (apart, inr (name, same))) =
+side_need m k p t (span, left, right, is, (apart, inr (name, same))) =
     let whole : need m p ≡ max (need m left) (max (need m right) 0) = ap (need m) is in
     let part : need m t ≡ need m left = ap (need m) same in
     omega (arith, whole, part)
@@ -55,7 +55,7 @@ last_used k (r ∷ rs) e =
     (λ more. ap (λ b. cond b true (is_among k rs)) (own_place k r (omega (arith, more, e)))) (cases_lt (place_named r) (greatest_place rs))
 
 beside_unused : (k : ℕ) (p t : ResolvedTree) → Fixes p k t → uses t k ≡ false
-beside_unused k p t (line, left, right, is, (apart, which)) = apart
+beside_unused k p t (span, left, right, is, (apart, which)) = apart
 
 -- where an equation needs no component after the one that it fixes, the expression needs only those before
 pub side_before : (k : ℕ) (p t : ResolvedTree) → Fixes p k t → due p ≤ k + 1 → due t ≤ k
@@ -83,11 +83,11 @@ component_last Out v h = absurd h
 
 -- an equation is false where the component has a value, and the expression another outcome
 pub false_in : (c : Context) (k : ℕ) (p t : ResolvedTree) (v : Value) (o : Outcome) → Fixes p k t → Is v ≡ outcome_in c (Component k) → HasOutcome c t o → IsOther o v → IsTruth c p truth.False
-false_in c k p t v o (line, left, right, is, (apart, inl ((at, name), same))) here h other =
-    subst (λ q. IsTruth c q truth.False) (sym (is ∙ ap₂ (λ (a b : ResolvedTree). chain line a (link Equal b no_links)) name (sym same)))
+false_in c k p t v o (span, left, right, is, (apart, inl ((at, name), same))) here h other =
+    subst (λ q. IsTruth c q truth.False) (sym (is ∙ ap₂ (λ (a b : ResolvedTree). chain span a (link Equal b no_links)) name (sym same)))
     (Is v, here, (o, h, inl (component_first o v other)))
-false_in c k p t v o (line, left, right, is, (apart, inr ((at, name), same))) here h other =
-    subst (λ q. IsTruth c q truth.False) (sym (is ∙ ap₂ (λ (a b : ResolvedTree). chain line a (link Equal b no_links)) (sym same) name))
+false_in c k p t v o (span, left, right, is, (apart, inr ((at, name), same))) here h other =
+    subst (λ q. IsTruth c q truth.False) (sym (is ∙ ap₂ (λ (a b : ResolvedTree). chain span a (link Equal b no_links)) (sym same) name))
     (o, h, (Is v, here, inl (component_last o v other)))
 
 -- ---- the places that are left

@@ -1,5 +1,5 @@
 -- Keys of the values of a component: where the sides of an equation have two of them, it is False.
-use Rattle.zf_enum.proofs.Prelude.{◌++◌, ◌+◌, ◌-◌, ◌<◌, ◌∙◌, ◌∷◌, ◌≡◌, ◌≤◌, ◌⊎◌, [], ap, ap₂, arith, cond, false, get_or, inl, inr, length, List, refl, Some, subst, suc, sym, true, zero, ℕ, ⊎_elim, cases_Bool, cases_lt, false≢true, length-picked, slice_get, AreWithin, picked, Outcome, Is, Out, Undefined, Value, Equal, chain, link, no_links, ResolvedTree, Environment, in_row, IsTruth, IsAtom, due, due_of, None, max, property, uses, follows_outcome, need, ◌≢◌, IfSome, replicate, Holds, IsKeyOf, AreSides, HasKey, HasKeyWith, IsKey, IsKeyed, IsKeyOfValue, IsOnly, key_side, number_of}
+use Rattle.zf_enum.proofs.Prelude.{◌++◌, ◌+◌, ◌-◌, ◌<◌, ◌∙◌, ◌∷◌, ◌≡◌, ◌≤◌, ◌⊎◌, [], ap, ap₂, arith, cond, false, get_or, inl, inr, length, List, refl, Some, subst, suc, sym, true, zero, ℕ, ⊎_elim, cases_Bool, cases_lt, false≢true, length-picked, slice_get, AreWithin, picked, Outcome, Is, Out, Undefined, Value, Equal, chain, link, no_links, ResolvedTree, Environment, in_row, IsTruth, IsAtom, due, due_of, None, max, property, uses, follows_outcome, need, ◌≢◌, IfSome, replicate, Holds, IsKeyOf, AreSides, HasKey, HasKeyWith, IsKey, IsKeyed, IsKeyOfValue, IsOnly, key_side, number_of, Span}
 use Rattle.zf_value.specs.declared.value.Truth.TheVariants as truth
 use Rattle.zf_walk.specs.declared.judge.Truth.TheVariants.{False}
 use Rattle.zf_enum.proofs.Dues.{due_need}
@@ -8,8 +8,8 @@ use Rattle.zf_enum.proofs.Fixed.{get_front, get_next, truth_at, uses_below}
 -- ---- the sides of an equation
 
 -- the side that names the component is the key side
-only-key : (p : ResolvedTree) (k line : ℕ) (left right t s : ResolvedTree) → p ≡ chain line left (link Equal right no_links) → AreSides left right k t s → t ≡ key_side p k
-only-key p k line left right t s is a =
+only-key : (p : ResolvedTree) (k : ℕ) (span : Span) (left right t s : ResolvedTree) → p ≡ chain span left (link Equal right no_links) → AreSides left right k t s → t ≡ key_side p k
+only-key p k span left right t s is a =
     let whole : key_side p k ≡ cond (uses left k) left right = ap (λ q. key_side q k) is in
     ⊎_elim
     (λ first. sym (whole ∙ ap (λ b. cond b left right) (subst (λ x. uses x k ≡ true) (sym first.0) (a.key).named) ∙ first.0))
@@ -22,7 +22,7 @@ only-key p k line left right t s is a =
     a.sides
 
 pub keyed-is : (p : ResolvedTree) (k : ℕ) (t s : ResolvedTree) → IsKeyed p k t s → t ≡ key_side p k
-keyed-is p k t s (line, left, right, is, a) = only-key p k line left right t s is a
+keyed-is p k t s (span, left, right, is, a) = only-key p k span left right t s is a
 
 -- ---- two keys
 
@@ -38,13 +38,13 @@ differ Out y m n a b h = absurd a
 -- where the sides have two keys the equation is False
 pub keyed-false : (e : Environment) (row : List Value) (p : ResolvedTree) (k : ℕ) (t s : ResolvedTree) (m n : ℕ) → IsKeyed p k t s
     → HasKey e row t m → HasKey e row s n → m ≢ n → IsTruth (in_row e row) p truth.False
-keyed-false e row p k t s m n (line, left, right, is, a) (x, hx, kx) (y, hy, ky) h =
+keyed-false e row p k t s m n (span, left, right, is, a) (x, hx, kx) (y, hy, ky) h =
     subst (λ q. IsTruth (in_row e row) q truth.False) (sym is) (⊎_elim
     (λ first. subst (λ q. IsTruth (in_row e row) q truth.False)
-    (ap₂ (λ (u w : ResolvedTree). chain line u (link Equal w no_links)) (sym first.0) (sym first.1))
+    (ap₂ (λ (u w : ResolvedTree). chain span u (link Equal w no_links)) (sym first.0) (sym first.1))
     (x, hx, (y, hy, inl (differ x y m n kx ky h))))
     (λ last. subst (λ q. IsTruth (in_row e row) q truth.False)
-    (ap₂ (λ (u w : ResolvedTree). chain line u (link Equal w no_links)) (sym last.0) (sym last.1))
+    (ap₂ (λ (u w : ResolvedTree). chain span u (link Equal w no_links)) (sym last.0) (sym last.1))
     (y, hy, (x, hx, inl (differ y x n m ky kx (λ same. h (sym same))))))
     a.sides)
 
@@ -97,9 +97,9 @@ is-wanted e ts c last p t s ranges places n at where_is keyed' within wanted due
     (key-on e front (v ∷ more) s n (let b = (keyed.4).before in omega (arith, b, long)) wanted) other)
 
 -- the sides need no more components than the equation
-pub sides-due : (line : ℕ) (left right : ResolvedTree) → (due left ≤ due (chain line left (link Equal right no_links))) × (due right ≤ due (chain line left (link Equal right no_links)))
-sides-due line left right =
-    let p = chain line left (link Equal right no_links) in
+pub sides-due : (span : Span) (left right : ResolvedTree) → (due left ≤ due (chain span left (link Equal right no_links))) × (due right ≤ due (chain span left (link Equal right no_links)))
+sides-due span left right =
+    let p = chain span left (link Equal right no_links) in
     let m = due p + due left + due right in
     let whole : need m p ≡ max (need m left) (max (need m right) 0) = refl in
     let one = due_need m left (omega arith) in

@@ -1,5 +1,5 @@
 -- What is planted of a predicate has its truths.
-use Rattle.zf_enum.proofs.Prelude.{◌++◌, ◌+◌, ◌<◌, ◌↔◌, ◌∙◌, ◌∷◌, ◌≡◌, ◌≤◌, ◌⊎◌, [], ap, arith, inl, inr, length, List, map, max, refl, Some, subst, suc, sym, zero, ℕ, ⊎_elim, All, slice_get, unwrap_or, Truth, SayTheSame, Grove, Grows, Takes, trees_made, trees_of, both, either, HasLeavesWithin, HaveLeavesWithin, IsOfBoth, IsOfEither, IsTreeTruth, leaf, negated, opposite, planted, Tree, tree_at, Value, Not, of-Binary, of-Unary, binary, resolved_of, ResolvedTree, unary, Resolved, Environment, in_row, IsTruth, IsConjunction, IsDisjunction, ArePlanted, IsPlanted, NeedWithin, Plants, PlantsNext, due, HasTruth, property, told, Operator, Unary, Connective}
+use Rattle.zf_enum.proofs.Prelude.{◌++◌, ◌+◌, ◌<◌, ◌↔◌, ◌∙◌, ◌∷◌, ◌≡◌, ◌≤◌, ◌⊎◌, [], ap, arith, inl, inr, length, List, map, max, refl, Some, subst, suc, sym, zero, ℕ, ⊎_elim, All, slice_get, unwrap_or, Truth, SayTheSame, Grove, Grows, Takes, trees_made, trees_of, both, either, HasLeavesWithin, HaveLeavesWithin, IsOfBoth, IsOfEither, IsTreeTruth, leaf, negated, opposite, planted, Tree, tree_at, Value, Not, of-Binary, of-Unary, binary, resolved_of, ResolvedTree, unary, Resolved, Environment, in_row, IsTruth, IsConjunction, IsDisjunction, ArePlanted, IsPlanted, NeedWithin, Plants, PlantsNext, due, HasTruth, property, told, Operator, Unary, Connective, Span}
 use Rattle.zf_tree.specs.declared.symbol.Connective as connective
 use Rattle.zf_tree.specs.declared.symbol.Connective.TheVariants as connectives
 use Rattle.zf_term.specs.declared.resolved.Resolved.TheVariants as form
@@ -112,26 +112,26 @@ leaf_planted xs x = record {
 }
 
 -- the connectives
-pub not_planted : (ls : List ResolvedTree) (l : ℕ) (p : ResolvedTree) (a : Tree) → IsPlanted ls p a → IsPlanted ls (unary l Not p) (negated a)
+pub not_planted : (ls : List ResolvedTree) (l : Span) (p : ResolvedTree) (a : Tree) → IsPlanted ls p a → IsPlanted ls (unary l Not p) (negated a)
 not_planted ls l p a h = record {
   within = h.within;
   same = λ e row t. opposite_same (IsTreeTruth (property e ls) a row) (IsTruth (in_row e row) p) (h.same e row) t;
 }
 
-pub and_planted : (ls : List ResolvedTree) (l : ℕ) (p q : ResolvedTree) (a b : Tree) → IsPlanted ls p a → IsPlanted ls q b → IsPlanted ls (binary l (Connective connectives.And) p q) (both a b)
+pub and_planted : (ls : List ResolvedTree) (l : Span) (p q : ResolvedTree) (a b : Tree) → IsPlanted ls p a → IsPlanted ls q b → IsPlanted ls (binary l (Connective connectives.And) p q) (both a b)
 and_planted ls l p q a b h k = record {
   within = (h.within, k.within);
   same = λ e row t. both_same (IsTreeTruth (property e ls) a row) (IsTreeTruth (property e ls) b row) (IsTruth (in_row e row) p) (IsTruth (in_row e row) q) (h.same e row) (k.same e row) t;
 }
 
-pub or_planted : (ls : List ResolvedTree) (l : ℕ) (p q : ResolvedTree) (a b : Tree) → IsPlanted ls p a → IsPlanted ls q b → IsPlanted ls (binary l (Connective connectives.Or) p q) (either a b)
+pub or_planted : (ls : List ResolvedTree) (l : Span) (p q : ResolvedTree) (a b : Tree) → IsPlanted ls p a → IsPlanted ls q b → IsPlanted ls (binary l (Connective connectives.Or) p q) (either a b)
 or_planted ls l p q a b h k = record {
   within = (h.within, k.within);
   same = λ e row t. either_same (IsTreeTruth (property e ls) a row) (IsTreeTruth (property e ls) b row) (IsTruth (in_row e row) p) (IsTruth (in_row e row) q) (h.same e row) (k.same e row) t;
 }
 
 -- an implication is the disjunction of the left side's negation and the right side
-pub implies_planted : (ls : List ResolvedTree) (l : ℕ) (p q : ResolvedTree) (a b : Tree) → IsPlanted ls (unary l Not p) a → IsPlanted ls q b
+pub implies_planted : (ls : List ResolvedTree) (l : Span) (p q : ResolvedTree) (a b : Tree) → IsPlanted ls (unary l Not p) a → IsPlanted ls q b
     → IsPlanted ls (binary l (Connective connectives.Implies) p q) (either a b)
 implies_planted ls l p q a b h k = record {
   within = (h.within, k.within);
@@ -141,7 +141,7 @@ implies_planted ls l p q a b h k = record {
 
 -- ---- how many components the leaves need
 
-pub due_binary : (l : ℕ) (op : Operator) (p q : ResolvedTree) → due (binary l op p q) ≡ max (due p) (due q)
+pub due_binary : (l : Span) (op : Operator) (p q : ResolvedTree) → due (binary l op p q) ≡ max (due p) (due q)
 due_binary l op p q =
     let m = due (binary l op p q) + (due p + due q) in
     omega (arith, due_need m (binary l op p q) (omega arith), due_need m p (omega arith), due_need m q (omega arith))
@@ -210,27 +210,27 @@ plants_both xs ys zs g h i j p q r a b place tree u v w f dp dq =
 
 -- ---- connectives
 
-pub unary_seen : (t : Resolved) (l : ℕ) (op : Unary) (x y : Resolved) → t ≡ form.Unary l op x → op ≡ Not → y ≡ x → resolved_of t ≡ unary l Not (resolved_of y)
+pub unary_seen : (t : Resolved) (l : Span) (op : Unary) (x y : Resolved) → t ≡ form.Unary l op x → op ≡ Not → y ≡ x → resolved_of t ≡ unary l Not (resolved_of y)
 unary_seen t l op x y e f s =
     ap resolved_of e ∙ of-Unary l op x ∙ ap (λ o. unary l o (resolved_of x)) f ∙ ap (λ z. unary l Not (resolved_of z)) (sym s)
 
-pub binary_seen : (t : Resolved) (l : ℕ) (op : Operator) (j k : connective.Connective) (a b x y : Resolved) → t ≡ form.Binary l op a b → op ≡ Connective j → j ≡ k → x ≡ a → y ≡ b
+pub binary_seen : (t : Resolved) (l : Span) (op : Operator) (j k : connective.Connective) (a b x y : Resolved) → t ≡ form.Binary l op a b → op ≡ Connective j → j ≡ k → x ≡ a → y ≡ b
     → resolved_of t ≡ binary l (Connective k) (resolved_of x) (resolved_of y)
 binary_seen t l op j k a b x y e f c s u =
     ap resolved_of e ∙ of-Binary l op a b ∙ ap (λ o. binary l o (resolved_of a) (resolved_of b)) (f ∙ ap Connective c)
     ∙ ap (λ z. binary l (Connective k) (resolved_of z) (resolved_of b)) (sym s) ∙ ap (λ z. binary l (Connective k) (resolved_of x) (resolved_of z)) (sym u)
 
-unary_due : (l : ℕ) (p : ResolvedTree) → due p ≤ due (unary l Not p)
+unary_due : (l : Span) (p : ResolvedTree) → due p ≤ due (unary l Not p)
 unary_due l p = let same : due p ≤ due p = omega arith in same
 
-pub plants_not : (xs ys : List Resolved) (g h i : Grove) (t p : ResolvedTree) (l a place : ℕ) → t ≡ unary l Not p
+pub plants_not : (xs ys : List Resolved) (g h i : Grove) (t p : ResolvedTree) (l : Span) (a place : ℕ) → t ≡ unary l Not p
     → Plants xs g p a ys h → Grows h (negated (tree_at (trees_made h) a)) place i → Plants xs g t place ys i
 plants_not xs ys g h i t p l a place e u w =
     let tree = tree_at (trees_made h) a in
     subst (λ q. Plants xs g q place ys i) (sym e) (plants_over xs ys g h i p (unary l Not p) a place (negated tree) u w (not_planted (map resolved_of ys) l p tree u.planted) (unary_due l p))
 
 -- both sides of a connective; what is planted in place of the left one needs as many components
-pub plants_joined : (xs ys zs : List Resolved) (g h i j : Grove) (t p q r : ResolvedTree) (k : connective.Connective) (l a b place : ℕ) (tree : Tree)
+pub plants_joined : (xs ys zs : List Resolved) (g h i j : Grove) (t p q r : ResolvedTree) (k : connective.Connective) (l : Span) (a b place : ℕ) (tree : Tree)
     → t ≡ binary l (Connective k) p q → due r ≡ due p → Plants xs g r a ys h → Plants ys h q b zs i → Grows i tree place j
     → (IsPlanted (map resolved_of zs) r (tree_at (trees_made i) a) → IsPlanted (map resolved_of zs) q (tree_at (trees_made i) b)
     → IsPlanted (map resolved_of zs) (binary l (Connective k) p q) tree) → Plants xs g t place zs j

@@ -33,14 +33,14 @@ pub use Rattle.zf_meaning.specs.{Context, Environment, environment_of, HasOutcom
 pub use Rattle.zf_outcome.specs.{Holds, InfixOutcome, IsAtom, IsConjunction, IsDisjunction, SignOutcome, IsLink, IsQuantified, IsTold, one_out, one_undefined, Several, values}
 pub use Rattle.zf_lift.specs.{AreEach, AreLifted, IsLifted, IsLonger}
 pub use Rattle.zf_ranges.specs.{AreAllRanges, AreHeldRanges, AreRanges, first_held, IsComponentRange, IsHeldRange, later_held, IsNoneOut}
-pub use Rattle.zf_enum.specs.{AddsSpreads, AreCandidates, ArePlanted, AreRuledOut, AreSides, AreSpreads, due, due_of, Equates, Fixes, follows_outcome, GoesOn, greatest_place, HasKey, HasKeyWith, HasPlace, HasTruth, is_among, is_component, IsDifferenceOf, IsKept, IsKey, IsKeyed, IsKeyOfValue, IsName, IsOnly, IsPlanted, IsRuledOut, IsSmall, IsSpanAhead, IsSpanOf, IsSpread, IsThere, judged, key_side, need, NeedWithin, place_named, place_up_to, Plants, PlantsNext, property, told, uses, uses_first, uses_of, with_first, EventsResume, OneEvents, OneRanges, TestsAreBound, AreHeldAgain, number_of}
+pub use Rattle.zf_enum.specs.{AddsSpreads, AreCandidates, ArePlanted, AreRuledOut, AreSides, AreSpreads, due, due_of, Equates, Fixes, follows_outcome, GoesOn, greatest_place, HasKey, HasKeyWith, HasPlace, HasTruth, is_among, is_component, IsDifferenceOf, IsKept, IsKey, IsKeyed, IsKeyOfValue, IsName, IsOnly, IsPlanted, IsRuledOut, IsSmall, IsIntervalAhead, IsIntervalOf, IsSpread, IsThere, judged, key_side, need, NeedWithin, place_named, place_up_to, Plants, PlantsNext, property, told, uses, uses_first, uses_of, with_first, EventsResume, OneEvents, OneRanges, TestsAreBound, AreHeldAgain, number_of}
 pub use Rattle.zf_enum.specs.declared.property.Property.{Property}
 pub use Rattle.std.specs.Int.{cast_signed, cast_unsigned, w32, w64}
 pub use Rattle.std.proofs.lemmas.Int.{ints, to_z-of_z, unsigned_abs-mul}
 pub use Rattle.zf_tree.specs.declared.symbol.Relation.{Relation}
 pub use Rattle.zf_tree.specs.declared.operator.Unary.{Unary}
 pub use Rattle.zf_tree.specs.declared.operator.Operator.{Operator}
-pub use Rattle.zf_enum.specs.declared.span.Span.{Span}
+pub use Rattle.zf_enum.specs.declared.interval.Interval.{Interval}
 pub use Rattle.zf_enum.specs.Spans.{Spans}
 pub use lib.IntN.{*ℤ-negsuc, *ℤ_comm, suc_ℤ-*ℤ, zero-*ℤ}
 pub use Rattle.zf_lift.specs.declared.lifted.Lifted.{Lifted}
@@ -49,3 +49,4 @@ pub use Rattle.std.specs.Ordering.{int_cmp, ordering_index}
 pub use Rattle.zf_tree.specs.declared.symbol.Infix.{Infix}
 pub use Rattle.zf_tree.specs.declared.operator.Operator.TheVariants.{Function, Connective, Generic, Application, Image}
 pub use Rattle.std.proofs.lemmas.Option.{none-some, get_or_from_slice_get}
+pub use Rattle.zf_tree.specs.declared.span.Span.{Span}

@@ -1,5 +1,5 @@
 -- Sums, differences and products of numbers that lie between two others.
-use Rattle.zf_enum.proofs.Prelude.{◌≡◌, ◌∙◌, ℕ, ◌+◌, ◌^◌, ◌≤◌, zero, suc, sym, ap, ap₂, subst, arith, to_z, of_z, Option, Some, None, ℤ, pos, negsuc, neg_ℤ, ◌+ℤ◌, ◌-ℤ◌, ◌*ℤ◌, ◌≤ℤ◌, ◌<ℤ◌, FitsSigned, unsigned_abs, unwrap_or, Span, IsSmall, Spans, w32, w64, ints, to_z-of_z, unsigned_abs-mul, zero-*ℤ, suc_ℤ-*ℤ, *ℤ-negsuc, *ℤ_comm, SomeIff, none-some}
+use Rattle.zf_enum.proofs.Prelude.{◌≡◌, ◌∙◌, ℕ, ◌+◌, ◌^◌, ◌≤◌, zero, suc, sym, ap, ap₂, subst, arith, to_z, of_z, Option, Some, None, ℤ, pos, negsuc, neg_ℤ, ◌+ℤ◌, ◌-ℤ◌, ◌*ℤ◌, ◌≤ℤ◌, ◌<ℤ◌, FitsSigned, unsigned_abs, unwrap_or, Interval, IsSmall, Spans, w32, w64, ints, to_z-of_z, unsigned_abs-mul, zero-*ℤ, suc_ℤ-*ℤ, *ℤ-negsuc, *ℤ_comm, SomeIff, none-some}
 use Rattle.std.proofs.Math.Nat.{mul-le-mul}
 
 -- ---- products
@@ -70,19 +70,19 @@ falls (negsuc n) a b p h =
     let z = count_grows (suc n) a b h in
     omega (arith, ints, x, y, z)
 
--- ---- spans
+-- ---- intervals
 
 -- what a checked operation answers, if it answers a number
 pub told : (r : Option ℤ) (P : Type 0) (k y z : ℤ) → SomeIff r P y → r ≡ Some k → y ≡ z → k ≡ z
 told None P k y z h is e = absurd (none-some k is)
 told (Some n) P k y z h is e = sym (ap (λ (o : Option ℤ). unwrap_or o n) is) ∙ h.1 ∙ e
 
-pub plus_spans : (s t u : Span) (v m n : ℤ) → u.times ≡ s.times +ℤ t.times → u.low ≡ s.low +ℤ t.low → u.high ≡ s.high +ℤ t.high → Spans s v m → Spans t v n → Spans u v (m +ℤ n)
+pub plus_spans : (s t u : Interval) (v m n : ℤ) → u.times ≡ s.times +ℤ t.times → u.low ≡ s.low +ℤ t.low → u.high ≡ s.high +ℤ t.high → Spans s v m → Spans t v n → Spans u v (m +ℤ n)
 plus_spans s t u v m n times low high p q =
     let x : u.times *ℤ v ≡ (s.times *ℤ v) +ℤ (t.times *ℤ v) = ap (λ k. k *ℤ v) times ∙ sum_times s.times t.times v in
     (omega (arith, ints, x, low, p.0, q.0), omega (arith, ints, x, high, p.1, q.1))
 
-pub minus_spans : (s t u : Span) (v m n : ℤ) → u.times ≡ s.times -ℤ t.times → u.low ≡ s.low -ℤ t.high → u.high ≡ s.high -ℤ t.low → Spans s v m → Spans t v n → Spans u v (m -ℤ n)
+pub minus_spans : (s t u : Interval) (v m n : ℤ) → u.times ≡ s.times -ℤ t.times → u.low ≡ s.low -ℤ t.high → u.high ≡ s.high -ℤ t.low → Spans s v m → Spans t v n → Spans u v (m -ℤ n)
 minus_spans s t u v m n times low high p q =
     let back : s.times ≡ u.times +ℤ t.times = omega (arith, ints, times) in
     let x : s.times *ℤ v ≡ (u.times *ℤ v) +ℤ (t.times *ℤ v) = ap (λ k. k *ℤ v) back ∙ sum_times u.times t.times v in
@@ -95,7 +95,7 @@ scaled c t u v l k times low =
     let y = times_sum c (t *ℤ v) l in
     omega (arith, ints, x, y, low)
 
-pub up_spans : (c : ℤ) (s u : Span) (v n : ℤ) → (pos 0 ≤ℤ c) → u.times ≡ c *ℤ s.times → u.low ≡ c *ℤ s.low → u.high ≡ c *ℤ s.high → Spans s v n → Spans u v (c *ℤ n)
+pub up_spans : (c : ℤ) (s u : Interval) (v n : ℤ) → (pos 0 ≤ℤ c) → u.times ≡ c *ℤ s.times → u.low ≡ c *ℤ s.low → u.high ≡ c *ℤ s.high → Spans s v n → Spans u v (c *ℤ n)
 up_spans c s u v n sign times low high p =
     let a = scaled c s.times u.times v s.low u.low times low in
     let b = scaled c s.times u.times v s.high u.high times high in
@@ -103,7 +103,7 @@ up_spans c s u v n sign times low high p =
     let y = grows c n ((s.times *ℤ v) +ℤ s.high) sign p.1 in
     (omega (arith, ints, a, x), omega (arith, ints, b, y))
 
-pub down_spans : (c : ℤ) (s u : Span) (v n : ℤ) → (c <ℤ pos 0) → u.times ≡ c *ℤ s.times → u.low ≡ c *ℤ s.high → u.high ≡ c *ℤ s.low → Spans s v n → Spans u v (c *ℤ n)
+pub down_spans : (c : ℤ) (s u : Interval) (v n : ℤ) → (c <ℤ pos 0) → u.times ≡ c *ℤ s.times → u.low ≡ c *ℤ s.high → u.high ≡ c *ℤ s.low → Spans s v n → Spans u v (c *ℤ n)
 down_spans c s u v n sign times low high p =
     let a = scaled c s.times u.times v s.high u.low times low in
     let b = scaled c s.times u.times v s.low u.high times high in
@@ -111,8 +111,8 @@ down_spans c s u v n sign times low high p =
     let y = falls c n ((s.times *ℤ v) +ℤ s.high) sign p.1 in
     (omega (arith, ints, a, y), omega (arith, ints, b, x))
 
--- a span that is one number
-pub only : (s : Span) (v m : ℤ) → s.times ≡ pos 0 → s.low ≡ s.high → Spans s v m → m ≡ s.low
+-- a interval that is one number
+pub only : (s : Interval) (v m : ℤ) → s.times ≡ pos 0 → s.low ≡ s.high → Spans s v m → m ≡ s.low
 only s v m t e p =
     let x : s.times *ℤ v ≡ pos 0 = ap (λ u. u *ℤ v) t ∙ zero-*ℤ v in
     omega (arith, ints, x, e, p.0, p.1)
@@ -143,8 +143,8 @@ fit : (m : ℤ) → (negsuc (2 ^ 62 + 2 ^ 32) ≤ℤ m) → (m ≤ℤ pos (2 ^ 6
 fit (pos n) l h = record { sfits = omega (arith, ints, h) }
 fit (negsuc n) l h = record { sfits = omega (arith, ints, l) }
 
--- a number of a span has 64 bits
-pub spans_fit : (s : Span) (v m : ℤ) → IsSmall s → FitsSigned w32 v → Spans s v m → FitsSigned w64 m
+-- a number of a interval has 64 bits
+pub spans_fit : (s : Interval) (v m : ℤ) → IsSmall s → FitsSigned w32 v → Spans s v m → FitsSigned w64 m
 spans_fit s v m small f p =
     let b = product_between s.times v small.0 f in
     let l = small_low s.low small.1 in
@@ -173,7 +173,7 @@ module _ (x y z a b c : ℤ) (first : x ≡ a) (second : y ≡ b) (third : z ≡
   line_is : to_z w64 (of_z w64 (to_z w64 (of_z w64 x) *ℤ to_z w64 (of_z w64 y))) +ℤ to_z w64 (of_z w64 z) ≡ (a *ℤ b) +ℤ c
   line_is = ap₂ (λ (u v : ℤ). u +ℤ v) product_wide (same_wide z c third h)
 
-  -- the number that a span begins or ends with, as the machine works it out
+  -- the number that a interval begins or ends with, as the machine works it out
   pub line_told : FitsSigned w64 (to_z w64 (of_z w64 (to_z w64 (of_z w64 x) *ℤ to_z w64 (of_z w64 y))) +ℤ to_z w64 (of_z w64 z))
   line_told = subst (FitsSigned w64) (sym line_is) line_fits
 

@@ -1,6 +1,6 @@
 -- Predicates that fix a component, and the places of a range that they leave. No public clause rests on this.
 use Rattle.std.specs.Prelude.{◌≡◌, ◌⊎◌, ℕ, ◌<◌, true, false, List, length, Some, Contains, slice_get}
-use Rattle.zf_enum.specs.Prelude.{Component, Equal, chain, link, no_links, reference, ResolvedTree, Value, Outcome, Is, Undefined, Out, IsMember, members, IsRowOf, Environment, HasOutcome, in_row}
+use Rattle.zf_enum.specs.Prelude.{Component, Equal, chain, link, no_links, reference, ResolvedTree, Value, Outcome, Is, Undefined, Out, IsMember, members, IsRowOf, Environment, HasOutcome, in_row, Span}
 use Rattle.zf_enum.specs.declared.candidates.Tie.{Tie}
 use Rattle.zf_enum.specs.declared.candidates.Tie.TheVariants as tie
 use Rattle.zf_enum.specs.Uses.{uses}
@@ -9,7 +9,7 @@ use Rattle.zf_enum.specs.Uses.{uses}
 
 -- the term is the name of the component
 abbrev pub IsName : ℕ → ResolvedTree → Type 0
-IsName k t = (line : ℕ) × (t ≡ reference line (Component k))
+IsName k t = (span : Span) × (t ≡ reference span (Component k))
 
 -- of the two sides of an equation one is the component, and t the other, which doesn't name it
 abbrev pub IsBeside : ResolvedTree → ResolvedTree → ℕ → ResolvedTree → Type 0
@@ -17,7 +17,7 @@ IsBeside left right k t = (uses t k ≡ false) × ((IsName k left × (t ≡ righ
 
 -- the predicate equates the component with the term
 abbrev pub Fixes : ResolvedTree → ℕ → ResolvedTree → Type 0
-Fixes p k t = (line : ℕ) × (left right : ResolvedTree) × (p ≡ chain line left (link Equal right no_links)) × IsBeside left right k t
+Fixes p k t = (span : Span) × (left right : ResolvedTree) × (p ≡ chain span left (link Equal right no_links)) × IsBeside left right k t
 
 -- ---- candidates
 

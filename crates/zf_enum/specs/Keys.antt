@@ -1,6 +1,6 @@
 -- Equations of an expression of one component alone with one of those before, and the keys of the component's values. No public clause rests on this.
 use Rattle.std.specs.Prelude.{◌≡◌, ◌⊎◌, ℕ, ◌-◌, ◌≤◌, true, cond, List, Some, IfSome, fold, slice_get}
-use Rattle.zf_enum.specs.Prelude.{Equal, chain, link, no_links, ResolvedTree, Value, Outcome, Is, Undefined, Out, Environment, HasOutcome, in_row}
+use Rattle.zf_enum.specs.Prelude.{Equal, chain, link, no_links, ResolvedTree, Value, Outcome, Is, Undefined, Out, Environment, HasOutcome, in_row, Span}
 use Rattle.std.specs.Hash.FoldHasher as folding
 use Rattle.zf_value.specs.contracts.plain.ValueHash.TheImpl as hashed
 use Rattle.zf_enum.specs.Property.{due}
@@ -32,7 +32,7 @@ pub record AreSides (left right : ResolvedTree) (k : ℕ) (t s : ResolvedTree) :
 
 -- the predicate equates two such terms
 abbrev pub IsKeyed : ResolvedTree → ℕ → ResolvedTree → ResolvedTree → Type 0
-IsKeyed p k t s = (line : ℕ) × (left right : ResolvedTree) × (p ≡ chain line left (link Equal right no_links)) × AreSides left right k t s
+IsKeyed p k t s = (span : Span) × (left right : ResolvedTree) × (p ≡ chain span left (link Equal right no_links)) × AreSides left right k t s
 
 -- a number of a value, which others may have too
 unfoldable pub number_of : Value → ℕ

@@ -33,6 +33,6 @@ pub use Rattle.zf_enum.specs.Fixing.{AreCandidates, Fixes, GoesOn, HasPlace, IsB
 unfoldable pub use Rattle.zf_enum.specs.Keys.{number_of}
 pub use Rattle.zf_enum.specs.Keys.{AreSides, HasKey, HasKeyWith, IsKey, IsKeyed, IsKeyOfValue, IsOnly, key_side}
 pub use Rattle.zf_enum.specs.Spans.{IsSmall}
-pub use Rattle.zf_enum.specs.Sums.{AreRuledOut, IsDifferenceOf, IsRuledOut, IsSpanAhead, IsSpanOf, IsSpanOver}
+pub use Rattle.zf_enum.specs.Sums.{AreRuledOut, IsDifferenceOf, IsIntervalAhead, IsIntervalOf, IsIntervalOver, IsRuledOut}
 pub use Rattle.zf_enum.specs.Spreads.{AddsSpreads, AreSpreads, AsksFor, Equates, IsSetOver, IsSpread, IsThere}
 pub use Rattle.zf_enum.specs.Instances.{HaveSameEvents}

@@ -20,3 +20,4 @@ pub use Rattle.zf_extent.specs.{is_membership}
 pub use Rattle.zf_outcome.specs.{Holds, InfixOutcome}
 pub use Rattle.std.specs.declared.cmp.Ordering.TheVariants.{Less}
 pub use Rattle.zf_finite.specs.{IsFinite}
+pub use Rattle.zf_tree.specs.declared.span.Span.{Span}

@@ -1,6 +1,6 @@
 -- Predicates that ask for values of variables with which a component is equal to an expression. No public clause rests on this.
 use Rattle.std.specs.Prelude.{◌≡◌, ◌⊎◌, ℕ, List, Some, All, IfSome, slice_get}
-use Rattle.zf_enum.specs.Prelude.{absent, binary, bracket, comprehension, chain, present, quantified, resolved_of, ResolvedTree}
+use Rattle.zf_enum.specs.Prelude.{absent, binary, bracket, comprehension, chain, present, quantified, resolved_of, ResolvedTree, Span}
 use Rattle.zf_tree.specs.declared.operator.Operator.TheVariants.{Connective}
 use Rattle.zf_tree.specs.declared.symbol.Connective.TheVariants as connective
 use Rattle.zf_tree.specs.declared.symbol.Quantifier.{Quantifier}
@@ -28,7 +28,7 @@ AsksFor _ k t = ⊥
 
 -- the set is that of what the term comes to with any values of the predicate's variables
 abbrev pub IsSetOver : ResolvedTree → ResolvedTree → ResolvedTree → Type 0
-IsSetOver (quantified l q rs c body) t set = (m : ℕ) × (set ≡ comprehension m rs absent (present t))
+IsSetOver (quantified l q rs c body) t set = (m : Span) × (set ≡ comprehension m rs absent (present t))
 IsSetOver _ t set = ⊥
 
 abbrev pub IsSpread : ResolvedTree → ℕ → ResolvedTree → Type 0

@@ -1,6 +1,6 @@
 //! Equations of a component with an expression.
 ghost use Rattle.std.specs.Prelude.{◌≡◌, ℕ, IfSome, IsTrue};
-ghost use Rattle.zf_enum.specs.Prelude.{Component, Equal, chain, link, no_links, resolved_of};
+ghost use Rattle.zf_enum.specs.Prelude.{Component, Equal, chain, link, no_links, resolved_of, Span};
 ghost use Rattle.zf_enum.specs.{Fixes, IsBeside, IsName};
 
 use crate::due::uses;
@@ -20,7 +20,7 @@ pub(crate) struct Relating<'t, 'a> {
 #[inline]
 #[tactic(auto, using(zf_term::proofs::ResolvedSeen::seen))]
 pub(crate) fn relation_of<'t, 'a>(term: &'t Resolved<'a>) -> Option<Relating<'t, 'a>>
-    ensures { IfSome result (λ it. (line : ℕ) × (resolved_of term.now ≡ chain line (resolved_of it.left.now) (link it.relation (resolved_of it.right.now) no_links))) }
+    ensures { IfSome result (λ it. (span : Span) × (resolved_of term.now ≡ chain span (resolved_of it.left.now) (link it.relation (resolved_of it.right.now) no_links))) }
 {
     let Resolved::Chain(_, first, links) = term else {
         return None;

@@ -11,7 +11,7 @@ use std::alloc::{AllocError, Global};
 use zf_data::arena::{Boxed, Items};
 use zf_resolved::copy;
 use zf_term::{Part, Range, Resolved};
-use zf_tree::{Connective, Operator, Quantifier};
+use zf_tree::{Connective, Operator, Quantifier, Span};
 
 /// The set of what a conjunct that asks for values of variables equates a component with.
 #[derive(Drop)]
@@ -128,11 +128,11 @@ fn set_over<'a>(
 ) -> Result<Option<Resolved<'a>>, AllocError>
     ensures { IfOk result (λ found. IfSome found (λ set. IsSetOver (resolved_of whole.now) (resolved_of term.entry) (resolved_of set))) }
 {
-    let Resolved::Quantified(_, line, variables, _, _) = whole else {
+    let Resolved::Quantified(_, span, variables, _, _) = whole else {
         return Ok(None);
     };
     let variables = copied_ranges(arena, variables.as_slice())?;
-    let set = set_of_rows(arena, *line, variables, term)?;
+    let set = set_of_rows(arena, *span, variables, term)?;
     Ok(Some(set))
 }
 
@@ -140,16 +140,16 @@ fn set_over<'a>(
 #[tactic(auto, using(zf_term::proofs::ResolvedSeen::seen))]
 fn set_of_rows<'a>(
     arena: &'a Bump,
-    line: u32,
+    span: Span,
     variables: Boxed<'a, Items<'a, Range<'a>>>,
     term: Resolved<'a>,
 ) -> Result<Resolved<'a>, AllocError>
-    ensures { IfOk result (λ set. resolved_of set ≡ comprehension line (ranges (map range_of variables.entry)) absent (present (resolved_of term.entry))) }
+    ensures { IfOk result (λ set. resolved_of set ≡ comprehension span (ranges (map range_of variables.entry)) absent (present (resolved_of term.entry))) }
 {
     let filter: Part<'a> = Boxed::new(arena, None)?;
     let inner = Boxed::new(arena, term)?;
     let member: Part<'a> = Boxed::new(arena, Some(inner))?;
-    Ok(Resolved::Comprehension(line, variables, filter, member))
+    Ok(Resolved::Comprehension(span, variables, filter, member))
 }
 
 /// The same ranges.

@@ -4,13 +4,13 @@ ghost use Rattle.zf_enum.specs.Prelude.{w32, Less, is_membership, resolved_of, R
 ghost use Rattle.zf_tree.specs.declared.operator.Sign.TheVariants.{Minus};
 ghost use Rattle.zf_plan.specs.Choices.{Leaves};
 ghost use Rattle.zf_enum.specs.Property as spec;
-ghost use Rattle.zf_enum.specs.{AreRuledOut, IsDifferenceOf, IsRuledOut, IsSmall, IsSpanAhead, IsSpanOf, IsSpanOver};
+ghost use Rattle.zf_enum.specs.{AreRuledOut, IsDifferenceOf, IsIntervalAhead, IsIntervalOf, IsIntervalOver, IsRuledOut, IsSmall};
 ghost use Rattle.zf_enum.specs.Spans.{Spans};
 
 use crate::due::needs_first;
 use crate::fixing::{is_equality, is_named, relation_of};
+use crate::interval::{Interval, Untold};
 use crate::shown::Shown;
-use crate::span::{Span, Untold};
 use std::alloc::AllocError;
 use zf_meaning::{Env, value_of};
 use zf_reference::Reference;
@@ -101,7 +101,7 @@ pub(crate) fn gather_balanced<'a>(
     };
     let next = places.len();
     match difference(it.left, it.right, ranges, places, env) {
-        Ok(span) => gather_possible(it.relation, span, &ranges[next], gathered),
+        Ok(interval) => gather_possible(it.relation, interval, &ranges[next], gathered),
         Err(Untold::Unknown) => Ok(false),
         Err(Untold::OutOfMemory) => Err(AllocError),
     }
@@ -114,31 +114,31 @@ fn difference<'a>(
     ranges: &[Range<Value>],
     places: &[usize],
     env: &Env<'_, 'a>,
-) -> Result<Span, Untold>
+) -> Result<Interval, Untold>
     requires ascending { AreAscending value_order ranges.now }
     requires within { AreWithin ranges.now places.now }
     ensures { IfOk result (IsDifferenceOf (environment_of env.now) (resolved_of left.now) (resolved_of right.now) ranges.now places.now) }
 {
-    let left = span_of(left, ranges, places, env)?;
-    let right = span_of(right, ranges, places, env)?;
+    let left = interval_of(left, ranges, places, env)?;
+    let right = interval_of(right, ranges, places, env)?;
     left.minus(right)
 }
 
 /// Gathers the places of a range with which a relation of this difference to 0 may hold, unless these are many.
 fn gather_possible(
     relation: Relation,
-    span: Span,
+    interval: Interval,
     range: &Range<Value>,
     gathered: &mut Vec<usize>,
 ) -> Result<bool, AllocError>
     ensures stay { StaysIn gathered.old.items gathered.new.items }
-    ensures ruled_out { IfOk result (λ found. IsTrue found → AreRuledOut relation span range.now gathered.new.items) }
+    ensures ruled_out { IfOk result (λ found. IsTrue found → AreRuledOut relation interval range.now gathered.new.items) }
 {
-    if !are_few(relation, span, range) {
+    if !are_few(relation, interval, range) {
         return Ok(false);
     }
     for place in 0..range.values.len() {
-        gather_if_possible(relation, span, &range.values[place], place, gathered)?;
+        gather_if_possible(relation, interval, &range.values[place], place, gathered)?;
     }
     Ok(true)
 }
@@ -146,15 +146,15 @@ fn gather_possible(
 /// Gathers the place of a value with which a relation of this difference to 0 may hold.
 fn gather_if_possible(
     relation: Relation,
-    span: Span,
+    interval: Interval,
     value: &Value,
     place: usize,
     gathered: &mut Vec<usize>,
 ) -> Result<(), AllocError>
     ensures stay { StaysIn gathered.old.items gathered.new.items }
-    ensures kept { OnOk result ((Contains gathered.new.items place → ⊥) → IsRuledOut relation span value.now) }
+    ensures kept { OnOk result ((Contains gathered.new.items place → ⊥) → IsRuledOut relation interval value.now) }
 {
-    if !is_possible_with(relation, span, value) {
+    if !is_possible_with(relation, interval, value) {
         return Ok(());
     }
     gathered.push(place)?;
@@ -162,11 +162,11 @@ fn gather_if_possible(
 }
 
 /// Whether a relation of this difference to 0 may hold with few values of a range: at most 64, and half of them.
-fn are_few(relation: Relation, span: Span, range: &Range<Value>) -> bool {
+fn are_few(relation: Relation, interval: Interval, range: &Range<Value>) -> bool {
     let end = range.values.len();
     let mut count: usize = 0;
     for place in 0..end {
-        if is_possible_with(relation, span, &range.values[place]) {
+        if is_possible_with(relation, interval, &range.values[place]) {
             count = count.saturating_add(1);
         }
     }
@@ -174,13 +174,17 @@ fn are_few(relation: Relation, span: Span, range: &Range<Value>) -> bool {
 }
 
 /// Whether a relation of this difference to 0 may hold with a value.
-fn is_possible_with(relation: Relation, span: Span, value: &Value) -> bool
-    ensures { result ≡ false → IsRuledOut relation span value.now }
+fn is_possible_with(relation: Relation, interval: Interval, value: &Value) -> bool
+    ensures { result ≡ false → IsRuledOut relation interval value.now }
 {
     let Some(n) = small(value) else {
         return true;
     };
-    is_possible(relation, span.at(n, span.low), span.at(n, span.high))
+    is_possible(
+        relation,
+        interval.at(n, interval.low),
+        interval.at(n, interval.high),
+    )
 }
 
 /// Whether the relation may hold between numbers whose difference lies from one to another.
@@ -203,59 +207,59 @@ fn is_possible(relation: Relation, low: i64, high: i64) -> bool
 /// What a sum comes to with a value of the next component, whatever the values after it are.
 #[cycle(spanning)]
 #[tactic(auto, using(zf_term::proofs::ResolvedSeen::seen))]
-fn span_of<'a>(
+fn interval_of<'a>(
     term: &Resolved<'a>,
     ranges: &[Range<Value>],
     places: &[usize],
     env: &Env<'_, 'a>,
-) -> Result<Span, Untold>
+) -> Result<Interval, Untold>
     requires ascending { AreAscending value_order ranges.now }
     requires within { AreWithin ranges.now places.now }
-    ensures { IfOk result (IsSpanOf (environment_of env.now) (resolved_of term.now) ranges.now places.now) }
+    ensures { IfOk result (IsIntervalOf (environment_of env.now) (resolved_of term.now) ranges.now places.now) }
 {
     match term {
         Resolved::Name(_, reference) => match *reference {
             Reference::Component(place) if place >= places.len() => {
-                span_ahead(place, ranges, places.len())
+                interval_ahead(place, ranges, places.len())
             }
-            _ => span_of_value(term, ranges, places, env),
+            _ => interval_of_value(term, ranges, places, env),
         },
-        Resolved::Number(_, n) => span_of_number(*n),
-        Resolved::Bracket(_, inner) => span_of(inner.get(), ranges, places, env),
+        Resolved::Number(_, n) => interval_of_number(*n),
+        Resolved::Bracket(_, inner) => interval_of(inner.get(), ranges, places, env),
         Resolved::Unary(_, op, of) => match op {
             Unary::Sign(sign) => {
                 if !is_minus(*sign) {
-                    return span_of_value(term, ranges, places, env);
+                    return interval_of_value(term, ranges, places, env);
                 }
-                let of = span_of(of.get(), ranges, places, env)?;
+                let of = interval_of(of.get(), ranges, places, env)?;
                 of.multiplied(-1)
             }
-            _ => span_of_value(term, ranges, places, env),
+            _ => interval_of_value(term, ranges, places, env),
         },
         Resolved::Binary(_, op, left, right) => match op {
             Operator::Function(op) => {
                 if !adds(*op) {
-                    return span_of_value(term, ranges, places, env);
+                    return interval_of_value(term, ranges, places, env);
                 }
-                let left = span_of(left.get(), ranges, places, env)?;
-                let right = span_of(right.get(), ranges, places, env)?;
+                let left = interval_of(left.get(), ranges, places, env)?;
+                let right = interval_of(right.get(), ranges, places, env)?;
                 combined(*op, left, right)
             }
-            _ => span_of_value(term, ranges, places, env),
+            _ => interval_of_value(term, ranges, places, env),
         },
-        _ => span_of_value(term, ranges, places, env),
+        _ => interval_of_value(term, ranges, places, env),
     }
 }
 
 /// The value of an expression that needs no more values than those that are bound.
-fn span_of_value<'a>(
+fn interval_of_value<'a>(
     term: &Resolved<'a>,
     ranges: &[Range<Value>],
     places: &[usize],
     env: &Env<'_, 'a>,
-) -> Result<Span, Untold>
+) -> Result<Interval, Untold>
     requires within { AreWithin ranges.now places.now }
-    ensures { IfOk result (IsSpanOf (environment_of env.now) (resolved_of term.now) ranges.now places.now) }
+    ensures { IfOk result (IsIntervalOf (environment_of env.now) (resolved_of term.now) ranges.now places.now) }
 {
     if !needs_first(term, places.len(), ranges.len()) {
         return Err(Untold::Unknown);
@@ -263,52 +267,52 @@ fn span_of_value<'a>(
     let row = Picked::new(ranges, places);
     let shown = Shown { row: &row };
     let outcome = value_of(term, &shown, env)?;
-    span_of_outcome(&outcome)
+    interval_of_outcome(&outcome)
 }
 
-fn span_of_outcome(outcome: &Outcome) -> Result<Span, Untold>
+fn interval_of_outcome(outcome: &Outcome) -> Result<Interval, Untold>
     ensures { IfOk result (λ s. (n : ℤ) × (outcome.now ≡ Is (Int n)) × ((v : ℤ) → Spans s v n)) }
 {
     let Outcome::Is(value) = outcome else {
         return Err(Untold::Unknown);
     };
     match small(value) {
-        Some(n) => Ok(Span::point(n)),
+        Some(n) => Ok(Interval::point(n)),
         None => Err(Untold::Unknown),
     }
 }
 
-fn span_of_number(n: u64) -> Result<Span, Untold>
+fn interval_of_number(n: u64) -> Result<Interval, Untold>
     ensures { IfOk result (λ s. FitsSigned w32 (pos n) × ((v : ℤ) → Spans s v (pos n))) }
 {
     match i32::try_from(n) {
-        Ok(n) => Ok(Span::point(n)),
+        Ok(n) => Ok(Interval::point(n)),
         Err(_) => Err(Untold::Unknown),
     }
 }
 
 /// The value of the next component, or any that one after it may have.
-fn span_ahead(place: usize, ranges: &[Range<Value>], next: usize) -> Result<Span, Untold>
+fn interval_ahead(place: usize, ranges: &[Range<Value>], next: usize) -> Result<Interval, Untold>
     requires ascending { AreAscending value_order ranges.now }
-    ensures { IfOk result (IsSpanAhead ranges.now next place) }
+    ensures { IfOk result (IsIntervalAhead ranges.now next place) }
 {
     if place == next {
-        return Ok(Span {
+        return Ok(Interval {
             times: 1,
             low: 0,
             high: 0,
         });
     }
     if place < ranges.len() {
-        return span_over(&ranges[place]);
+        return interval_over(&ranges[place]);
     }
     Err(Untold::Unknown)
 }
 
 /// Any value of a range.
-fn span_over(range: &Range<Value>) -> Result<Span, Untold>
+fn interval_over(range: &Range<Value>) -> Result<Interval, Untold>
     requires { AllPairs (λ v w. value_order v w ≡ Less) range.now }
-    ensures { IfOk result (IsSpanOver range.now) }
+    ensures { IfOk result (IsIntervalOver range.now) }
 {
     let count = range.values.len();
     if count == 0 {
@@ -320,7 +324,7 @@ fn span_over(range: &Range<Value>) -> Result<Span, Untold>
     let Some(high) = small(&range.values[count - 1]) else {
         return Err(Untold::Unknown);
     };
-    Ok(Span {
+    Ok(Interval {
         times: 0,
         low,
         high,
@@ -341,7 +345,7 @@ fn small(value: &Value) -> Option<i32>
 }
 
 /// What an operation makes of two numbers.
-fn combined(op: Infix, left: Span, right: Span) -> Result<Span, Untold>
+fn combined(op: Infix, left: Interval, right: Interval) -> Result<Interval, Untold>
     ensures { IfOk result (λ s. IsSmall s × ((v m n : ℤ) → FitsSigned w32 v → Spans left v m → Spans right v n → (k : ℤ) × InfixOutcome op (Int m) (Int n) (Is (Int k)) × Spans s v k)) }
 {
     match op {

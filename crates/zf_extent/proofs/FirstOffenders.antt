@@ -1,5 +1,5 @@
 -- The first of several that offend, and how it is found from the front.
-use Rattle.zf_extent.proofs.Prelude.{◌≡◌, ℕ, ◌+◌, ◌-◌, ◌<◌, ◌==◌, Bool, Option, List, [], ◌∷◌, ◌++◌, length, map, take, drop, get_or, refl, sym, ap, ◌∙◌, take_rest, Resolved, Defined, links, part_of, range_of, ranges, resolved_link_of, resolved_of, terms, Offender, all_offending, first, is_last, links_offending, offending, part_offending, ranges_offending, tested, unless, option_or, or_else_assoc}
+use Rattle.zf_extent.proofs.Prelude.{◌≡◌, ℕ, ◌+◌, ◌-◌, ◌<◌, ◌==◌, Bool, Option, List, [], ◌∷◌, ◌++◌, length, map, take, drop, get_or, refl, sym, ap, ◌∙◌, take_rest, Resolved, Defined, links, part_of, range_of, ranges, resolved_link_of, resolved_of, terms, Offender, all_offending, first, is_last, links_offending, offending, part_offending, ranges_offending, tested, unless, option_or, or_else_assoc, Span}
 use Rattle.std.proofs.Math.Dec.{eqb-suc-zero}
 use Rattle.zf_term.specs.declared.resolved.Range.{Range}
 use Rattle.zf_term.specs.declared.resolved.Resolved.TheVariants as v
@@ -82,7 +82,7 @@ ends_at xs n = ap (λ ks. length ks == 0) (take_rest xs n) ∙ ends_where (drop 
 
 -- a comprehension: its ranges, the filter, and the term
 pub first_of_comprehension :
-    (g : List Defined) (l : ℕ) (rs : List Range) (p t : Option Resolved) (whole : Resolved) (a b c : Option Offender) → whole ≡ v.Comprehension l rs p t
+    (g : List Defined) (l : Span) (rs : List Range) (p t : Option Resolved) (whole : Resolved) (a b c : Option Offender) → whole ≡ v.Comprehension l rs p t
     → a ≡ first (ranges_offending g (ranges (map range_of rs)))
     → b ≡ option_or a (first (part_offending g (part_of p)))
     → c ≡ option_or b (first (part_offending g (part_of t)))

@@ -1,11 +1,12 @@
 -- What offends in conjuncts: in terms that are joined, what offends in each of them.
-use Rattle.zf_extent.proofs.Prelude.{◌≡◌, ℕ, ◌+◌, ◌<◌, Option, List, [], ◌∷◌, ◌++◌, length, map, drop, get_or, refl, sym, ap, ◌∙◌, append_assoc, append-nil, Resolved, all_joined, batch_of, both_hold, conjunct_of, Defined, is_member, joined, moved, numbering, one_holds, resolved_of, ResolvedTree, option_or, or_else_assoc, Offender, direct, first, offending, offending_within, unless}
+use Rattle.zf_extent.proofs.Prelude.{◌≡◌, ℕ, ◌+◌, ◌<◌, Option, List, [], ◌∷◌, ◌++◌, length, map, drop, get_or, refl, sym, ap, ◌∙◌, append_assoc, append-nil, Resolved, all_joined, batch_of, both_hold, conjunct_of, Defined, is_member, joined, moved, numbering, one_holds, resolved_of, ResolvedTree, option_or, or_else_assoc, Offender, direct, first, offending, offending_within, unless, sides_span, Span}
 use Rattle.std.proofs.lemmas.Grind.{flat_map-append}
 use Rattle.std.proofs.lemmas.List.Concat.{flat_map-cons}
 use Rattle.std.specs.List.{flat_map}
 use Rattle.zf_data.specs.{all_of}
 use Rattle.zf_term.specs.declared.conjunct.Batch.{Batch}
 use Rattle.zf_term.specs.declared.conjunct.Conjunct.{Conjunct}
+use Rattle.zf_term.specs.declared.conjunct.Sides.{Sides}
 use Rattle.zf_term.specs.declared.conjunct.Conjunct.TheVariants as v
 use Rattle.zf_term.proofs.ConjunctsSeen.{batch-seen, of-Either, of-Member, of-Term}
 use Rattle.zf_extent.proofs.FirstOffenders.{first_of_both, first_step}
@@ -25,11 +26,11 @@ onto g t [] = sym (append-nil (offending g t))
 onto g t (u ∷ us) =
     onto g (both_hold t u) us ∙ append_assoc (offending g t) (offending g u) (offenders g us) ∙ ap (λ os. offending g t ++ os) (sym (flat_map-cons (offending g) u us))
 
-of_joined : (g : List Defined) (l : ℕ) (ts : List ResolvedTree) → offending g (joined l ts) ≡ offenders g ts
+of_joined : (g : List Defined) (l : Span) (ts : List ResolvedTree) → offending g (joined l ts) ≡ offenders g ts
 of_joined g l [] = refl
 of_joined g l (t ∷ ts) = onto g t ts ∙ sym (flat_map-cons (offending g) t ts)
 
-of_either : (g : List Defined) (l : ℕ) (ts us : List ResolvedTree) → offending g (one_holds l ts us) ≡ offenders g ts ++ offenders g us
+of_either : (g : List Defined) (l : Span) (ts us : List ResolvedTree) → offending g (one_holds l ts us) ≡ offenders g ts ++ offenders g us
 of_either g l ts us = ap (λ os. os ++ offending g (joined l us)) (of_joined g l ts) ∙ ap (λ os. offenders g ts ++ os) (of_joined g l us)
 
 of_member : (g : List Defined) (i : ℕ) (e : ResolvedTree) → offending g (is_member i e) ≡ offending_within g e
@@ -63,18 +64,18 @@ in_member g i t u ps whole found next is same step =
     (sym (ap (λ c. offending g (conjunct_of c)) is ∙ ap (offending g) (of-Member i t ps) ∙ same_offences g (numbering ps) (is_member i (resolved_of t)) ∙ of_member g i (resolved_of t)))
 
 pub in_either :
-    (g : List Defined) (l : ℕ) (left right bs ds : List Batch) (ps : Option (List ℕ)) (whole : Conjunct) (found a b : Option Offender) → whole ≡ v.Either l left right ps
+    (g : List Defined) (s : Sides) (left right bs ds : List Batch) (ps : Option (List ℕ)) (whole : Conjunct) (found a b : Option Offender) → whole ≡ v.Either s left right ps
     → bs ≡ left → ds ≡ right → a ≡ option_or found (first (side g bs)) → b ≡ option_or a (first (side g ds)) → b ≡ option_or found (first (offending g (conjunct_of whole)))
-in_either g l left right bs ds ps whole found a b is one other first_side second_side =
+in_either g s left right bs ds ps whole found a b is one other first_side second_side =
     second_side
     ∙ ap (λ o. option_or o (first (side g ds))) (first_side ∙ ap (λ xs. option_or found (first (side g xs))) one)
     ∙ ap (λ xs. option_or (option_or found (first (side g left))) (first (side g xs))) other
     ∙ or_else_assoc found (first (side g left)) (first (side g right))
     ∙ ap (option_or found) (sym (first_of_both (side g left) (side g right)))
     ∙ ap (λ os. option_or found (first os))
-    (sym (ap (λ c. offending g (conjunct_of c)) is ∙ ap (offending g) (of-Either l left right ps)
-    ∙ same_offences g (numbering ps) (one_holds l (all_of (map batch_of left)) (all_of (map batch_of right)))
-    ∙ of_either g l (all_of (map batch_of left)) (all_of (map batch_of right))))
+    (sym (ap (λ c. offending g (conjunct_of c)) is ∙ ap (offending g) (of-Either s left right ps)
+    ∙ same_offences g (numbering ps) (one_holds (sides_span s) (all_of (map batch_of left)) (all_of (map batch_of right)))
+    ∙ of_either g (sides_span s) (all_of (map batch_of left)) (all_of (map batch_of right))))
 
 -- ---- one further
 

@@ -1,5 +1,5 @@
 -- In a term whose components are numbered anew the same offends.
-use Rattle.zf_extent.proofs.Prelude.{◌≡◌, ℕ, List, None, ◌&&◌, if◌then◌else◌, refl, ap, ◌∙◌, absent, all_moved, binary, bracket, comprehension, chain, constant, Defined, empty_set, link, links_moved, listed, moved, no_links, no_ranges, no_terms, number, part_moved, present, quantified, range, Ranges, ranges_moved, reference, ResolvedLinks, ResolvedPart, ResolvedTree, term, unary, all_offending, direct, extent_named, extent_set, is_last, is_membership, links_offending, name_offenders, offending, part_offending, ranges_offending, tested}
+use Rattle.zf_extent.proofs.Prelude.{◌≡◌, ℕ, List, None, ◌&&◌, if◌then◌else◌, refl, ap, ◌∙◌, absent, all_moved, binary, bracket, comprehension, chain, constant, Defined, empty_set, link, links_moved, listed, moved, no_links, no_ranges, no_terms, number, part_moved, present, quantified, range, Ranges, ranges_moved, reference, ResolvedLinks, ResolvedPart, ResolvedTree, term, unary, all_offending, direct, extent_named, extent_set, is_last, is_membership, links_offending, name_offenders, offending, part_offending, ranges_offending, tested, Span}
 use Rattle.zf_tree.specs.declared.symbol.Relation.{Relation}
 use Rattle.zf_reference.specs.declared.reference.Reference.{Reference}
 use Rattle.zf_reference.specs.declared.reference.Reference.TheVariants.{Component, Local, Global}
@@ -11,7 +11,7 @@ same_extent g f (Component i) = refl
 same_extent g f (Local i) = refl
 same_extent g f (Global i) = refl
 
-same_name : (g : List Defined) (f : ℕ → ℕ) (l : ℕ) (r : Reference) → name_offenders l (renumbered f r) (extent_named g (renumbered f r)) ≡ name_offenders l r (extent_named g r)
+same_name : (g : List Defined) (f : ℕ → ℕ) (l : Span) (r : Reference) → name_offenders l (renumbered f r) (extent_named g (renumbered f r)) ≡ name_offenders l r (extent_named g r)
 same_name g f l (Component i) = refl
 same_name g f l (Local i) = refl
 same_name g f l (Global i) = refl

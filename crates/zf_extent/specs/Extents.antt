@@ -2,6 +2,7 @@
 -- One may stand as the whole right side of a chain's last link, if that is `\in` or `\notin`, and anywhere in the parameter of an empty set.
 use Rattle.std.specs.Prelude.{ℕ, Bool, true, false, ◌&&◌, if◌then◌else◌, List, [], ◌∷◌, ◌++◌, Option, Some, None, slice_get}
 use Rattle.std.specs.Option.{option_map_or}
+use Rattle.zf_tree.specs.declared.span.Span.{Span}
 use Rattle.zf_tree.specs.declared.symbol.Constant.{Constant}
 use Rattle.zf_tree.specs.declared.symbol.Constant.TheVariants.{Integers, Naturals, Positives}
 use Rattle.zf_tree.specs.declared.symbol.Relation.{Relation}
@@ -68,21 +69,21 @@ unless None offenders = offenders
 unless (Some s) offenders = []
 
 -- the name of a global of this extent, if it offends
-abbrev pub global_offenders : (line place : ℕ) → Extent → List Offender
+abbrev pub global_offenders : Span → (place : ℕ) → Extent → List Offender
 global_offenders l i extent.Closed = []
 global_offenders l i _ = Name l i ∷ []
 
-abbrev pub name_offenders : (line : ℕ) → Reference → Extent → List Offender
+abbrev pub name_offenders : Span → Reference → Extent → List Offender
 name_offenders l (Global i) x = global_offenders l i x
 name_offenders l _ x = []
 
-abbrev pub constant_offenders : (line : ℕ) → Constant → Option Infinite → List Offender
+abbrev pub constant_offenders : Span → Constant → Option Infinite → List Offender
 constant_offenders l c None = []
 constant_offenders l c (Some s) = Symbol l c ∷ []
 
-abbrev pub offender_line : Offender → ℕ
-offender_line (Name l i) = l
-offender_line (Symbol l c) = l
+abbrev pub offender_span : Offender → Span
+offender_span (Name l i) = l
+offender_span (Symbol l c) = l
 
 -- what offends in a term, from left to right: an infinite set where none may stand, or a name whose term has one there
 abbrev mutual

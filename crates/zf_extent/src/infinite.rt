@@ -10,7 +10,7 @@ use zf_reference::Reference;
 use zf_term::{
     Entry, Extent, Globals, Infinite, Links, Part, Range, Resolved, ResolvedLink, Terms,
 };
-use zf_tree::{Constant, Relation};
+use zf_tree::{Constant, Relation, Span};
 
 /// The infinite set that the term is, within brackets or without.
 #[tactic(auto, using(zf_term::proofs::ResolvedSeen::seen))]
@@ -52,9 +52,9 @@ pub fn offending<'a>(term: &Resolved<'a>, globals: &Globals<'a>) -> Option<Offen
     ensures { result ≡ spec.first (spec.offending (globals_of globals.now) (resolved_of term.now)) }
 {
     match term {
-        Resolved::Name(line, reference) => name_offender(*line, *reference, globals),
+        Resolved::Name(span, reference) => name_offender(*span, *reference, globals),
         Resolved::Number(_, _) => None,
-        Resolved::Constant(line, constant) => constant_offender(*line, *constant),
+        Resolved::Constant(span, constant) => constant_offender(*span, *constant),
         Resolved::EmptySet(_, _) => None,
         Resolved::Bracket(_, inner) => offending(inner.get(), globals),
         Resolved::Listed(_, _, items) => terms_offending(items, globals),
@@ -207,33 +207,33 @@ pub(crate) fn constant_set(constant: Constant) -> Option<Infinite>
 }
 
 /// The name, if it offends.
-fn name_offender(line: u32, reference: Reference, globals: &Globals<'_>) -> Option<Offender>
-    ensures { result ≡ spec.first (spec.name_offenders line reference (spec.extent_named (globals_of globals.now) reference)) }
+fn name_offender(span: Span, reference: Reference, globals: &Globals<'_>) -> Option<Offender>
+    ensures { result ≡ spec.first (spec.name_offenders span reference (spec.extent_named (globals_of globals.now) reference)) }
 {
     match reference {
         Reference::Component(_) => None,
         Reference::Local(_) => None,
-        Reference::Global(place) => global_offender(line, place, extent_named(globals, reference)),
+        Reference::Global(place) => global_offender(span, place, extent_named(globals, reference)),
     }
 }
 
 /// The name of the global at this place, if one of this extent offends.
-fn global_offender(line: u32, place: usize, extent: Extent) -> Option<Offender>
-    ensures { result ≡ spec.first (spec.global_offenders line place extent) }
+fn global_offender(span: Span, place: usize, extent: Extent) -> Option<Offender>
+    ensures { result ≡ spec.first (spec.global_offenders span place extent) }
 {
     match extent {
-        Extent::Infinite(_) => Some(Offender::Name(line, place)),
-        Extent::Open => Some(Offender::Name(line, place)),
+        Extent::Infinite(_) => Some(Offender::Name(span, place)),
+        Extent::Open => Some(Offender::Name(span, place)),
         Extent::Closed => None,
     }
 }
 
 /// The constant, if it offends.
-fn constant_offender(line: u32, constant: Constant) -> Option<Offender>
-    ensures { result ≡ spec.first (spec.constant_offenders line constant (spec.constant_set constant)) }
+fn constant_offender(span: Span, constant: Constant) -> Option<Offender>
+    ensures { result ≡ spec.first (spec.constant_offenders span constant (spec.constant_set constant)) }
 {
     match constant_set(constant) {
-        Some(_) => Some(Offender::Symbol(line, constant)),
+        Some(_) => Some(Offender::Symbol(span, constant)),
         None => None,
     }
 }

@@ -1,6 +1,6 @@
 -- The first in components and declared sets, and how it is found from the front.
 use Rattle.std.specs.Prelude.{unwrap_or}
-use Rattle.zf_finite.proofs.Prelude.{◌++◌, ◌+◌, ◌<◌, ◌∙◌, ◌∷◌, ◌≡◌, [], ap, drop, flat_map, get_or, length, List, map, None, Option, option_map, refl, Some, sym, ℕ, flat_map-cons, Defined, set_of, sets_of, Offender, first, all_plain_lines, all_set_offenders, plain_lines, set_offenders, option_or}
+use Rattle.zf_finite.proofs.Prelude.{◌++◌, ◌+◌, ◌<◌, ◌∙◌, ◌∷◌, ◌≡◌, [], ap, drop, flat_map, get_or, length, List, map, None, Option, option_map, refl, Some, sym, ℕ, flat_map-cons, Defined, set_of, sets_of, Offender, first, all_plain_spans, all_set_offenders, plain_spans, set_offenders, option_or, Span}
 use Rattle.std.proofs.lemmas.Option.{none-some}
 use Rattle.zf_term.specs.declared.schema.Domain.{Domain}
 use Rattle.zf_extent.proofs.FirstOffenders.{first_of_both, first_step}
@@ -15,13 +15,13 @@ pub none_found : {A : Type 0} (xs : List A) → None ≡ first xs → xs ≡ []
 none_found [] e = refl
 none_found (l ∷ ls) e = absurd (none-some l e)
 
-pub or_found : (xs : List ℕ) (l : ℕ) → Some l ≡ first xs → l ≡ unwrap_or (first xs) 0
-or_found [] l e = absurd (none-some l (sym e))
-or_found (x ∷ xs) l e = cc
+pub or_found : {A : Type 0} (xs : List A) (l other : A) → Some l ≡ first xs → l ≡ unwrap_or (first xs) other
+or_found [] l other e = absurd (none-some l (sym e))
+or_found (x ∷ xs) l other e = cc
 
-pub or_none : (xs : List ℕ) → None ≡ first xs → 0 ≡ unwrap_or (first xs) 0
-or_none [] e = refl
-or_none (l ∷ ls) e = absurd (none-some l e)
+pub or_none : {A : Type 0} (xs : List A) (other : A) → None ≡ first xs → other ≡ unwrap_or (first xs) other
+or_none [] other e = refl
+or_none (l ∷ ls) other e = absurd (none-some l e)
 
 -- the first of what is made of each
 pub first_of_map : {A B : Type 0} (f : A → B) (xs : List A) → first (map f xs) ≡ option_map f (first xs)
@@ -40,13 +40,13 @@ flat_step f g xs i x whole found next at l =
     first_step (λ ys. flat_map f (map g ys)) (λ ys. flat_map f (map g ys)) xs i x (f (g x)) whole found next at l (flat_map-cons f (g x) (map g (drop (i + 1) xs)))
 
 pub plain_step :
-    (xs : List Domain) (i : ℕ) (x : Domain) (whole found next : Option ℕ)
+    (xs : List Domain) (i : ℕ) (x : Domain) (whole found next : Option Span)
     → x ≡ get_or xs i x → i < length xs
-    → whole ≡ option_or found (first (all_plain_lines (sets_of (map set_of (drop i xs)))))
-    → next ≡ option_or found (first (plain_lines (set_of x)))
-    → whole ≡ option_or next (first (all_plain_lines (sets_of (map set_of (drop (i + 1) xs)))))
+    → whole ≡ option_or found (first (all_plain_spans (sets_of (map set_of (drop i xs)))))
+    → next ≡ option_or found (first (plain_spans (set_of x)))
+    → whole ≡ option_or next (first (all_plain_spans (sets_of (map set_of (drop (i + 1) xs)))))
 plain_step xs i x whole found next at l =
-    first_step (λ ds. all_plain_lines (sets_of (map set_of ds))) (λ ds. all_plain_lines (sets_of (map set_of ds))) xs i x (plain_lines (set_of x)) whole found next at l refl
+    first_step (λ ds. all_plain_spans (sets_of (map set_of ds))) (λ ds. all_plain_spans (sets_of (map set_of ds))) xs i x (plain_spans (set_of x)) whole found next at l refl
 
 pub sets_step :
     (g : List Defined) (xs : List Domain) (i : ℕ) (x : Domain) (whole found next : Option Offender)

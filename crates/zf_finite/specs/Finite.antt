@@ -1,9 +1,10 @@
 -- Which schemas are finite, where given sets are, and sets of numbers if there is a greatest one: each component has a finite declared set.
 use Rattle.std.specs.Prelude.{◌≡◌, IsTrue, ℕ, Bool, false, not, ◌&&◌, ◌||◌, is_some, if◌then◌else◌, List, [], ◌∷◌, ◌++◌, flat_map, map, Option, is_none, unwrap_or}
 use Rattle.std.specs.List.{AllByRecursion}
-use Rattle.zf_term.specs.{carrier, Comp, DeclaredSet, DeclaredSets, Defined, has_numbers, no_sets, plain, Schema, set, sets_of, sides, term_line}
+use Rattle.zf_tree.specs.declared.span.Span.{Span}
+use Rattle.zf_term.specs.{carrier, Comp, DeclaredSet, DeclaredSets, Defined, has_numbers, no_sets, plain, Schema, set, sets_of, sides, term_span}
 use Rattle.zf_extent.specs.declared.offender.Offender.{Offender}
-use Rattle.zf_extent.specs.{direct, first, offender_line, offending, offending_within, unless}
+use Rattle.zf_extent.specs.{direct, first, offender_span, offending, offending_within, unless}
 use Rattle.zf_finite.specs.declared.not_finite.NotFinite.{NotFinite}
 use Rattle.zf_finite.specs.declared.not_finite.NotFinite.TheVariants.{Unbounded, Offends}
 
@@ -18,22 +19,22 @@ abbrev mutual
   one_bounds n g no_sets = false
   one_bounds n g (set d ds) = bounds n g d || one_bounds n g ds
 
--- the lines of the sets of declarations, from left to right
+-- where the sets of declarations stand, from left to right
 abbrev mutual
-  pub plain_lines : DeclaredSet → List ℕ
-  plain_lines (plain t) = term_line t ∷ []
-  plain_lines (carrier t) = []
-  plain_lines (sides left right) = all_plain_lines left ++ all_plain_lines right
+  pub plain_spans : DeclaredSet → List Span
+  plain_spans (plain t) = term_span t ∷ []
+  plain_spans (carrier t) = []
+  plain_spans (sides left right) = all_plain_spans left ++ all_plain_spans right
 
-  pub all_plain_lines : DeclaredSets → List ℕ
-  all_plain_lines no_sets = []
-  all_plain_lines (set d ds) = plain_lines d ++ all_plain_lines ds
+  pub all_plain_spans : DeclaredSets → List Span
+  all_plain_spans no_sets = []
+  all_plain_spans (set d ds) = plain_spans d ++ all_plain_spans ds
 
--- the line of the first of them; a component of a schema has one
-abbrev pub first_plain : DeclaredSets → ℕ
-first_plain ds = unwrap_or (first (all_plain_lines ds)) 0
+-- where the first of them stands; a component of a schema has one
+abbrev pub first_plain : DeclaredSets → Span
+first_plain ds = unwrap_or (first (all_plain_spans ds)) (record { start = 0; stop = 0 })
 
--- the component, with that line, where nothing bounds it
+-- the component, with that place, where nothing bounds it
 abbrev pub unbounded : Option ℕ → List Defined → (name : List ℕ) → DeclaredSets → List NotFinite
 unbounded n g name ds = if one_bounds n g ds then [] else Unbounded (first_plain ds) name ∷ []
 
@@ -55,9 +56,9 @@ comp_causes n g c = unbounded n g c.name (sets_of c.sets) ++ map Offends (unless
 abbrev pub causes : Option ℕ → List Defined → Schema → List NotFinite
 causes n g a = flat_map (comp_causes n g) a.comps ++ map Offends (flat_map (λ t. unless n (offending g t)) a.conjuncts)
 
-abbrev pub cause_line : NotFinite → ℕ
-cause_line (Unbounded l name) = l
-cause_line (Offends o) = offender_line o
+abbrev pub cause_span : NotFinite → Span
+cause_span (Unbounded l name) = l
+cause_span (Offends o) = offender_span o
 
 -- each component has a declared set that bounds it, and nothing offends
 pub record IsFinite (n : Option ℕ) (g : List Defined) (a : Schema) : Type 0 where

@@ -11,6 +11,7 @@ use crate::not_finite::NotFinite;
 use zf_data::arena::{Chunked, Items};
 use zf_extent::{Offender, direct, offending_after, offending_within_after};
 use zf_term::{Component, Conjunct, Domain, Flat, Globals};
+use zf_tree::Span;
 
 /// Whether the schema is finite, after the globals that it is made of, with this greatest number or without one.
 pub fn finite<'a>(
@@ -106,22 +107,22 @@ fn offender_in<'a>(domains: &Chunked<'a, Domain<'a>>, globals: &Globals<'a>) -> 
     offender
 }
 
-/// The line of the first set of a declaration; 0 where there is none.
-pub fn first_plain<'a>(domains: &Chunked<'a, Domain<'a>>) -> u32
+/// Where the first set of a declaration stands; an empty span at 0, if there is none.
+pub fn first_plain<'a>(domains: &Chunked<'a, Domain<'a>>) -> Span
     ensures { result ≡ spec.first_plain (sets_of (map set_of domains.now)) }
 {
-    plain_in(domains).unwrap_or(0)
+    plain_in(domains).unwrap_or(Span { start: 0, stop: 0 })
 }
 
-/// The line of the first set of a declaration, if there is one.
-fn plain_in<'a>(domains: &Chunked<'a, Domain<'a>>) -> Option<u32>
-    ensures { result ≡ first (spec.all_plain_lines (sets_of (map set_of domains.now))) }
+/// Where the first set of a declaration stands, if there is one.
+fn plain_in<'a>(domains: &Chunked<'a, Domain<'a>>) -> Option<Span>
+    ensures { result ≡ first (spec.all_plain_spans (sets_of (map set_of domains.now))) }
 {
-    let mut line = None;
+    let mut span = None;
     for domain in domains.iter() {
-        line = plain_after(domain, line);
+        span = plain_after(domain, span);
     }
-    line
+    span
 }
 
 /// The first in the conjuncts that offends, if no number is the greatest.
@@ -184,11 +185,11 @@ fn one_bounds<'a>(
 
 #[cycle(plain)]
 #[tactic(auto, using(zf_term::proofs::SetsSeen::seen, crate::proofs::FirstCauses::both_after))]
-fn plain_after<'a>(domain: &Domain<'a>, found: Option<u32>) -> Option<u32>
-    ensures { result ≡ option_or found (first (spec.plain_lines (set_of domain.now))) }
+fn plain_after<'a>(domain: &Domain<'a>, found: Option<Span>) -> Option<Span>
+    ensures { result ≡ option_or found (first (spec.plain_spans (set_of domain.now))) }
 {
     match domain {
-        Domain::Plain(set) => found.or(Some(set.get().line())),
+        Domain::Plain(set) => found.or(Some(set.get().span())),
         Domain::Carrier(_) => found,
         Domain::Either(left, right) => all_plain_after(
             right.get(),
@@ -198,14 +199,14 @@ fn plain_after<'a>(domain: &Domain<'a>, found: Option<u32>) -> Option<u32>
 }
 
 #[cycle(plain)]
-fn all_plain_after<'a>(domains: &Items<'a, Domain<'a>>, found: Option<u32>) -> Option<u32>
-    ensures { result ≡ option_or found (first (spec.all_plain_lines (sets_of (map set_of domains.now)))) }
+fn all_plain_after<'a>(domains: &Items<'a, Domain<'a>>, found: Option<Span>) -> Option<Span>
+    ensures { result ≡ option_or found (first (spec.all_plain_spans (sets_of (map set_of domains.now)))) }
 {
-    let mut line = found;
+    let mut span = found;
     for domain in domains.as_slice() {
-        line = plain_after(domain, line);
+        span = plain_after(domain, span);
     }
-    line
+    span
 }
 
 /// What was found before, or the first in the declared set that offends.

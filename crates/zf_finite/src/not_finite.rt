@@ -1,27 +1,28 @@
 //! Why a schema is not finite.
 ghost use Rattle.std.specs.Prelude.{◌≡◌};
-ghost use Rattle.zf_finite.specs.{cause_line};
+ghost use Rattle.zf_finite.specs.{cause_span};
 
 use zf_data::arena::Lent;
 use zf_extent::Offender;
+use zf_tree::Span;
 
 /// Why a schema is not finite: what would be searched without an end.
 #[derive(Drop)]
 pub enum NotFinite<'a> {
-    /// No declared set bounds the component of this name; the line is that of the first of them.
-    Unbounded(u32, Lent<'a>),
+    /// No declared set bounds the component of this name; the place is that of the first of them.
+    Unbounded(Span, Lent<'a>),
     /// This stands where it would be searched.
     Offends(Offender),
 }
 
 impl<'a> NotFinite<'a> {
-    /// The line on which it stands.
-    pub fn line(&self) -> u32
-        ensures { result ≡ cause_line self.now }
+    /// Where it stands.
+    pub fn span(&self) -> Span
+        ensures { result ≡ cause_span self.now }
     {
         match self {
-            NotFinite::Unbounded(line, _) => *line,
-            NotFinite::Offends(offender) => offender.line(),
+            NotFinite::Unbounded(span, _) => *span,
+            NotFinite::Offends(offender) => offender.span(),
         }
     }
 }

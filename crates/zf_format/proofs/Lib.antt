@@ -1,3 +1,3 @@
 pub mod Prelude
 pub mod OneString
-pub mod Reading
+pub mod Bytes

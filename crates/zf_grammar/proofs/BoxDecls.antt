@@ -1,5 +1,5 @@
 -- Schema references, declarations and predicates: what is read is spelled, and what is spelled is read.
-use Rattle.zf_grammar.proofs.Prelude.{◌+◌, ◌∙◌, ◌∷◌, ◌≡◌, ◌≤◌, [], ap, arith, Bool, Err, false, inr, length, List, map, Ok, refl, subst, sym, true, ℕ, leb-false, leb-true, AllByRecursion, if◌then◌else◌, ◌||◌, nat_le, decl_of, DeclTree, include, Tree, vars, tree_of, Name, RefMark, Delta, Plain, Xi, Term, is_mark, next_of, separator, Symbol, symbol, Mark, Kind, decl_height, tree_height, most, atom_level, DeclIsLevelled, expression_level, IsAt, IsLevelled, quantifier_level, first, read_name, rest, parted, Next, PartedBy, Spells, SpellsDecl, SpellsMarked, SpellsName, SpellsNames, SpellsPredicates, SpellsRef, binds, expect, Outcome, read_names, Refused, tall, TooDeep, read_term, Tall}
+use Rattle.zf_grammar.proofs.Prelude.{◌+◌, ◌∙◌, ◌∷◌, ◌≡◌, ◌≤◌, [], ap, arith, Bool, Err, false, inr, length, List, map, Ok, refl, subst, sym, true, ℕ, leb-false, leb-true, AllByRecursion, if◌then◌else◌, ◌||◌, nat_le, decl_of, DeclTree, include, Tree, vars, tree_of, Name, RefMark, Delta, Plain, Xi, Term, is_mark, next_of, separator, Symbol, symbol, Mark, Kind, decl_height, tree_height, most, atom_level, DeclIsLevelled, expression_level, IsAt, IsLevelled, quantifier_level, first, read_name, rest, parted, Next, PartedBy, Spells, SpellsDecl, SpellsMarked, SpellsName, SpellsNames, SpellsPredicates, SpellsRef, binds, expect, Outcome, read_names, Refused, tall, TooDeep, read_term, Tall, Span}
 use Rattle.zf_scan.specs.declared.next.Mark.TheVariants as mark
 use Rattle.zf_scan.specs.declared.next.Next as code
 use Rattle.zf_scan.specs.declared.token.Kind.TheVariants as k
@@ -47,15 +47,15 @@ after_mark : (m : RefMark) (begin ts us : List Symbol) (r : SchemaRef) → marke
     → ((n : Name) → SpellsName n ts us → SpellsMarked m n begin us) → SpellsRef r begin us
 after_mark m begin ts us r e spelled = let s = marked_sound m ts us r e in subst (λ r. SpellsRef r begin us) s.1 (spelled s.0 s.2)
 
-ref_at : (kind : Kind) (line : ℕ) (ts us : List Symbol) (r : SchemaRef) → ref_by (next_of kind) (symbol kind line ∷ ts) ≡ Ok (r, us) → SpellsRef r (symbol kind line ∷ ts) us
-ref_at k.Delta line ts us r e = after_mark Delta (symbol k.Delta line ∷ ts) ts us r e (λ n h. (ts, (line, refl), h))
-ref_at k.Xi line ts us r e = after_mark Xi (symbol k.Xi line ∷ ts) ts us r e (λ n h. (ts, (line, refl), h))
-ref_at kind line ts us r e = after_mark Plain _ _ us r e (λ n h. h)
+ref_at : (kind : Kind) (span : Span) (ts us : List Symbol) (r : SchemaRef) → ref_by (next_of kind) (symbol kind span ∷ ts) ≡ Ok (r, us) → SpellsRef r (symbol kind span ∷ ts) us
+ref_at k.Delta span ts us r e = after_mark Delta (symbol k.Delta span ∷ ts) ts us r e (λ n h. (ts, (span, refl), h))
+ref_at k.Xi span ts us r e = after_mark Xi (symbol k.Xi span ∷ ts) ts us r e (λ n h. (ts, (span, refl), h))
+ref_at kind span ts us r e = after_mark Plain _ _ us r e (λ n h. h)
 
 pub ref_sound : (ts us : List Symbol) (r : SchemaRef) → read_ref ts ≡ Ok (r, us) → SpellsRef r ts us
 unfolding read_ref
 ref_sound [] us r e = after_mark Plain [] [] us r e (λ n h. h)
-ref_sound (t ∷ ts) us r e = ref_at t.kind t.line ts us r e
+ref_sound (t ∷ ts) us r e = ref_at t.kind t.span ts us r e
 
 marked_read : (m : RefMark) (n : Name) (ts us : List Symbol) → SpellsMarked m n ts us → read_ref ts ≡ Ok (new_ref m n, us)
 unfolding read_ref marked
@@ -120,7 +120,7 @@ variables_answers n ns t ts us at h stop =
     let (a, b, names, colon, set) = h in
     let Is = Seen decl_of (vars ns t) (tree_height t) in
     then_answers Is n (tree_height t) (read_names ts) _ ns a us (ok_names ns ts a (not_at mark.Comma k.Colon a b colon refl) names)
-    (then_answers Is n (tree_height t) (expect mark.Colon a) _ tt b us (ok_expect mark.Colon a b colon)
+    (then_answers Is n (tree_height t) (expect mark.Colon a) _ colon.0 b us (ok_expect mark.Colon a b colon)
     (and_answers (Seen tree_of t (tree_height t)) Is n (tree_height t) n (tree_height t) (read_term n expression_level b) _ us us (λ above. above)
     (term_read n expression_level t b us at set stop)
     (λ x s low. done Is n (tree_height t) (tall (decl.Vars ns x.part) x.height) us (record { is = ap (vars ns) s.is; high = s.high }) low)))
@@ -220,11 +220,11 @@ either : {A : Type 0} (b : Bool) (x y : Outcome A) → x ≡ Err Refused → y �
 either true x y e f = e
 either false x y e f = f
 
-bracket_decl : (n l : ℕ) (ts : List Symbol) → read_decl n (symbol k.OpenSquare l ∷ ts) ≡ Err Refused
+bracket_decl : (n : ℕ) (l : Span) (ts : List Symbol) → read_decl n (symbol k.OpenSquare l ∷ ts) ≡ Err Refused
 unfolding read_decl variables inclusion read_ref marked parted
 bracket_decl n l ts = either (is_declared (symbol k.OpenSquare l ∷ ts)) _ _ refl refl
 
-bracket_decls : (n l : ℕ) (ts : List Symbol) → read_decls n (symbol k.OpenSquare l ∷ ts) ≡ Err Refused
+bracket_decls : (n : ℕ) (l : Span) (ts : List Symbol) → read_decls n (symbol k.OpenSquare l ∷ ts) ≡ Err Refused
 unfolding items
 bracket_decls n l ts = rw (bracket_decl n l ts) refl
 

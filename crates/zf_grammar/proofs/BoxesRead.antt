@@ -1,5 +1,5 @@
 -- Boxes and whole texts: what is read is spelled, and what is spelled is read.
-use Rattle.zf_grammar.proofs.Prelude.{◌++◌, ◌+◌, ◌∙◌, ◌∷◌, ◌≡◌, ◌≤◌, [], ap, append_assoc, arith, false, length, List, map, max, Ok, refl, subst, suc, sym, true, zero, ℕ, append-nil, map-append, AllByRecursion, box_of, BoxTree, decl_of, DeclTree, paragraph_of, ParagraphTree, schema_box, Tree, zed, tree_of, Name, ZBox, is_mark, next_of, separator, Symbol, symbol, Kind, SpellsUpTo, box_by, predicates, read_decls, read_paragraph, boxes_from, items, read_all, read_box, read_boxes, read_schema_box, read_zed, box_height, decl_height, tree_height, highest, most, paragraph_height, BoxIsLevelled, ParagraphIsLevelled, quantifier_level, first, is_end, read_opening, Next, PartedBy, SpellsBox, SpellsBoxes, SpellsParagraph, binds, expect, Outcome}
+use Rattle.zf_grammar.proofs.Prelude.{◌++◌, ◌+◌, ◌∙◌, ◌∷◌, ◌≡◌, ◌≤◌, [], ap, append_assoc, arith, false, length, List, map, max, Ok, refl, subst, suc, sym, true, zero, ℕ, append-nil, map-append, AllByRecursion, box_of, BoxTree, decl_of, DeclTree, paragraph_of, ParagraphTree, schema_box, Tree, zed, tree_of, Name, ZBox, is_mark, next_of, separator, Symbol, symbol, Kind, SpellsUpTo, box_by, predicates, read_decls, read_paragraph, boxes_from, items, read_all, read_box, read_boxes, read_schema_box, read_zed, box_height, decl_height, tree_height, highest, most, paragraph_height, BoxIsLevelled, ParagraphIsLevelled, quantifier_level, first, is_end, read_opening, Next, PartedBy, SpellsBox, SpellsBoxes, SpellsParagraph, binds, expect, Outcome, Span}
 use Rattle.zf_scan.specs.declared.next.Mark.TheVariants as mark
 use Rattle.zf_scan.specs.declared.token.Kind.TheVariants as k
 use Rattle.zf_tree.specs.declared.tree.ZBox.TheVariants as zbox
@@ -46,14 +46,14 @@ schema_box_sound n ts us b e =
           (name.1, ds.1, ps.1, opened.0, opened.1, d.spelled, p.spelled, expect_ok mark.EndBox ps.1 end.1 end.0 end.2);
     })
 
-box_at : (n : ℕ) (kind : Kind) (line : ℕ) (ts us : List Symbol) (b : ZBox) → box_by n (next_of kind) (symbol kind line ∷ ts) ≡ Ok (b, us) → BoxIsThere n b (symbol kind line ∷ ts) us
-box_at n k.BeginZed line ts us b e = zed_sound n (symbol k.BeginZed line ∷ ts) ts us b (line, refl) e
-box_at n kind line ts us b e = schema_box_sound n _ us b e
+box_at : (n : ℕ) (kind : Kind) (span : Span) (ts us : List Symbol) (b : ZBox) → box_by n (next_of kind) (symbol kind span ∷ ts) ≡ Ok (b, us) → BoxIsThere n b (symbol kind span ∷ ts) us
+box_at n k.BeginZed span ts us b e = zed_sound n (symbol k.BeginZed span ∷ ts) ts us b (span, refl) e
+box_at n kind span ts us b e = schema_box_sound n _ us b e
 
 pub box_sound : (n : ℕ) (ts us : List Symbol) (b : ZBox) → read_box n ts ≡ Ok (b, us) → BoxIsThere n b ts us
 unfolding read_box
 box_sound n [] us b e = schema_box_sound n [] us b e
-box_sound n (t ∷ ts) us b e = box_at n t.kind t.line ts us b e
+box_sound n (t ∷ ts) us b e = box_at n t.kind t.span ts us b e
 
 -- ---- a box that is there is read
 
@@ -74,7 +74,7 @@ zed_answers n ps ts b us lev all end =
     (items_answers paragraph_of paragraph_height ParagraphIsLevelled SpellsParagraph mark.Separator n
     (read_paragraph n) EndsParagraph separator_ends paragraph_shorter (paragraph_answers n) ps ts b
     (not_at mark.Separator k.EndBox b us end refl) ends lev all)
-    (λ xs s low. then_answers Is n h (expect mark.EndBox b) _ tt us us (ok_expect mark.EndBox b us end) (done Is n h (zbox.Zed xs.part) us (ap zed s.is) low))
+    (λ xs s low. then_answers Is n h (expect mark.EndBox b) _ end.0 us us (ok_expect mark.EndBox b us end) (done Is n h (zbox.Zed xs.part) us (ap zed s.is) low))
 
 schema_box_answers : (n : ℕ) (name : Name) (ds : List DeclTree) (ps : List Tree) (ts us : List Symbol) → BoxIsLevelled (schema_box name ds ps)
     → SpellsBox (schema_box name ds ps) ts us → BoxIsRead n (schema_box name ds ps) (read_schema_box n ts) us
@@ -82,8 +82,8 @@ unfolding read_schema_box
 schema_box_answers n name ds ps ts us lev h =
     let (a, b, c, bare, begin, decls, under, end) = h in
     let Is = λ (b : ZBox). box_of b ≡ schema_box name ds ps in
-    let m : Name = record { base = name.base; strokes = []; line = name.line } in
-    let m_is : m ≡ name = ap (λ s. record { base = name.base; strokes = s; line = name.line }) (sym bare) in
+    let m : Name = record { base = name.base; strokes = []; span = name.span } in
+    let m_is : m ≡ name = ap (λ s. record { base = name.base; strokes = s; span = name.span }) (sym bare) in
     let opened : read_opening ts ≡ Ok (m, a) = ap read_opening begin in
     let h = box_height (schema_box name ds ps) in
     let last : is_mark mark.Separator (first b) ≡ false = begins (λ x. is_mark mark.Separator x ≡ false) k.Where k.EndBox ps b c us under end refl refl in
@@ -99,7 +99,7 @@ schema_box_answers n name ds ps ts us lev h =
     let same : schema_box m (map decl_of xs.part) (map tree_of ys.part) ≡ schema_box name ds ps = ap
     (λ m. schema_box m (map decl_of xs.part) (map tree_of ys.part)) m_is ∙ ap (λ ds. schema_box name ds (map tree_of ys.part)) sx.is
     ∙ ap (schema_box name ds) sy.is in
-    then_answers Is n h (expect mark.EndBox c) _ tt us us (ok_expect mark.EndBox c us end) (done Is n h (zbox.SchemaBox m xs.part ys.part) us same (omega arith)))))
+    then_answers Is n h (expect mark.EndBox c) _ end.0 us us (ok_expect mark.EndBox c us end) (done Is n h (zbox.SchemaBox m xs.part ys.part) us same (omega arith)))))
 
 pub box_answers : (n : ℕ) (t : BoxTree) (ts us : List Symbol) → BoxIsLevelled t → SpellsBox t ts us → BoxIsRead n t (read_box n ts) us
 unfolding read_box

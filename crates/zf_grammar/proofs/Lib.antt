@@ -1,4 +1,5 @@
 mod Prelude
+mod Lasts
 pub mod Cursored
 pub mod Turns
 pub mod Marks

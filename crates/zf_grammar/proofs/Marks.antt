@@ -1,11 +1,11 @@
 -- The symbols that a rule asks for by themselves.
-use Rattle.zf_grammar.proofs.Prelude.{◌+◌, ◌∙◌, ◌∷◌, ◌≡◌, ◌≤◌, [], ap, arith, length, List, Ok, refl, subst, true, expect, Refused, is_mark, next_of, separator, Symbol, symbol, Mark, Kind, Next, first, rest}
+use Rattle.zf_grammar.proofs.Prelude.{ℕ, ◌+◌, ◌∙◌, ◌∷◌, ◌≡◌, ◌≤◌, [], ap, arith, length, List, Ok, refl, subst, true, expect, Refused, is_mark, next_of, separator, Symbol, symbol, Mark, Kind, Ends, here, Next, first, rest, Span, Starts, sym, through}
 use Rattle.zf_scan.specs.declared.next.Mark.TheVariants as mark
 use Rattle.zf_scan.specs.declared.next.Next.TheVariants as next
 use Rattle.zf_scan.specs.declared.token.Kind.TheVariants as k
 use Rattle.zf_scan.specs.declared.token.Separator.{Separator}
 use Rattle.zf_scan.specs.declared.token.Separator.TheVariants.{Semicolon}
-use Rattle.zf_grammar.proofs.TermSteps.{if_ok, ok_rest}
+use Rattle.zf_grammar.proofs.TermSteps.{if_ok, ok_pair}
 
 abbrev pub kind_of : Mark → Kind
 kind_of mark.EndBox = k.EndBox
@@ -51,9 +51,12 @@ itself mark.EndBox = refl
 itself _ = refl
 
 -- where the symbol is seen, it stands
+starts : (m : Mark) (ts : List Symbol) → is_mark m (first ts) ≡ true → Starts (kind_of m) (here ts) ts (rest ts)
+starts m [] e = absurd (not_at_end m e)
+starts m (t ∷ ts) e = ap (λ kind. symbol kind t.span ∷ ts) (kind_is m t.kind e)
+
 pub marked : (m : Mark) (ts : List Symbol) → is_mark m (first ts) ≡ true → Next (kind_of m) ts (rest ts)
-marked m [] e = absurd (not_at_end m e)
-marked m (t ∷ ts) e = (t.line, ap (λ kind. symbol kind t.line ∷ ts) (kind_is m t.kind e))
+marked m ts e = (here ts, starts m ts e)
 
 -- where it stands, it is seen
 pub seen : (m : Mark) (ts us : List Symbol) → Next (kind_of m) ts us → is_mark m (first ts) ≡ true
@@ -67,10 +70,28 @@ next_shorter ts us h = omega (arith, ap length h.1)
 
 -- ---- and so it is read
 
-pub expect_ok : (m : Mark) (ts us : List Symbol) (u : Unit {0}) → expect m ts ≡ Ok (u, us) → Next (kind_of m) ts us
-expect_ok m ts us u e =
-    let t = if_ok (is_mark m (first ts)) (Ok (tt, rest ts)) (u, us) Refused e in
-    subst (Next (kind_of m) ts) (ok_rest tt u (rest ts) us t.1) (marked m ts t.0)
+expect_starts : (m : Mark) (ts us : List Symbol) (span : Span) → expect m ts ≡ Ok (span, us) → Starts (kind_of m) span ts us
+expect_starts m ts us span e =
+    let t = if_ok (is_mark m (first ts)) (Ok (here ts, rest ts)) (span, us) Refused e in
+    subst (λ p. Starts (kind_of m) p.0 ts p.1) (ok_pair (here ts, rest ts) (span, us) t.1) (starts m ts t.0)
 
-pub ok_expect : (m : Mark) (ts us : List Symbol) → Next (kind_of m) ts us → expect m ts ≡ Ok (tt, us)
-ok_expect m ts us h = rw (seen m ts us h) (ap (λ us. Ok (tt, us)) (passed ts us h))
+pub expect_ok : (m : Mark) (ts us : List Symbol) (span : Span) → expect m ts ≡ Ok (span, us) → Next (kind_of m) ts us
+expect_ok m ts us span e = (span, expect_starts m ts us span e)
+
+pub ok_expect : (m : Mark) (ts us : List Symbol) (h : Next (kind_of m) ts us) → expect m ts ≡ Ok (h.0, us)
+ok_expect m ts us h = rw (seen m ts us h) (ap (λ ts. Ok (here ts, rest ts)) h.1)
+
+-- the symbol with which a part ends
+pub ends_ok : (m : Mark) (begin end : Span) (ts us : List Symbol) → expect m ts ≡ Ok (end, us) → Ends (kind_of m) (through begin end) ts us
+ends_ok m begin end ts us e = (end, expect_starts m ts us end e, refl)
+
+abbrev pub begins_next : {kind : Kind} {start : ℕ} {ts us : List Symbol} → (span : Span) × Starts kind span ts us × (start ≡ span.start) → Next kind ts us
+begins_next h = (h.0, h.1)
+
+abbrev pub ends_next : {kind : Kind} {stop : ℕ} {ts us : List Symbol} → (span : Span) × Starts kind span ts us × (stop ≡ span.stop) → Next kind ts us
+ends_next h = (h.0, h.1)
+
+-- a part that begins and ends with these
+pub is_through : (s begin end : Span) → s.start ≡ begin.start → s.stop ≡ end.stop → through begin end ≡ s
+is_through s begin end start stop =
+    ap (λ n. record { start = n; stop = end.stop }) (sym start) ∙ ap (λ n. record { start = s.start; stop = n }) (sym stop)

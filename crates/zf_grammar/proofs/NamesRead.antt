@@ -1,5 +1,5 @@
 -- Names: what is read is spelled, and what is spelled is read.
-use Rattle.zf_grammar.proofs.Prelude.{◌++◌, ◌+◌, ◌∙◌, ◌∷◌, ◌≡◌, ◌≤◌, [], ap, append_assoc, arith, false, length, List, Ok, refl, subst, suc, sym, zero, ℕ, append-nil, Name, is_mark, Symbol, symbol, Mark, Kind, first, name_by, opening_by, read_name, read_opening, rest, parted, parted_from, PartedBy, read_names, SpellsName, SpellsNames, Starts}
+use Rattle.zf_grammar.proofs.Prelude.{◌++◌, ◌+◌, ◌∙◌, ◌∷◌, ◌≡◌, ◌≤◌, [], ap, append_assoc, arith, false, length, List, Ok, refl, subst, suc, sym, zero, ℕ, append-nil, Name, is_mark, Symbol, symbol, Mark, Kind, first, name_by, opening_by, read_name, read_opening, rest, parted, parted_from, PartedBy, read_names, SpellsName, SpellsNames, Starts, Span}
 use Rattle.zf_scan.specs.declared.next.Mark.TheVariants as mark
 use Rattle.zf_scan.specs.declared.token.Kind.TheVariants as k
 use Rattle.zf_grammar.proofs.Marks.{kind_of, seen, passed, next_shorter}
@@ -8,30 +8,30 @@ use Rattle.zf_grammar.proofs.TermSteps.{ok_value, ok_rest}
 
 -- ---- what is read is spelled
 
-name_at : (kind : Kind) (line : ℕ) (ts us : List Symbol) (n : Name) → name_by kind line (symbol kind line ∷ ts) ≡ Ok (n, us) → SpellsName n (symbol kind line ∷ ts) us
-name_at (k.Name base strokes) line ts us n e =
-    subst (λ n. SpellsName n (symbol (k.Name base strokes) line ∷ ts) us) (ok_value _ n ts us e)
-    (ap (λ ts. symbol (k.Name base strokes) line ∷ ts) (ok_rest _ n ts us e))
-name_at k.BeginZed line ts us n e = absurd (cc)
-name_at _ line ts us n e = absurd (cc)
+name_at : (kind : Kind) (span : Span) (ts us : List Symbol) (n : Name) → name_by kind span (symbol kind span ∷ ts) ≡ Ok (n, us) → SpellsName n (symbol kind span ∷ ts) us
+name_at (k.Name base strokes) span ts us n e =
+    subst (λ n. SpellsName n (symbol (k.Name base strokes) span ∷ ts) us) (ok_value _ n ts us e)
+    (ap (λ ts. symbol (k.Name base strokes) span ∷ ts) (ok_rest _ n ts us e))
+name_at k.BeginZed span ts us n e = absurd (cc)
+name_at _ span ts us n e = absurd (cc)
 
 pub name_ok : (ts us : List Symbol) (n : Name) → read_name ts ≡ Ok (n, us) → SpellsName n ts us
 name_ok [] us n e = absurd (cc)
-name_ok (t ∷ ts) us n e = name_at t.kind t.line ts us n e
+name_ok (t ∷ ts) us n e = name_at t.kind t.span ts us n e
 
 abbrev pub IsOpening : Name → List Symbol → List Symbol → Type 0
-IsOpening n ts us = (n.strokes ≡ []) × Starts (k.BeginSchema n.base) n.line ts us
+IsOpening n ts us = (n.strokes ≡ []) × Starts (k.BeginSchema n.base) n.span ts us
 
-opening_at : (kind : Kind) (line : ℕ) (ts us : List Symbol) (n : Name) → opening_by kind line (symbol kind line ∷ ts) ≡ Ok (n, us) → IsOpening n (symbol kind line ∷ ts) us
-opening_at (k.BeginSchema base) line ts us n e =
-    subst (λ n. IsOpening n (symbol (k.BeginSchema base) line ∷ ts) us) (ok_value _ n ts us e)
-    (refl, ap (λ ts. symbol (k.BeginSchema base) line ∷ ts) (ok_rest _ n ts us e))
-opening_at k.BeginZed line ts us n e = absurd (cc)
-opening_at _ line ts us n e = absurd (cc)
+opening_at : (kind : Kind) (span : Span) (ts us : List Symbol) (n : Name) → opening_by kind span (symbol kind span ∷ ts) ≡ Ok (n, us) → IsOpening n (symbol kind span ∷ ts) us
+opening_at (k.BeginSchema base) span ts us n e =
+    subst (λ n. IsOpening n (symbol (k.BeginSchema base) span ∷ ts) us) (ok_value _ n ts us e)
+    (refl, ap (λ ts. symbol (k.BeginSchema base) span ∷ ts) (ok_rest _ n ts us e))
+opening_at k.BeginZed span ts us n e = absurd (cc)
+opening_at _ span ts us n e = absurd (cc)
 
 pub opening_ok : (ts us : List Symbol) (n : Name) → read_opening ts ≡ Ok (n, us) → IsOpening n ts us
 opening_ok [] us n e = absurd (cc)
-opening_ok (t ∷ ts) us n e = opening_at t.kind t.line ts us n e
+opening_ok (t ∷ ts) us n e = opening_at t.kind t.span ts us n e
 
 -- names parted by any symbol
 pub parted_names_ok : (m : Mark) (ts us : List Symbol) (ns : List Name) → parted m read_name ts ≡ Ok (ns, us) → PartedBy (kind_of m) SpellsName ns ts us

@@ -1,5 +1,5 @@
 -- Paragraphs: what is read is spelled, and what is spelled is read.
-use Rattle.zf_grammar.proofs.Prelude.{◌∙◌, ◌∷◌, ◌≡◌, ◌≤◌, [], ap, arith, false, length, List, Ok, refl, subst, sym, true, ℕ, is_bare, paragraph_of, ParagraphTree, schema_tree_of, SchemaTree, Tree, tree_of, Name, is_mark, next_of, Symbol, symbol, Kind, tree_height, paragraph_height, schema_height, expression_level, IsAt, ParagraphIsLevelled, SchemaIsLevelled, first, read_name, rest, parted, Next, PartedBy, Spells, SpellsName, SpellsNames, SpellsParagraph, SpellsSchema, binds, expect, Outcome, read_names, tall, read_term, Tall}
+use Rattle.zf_grammar.proofs.Prelude.{◌∙◌, ◌∷◌, ◌≡◌, ◌≤◌, [], ap, arith, false, length, List, Ok, refl, subst, sym, true, ℕ, is_bare, paragraph_of, ParagraphTree, schema_tree_of, SchemaTree, Tree, tree_of, Name, is_mark, next_of, Symbol, symbol, Kind, tree_height, paragraph_height, schema_height, expression_level, IsAt, ParagraphIsLevelled, SchemaIsLevelled, first, read_name, rest, parted, Next, PartedBy, Spells, SpellsName, SpellsNames, SpellsParagraph, SpellsSchema, binds, expect, Outcome, read_names, tall, read_term, Tall, Span}
 use Rattle.zf_scan.specs.declared.next.Mark.TheVariants as mark
 use Rattle.zf_scan.specs.declared.next.Next as code
 use Rattle.zf_scan.specs.declared.token.Kind.TheVariants as k
@@ -59,13 +59,13 @@ definition_sound n name begin a ts us x left is e =
     subst (λ p. ParagraphIsThere n p.0 begin p.1) (ok_pair (tall (paragraph.Defs name t.0.part) t.0.height, t.1) (x, us) t.3)
     (record { fits = s.fits.1; high_is = s.high_is; low = s.low; spelled = (a, ts, bare_is name.strokes bare.0, left, is, s.spelled) })
 
-named_at : (n : ℕ) (name : Name) (begin : List Symbol) (kind : Kind) (line : ℕ) (ts us : List Symbol) (x : Tall Paragraph)
-    → SpellsName name begin (symbol kind line ∷ ts) → named_by n name (next_of kind) (symbol kind line ∷ ts) ≡ Ok (x, us)
+named_at : (n : ℕ) (name : Name) (begin : List Symbol) (kind : Kind) (span : Span) (ts us : List Symbol) (x : Tall Paragraph)
+    → SpellsName name begin (symbol kind span ∷ ts) → named_by n name (next_of kind) (symbol kind span ∷ ts) ≡ Ok (x, us)
     → ParagraphIsThere n x begin us
-named_at n name begin k.FreeType line ts us x left e = free_sound n name begin _ ts us x left (line, refl) e
-named_at n name begin k.Abbreviates line ts us x left e = abbreviation_sound n name begin _ ts us x left (line, refl) e
-named_at n name begin k.Defines line ts us x left e = definition_sound n name begin _ ts us x left (line, refl) e
-named_at n name begin _ line ts us x left e = absurd (cc)
+named_at n name begin k.FreeType span ts us x left e = free_sound n name begin _ ts us x left (span, refl) e
+named_at n name begin k.Abbreviates span ts us x left e = abbreviation_sound n name begin _ ts us x left (span, refl) e
+named_at n name begin k.Defines span ts us x left e = definition_sound n name begin _ ts us x left (span, refl) e
+named_at n name begin _ span ts us x left e = absurd (cc)
 
 named_sound : (n : ℕ) (ts us : List Symbol) (x : Tall Paragraph) → named n ts ≡ Ok (x, us) → ParagraphIsThere n x ts us
 unfolding named
@@ -75,7 +75,7 @@ named_sound n ts us x e =
   where
     after : (name : Name) (a : List Symbol) → SpellsName name ts a → named_by n name (first a) a ≡ Ok (x, us) → ParagraphIsThere n x ts us
     after name [] left e = absurd (cc)
-    after name (b ∷ a) left e = named_at n name ts b.kind b.line a us x left e
+    after name (b ∷ a) left e = named_at n name ts b.kind b.span a us x left e
 
 pub paragraph_sound : (n : ℕ) (ts us : List Symbol) (x : Tall Paragraph) → read_paragraph n ts ≡ Ok (x, us) → ParagraphIsThere n x ts us
 unfolding read_paragraph
@@ -99,7 +99,7 @@ unfolding given
 given_answers n ns ts b us names close =
     let Is = Seen paragraph_of (shape.given ns) 0 in
     then_answers Is n 0 (read_names ts) _ ns b us (ok_names ns ts b (not_at mark.Comma k.CloseSquare b us close refl) names)
-    (then_answers Is n 0 (expect mark.CloseSquare b) _ tt us us (ok_expect mark.CloseSquare b us close)
+    (then_answers Is n 0 (expect mark.CloseSquare b) _ close.0 us us (ok_expect mark.CloseSquare b us close)
     (done Is n 0 (tall (paragraph.Given ns) 0) us (record { is = refl; high = refl }) (omega arith)))
 
 free_answers : (n : ℕ) (name : Name) (ns : List Name) (ts us : List Symbol) → PartedBy k.Bar SpellsName ns ts us → is_mark mark.Bar (first us) ≡ false
@@ -130,7 +130,7 @@ definition_answers n name t ts us bare lev h closes =
 
 -- after a name and its symbol
 behind : (n : ℕ) (p : ParagraphTree) (name : Name) (ts a us : List Symbol) → SpellsName name ts a → (kind : Kind) (b : List Symbol) → Next kind a b
-    → (o : Outcome (Tall Paragraph)) → ((line : ℕ) → named_by n name (next_of kind) (symbol kind line ∷ b) ≡ o) → ParagraphIsRead n p o us
+    → (o : Outcome (Tall Paragraph)) → ((span : Span) → named_by n name (next_of kind) (symbol kind span ∷ b) ≡ o) → ParagraphIsRead n p o us
     → ParagraphIsRead n p (read_paragraph n ts) us
 unfolding read_paragraph named
 behind n p name ts a us left kind b next o is answers =
@@ -148,13 +148,13 @@ paragraph_answers n (shape.given ns) ts us lev h ends =
     (subst (λ a. ParagraphIsRead n (shape.given ns) (given a) us) (sym (passed ts a begin)) (given_answers n ns a b us names close))
 paragraph_answers n (shape.free name ns) ts us lev h ends =
     let (a, b, left, next, names) = h in
-    behind n (shape.free name ns) name ts a us left k.FreeType b next (free_type name b) (λ line. refl) (free_answers n name ns b us names ends.no_bar)
+    behind n (shape.free name ns) name ts a us left k.FreeType b next (free_type name b) (λ span. refl) (free_answers n name ns b us names ends.no_bar)
 paragraph_answers n (shape.abbreviation name t) ts us lev h ends =
     let (a, b, left, next, set) = h in
-    behind n (shape.abbreviation name t) name ts a us left k.Abbreviates b next (abbreviation n name b) (λ line. refl) (abbreviation_answers n name t b us lev set ends.loose)
+    behind n (shape.abbreviation name t) name ts a us left k.Abbreviates b next (abbreviation n name b) (λ span. refl) (abbreviation_answers n name t b us lev set ends.loose)
 paragraph_answers n (shape.definition name t) ts us lev h ends =
     let (a, b, bare, left, next, exp) = h in
-    behind n (shape.definition name t) name ts a us left k.Defines b next (definition n name b) (λ line. refl) (definition_answers n name t b us bare lev exp ends.closes)
+    behind n (shape.definition name t) name ts a us left k.Defines b next (definition n name b) (λ span. refl) (definition_answers n name t b us bare lev exp ends.closes)
 
 pub paragraph_shorter : (p : ParagraphTree) (ts us : List Symbol) → SpellsParagraph p ts us → length us ≤ length ts
 paragraph_shorter (shape.given ns) ts us h = omega (arith, next_shorter ts h.0 h.2, names_shorter ns h.0 h.1 h.3, next_shorter h.1 us h.4)

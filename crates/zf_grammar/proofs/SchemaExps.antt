@@ -1,34 +1,33 @@
 -- Schema expressions: what is read is spelled, and what is spelled is read.
-use Rattle.zf_grammar.proofs.Prelude.{◌+◌, ◌-◌, ◌<◌, ◌∙◌, ◌∷◌, ◌≡◌, ◌≤◌, [], ap, arith, Bool, Err, false, inl, inr, length, List, map, max, Ok, refl, subst, suc, sym, true, zero, ℕ, leb-false, leb-true, AllByRecursion, if◌then◌else◌, ◌⊎◌, nat_le, both, decl_of, DeclTree, either, schema_reference, schema_tree_of, SchemaTree, Tree, tree_of, And, Or, Name, RefMark, Delta, Plain, Xi, SchemaExp, is_mark, next_of, separator, Symbol, symbol, Kind, is_and, is_or, predicates, read_decls, read_ref, schema_part_by, conjunction, disjunction, joined, read_schema, schema_bracket, schema_part, schema_text, decl_height, tree_height, most, schema_height, DeclIsLevelled, IsLevelled, quantifier_level, schema_level, SchemaIsLevelled, first, rest, IsOn, Next, PartedBy, SpellsDecl, SpellsMarked, SpellsPredicates, SpellsSchema, and_then, binds, expect, here, Outcome, Parser, tall, TooDeep, Tall}
+use Rattle.zf_grammar.proofs.Prelude.{◌+◌, ◌-◌, ◌<◌, ◌∙◌, ◌∷◌, ◌≡◌, ◌≤◌, [], ap, arith, Bool, Err, false, inl, inr, length, List, map, max, Ok, refl, subst, suc, sym, true, zero, ℕ, leb-false, leb-true, AllByRecursion, if◌then◌else◌, ◌⊎◌, nat_le, both, decl_of, DeclTree, either, schema_reference, schema_tree_of, SchemaTree, Tree, tree_of, And, Or, Name, RefMark, Delta, Plain, Xi, SchemaExp, is_mark, next_of, separator, Symbol, symbol, Kind, is_and, is_or, predicates, read_decls, read_ref, schema_part_by, conjunction, disjunction, joined, read_schema, schema_bracket, schema_part, schema_text, decl_height, tree_height, most, schema_height, DeclIsLevelled, IsLevelled, quantifier_level, schema_level, SchemaIsLevelled, first, rest, Ends, joining, Next, schema_span, Span, Starts, through, PartedBy, SpellsDecl, SpellsMarked, SpellsPredicates, SpellsSchema, and_then, binds, expect, here, Outcome, Parser, tall, TooDeep, Tall}
 use Rattle.zf_scan.specs.declared.next.Mark.TheVariants as mark
 use Rattle.zf_scan.specs.declared.next.Next as code
 use Rattle.zf_scan.specs.declared.next.Next.TheVariants as next
 use Rattle.zf_scan.specs.declared.token.Kind.TheVariants as k
 use Rattle.zf_tree.specs.declared.tree.SchemaExp.TheVariants as schema
 use Rattle.zf_tree.specs.Trees as shape
-use Rattle.zf_grammar.proofs.Marks.{passed, next_shorter, expect_ok, ok_expect}
+use Rattle.zf_grammar.proofs.Marks.{begins_next, ends_next, ends_ok, is_through, passed, next_shorter, ok_expect}
 use Rattle.zf_grammar.proofs.TermSteps.{ok_pair, bind_ok, if_ok, if_cases}
 use Rattle.zf_grammar.proofs.BoxItems.{IsThere, IsTooHigh, Answers, Seen, and_answers, then_answers, done}
 use Rattle.zf_grammar.proofs.BoxDecls.{Stops, not_at, ref_sound, ref_read, ref_shorter, decls_sound, decls_answers, decls_shorter, predicates_sound, predicates_answers, predicates_shorter}
 use Rattle.zf_tree.proofs.SchemaSeen as of
 
--- ---- lengths and lines
+-- ---- lengths
 
 pub schema_shorter : (t : SchemaTree) (ts us : List Symbol) → SpellsSchema t ts us → length us + 1 ≤ length ts
-schema_shorter (shape.schema_text ds ps) ts us h =
-    omega (arith, next_shorter ts h.0 h.3, decls_shorter ds h.0 h.1 h.4, predicates_shorter k.Bar ps h.1 h.2 h.5, next_shorter h.2 us h.6)
-schema_shorter (schema_reference r) ts us h = ref_shorter r ts us h
-schema_shorter (both a b) ts us h = omega (arith, schema_shorter a ts h.0 h.2, next_shorter h.0 h.1 h.3, schema_shorter b h.1 us h.4)
+schema_shorter (shape.schema_text l ds ps) ts us h =
+    omega (
+      arith,
+      next_shorter ts h.0 (begins_next h.3),
+      decls_shorter ds h.0 h.1 h.4,
+      predicates_shorter k.Bar ps h.1 h.2 h.5,
+      next_shorter h.2 us (ends_next h.6),
+    )
+schema_shorter (schema_reference l r) ts us h = ref_shorter r ts us h.1
+schema_shorter (both l a b) ts us h = omega (arith, schema_shorter a ts h.0 h.3, next_shorter h.0 h.1 h.4, schema_shorter b h.1 us h.5)
 schema_shorter (either l a b) ts us h = omega (arith, schema_shorter a ts h.0 h.3, next_shorter h.0 h.1 h.4, schema_shorter b h.1 us h.5)
-schema_shorter (shape.schema_bracket a) ts us h = omega (arith, next_shorter ts h.0 h.2, schema_shorter a h.0 h.1 h.3, next_shorter h.1 us h.4)
-
-is_here : (ts us : List Symbol) → length us + 1 ≤ length ts → IsOn (here ts) ts
-is_here [] us short = absurd (omega arith)
-is_here (t ∷ ts) us short = refl
-
-here_is : (l : ℕ) (ts : List Symbol) → IsOn l ts → here ts ≡ l
-here_is l [] on = absurd on
-here_is l (t ∷ ts) on = on
+schema_shorter (shape.schema_bracket l a) ts us h =
+    omega (arith, next_shorter ts h.0 (begins_next h.2), schema_shorter a h.0 h.1 h.3, next_shorter h.1 us (ends_next h.4))
 
 -- ---- connectives
 
@@ -36,7 +35,7 @@ here_is l (t ∷ ts) on = on
 stands_there : (test : code.Next → Bool) (kind : Kind) → ((other : Kind) → test (next_of other) ≡ true → other ≡ kind) → test next.End ≡ false
     → (ts : List Symbol) → test (first ts) ≡ true → Next kind ts (rest ts)
 stands_there test kind only ends [] e = absurd (cc (e, ends))
-stands_there test kind only ends (t ∷ ts) e = (t.line, ap (λ kind. symbol kind t.line ∷ ts) (only t.kind e))
+stands_there test kind only ends (t ∷ ts) e = (t.span, ap (λ kind. symbol kind t.span ∷ ts) (only t.kind e))
 
 and_is : (kind : Kind) → is_and (next_of kind) ≡ true → kind ≡ k.Connective And
 and_is (k.Connective And) e = refl
@@ -64,23 +63,30 @@ made place n t x h ts us vs y is e at high low spelled =
     subst (λ p. SchemaIsThere place n p.0 ts p.1) (ok_pair (tall x h, us) (y, vs) e)
     (record { fits = subst (SchemaIsAt place) (sym is) at; high_is = high ∙ ap schema_height (sym is); low = low; spelled = subst (λ t. SpellsSchema t ts us) (sym is) spelled })
 
-text_sound : (n : ℕ) (begin ts us : List Symbol) (x : Tall SchemaExp) → Next k.OpenSquare begin ts → schema_text n ts ≡ Ok (x, us) → SchemaIsThere 2 (n + 1) x begin us
+text_sound : (n : ℕ) (span : Span) (begin ts us : List Symbol) (x : Tall SchemaExp) → Starts k.OpenSquare span begin ts
+    → schema_text span n ts ≡ Ok (x, us) → SchemaIsThere 2 (n + 1) x begin us
 unfolding schema_text
-text_sound n begin ts us x opened e =
+text_sound n span begin ts us x opened e =
     let ds = bind_ok (read_decls n ts) _ (x, us) e in
     let ps = bind_ok (predicates n mark.Bar ds.1) _ (x, us) ds.3 in
     let end = bind_ok (expect mark.CloseSquare ps.1) _ (x, us) ps.3 in
     let d = decls_sound n ts ds.1 ds.0 ds.2 in
     let p = predicates_sound n mark.Bar ds.1 ps.1 ps.0 ps.2 in
-    made 2 (n + 1) (shape.schema_text (map decl_of ds.0.part) (map tree_of ps.0.part)) (schema.Text ds.0.part ps.0.part)
-    (max ds.0.height ps.0.height + 1) begin end.1 us x (of.of-Text ds.0.part ps.0.part) end.3
+    let whole = through span end.0 in
+    made 2 (n + 1) (shape.schema_text whole (map decl_of ds.0.part) (map tree_of ps.0.part)) (schema.Text whole ds.0.part ps.0.part)
+    (max ds.0.height ps.0.height + 1) begin end.1 us x (of.of-Text whole ds.0.part ps.0.part) end.3
     (omega arith, (d.fits, p.fits)) (omega (arith, d.high_is, p.high_is)) (omega (arith, d.high_is, p.high_is, d.low, p.low))
-    (ts, ds.1, ps.1, opened, d.spelled, p.spelled, expect_ok mark.CloseSquare ps.1 end.1 end.0 end.2)
+    (ts, ds.1, ps.1, (span, opened, refl), d.spelled, p.spelled, ends_ok mark.CloseSquare span end.0 ps.1 end.1 end.2)
 
-ref_exp_sound : (n : ℕ) (ts us : List Symbol) (x : Tall SchemaExp) → and_then (read_ref ts) (λ r us. Ok (tall (schema.Ref r) 1, us)) ≡ Ok (x, us) → SchemaIsThere 2 (n + 1) x ts us
+abbrev as_reference : Parser (Tall SchemaExp)
+as_reference ts = and_then (read_ref ts) (λ r us. Ok (tall (schema.Ref (through (here ts) r.name.span) r) 1, us))
+
+ref_exp_sound : (n : ℕ) (ts us : List Symbol) (x : Tall SchemaExp) → as_reference ts ≡ Ok (x, us) → SchemaIsThere 2 (n + 1) x ts us
 ref_exp_sound n ts us x e =
     let r = bind_ok (read_ref ts) _ (x, us) e in
-    made 2 (n + 1) (schema_reference r.0) (schema.Ref r.0) 1 ts r.1 us x (of.of-Ref r.0) r.3 (omega arith, tt) refl (omega arith) (ref_sound ts r.1 r.0 r.2)
+    let whole = through (here ts) r.0.name.span in
+    made 2 (n + 1) (schema_reference whole r.0) (schema.Ref whole r.0) 1 ts r.1 us x (of.of-Ref whole r.0) r.3 (omega arith, tt) refl (omega arith)
+    (refl, ref_sound ts r.1 r.0 r.2)
 
 module _ (joins : code.Next → Bool) (operand : Parser (Tall SchemaExp)) (make : SchemaExp → SchemaExp → SchemaExp) (highest : ℕ) (Whole : Tall SchemaExp → List Symbol → Type 0)
     (step : (x y : Tall SchemaExp) (a us : List Symbol) → Whole x a → joins (first a) ≡ true → operand (rest a) ≡ Ok (y, us)
@@ -100,35 +106,39 @@ abbrev SchemaIsSound : ℕ → Parser (Tall SchemaExp) → Type 0
 SchemaIsSound n below = (ts us : List Symbol) (x : Tall SchemaExp) → below ts ≡ Ok (x, us) → SchemaIsThere 0 n x ts us
 
 module _ (n : ℕ) (below : Parser (Tall SchemaExp)) (ok : SchemaIsSound n below) where
-  bracket_sound : (begin ts us : List Symbol) (x : Tall SchemaExp) → Next k.OpenRound begin ts → schema_bracket n below ts ≡ Ok (x, us) → SchemaIsThere 2 (n + 1) x begin us
+  bracket_sound : (span : Span) (begin ts us : List Symbol) (x : Tall SchemaExp) → Starts k.OpenRound span begin ts
+      → schema_bracket n below span ts ≡ Ok (x, us) → SchemaIsThere 2 (n + 1) x begin us
   unfolding schema_bracket
-  bracket_sound begin ts us x opened e =
+  bracket_sound span begin ts us x opened e =
       let y = bind_ok (below ts) _ (x, us) e in
       let end = bind_ok (expect mark.CloseRound y.1) _ (x, us) y.3 in
       let s = ok ts y.1 y.0 y.2 in
-      made 2 (n + 1) (shape.schema_bracket (schema_tree_of y.0.part)) (schema.Bracket y.0.part) (y.0.height + 1) begin end.1 us x (of.of-Bracket y.0.part) end.3
+      let whole = through span end.0 in
+      made 2 (n + 1) (shape.schema_bracket whole (schema_tree_of y.0.part)) (schema.Bracket whole y.0.part) (y.0.height + 1) begin end.1 us x
+      (of.of-Bracket whole y.0.part) end.3
       (omega arith, s.fits.1) (omega (arith, s.high_is)) (omega (arith, s.high_is, s.low))
-      (ts, y.1, opened, s.spelled, expect_ok mark.CloseRound y.1 end.1 end.0 end.2)
+      (ts, y.1, (span, opened, refl), s.spelled, ends_ok mark.CloseRound span end.0 y.1 end.1 end.2)
 
-  part_at : (kind : Kind) (line : ℕ) (ts us : List Symbol) (x : Tall SchemaExp) → schema_part_by n below (next_of kind) (symbol kind line ∷ ts) ≡ Ok (x, us)
-      → SchemaIsThere 2 (n + 1) x (symbol kind line ∷ ts) us
-  part_at k.OpenSquare line ts us x e = text_sound n (symbol k.OpenSquare line ∷ ts) ts us x (line, refl) e
-  part_at k.OpenRound line ts us x e = bracket_sound (symbol k.OpenRound line ∷ ts) ts us x (line, refl) e
-  part_at kind line ts us x e = ref_exp_sound n _ us x e
+  part_at : (kind : Kind) (span : Span) (ts us : List Symbol) (x : Tall SchemaExp) → schema_part_by n below span (next_of kind) (symbol kind span ∷ ts) ≡ Ok (x, us)
+      → SchemaIsThere 2 (n + 1) x (symbol kind span ∷ ts) us
+  part_at k.OpenSquare span ts us x e = text_sound n span (symbol k.OpenSquare span ∷ ts) ts us x refl e
+  part_at k.OpenRound span ts us x e = bracket_sound span (symbol k.OpenRound span ∷ ts) ts us x refl e
+  part_at kind span ts us x e = ref_exp_sound n _ us x e
 
   part_sound : (ts us : List Symbol) (x : Tall SchemaExp) → schema_part n below ts ≡ Ok (x, us) → SchemaIsThere 2 (n + 1) x ts us
   unfolding schema_part
   part_sound [] us x e = ref_exp_sound n [] us x e
-  part_sound (t ∷ ts) us x e = part_at t.kind t.line ts us x e
+  part_sound (t ∷ ts) us x e = part_at t.kind t.span ts us x e
 
   and_step : (begin : List Symbol) (x y : Tall SchemaExp) (a us : List Symbol) → SchemaIsThere 1 (n + 1) x begin a → is_and (first a) ≡ true
       → schema_part n below (rest a) ≡ Ok (y, us) → max x.height y.height + 1 ≤ n + 1
-      → SchemaIsThere 1 (n + 1) (tall (schema.Both x.part y.part) (max x.height y.height + 1)) begin us
+      → SchemaIsThere 1 (n + 1) (tall (joining schema.Both x.part y.part) (max x.height y.height + 1)) begin us
   and_step begin x y a us s is e low =
       let t = part_sound (rest a) us y e in
-      made 1 (n + 1) (both (schema_tree_of x.part) (schema_tree_of y.part)) (schema.Both x.part y.part) (max x.height y.height + 1) begin us us _ (of.of-Both x.part y.part) refl
+      made 1 (n + 1) (both _ (schema_tree_of x.part) (schema_tree_of y.part)) (joining schema.Both x.part y.part) (max x.height y.height + 1) begin us us _
+      (of.of-Both _ x.part y.part) refl
       (omega arith, (s.fits.0, t.fits.0, s.fits.1, t.fits.1)) (omega (arith, s.high_is, t.high_is)) low
-      (a, rest a, s.spelled, stands_there is_and _ and_is refl a is, t.spelled)
+      (a, rest a, refl, s.spelled, stands_there is_and _ and_is refl a is, t.spelled)
 
   conjunction_sound : (ts us : List Symbol) (x : Tall SchemaExp) → conjunction n below ts ≡ Ok (x, us) → SchemaIsThere 1 (n + 1) x ts us
   unfolding conjunction
@@ -136,32 +146,25 @@ module _ (n : ℕ) (below : Parser (Tall SchemaExp)) (ok : SchemaIsSound n below
       let y = bind_ok (schema_part n below ts) _ (x, us) e in
       let s = part_sound ts y.1 y.0 y.2 in
       let tight = s.fits.0 in
-      joined_sound is_and (schema_part n below) schema.Both (n + 1) (λ x a. SchemaIsThere 1 (n + 1) x ts a) (and_step ts) (length y.1) y.0 x y.1 us
+      joined_sound is_and (schema_part n below) (joining schema.Both) (n + 1) (λ x a. SchemaIsThere 1 (n + 1) x ts a) (and_step ts) (length y.1) y.0 x y.1 us
       (record { fits = (omega arith, s.fits.1); high_is = s.high_is; low = s.low; spelled = s.spelled }) y.3
 
   or_step : (begin : List Symbol) (x y : Tall SchemaExp) (a us : List Symbol) → SchemaIsThere 0 (n + 1) x begin a → is_or (first a) ≡ true
       → conjunction n below (rest a) ≡ Ok (y, us) → max x.height y.height + 1 ≤ n + 1
-      → SchemaIsThere 0 (n + 1) (tall (schema.Or (here begin) x.part y.part) (max x.height y.height + 1)) begin us
+      → SchemaIsThere 0 (n + 1) (tall (joining schema.Or x.part y.part) (max x.height y.height + 1)) begin us
   or_step begin x y a us s is e low =
       let t = conjunction_sound (rest a) us y e in
-      made 0 (n + 1) (either (here begin) (schema_tree_of x.part) (schema_tree_of y.part)) (schema.Or (here begin) x.part y.part)
-      (max x.height y.height + 1) begin us us _ (of.of-Or (here begin) x.part y.part) refl
-      (omega arith, (t.fits.0, s.fits.1, t.fits.1)) (omega (arith, s.high_is, t.high_is)) low (
-        a,
-        rest a,
-        is_here begin a
-            (schema_shorter (schema_tree_of x.part) begin a s.spelled),
-        s.spelled,
-        stands_there is_or _ or_is refl a is,
-        t.spelled,
-      )
+      made 0 (n + 1) (either _ (schema_tree_of x.part) (schema_tree_of y.part)) (joining schema.Or x.part y.part) (max x.height y.height + 1) begin us us _
+      (of.of-Or _ x.part y.part) refl
+      (omega arith, (t.fits.0, s.fits.1, t.fits.1)) (omega (arith, s.high_is, t.high_is)) low
+      (a, rest a, refl, s.spelled, stands_there is_or _ or_is refl a is, t.spelled)
 
   disjunction_sound : (ts us : List Symbol) (x : Tall SchemaExp) → disjunction n below ts ≡ Ok (x, us) → SchemaIsThere 0 (n + 1) x ts us
   unfolding disjunction
   disjunction_sound ts us x e =
       let y = bind_ok (conjunction n below ts) _ (x, us) e in
       let s = conjunction_sound ts y.1 y.0 y.2 in
-      joined_sound is_or (conjunction n below) (schema.Or (here ts)) (n + 1) (λ x a. SchemaIsThere 0 (n + 1) x ts a) (or_step ts) (length y.1) y.0 x y.1 us
+      joined_sound is_or (conjunction n below) (joining schema.Or) (n + 1) (λ x a. SchemaIsThere 0 (n + 1) x ts a) (or_step ts) (length y.1) y.0 x y.1 us
       (record { fits = (omega arith, s.fits.1); high_is = s.high_is; low = s.low; spelled = s.spelled }) y.3
 
 -- what is read is a levelled tree of the stated height that spells the symbols
@@ -178,11 +181,11 @@ abbrev pub SchemaIsRead : ℕ → SchemaTree → Outcome (Tall SchemaExp) → Li
 SchemaIsRead n t o us = Answers (Seen schema_tree_of t (schema_height t)) n (schema_height t) o us
 
 ref_first : (n : ℕ) (below : Parser (Tall SchemaExp)) (m : RefMark) (r : Name) (ts us : List Symbol) → SpellsMarked m r ts us
-    → schema_part n below ts ≡ and_then (read_ref ts) (λ r us. Ok (tall (schema.Ref r) 1, us))
+    → schema_part n below ts ≡ as_reference ts
 unfolding schema_part
-ref_first n below Plain r ts us h = ap (λ ts. schema_part_by n below (first ts) ts) h ∙ sym (ap (λ ts. and_then (read_ref ts) (λ r us. Ok (tall (schema.Ref r) 1, us))) h)
-ref_first n below Delta r ts us h = ap (λ ts. schema_part_by n below (first ts) ts) h.1.1 ∙ sym (ap (λ ts. and_then (read_ref ts) (λ r us. Ok (tall (schema.Ref r) 1, us))) h.1.1)
-ref_first n below Xi r ts us h = ap (λ ts. schema_part_by n below (first ts) ts) h.1.1 ∙ sym (ap (λ ts. and_then (read_ref ts) (λ r us. Ok (tall (schema.Ref r) 1, us))) h.1.1)
+ref_first n below Plain r ts us h = ap (schema_part n below) h ∙ sym (ap as_reference h)
+ref_first n below Delta r ts us h = ap (schema_part n below) h.1.1 ∙ sym (ap as_reference h.1.1)
+ref_first n below Xi r ts us h = ap (schema_part n below) h.1.1 ∙ sym (ap as_reference h.1.1)
 
 -- predicates that may be left out, and the symbol after them
 pub begins : (P : code.Next → Type 0) (kind end : Kind) (ps : List Tree) (ts a us : List Symbol) → SpellsPredicates kind ps ts a → Next end a us → P (next_of kind) → P (next_of end) → P (first ts)
@@ -282,13 +285,15 @@ abbrev SchemaIsComplete : ℕ → Parser (Tall SchemaExp) → Type 0
 SchemaIsComplete n below = (t : SchemaTree) (ts us : List Symbol) → SchemaIsLevelled t → SpellsSchema t ts us → Closes (first us) → SchemaIsRead n t (below ts) us
 
 module _ (n : ℕ) (below : Parser (Tall SchemaExp)) (ok : SchemaIsComplete n below) where
-  text_answers : (ds : List DeclTree) (ps : List Tree) (ts us : List Symbol) → AllByRecursion DeclIsLevelled ds → AllByRecursion IsLevelled ps
-      → (b c : List Symbol) → PartedBy separator SpellsDecl ds ts b → SpellsPredicates k.Bar ps b c → Next k.CloseSquare c us
-      → SchemaIsRead (n + 1) (shape.schema_text ds ps) (schema_text n ts) us
+  text_answers : (l span : Span) (ds : List DeclTree) (ps : List Tree) (ts us : List Symbol) → l.start ≡ span.start → AllByRecursion DeclIsLevelled ds → AllByRecursion IsLevelled ps
+      → (b c : List Symbol) → PartedBy separator SpellsDecl ds ts b → SpellsPredicates k.Bar ps b c → Ends k.CloseSquare l c us
+      → SchemaIsRead (n + 1) (shape.schema_text l ds ps) (schema_text span n ts) us
   unfolding schema_text
-  text_answers ds ps ts us lev_d lev_p b c decls under close =
-      let Is = Seen schema_tree_of (shape.schema_text ds ps) (schema_height (shape.schema_text ds ps)) in
-      let h = schema_height (shape.schema_text ds ps) in
+  text_answers l span ds ps ts us start lev_d lev_p b c decls under ends =
+      let close = ends_next ends in
+      let whole = through span close.0 in
+      let Is = Seen schema_tree_of (shape.schema_text l ds ps) (schema_height (shape.schema_text l ds ps)) in
+      let h = schema_height (shape.schema_text l ds ps) in
       let last : is_mark mark.Separator (first b) ≡ false = begins (λ x. is_mark mark.Separator x ≡ false) k.Bar k.CloseSquare ps b c us under close refl refl in
       let stop : Stops (first b) = begins Stops k.Bar k.CloseSquare ps b c us under close (record { loose = omega arith; no_comma = refl; no_colon = refl })
       (record { loose = omega arith; no_comma = refl; no_colon = refl }) in
@@ -298,90 +303,107 @@ module _ (n : ℕ) (below : Parser (Tall SchemaExp)) (ok : SchemaIsComplete n be
       and_answers (Seen (map tree_of) ps (most tree_height ps)) Is n (most tree_height ps) (n + 1) h (predicates n mark.Bar b) _ c us (λ above. omega arith)
       (predicates_answers n mark.Bar ps b c (not_at mark.Bar k.CloseSquare c us close refl) (not_at mark.Separator k.CloseSquare c us close refl) loose lev_p under)
       (λ ys sy low_y.
-      let same : shape.schema_text (map decl_of xs.part) (map tree_of ys.part)
-      ≡ shape.schema_text ds ps = ap (λ ds. shape.schema_text ds (map tree_of ys.part)) sx.is ∙ ap (shape.schema_text ds) sy.is in
-      then_answers Is (n + 1) h (expect mark.CloseSquare c) _ tt us us (ok_expect mark.CloseSquare c us close)
-      (done Is (n + 1) h (tall (schema.Text xs.part ys.part) (max xs.height ys.height + 1)) us
-      (record { is = of.of-Text xs.part ys.part ∙ same; high = omega (arith, sx.high, sy.high) }) (omega (arith, sx.high, sy.high)))))
+      let same : shape.schema_text whole (map decl_of xs.part) (map tree_of ys.part)
+      ≡ shape.schema_text l ds ps = ap (λ l. shape.schema_text l (map decl_of xs.part) (map tree_of ys.part)) (is_through l span close.0 start ends.2)
+      ∙ ap (λ ds. shape.schema_text l ds (map tree_of ys.part)) sx.is ∙ ap (shape.schema_text l ds) sy.is in
+      then_answers Is (n + 1) h (expect mark.CloseSquare c) _ close.0 us us (ok_expect mark.CloseSquare c us close)
+      (done Is (n + 1) h (tall (schema.Text whole xs.part ys.part) (max xs.height ys.height + 1)) us
+      (record { is = of.of-Text whole xs.part ys.part ∙ same; high = omega (arith, sx.high, sy.high) }) (omega (arith, sx.high, sy.high)))))
 
-  bracket_answers : (t : SchemaTree) (ts b us : List Symbol) → SchemaIsLevelled t → SpellsSchema t ts b → Next k.CloseRound b us
-      → SchemaIsRead (n + 1) (shape.schema_bracket t) (schema_bracket n below ts) us
+  bracket_answers : (l span : Span) (t : SchemaTree) (ts b us : List Symbol) → l.start ≡ span.start → SchemaIsLevelled t → SpellsSchema t ts b → Ends k.CloseRound l b us
+      → SchemaIsRead (n + 1) (shape.schema_bracket l t) (schema_bracket n below span ts) us
   unfolding schema_bracket
-  bracket_answers t ts b us lev h close =
-      let Is = Seen schema_tree_of (shape.schema_bracket t) (schema_height t + 1) in
+  bracket_answers l span t ts b us start lev h ends =
+      let close = ends_next ends in
+      let whole = through span close.0 in
+      let Is = Seen schema_tree_of (shape.schema_bracket l t) (schema_height t + 1) in
       let closes : Closes (first b) = subst (λ b. Closes (first b)) (sym close.1) (record { no_and = refl; no_or = refl }) in
       and_answers (Seen schema_tree_of t (schema_height t)) Is n (schema_height t) (n + 1) (schema_height t + 1) (below ts) _ b us (λ above. omega arith) (ok t ts b lev h closes)
       (λ x s low.
-      then_answers Is (n + 1) (schema_height t + 1) (expect mark.CloseRound b) _ tt us us (ok_expect mark.CloseRound b us close)
-      (done Is (n + 1) (schema_height t + 1) (tall (schema.Bracket x.part) (x.height + 1)) us
-      (record { is = of.of-Bracket x.part ∙ ap shape.schema_bracket s.is; high = omega (arith, s.high) }) (omega (arith, s.high))))
+      then_answers Is (n + 1) (schema_height t + 1) (expect mark.CloseRound b) _ close.0 us us (ok_expect mark.CloseRound b us close)
+      (done Is (n + 1) (schema_height t + 1) (tall (schema.Bracket whole x.part) (x.height + 1)) us
+      (record {
+        is = of.of-Bracket whole x.part ∙ ap (λ l. shape.schema_bracket l (schema_tree_of x.part)) (is_through l span close.0 start ends.2)
+            ∙ ap (shape.schema_bracket l) s.is;
+        high = omega (arith, s.high);
+      }) (omega (arith, s.high))))
 
-  part_is : (kind : Kind) (ts a : List Symbol) → Next kind ts a → (o : Outcome (Tall SchemaExp))
-      → ((line : ℕ) → schema_part_by n below (next_of kind) (symbol kind line ∷ a) ≡ o) → schema_part n below ts ≡ o
+  part_is : (kind : Kind) (span : Span) (ts a : List Symbol) → Starts kind span ts a → schema_part n below ts ≡ schema_part_by n below span (next_of kind) (symbol kind span ∷ a)
   unfolding schema_part
-  part_is kind ts a next o is = ap (λ ts. schema_part_by n below (first ts) ts) next.1 ∙ is next.0
+  part_is kind span ts a starts = ap (schema_part n below) starts
 
   part_answers : (t : SchemaTree) (ts us : List Symbol) → SchemaIsAt 2 t → SpellsSchema t ts us → SchemaIsRead (n + 1) t (schema_part n below ts) us
-  part_answers (shape.schema_text ds ps) ts us at h =
-      let (a, b, c, begin, decls, under, close) = h in
-      subst (λ o. SchemaIsRead (n + 1) (shape.schema_text ds ps) o us) (sym (part_is k.OpenSquare ts a begin (schema_text n a) (λ line. refl)))
-      (text_answers ds ps a us at.1.0 at.1.1 b c decls under close)
-  part_answers (schema_reference r) ts us at h =
-      let Is = Seen schema_tree_of (schema_reference r) 1 in
-      subst (λ o. SchemaIsRead (n + 1) (schema_reference r) o us) (sym (ref_first n below r.mark r.name ts us h))
-      (then_answers Is (n + 1) 1 (read_ref ts) _ r us us (ref_read r ts us h) (done Is (n + 1) 1 (tall (schema.Ref r) 1) us (record { is = of.of-Ref r; high = refl }) (omega arith)))
-  part_answers (both a b) ts us at h = absurd (omega (arith, at.0))
+  part_answers (shape.schema_text l ds ps) ts us at h =
+      let (a, b, c, begin, decls, under, ends) = h in
+      subst (λ o. SchemaIsRead (n + 1) (shape.schema_text l ds ps) o us) (sym (part_is k.OpenSquare begin.0 ts a begin.1))
+      (text_answers l begin.0 ds ps a us begin.2 at.1.0 at.1.1 b c decls under ends)
+  part_answers (schema_reference l r) ts us at h =
+      let Is = Seen schema_tree_of (schema_reference l r) 1 in
+      let whole = through (here ts) r.name.span in
+      subst (λ o. SchemaIsRead (n + 1) (schema_reference l r) o us) (sym (ref_first n below r.mark r.name ts us h.1))
+      (then_answers Is (n + 1) 1 (read_ref ts) _ r us us (ref_read r ts us h.1)
+      (done Is (n + 1) 1 (tall (schema.Ref whole r) 1) us (record { is = of.of-Ref whole r ∙ ap (λ l. schema_reference l r) (sym h.0); high = refl }) (omega arith)))
+  part_answers (both l a b) ts us at h = absurd (omega (arith, at.0))
   part_answers (either l a b) ts us at h = absurd (omega (arith, at.0))
-  part_answers (shape.schema_bracket t) ts us at h =
-      let (a, b, begin, inner, close) = h in
-      subst (λ o. SchemaIsRead (n + 1) (shape.schema_bracket t) o us) (sym (part_is k.OpenRound ts a begin (schema_bracket n below a) (λ line. refl))) (bracket_answers t a b us at.1 inner close)
+  part_answers (shape.schema_bracket l t) ts us at h =
+      let (a, b, begin, inner, ends) = h in
+      subst (λ o. SchemaIsRead (n + 1) (shape.schema_bracket l t) o us) (sym (part_is k.OpenRound begin.0 ts a begin.1))
+      (bracket_answers l begin.0 t a b us begin.2 at.1 inner ends)
+
+  -- two expressions joined
+  both_seen : (make : Span → SchemaExp → SchemaExp → SchemaExp) (node : Span → SchemaTree → SchemaTree → SchemaTree)
+      → ((l : Span) (x y : SchemaExp) → schema_tree_of (make l x y) ≡ node l (schema_tree_of x) (schema_tree_of y))
+      → (l : Span) (a b : SchemaTree) → l ≡ through (schema_span a) (schema_span b)
+      → (x y : SchemaExp) → schema_tree_of x ≡ a → schema_tree_of y ≡ b → schema_tree_of (joining make x y) ≡ node l a b
+  both_seen make node of l a b span x y is_x is_y =
+      of _ x y ∙ ap (λ a. node (through (schema_span a) (schema_span (schema_tree_of y))) a (schema_tree_of y)) is_x
+      ∙ ap (λ b. node (through (schema_span a) (schema_span b)) a b) is_y ∙ ap (λ l. node l a b) (sym span)
 
   abbrev AndRuns : List Symbol → SchemaTree → List Symbol → Type 0
-  AndRuns ts = Runs is_and (schema_part n below) schema.Both (n + 1) ts
+  AndRuns ts = Runs is_and (schema_part n below) (joining schema.Both) (n + 1) ts
 
   and_begun : (t : SchemaTree) (ts us : List Symbol) → SchemaIsAt 2 t → SpellsSchema t ts us → AndRuns ts t us
-  and_begun t ts us at h = begun is_and (schema_part n below) schema.Both (n + 1) ts t us (part_answers t ts us at h)
+  and_begun t ts us at h = begun is_and (schema_part n below) (joining schema.Both) (n + 1) ts t us (part_answers t ts us at h)
 
   and_runs : (t : SchemaTree) (ts us : List Symbol) → SchemaIsAt 1 t → SpellsSchema t ts us → AndRuns ts t us
-  and_runs (both a b) ts us at h =
-      let (mid, c, left, next, right) = h in
+  and_runs (both l a b) ts us at h =
+      let (mid, c, span, left, next, right) = h in
       let runs = and_runs a ts mid (at.1.0, at.1.2) left in
       let after = part_answers b c us (at.1.1, at.1.3) right in
-      turn is_and (schema_part n below) schema.Both (n + 1) ts a b (both a b) mid c us
+      turn is_and (schema_part n below) (joining schema.Both) (n + 1) ts a b (both l a b) mid c us
       (ap (λ ts. is_and (first ts)) next.1) (passed mid c next) (next_shorter mid c next) (omega (arith, schema_shorter b c us right)) refl
-      (λ x y is_x is_y. of.of-Both x y ∙ ap (λ a. both a (schema_tree_of y)) is_x ∙ ap (both a) is_y) runs after
+      (both_seen schema.Both both of.of-Both l a b span) runs after
   and_runs (either l a b) ts us at h = absurd (omega (arith, at.0))
   and_runs t ts us at h = and_begun t ts us (omega arith, at.1) h
 
   conjunction_answers : (t : SchemaTree) (ts us : List Symbol) → SchemaIsAt 1 t → SpellsSchema t ts us → is_and (first us) ≡ false → SchemaIsRead (n + 1) t (conjunction n below ts) us
   unfolding conjunction
   conjunction_answers t ts us at h none =
-      finish is_and (schema_part n below) schema.Both (n + 1) ts t us none (and_runs t ts us at h)
+      finish is_and (schema_part n below) (joining schema.Both) (n + 1) ts t us none (and_runs t ts us at h)
 
   abbrev OrRuns : List Symbol → SchemaTree → List Symbol → Type 0
-  OrRuns ts = Runs is_or (conjunction n below) (schema.Or (here ts)) (n + 1) ts
+  OrRuns ts = Runs is_or (conjunction n below) (joining schema.Or) (n + 1) ts
 
   or_begun : (t : SchemaTree) (ts us : List Symbol) → SchemaIsAt 1 t → SpellsSchema t ts us → is_and (first us) ≡ false → OrRuns ts t us
-  or_begun t ts us at h none = begun is_or (conjunction n below) (schema.Or (here ts)) (n + 1) ts t us (conjunction_answers t ts us at h none)
+  or_begun t ts us at h none = begun is_or (conjunction n below) (joining schema.Or) (n + 1) ts t us (conjunction_answers t ts us at h none)
 
   or_runs : (t : SchemaTree) (ts us : List Symbol) → SchemaIsLevelled t → SpellsSchema t ts us → is_and (first us) ≡ false → OrRuns ts t us
   or_runs (either l a b) ts us lev h none =
-      let (mid, c, on, left, next, right) = h in
+      let (mid, c, span, left, next, right) = h in
       let runs = or_runs a ts mid lev.1 left (ap (λ ts. is_and (first ts)) next.1) in
       let after = conjunction_answers b c us (lev.0, lev.2) right none in
-      turn is_or (conjunction n below) (schema.Or (here ts)) (n + 1) ts a b (either l a b) mid c us
+      turn is_or (conjunction n below) (joining schema.Or) (n + 1) ts a b (either l a b) mid c us
       (ap (λ ts. is_or (first ts)) next.1) (passed mid c next) (next_shorter mid c next) (omega (arith, schema_shorter b c us right)) refl
-      (λ x y is_x is_y. of.of-Or (here ts) x y ∙ ap (λ l. either l (schema_tree_of x) (schema_tree_of y)) (here_is l ts on)
-      ∙ ap (λ a. either l a (schema_tree_of y)) is_x ∙ ap (either l a) is_y) runs after
+      (both_seen schema.Or either of.of-Or l a b span) runs after
   or_runs t ts us lev h none = or_begun t ts us (omega arith, lev) h none
 
   disjunction_answers : (t : SchemaTree) (ts us : List Symbol) → SchemaIsLevelled t → SpellsSchema t ts us → Closes (first us) → SchemaIsRead (n + 1) t (disjunction n below ts) us
   unfolding disjunction
   disjunction_answers t ts us lev h closes =
-      finish is_or (conjunction n below) (schema.Or (here ts)) (n + 1) ts t us closes.no_or (or_runs t ts us lev h closes.no_and)
+      finish is_or (conjunction n below) (joining schema.Or) (n + 1) ts t us closes.no_or (or_runs t ts us lev h closes.no_and)
 
 some_schema_height : (t : SchemaTree) → 0 < schema_height t
-some_schema_height (schema_reference r) = omega arith
+some_schema_height (schema_reference l r) = omega arith
 some_schema_height _ = omega arith
 
 -- a levelled tree that is spelled, and with which what follows does not go on, is the one that is read, unless it is too high

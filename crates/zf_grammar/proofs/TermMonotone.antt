@@ -1,5 +1,5 @@
 -- With more height allowed, an outcome other than TooDeep stays.
-use Rattle.zf_grammar.proofs.Prelude.{◌+◌, ◌∙◌, ◌∷◌, ◌≡◌, ◌≤◌, [], ap, arith, Bool, Err, false, inl, inr, length, List, Ok, refl, subst, suc, sym, true, zero, ℕ, ⊎_elim, le-leb, leb-true, if◌then◌else◌, ◌⊎◌, nat_le, tree_of, Listed, Operator, Unary, Minus, new_link, Quantifier, Link, Term, is_mark, Symbol, Mark, expression_level, level, member_place, quantifier_level, right_place, unary_level, first, rest, Role, Tall, Outcome, Parser, and_then, expect, read_decl}
+use Rattle.zf_grammar.proofs.Prelude.{◌+◌, ◌∙◌, ◌∷◌, ◌≡◌, ◌≤◌, [], ap, arith, Bool, Err, false, inl, inr, length, List, Ok, refl, subst, suc, sym, true, zero, ℕ, ⊎_elim, le-leb, leb-true, if◌then◌else◌, ◌⊎◌, nat_le, tree_of, Listed, Operator, Unary, Minus, new_link, Quantifier, Link, Term, is_mark, Symbol, Mark, expression_level, level, member_place, quantifier_level, right_place, unary_level, first, rest, Role, Tall, Outcome, Parser, and_then, expect, read_decl, Span}
 use Rattle.zf_scan.specs.declared.next.Mark.TheVariants as mark
 use Rattle.zf_scan.specs.declared.next.Next.{Next}
 use Rattle.zf_scan.specs.declared.next.Next.TheVariants as next
@@ -68,56 +68,56 @@ module _ (below above : Reader) (up : IsUnder below above) where
   unfolding part
   part_under m place ts = if_under (is_mark m (first ts)) _ _ _ _ (and_under _ _ _ _ (up place (rest ts)) (λ x us. same _)) (same _)
 
-  listed_under : (line : ℕ) (form : Listed) (x : Tall Term) (ts : List Symbol) → Under (listed below line form x ts) (listed above line form x ts)
+  listed_under : (span : Span) (form : Listed) (x : Tall Term) (ts : List Symbol) → Under (listed below span form x ts) (listed above span form x ts)
   unfolding listed
-  listed_under line form x ts = and_under _ _ _ _ (further_under (parted_by form) (member_place form) x ts) (λ all us. same _)
+  listed_under span form x ts = and_under _ _ _ _ (further_under (parted_by form) (member_place form) x ts) (λ all us. same _)
 
-  empty_set_under : (line : ℕ) (ts : List Symbol) → Under (empty_set below line ts) (empty_set above line ts)
+  empty_set_under : (span : Span) (ts : List Symbol) → Under (empty_set below span ts) (empty_set above span ts)
   unfolding empty_set
-  empty_set_under line ts = and_under _ _ _ _ (same (expect mark.OpenSquare ts)) (λ _ us. and_under _ _ _ _ (up expression_level us) (λ x vs. same _))
+  empty_set_under span ts = and_under _ _ _ _ (same (expect mark.OpenSquare ts)) (λ _ us. and_under _ _ _ _ (up expression_level us) (λ x vs. same _))
 
-  round_at : (line : ℕ) (x : Tall Term) (after : Next) (ts : List Symbol) → Under (round_by below line x after ts) (round_by above line x after ts)
-  round_at line x next.Comma ts = if_under (nat_le expression_level (level (tree_of x.part))) _ _ _ _ (listed_under line list.Tuple x ts) (same _)
-  round_at line x _ ts = same _
+  round_at : (span : Span) (x : Tall Term) (after : Next) (ts : List Symbol) → Under (round_by below span x after ts) (round_by above span x after ts)
+  round_at span x next.Comma ts = if_under (nat_le expression_level (level (tree_of x.part))) _ _ _ _ (listed_under span list.Tuple x ts) (same _)
+  round_at span x _ ts = same _
 
-  round_under : (line : ℕ) (ts : List Symbol) → Under (round below line ts) (round above line ts)
+  round_under : (span : Span) (ts : List Symbol) → Under (round below span ts) (round above span ts)
   unfolding round
-  round_under line ts = and_under _ _ _ _ (up quantifier_level ts) (λ x us. round_at line x (first us) us)
+  round_under span ts = and_under _ _ _ _ (up quantifier_level ts) (λ x us. round_at span x (first us) us)
 
-  display_under : (line : ℕ) (ts : List Symbol) → Under (display below line ts) (display above line ts)
+  display_under : (span : Span) (ts : List Symbol) → Under (display below span ts) (display above span ts)
   unfolding display
-  display_under line ts =
+  display_under span ts =
       if_under (is_mark mark.CloseBrace (first ts)) _ _ _ _ (same _)
-      (and_under _ _ _ _ (up expression_level ts) (λ x us. listed_under line list.Display x us))
+      (and_under _ _ _ _ (up expression_level ts) (λ x us. listed_under span list.Display x us))
 
-  comprehension_under : (line : ℕ) (ts : List Symbol) → Under (comprehension below line ts) (comprehension above line ts)
+  comprehension_under : (span : Span) (ts : List Symbol) → Under (comprehension below span ts) (comprehension above span ts)
   unfolding comprehension
-  comprehension_under line ts =
+  comprehension_under span ts =
       and_under _ _ _ _ (decls_under ts) (λ ds us. and_under _ _ _ _ (part_under mark.Bar quantifier_level us) (λ p vs. and_under _ _ _ _ (part_under mark.At expression_level vs) (λ q ws. same _)))
 
-  braced_under : (line : ℕ) (ts : List Symbol) → Under (braced below line ts) (braced above line ts)
+  braced_under : (span : Span) (ts : List Symbol) → Under (braced below span ts) (braced above span ts)
   unfolding braced
-  braced_under line ts = if_under (begins_decl true ts) _ _ _ _ (comprehension_under line ts) (display_under line ts)
+  braced_under span ts = if_under (begins_decl true ts) _ _ _ _ (comprehension_under span ts) (display_under span ts)
 
-  prefixed_under : (least line : ℕ) (op : Unary) (ts : List Symbol) → Under (prefixed below least line op ts) (prefixed above least line op ts)
+  prefixed_under : (least : ℕ) (span : Span) (op : Unary) (ts : List Symbol) → Under (prefixed below least span op ts) (prefixed above least span op ts)
   unfolding prefixed
-  prefixed_under least line op ts = if_under (nat_le least (unary_level op)) _ _ _ _ (and_under _ _ _ _ (up (unary_level op) (rest ts)) (λ x us. same _)) (same _)
+  prefixed_under least span op ts = if_under (nat_le least (unary_level op)) _ _ _ _ (and_under _ _ _ _ (up (unary_level op) (rest ts)) (λ x us. same _)) (same _)
 
-  quantified_under : (line : ℕ) (q : Quantifier) (ts : List Symbol) → Under (quantified below line q ts) (quantified above line q ts)
+  quantified_under : (span : Span) (q : Quantifier) (ts : List Symbol) → Under (quantified below span q ts) (quantified above span q ts)
   unfolding quantified
-  quantified_under line q ts =
+  quantified_under span q ts =
       and_under _ _ _ _ (decls_under ts) (λ ds us. and_under _ _ _ _ (part_under mark.Bar quantifier_level us)
       (λ p vs. and_under _ _ _ _ (same (expect mark.At vs)) (λ _ ws. and_under _ _ _ _ (up quantifier_level ws) (λ x zs. same _))))
 
-  beginning_at : (least line : ℕ) (after : Next) (ts : List Symbol) → Under (beginning_by below least line after ts) (beginning_by above least line after ts)
-  beginning_at least line next.EmptySet ts = empty_set_under line _
-  beginning_at least line next.OpenRound ts = round_under line _
-  beginning_at least line next.OpenBrace ts = braced_under line _
-  beginning_at least line (next.Prefix s) ts = prefixed_under least line (one.Sign (sign.Symbol s)) ts
-  beginning_at least line (next.Infix Minus) ts = prefixed_under least line (one.Sign sign.Minus) ts
-  beginning_at least line next.Not ts = prefixed_under least line one.Not ts
-  beginning_at least line (next.Quantifier q) ts = if_under (nat_le least quantifier_level) _ _ _ _ (quantified_under line q _) (same _)
-  beginning_at least line _ ts = same _
+  beginning_at : (least : ℕ) (span : Span) (after : Next) (ts : List Symbol) → Under (beginning_by below least span after ts) (beginning_by above least span after ts)
+  beginning_at least span next.EmptySet ts = empty_set_under span _
+  beginning_at least span next.OpenRound ts = round_under span _
+  beginning_at least span next.OpenBrace ts = braced_under span _
+  beginning_at least span (next.Prefix s) ts = prefixed_under least span (one.Sign (sign.Symbol s)) ts
+  beginning_at least span (next.Infix Minus) ts = prefixed_under least span (one.Sign sign.Minus) ts
+  beginning_at least span next.Not ts = prefixed_under least span one.Not ts
+  beginning_at least span (next.Quantifier q) ts = if_under (nat_le least quantifier_level) _ _ _ _ (quantified_under span q _) (same _)
+  beginning_at least span _ ts = same _
 
   beginning_under : (least : ℕ) (ts : List Symbol) → Under (beginning below least ts) (beginning above least ts)
   unfolding beginning

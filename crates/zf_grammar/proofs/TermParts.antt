@@ -1,5 +1,5 @@
 -- Lists of parts: what is read is levelled, of the stated height, and spells the symbols.
-use Rattle.zf_grammar.proofs.Prelude.{◌++◌, ◌<◌, ◌∙◌, ◌∷◌, ◌≡◌, ◌≤◌, [], ap, append_assoc, arith, length, List, map, max, None, Ok, Option, refl, Some, subst, suc, sym, true, zero, ℕ, append-nil, Relation, Link, Name, Term, VarDecl, is_mark, next_of, separator, Symbol, symbol, Mark, Kind, tree_height, perhaps_height, trees_height, links_height, decls_height, AreAt, atom_level, DeclsAreLevelled, expression_level, IsLevelled, level, LinksAreLevelled, PartIsAt, first, rest, Next, Spells, SpellsDecls, SpellsFurther, SpellsLinks, SpellsNames, SpellsPart, expect, links_by, Outcome, Parser, read_names, tall, with_item, decls, items, items_from, links_from, part, read_decl, Tall, link, link_of, Links, links, new_decl, new_link, no_decls, no_links, part_of, Tree, tree_of, trees, var_decl, var_decl_of, var_decls, VarDecls, Trees}
+use Rattle.zf_grammar.proofs.Prelude.{◌++◌, ◌<◌, ◌∙◌, ◌∷◌, ◌≡◌, ◌≤◌, [], ap, append_assoc, arith, length, List, map, max, None, Ok, Option, refl, Some, subst, suc, sym, true, zero, ℕ, append-nil, Relation, Link, Name, Term, VarDecl, is_mark, next_of, separator, Symbol, symbol, Mark, Kind, tree_height, perhaps_height, trees_height, links_height, decls_height, AreAt, atom_level, DeclsAreLevelled, expression_level, IsLevelled, level, LinksAreLevelled, PartIsAt, first, rest, Next, Spells, SpellsDecls, SpellsFurther, SpellsLinks, SpellsNames, SpellsPart, expect, links_by, Outcome, Parser, read_names, tall, with_item, decls, items, items_from, links_from, part, read_decl, Tall, link, link_of, Links, links, new_decl, new_link, no_decls, no_links, part_of, Tree, tree_of, trees, var_decl, var_decl_of, var_decls, VarDecls, Trees, Span}
 use Rattle.zf_scan.specs.declared.next.Mark.TheVariants as mark
 use Rattle.zf_scan.specs.declared.token.Kind.TheVariants as k
 use Rattle.zf_grammar.proofs.NamesRead.{names_ok}
@@ -175,23 +175,23 @@ module _ (below : Reader) (n : ℕ) (ok : IsSound n below) where
   abbrev pub LinksSound : ℕ → Type 0
   LinksSound j = (xs ys : Tall (List Link)) (ts us : List Symbol) → links_from below j xs ts ≡ Ok (ys, us) → SoundLinks n xs ys ts us
 
-  pub one_link : (r : Relation) (line : ℕ) (ts us : List Symbol) (x : Tall Term) → below expression_level ts ≡ Ok (x, us) → IsLink n (r, tree_of x.part) x.height (symbol (k.Relation r) line ∷ ts) us
-  one_link r line ts us x e =
+  pub one_link : (r : Relation) (span : Span) (ts us : List Symbol) (x : Tall Term) → below expression_level ts ≡ Ok (x, us) → IsLink n (r, tree_of x.part) x.height (symbol (k.Relation r) span ∷ ts) us
+  one_link r span ts us x e =
       let s = ok expression_level ts us x (omega arith) e in
-      record { fits = s.fits; levelled = s.levelled; high = s.high; low = s.low; spelled = (ts, (line, refl), s.spelled) }
+      record { fits = s.fits; levelled = s.levelled; high = s.high; low = s.low; spelled = (ts, (span, refl), s.spelled) }
 
-  links_at : (j : ℕ) → LinksSound j → (xs ys : Tall (List Link)) (kind : Kind) (line : ℕ) (ts us : List Symbol)
-      → links_by below (links_from below j) xs (next_of kind) (symbol kind line ∷ ts) ≡ Ok (ys, us) → SoundLinks n xs ys (symbol kind line ∷ ts) us
-  links_at j again xs ys (k.Relation r) line ts us e =
+  links_at : (j : ℕ) → LinksSound j → (xs ys : Tall (List Link)) (kind : Kind) (span : Span) (ts us : List Symbol)
+      → links_by below (links_from below j) xs (next_of kind) (symbol kind span ∷ ts) ≡ Ok (ys, us) → SoundLinks n xs ys (symbol kind span ∷ ts) us
+  links_at j again xs ys (k.Relation r) span ts us e =
       let x = bind_ok (below expression_level ts) _ (ys, us) e in
-      links_more xs ys _ x.1 us r x.0 (one_link r line ts x.1 x.0 x.2) (again (with_item xs (tall (new_link r x.0.part) x.0.height)) ys x.1 us x.3)
-  links_at j again xs ys _ line ts us e = list_end tt refl (λ same. same) e
+      links_more xs ys _ x.1 us r x.0 (one_link r span ts x.1 x.0 x.2) (again (with_item xs (tall (new_link r x.0.part) x.0.height)) ys x.1 us x.3)
+  links_at j again xs ys _ span ts us e = list_end tt refl (λ same. same) e
 
   pub links_sound : (j : ℕ) → LinksSound j
   unfolding links_from
   links_sound zero xs ys ts us e = list_end tt refl (λ same. same) e
   links_sound (suc j) xs ys [] us e = list_end tt refl (λ same. same) e
-  links_sound (suc j) xs ys (s ∷ ts) us e = links_at j (links_sound j) xs ys s.kind s.line ts us e
+  links_sound (suc j) xs ys (s ∷ ts) us e = links_at j (links_sound j) xs ys s.kind s.span ts us e
 
   -- ---- declarations
 

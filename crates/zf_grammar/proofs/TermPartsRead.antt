@@ -1,5 +1,5 @@
 -- Lists of parts: what levelled trees spell is read.
-use Rattle.zf_grammar.proofs.Prelude.{◌++◌, ◌<◌, ◌∙◌, ◌∷◌, ◌≡◌, ◌≤◌, [], ap, append_assoc, arith, Bool, false, length, List, max, None, Ok, Option, refl, Some, subst, suc, sym, true, zero, ℕ, append-nil, Relation, Link, Name, Term, VarDecl, is_mark, next_of, Symbol, Mark, Kind, tree_height, perhaps_height, trees_height, links_height, decls_height, AreAt, chain_level, DeclsAreLevelled, expression_level, IsLevelled, level, LinksAreLevelled, PartIsAt, first, rest, Next, Spells, SpellsDecls, SpellsFurther, SpellsLinks, SpellsNames, SpellsPart, begins_decl, binds, links_by, Outcome, Parser, tall, with_item, decls, further, items, items_from, links_from, part, read_decl, Tall, absent, link, Links, named, new_decl, new_link, no_decls, no_links, no_trees, part_of, Perhaps, present, Tree, tree, tree_of, var_decl, VarDecls, Trees}
+use Rattle.zf_grammar.proofs.Prelude.{◌++◌, ◌<◌, ◌∙◌, ◌∷◌, ◌≡◌, ◌≤◌, [], ap, append_assoc, arith, Bool, false, length, List, max, None, Ok, Option, refl, Some, subst, suc, sym, true, zero, ℕ, append-nil, Relation, Link, Name, Term, VarDecl, is_mark, next_of, Symbol, Mark, Kind, tree_height, perhaps_height, trees_height, links_height, decls_height, AreAt, chain_level, DeclsAreLevelled, expression_level, IsLevelled, level, LinksAreLevelled, PartIsAt, first, rest, Next, Spells, SpellsDecls, SpellsFurther, SpellsLinks, SpellsNames, SpellsPart, begins_decl, binds, links_by, Outcome, Parser, tall, with_item, decls, further, items, items_from, links_from, part, read_decl, Tall, absent, link, Links, named, new_decl, new_link, no_decls, no_links, no_trees, part_of, Perhaps, present, Tree, tree, tree_of, var_decl, VarDecls, Trees, Span}
 use Rattle.zf_scan.specs.declared.next.Mark.TheVariants as mark
 use Rattle.zf_scan.specs.declared.next.Next as code
 use Rattle.zf_scan.specs.declared.token.Kind.TheVariants as k
@@ -149,11 +149,11 @@ module _ (below : Reader) (n : ℕ) (ok : IsComplete n below) where
   unfolding links_from
   links_end xs zero us stop = refl
   links_end xs (suc j) [] stop = refl
-  links_end xs (suc j) (s ∷ us) stop = at s.kind s.line stop
+  links_end xs (suc j) (s ∷ us) stop = at s.kind s.span stop
     where
-      at : (kind : Kind) (line : ℕ) → binds (next_of kind) ≤ chain_level → links_by below (links_from below j) xs (next_of kind) (s ∷ us) ≡ Ok (xs, s ∷ us)
-      at (k.Relation r) line stop = absurd (omega arith)
-      at _ line stop = refl
+      at : (kind : Kind) (span : Span) → binds (next_of kind) ≤ chain_level → links_by below (links_from below j) xs (next_of kind) (s ∷ us) ≡ Ok (xs, s ∷ us)
+      at (k.Relation r) span stop = absurd (omega arith)
+      at _ span stop = refl
 
   pub links_complete : (ks : Links) (j : ℕ) (xs : Tall (List Link)) (ts us : List Symbol) → LinksAreLevelled ks → links_height ks ≤ n → length ts ≤ j
       → binds (first us) ≤ chain_level → SpellsSomeLinks ks ts us → ReadList links_of ks (links_height ks) xs (links_from below j xs ts) us

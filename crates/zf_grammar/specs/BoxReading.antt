@@ -1,6 +1,6 @@
 -- Reading what holds terms, from left to right, as the parser does. No public clause of `zf_parse` rests on this file.
 use Rattle.std.specs.Prelude.{◌≡◌, ℕ, zero, suc, ◌+◌, max, nat_le, Bool, true, false, ◌||◌, if◌then◌else◌, List, [], ◌∷◌, ◌++◌, length, Ok, Err}
-use Rattle.zf_grammar.specs.Prelude.{Mark, Next, And, Or, Name, Term, Plain, Delta, Xi, RefMark, SchemaRef, SchemaExp, quantifier_level, expression_level, BoxTree, is_bare, is_mark, Symbol}
+use Rattle.zf_grammar.specs.Prelude.{Mark, Next, And, Or, Name, Term, Plain, Delta, Xi, RefMark, SchemaRef, SchemaExp, quantifier_level, expression_level, BoxTree, is_bare, is_mark, schema_span, schema_tree_of, Span, Symbol}
 use Rattle.zf_scan.specs.declared.next.Mark.TheVariants as mark
 use Rattle.zf_scan.specs.declared.next.Next.TheVariants as next
 use Rattle.zf_grammar.specs.declared.tall.Tall.{Tall}
@@ -11,9 +11,9 @@ use Rattle.zf_tree.specs.declared.tree.Paragraph.{Paragraph}
 use Rattle.zf_tree.specs.declared.tree.Paragraph.TheVariants as paragraph
 use Rattle.zf_tree.specs.declared.tree.ZBox.{ZBox}
 use Rattle.zf_tree.specs.declared.tree.ZBox.TheVariants as zbox
-use Rattle.zf_grammar.specs.Spelling.{SpellsBox}
+use Rattle.zf_grammar.specs.Spelling.{here, SpellsBox, through}
 use Rattle.zf_grammar.specs.Reading.{◌>>=◌, ◌>>◌, and_then, expect, first, is_end, parted, Parser, past, pure, read_name, read_names, read_opening, refuse, Refused, rest, too_deep, TooDeep}
-use Rattle.zf_grammar.specs.TermReading.{here, items, tall, read_term}
+use Rattle.zf_grammar.specs.TermReading.{items, tall, read_term}
 
 -- ---- what is spelled so far
 
@@ -74,6 +74,10 @@ abbrev pub is_or : Next → Bool
 is_or (next.Connective Or) = true
 is_or _ = false
 
+-- a schema expression over two others
+abbrev pub joining : (Span → SchemaExp → SchemaExp → SchemaExp) → SchemaExp → SchemaExp → SchemaExp
+joining make x y = make (through (schema_span (schema_tree_of x)) (schema_span (schema_tree_of y))) x y
+
 -- operands of an operator to the left, up to a height; the last number bounds the turns
 module _ (joins : Next → Bool) (operand : Parser (Tall SchemaExp)) (make : SchemaExp → SchemaExp → SchemaExp) (highest : ℕ) where
   unfoldable pub joined : ℕ → Tall SchemaExp → Parser (Tall SchemaExp)
@@ -85,34 +89,34 @@ module _ (joins : Next → Bool) (operand : Parser (Tall SchemaExp)) (make : Sch
       else Ok (x, ts)
 
 -- after an opening square bracket
-unfoldable pub schema_text : ℕ → Parser (Tall SchemaExp)
-schema_text n = do
+unfoldable pub schema_text : Span → ℕ → Parser (Tall SchemaExp)
+schema_text begin n = do
   ds ← read_decls n
   ps ← predicates n mark.Bar
-  expect mark.CloseSquare
-  pure (tall (schema.Text ds.part ps.part) (max ds.height ps.height + 1))
+  end ← expect mark.CloseSquare
+  pure (tall (schema.Text (through begin end) ds.part ps.part) (max ds.height ps.height + 1))
 
 module _ (n : ℕ) (below : Parser (Tall SchemaExp)) where
   -- after an opening round bracket
-  unfoldable pub schema_bracket : Parser (Tall SchemaExp)
-  schema_bracket = do
+  unfoldable pub schema_bracket : Span → Parser (Tall SchemaExp)
+  schema_bracket begin = do
     x ← below
-    expect mark.CloseRound
-    pure (tall (schema.Bracket x.part) (x.height + 1))
+    end ← expect mark.CloseRound
+    pure (tall (schema.Bracket (through begin end) x.part) (x.height + 1))
 
-  abbrev pub schema_part_by : Next → Parser (Tall SchemaExp)
-  schema_part_by next.OpenSquare = past (schema_text n)
-  schema_part_by next.OpenRound = past schema_bracket
-  schema_part_by _ = read_ref >>= (λ r. pure (tall (schema.Ref r) 1))
+  abbrev pub schema_part_by : Span → Next → Parser (Tall SchemaExp)
+  schema_part_by begin next.OpenSquare = past (schema_text begin n)
+  schema_part_by begin next.OpenRound = past (schema_bracket begin)
+  schema_part_by begin _ = read_ref >>= (λ r. pure (tall (schema.Ref (through begin r.name.span) r) 1))
 
   unfoldable pub schema_part : Parser (Tall SchemaExp)
-  schema_part = λ ts. schema_part_by (first ts) ts
+  schema_part = λ ts. schema_part_by (here ts) (first ts) ts
 
   unfoldable pub conjunction : Parser (Tall SchemaExp)
-  conjunction = λ ts. and_then (schema_part ts) (λ x us. joined is_and schema_part schema.Both (n + 1) (length us) x us)
+  conjunction = λ ts. and_then (schema_part ts) (λ x us. joined is_and schema_part (joining schema.Both) (n + 1) (length us) x us)
 
   unfoldable pub disjunction : Parser (Tall SchemaExp)
-  disjunction = λ ts. and_then (conjunction ts) (λ x us. joined is_or conjunction (schema.Or (here ts)) (n + 1) (length us) x us)
+  disjunction = λ ts. and_then (conjunction ts) (λ x us. joined is_or conjunction (joining schema.Or) (n + 1) (length us) x us)
 
 -- a schema expression of at most this height
 unfoldable pub read_schema : ℕ → Parser (Tall SchemaExp)

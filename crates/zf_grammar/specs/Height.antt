@@ -4,14 +4,14 @@ use Rattle.zf_grammar.specs.Prelude.{abbreviation, absent, binary, both, BoxTree
 
 abbrev mutual
   pub tree_height : Tree → ℕ
-  tree_height (empty_set l t) = tree_height t + 1
-  tree_height (bracket l t) = tree_height t + 1
-  tree_height (listed l form ts) = trees_height ts + 1
-  tree_height (comprehension l ds p t) = max (max (decls_height ds) (perhaps_height p)) (perhaps_height t) + 1
-  tree_height (unary l op t) = tree_height t + 1
-  tree_height (binary l op a b) = max (tree_height a) (tree_height b) + 1
-  tree_height (chain l t ks) = max (tree_height t) (links_height ks) + 1
-  tree_height (quantified l q ds p t) = max (max (decls_height ds) (perhaps_height p)) (tree_height t) + 1
+  tree_height (empty_set s t) = tree_height t + 1
+  tree_height (bracket s t) = tree_height t + 1
+  tree_height (listed s form ts) = trees_height ts + 1
+  tree_height (comprehension s ds p t) = max (max (decls_height ds) (perhaps_height p)) (perhaps_height t) + 1
+  tree_height (unary s op t) = tree_height t + 1
+  tree_height (binary s op a b) = max (tree_height a) (tree_height b) + 1
+  tree_height (chain s t ks) = max (tree_height t) (links_height ks) + 1
+  tree_height (quantified s q ds p t) = max (max (decls_height ds) (perhaps_height p)) (tree_height t) + 1
   tree_height _ = 1
 
   pub trees_height : Trees → ℕ
@@ -40,11 +40,11 @@ decl_height (vars ns t) = tree_height t
 decl_height (include r) = 1
 
 abbrev pub schema_height : SchemaTree → ℕ
-schema_height (schema_text ds ps) = max (most decl_height ds) (most tree_height ps) + 1
-schema_height (schema_reference r) = 1
-schema_height (both a b) = max (schema_height a) (schema_height b) + 1
-schema_height (either l a b) = max (schema_height a) (schema_height b) + 1
-schema_height (schema_bracket a) = schema_height a + 1
+schema_height (schema_text s ds ps) = max (most decl_height ds) (most tree_height ps) + 1
+schema_height (schema_reference s r) = 1
+schema_height (both s a b) = max (schema_height a) (schema_height b) + 1
+schema_height (either s a b) = max (schema_height a) (schema_height b) + 1
+schema_height (schema_bracket s a) = schema_height a + 1
 
 abbrev pub paragraph_height : ParagraphTree → ℕ
 paragraph_height (abbreviation n t) = tree_height t

@@ -1,6 +1,7 @@
 -- Reading symbols and names from left to right, as the parser does. No public clause of `zf_parse` rests on this file.
 use Rattle.std.specs.Prelude.{ℕ, zero, suc, Bool, true, false, if◌then◌else◌, List, [], ◌∷◌, ◌++◌, length, Result, Ok, Err}
-use Rattle.zf_grammar.specs.Prelude.{Next, Mark, Kind, Name, is_mark, next_of, Symbol}
+use Rattle.zf_grammar.specs.Prelude.{Next, Mark, Kind, Name, is_mark, next_of, Span, Symbol}
+use Rattle.zf_grammar.specs.Spelling.{here}
 use Rattle.zf_scan.specs.declared.next.Mark.TheVariants as mark
 use Rattle.zf_scan.specs.declared.next.Next.TheVariants as next
 use Rattle.zf_scan.specs.declared.token.Kind.TheVariants as k
@@ -58,18 +59,19 @@ too_deep = λ ts. Err TooDeep
 abbrev pub past : {A : Type 0} → Parser A → Parser A
 past p = λ ts. p (rest ts)
 
-abbrev pub expect : Mark → Parser (Unit {0})
-expect m = λ ts. if is_mark m (first ts) then Ok (tt, rest ts) else Err Refused
+-- past this symbol, which says where it stands
+abbrev pub expect : Mark → Parser Span
+expect m = λ ts. if is_mark m (first ts) then Ok (here ts, rest ts) else Err Refused
 
 -- ---- names and numbers
 
-abbrev pub name_by : Kind → ℕ → Parser Name
-name_by (k.Name base strokes) line = λ ts. Ok (record { base = base; strokes = strokes; line = line }, rest ts)
-name_by _ line = refuse
+abbrev pub name_by : Kind → Span → Parser Name
+name_by (k.Name base strokes) span = λ ts. Ok (record { base = base; strokes = strokes; span = span }, rest ts)
+name_by _ span = refuse
 
 abbrev pub read_name : Parser Name
 read_name [] = Err Refused
-read_name (t ∷ ts) = name_by t.kind t.line (t ∷ ts)
+read_name (t ∷ ts) = name_by t.kind t.span (t ∷ ts)
 
 abbrev pub number_by : Kind → Parser ℕ
 number_by (k.Number v) = λ ts. Ok (v, rest ts)
@@ -79,14 +81,14 @@ abbrev pub read_number : Parser ℕ
 read_number [] = Err Refused
 read_number (t ∷ ts) = number_by t.kind (t ∷ ts)
 
-abbrev pub opening_by : Kind → ℕ → Parser Name
-opening_by (k.BeginSchema base) line = λ ts. Ok (record { base = base; strokes = []; line = line }, rest ts)
-opening_by _ line = refuse
+abbrev pub opening_by : Kind → Span → Parser Name
+opening_by (k.BeginSchema base) span = λ ts. Ok (record { base = base; strokes = []; span = span }, rest ts)
+opening_by _ span = refuse
 
 -- the name of a schema box, by its opening
 abbrev pub read_opening : Parser Name
 read_opening [] = Err Refused
-read_opening (t ∷ ts) = opening_by t.kind t.line (t ∷ ts)
+read_opening (t ∷ ts) = opening_by t.kind t.span (t ∷ ts)
 
 -- ---- one or more, parted by a symbol; the number bounds the turns
 

@@ -1,6 +1,6 @@
--- The grammar of ZRM 6: `Spells tree ts rest` where `ts` are the symbols of the tree, each term on the line of its first one, and then `rest`.
-use Rattle.std.specs.Prelude.{◌≡◌, ℕ, List, [], ◌∷◌}
-use Rattle.zf_grammar.specs.Prelude.{Kind, Minus, And, Or, Plain, Delta, Xi, RefMark, Name, SchemaRef, Listed, Operator, Unary, separator, Symbol, symbol, abbreviation, absent, binary, both, BoxTree, bracket, comprehension, chain, constant, DeclTree, definition, either, empty_set, free, given, include, line_of, link, Links, listed, named, no_decls, no_links, no_trees, numeral, ParagraphTree, Perhaps, present, quantified, schema_box, schema_bracket, schema_reference, schema_text, SchemaTree, Tree, tree, unary, var_decl, VarDecls, vars, zed, Trees}
+-- The grammar of ZRM 6: `Spells tree ts rest` where `ts` are the symbols of the tree, whose span is from the first to the last, and then `rest`.
+use Rattle.std.specs.Prelude.{◌≡◌, List, [], ◌∷◌}
+use Rattle.zf_grammar.specs.Prelude.{Kind, Minus, And, Or, Plain, Delta, Xi, RefMark, Name, SchemaRef, Listed, Operator, Unary, nowhere, separator, Symbol, symbol, abbreviation, absent, binary, both, BoxTree, bracket, comprehension, chain, constant, DeclTree, definition, either, empty_set, free, given, include, link, Links, listed, named, no_decls, no_links, no_trees, numeral, ParagraphTree, Perhaps, present, quantified, schema_box, schema_bracket, schema_reference, schema_span, schema_text, SchemaTree, Span, span_of, Tree, tree, unary, var_decl, VarDecls, vars, zed, Trees}
 use Rattle.zf_scan.specs.declared.token.Kind.TheVariants as k
 use Rattle.zf_tree.specs.declared.operator.Listed.TheVariants as list
 use Rattle.zf_tree.specs.declared.operator.Operator.TheVariants as operator
@@ -8,13 +8,24 @@ use Rattle.zf_tree.specs.declared.operator.Sign.{Sign}
 use Rattle.zf_tree.specs.declared.operator.Sign.TheVariants as sign
 use Rattle.zf_tree.specs.declared.operator.Unary.TheVariants as one
 
--- the first symbol, with its line, and the rest
-abbrev pub Starts : Kind → ℕ → List Symbol → List Symbol → Type 0
-Starts kind line ts rest = ts ≡ symbol kind line ∷ rest
+-- the first symbol, with its place, and the rest
+abbrev pub Starts : Kind → Span → List Symbol → List Symbol → Type 0
+Starts kind span ts rest = ts ≡ symbol kind span ∷ rest
 
--- the first symbol, on any line, and the rest
+-- the first symbol, at any place, and the rest
 abbrev pub Next : Kind → List Symbol → List Symbol → Type 0
-Next kind ts rest = (line : ℕ) × Starts kind line ts rest
+Next kind ts rest = (span : Span) × Starts kind span ts rest
+
+-- the first symbol, with which the part of the source begins, or ends
+abbrev pub Begins : Kind → Span → List Symbol → List Symbol → Type 0
+Begins kind s ts rest = (span : Span) × Starts kind span ts rest × (s.start ≡ span.start)
+
+abbrev pub Ends : Kind → Span → List Symbol → List Symbol → Type 0
+Ends kind s ts rest = (span : Span) × Starts kind span ts rest × (s.stop ≡ span.stop)
+
+-- from where one part begins to where the other ends
+abbrev pub through : Span → Span → Span
+through first last = record { start = first.start; stop = last.stop }
 
 -- one or more, each spelled in this way, parted by the symbol
 abbrev pub PartedBy : {A : Type 0} → Kind → (A → List Symbol → List Symbol → Type 0) → List A → List Symbol → List Symbol → Type 0
@@ -23,7 +34,7 @@ PartedBy kind spells (x ∷ []) ts rest = spells x ts rest
 PartedBy kind spells (x ∷ (y ∷ ys)) ts rest = (a b : List Symbol) × spells x ts a × Next kind a b × PartedBy kind spells (y ∷ ys) b rest
 
 abbrev pub SpellsName : Name → List Symbol → List Symbol → Type 0
-SpellsName n ts rest = Starts (k.Name n.base n.strokes) n.line ts rest
+SpellsName n ts rest = Starts (k.Name n.base n.strokes) n.span ts rest
 
 abbrev pub SpellsNames : List Name → List Symbol → List Symbol → Type 0
 SpellsNames = PartedBy k.Comma SpellsName
@@ -32,19 +43,25 @@ abbrev pub sign_kind : Sign → Kind
 sign_kind (sign.Symbol s) = k.Prefix s
 sign_kind sign.Minus = k.Infix Minus
 
-abbrev pub IsFirstLine : ℕ → Trees → Type 0
-IsFirstLine l no_trees = ⊥
-IsFirstLine l (tree t ts) = l ≡ line_of t
+-- the last of the terms, or, without any, this part
+abbrev pub last_tree : Span → Trees → Span
+last_tree s no_trees = s
+last_tree s (tree t ts) = last_tree (span_of t) ts
 
--- what stands before and after the operand, of a term on this line
-abbrev pub Before : Unary → ℕ → Tree → List Symbol → List Symbol → Type 0
-Before (one.Sign s) l t ts rest = Starts (sign_kind s) l ts rest
-Before one.Not l t ts rest = Starts k.Not l ts rest
-Before one.Inverse l t ts rest = (l ≡ line_of t) × (ts ≡ rest)
+-- from the first of the terms to the last
+abbrev pub IsOver : Span → Trees → Type 0
+IsOver s no_trees = ⊥
+IsOver s (tree t ts) = s ≡ through (span_of t) (last_tree (span_of t) ts)
 
-abbrev pub After : Unary → List Symbol → List Symbol → Type 0
-After one.Inverse ts rest = Next k.Inverse ts rest
-After _ ts rest = ts ≡ rest
+-- what stands before and after the operand
+abbrev pub Before : Unary → Span → Tree → List Symbol → List Symbol → Type 0
+Before (one.Sign op) s t ts rest = Begins (sign_kind op) s ts rest
+Before one.Not s t ts rest = Begins k.Not s ts rest
+Before one.Inverse s t ts rest = (s.start ≡ (span_of t).start) × (ts ≡ rest)
+
+abbrev pub After : Unary → Span → Tree → List Symbol → List Symbol → Type 0
+After one.Inverse s t ts rest = Ends k.Inverse s ts rest
+After _ s t ts rest = (s.stop ≡ (span_of t).stop) × (ts ≡ rest)
 
 -- what stands between two operands, and after them
 abbrev pub Between : Operator → List Symbol → List Symbol → Type 0
@@ -54,40 +71,51 @@ Between (operator.Connective c) ts rest = Next (k.Connective c) ts rest
 Between operator.Application ts rest = ts ≡ rest
 Between operator.Image ts rest = Next k.OpenImage ts rest
 
-abbrev pub Behind : Operator → List Symbol → List Symbol → Type 0
-Behind operator.Image ts rest = Next k.CloseImage ts rest
-Behind _ ts rest = ts ≡ rest
+abbrev pub Behind : Operator → Span → Tree → List Symbol → List Symbol → Type 0
+Behind operator.Image s t ts rest = Ends k.CloseImage s ts rest
+Behind _ s t ts rest = (s.stop ≡ (span_of t).stop) × (ts ≡ rest)
 
 -- what stands before several terms, between each two of them, and after them
-abbrev pub Opens : Listed → ℕ → Trees → List Symbol → List Symbol → Type 0
-Opens list.Tuple l us ts rest = Starts k.OpenRound l ts rest
-Opens list.Display l us ts rest = Starts k.OpenBrace l ts rest
-Opens list.Product l us ts rest = IsFirstLine l us × (ts ≡ rest)
+abbrev pub Opens : Listed → Span → Trees → List Symbol → List Symbol → Type 0
+Opens list.Tuple s us ts rest = Begins k.OpenRound s ts rest
+Opens list.Display s us ts rest = Begins k.OpenBrace s ts rest
+Opens list.Product s us ts rest = IsOver s us × (ts ≡ rest)
 
 abbrev pub parting : Listed → Kind
 parting list.Product = k.Cross
 parting _ = k.Comma
 
-abbrev pub Closes : Listed → List Symbol → List Symbol → Type 0
-Closes list.Tuple ts rest = Next k.CloseRound ts rest
-Closes list.Display ts rest = Next k.CloseBrace ts rest
-Closes list.Product ts rest = ts ≡ rest
+abbrev pub Closes : Listed → Span → List Symbol → List Symbol → Type 0
+Closes list.Tuple s ts rest = Ends k.CloseRound s ts rest
+Closes list.Display s ts rest = Ends k.CloseBrace s ts rest
+Closes list.Product s ts rest = ts ≡ rest
+
+-- the last operand of the links, or, without any, this part
+abbrev pub last_link : Span → Links → Span
+last_link s no_links = s
+last_link s (link r t ks) = last_link (span_of t) ks
+
+-- from the first operand of a chain to the last
+abbrev pub over_links : Tree → Links → Span
+over_links t ks = through (span_of t) (last_link (span_of t) ks)
 
 abbrev mutual
   pub Spells : Tree → List Symbol → List Symbol → Type 0
   Spells (named n) ts rest = SpellsName n ts rest
-  Spells (numeral l v) ts rest = Starts (k.Number v) l ts rest
-  Spells (constant l c) ts rest = Starts (k.Constant c) l ts rest
-  Spells (empty_set l t) ts rest = (a b c : List Symbol) × Starts k.EmptySet l ts a × Next k.OpenSquare a b × Spells t b c × Next k.CloseSquare c rest
-  Spells (bracket l t) ts rest = (a b : List Symbol) × Starts k.OpenRound l ts a × Spells t a b × Next k.CloseRound b rest
-  Spells (listed l form us) ts rest = (a b : List Symbol) × Opens form l us ts a × SpellsItems (parting form) us a b × Closes form b rest
-  Spells (comprehension l ds p t) ts rest =
-      (a b c d : List Symbol) × Starts k.OpenBrace l ts a × SpellsDecls ds a b × SpellsPart k.Bar p b c × SpellsPart k.At t c d × Next k.CloseBrace d rest
-  Spells (unary l op t) ts rest = (a b : List Symbol) × Before op l t ts a × Spells t a b × After op b rest
-  Spells (binary l op x y) ts rest = (a b c : List Symbol) × (l ≡ line_of x) × Spells x ts a × Between op a b × Spells y b c × Behind op c rest
-  Spells (chain l t ks) ts rest = (a : List Symbol) × (l ≡ line_of t) × Spells t ts a × SpellsLinks ks a rest
-  Spells (quantified l q ds p t) ts rest =
-      (a b c d : List Symbol) × Starts (k.Quantifier q) l ts a × SpellsDecls ds a b × SpellsPart k.Bar p b c × Next k.At c d × Spells t d rest
+  Spells (numeral s v) ts rest = Starts (k.Number v) s ts rest
+  Spells (constant s c) ts rest = Starts (k.Constant c) s ts rest
+  Spells (empty_set s t) ts rest = (a b c : List Symbol) × Begins k.EmptySet s ts a × Next k.OpenSquare a b × Spells t b c × Ends k.CloseSquare s c rest
+  Spells (bracket s t) ts rest = (a b : List Symbol) × Begins k.OpenRound s ts a × Spells t a b × Ends k.CloseRound s b rest
+  Spells (listed s form us) ts rest = (a b : List Symbol) × Opens form s us ts a × SpellsItems (parting form) us a b × Closes form s b rest
+  Spells (comprehension s ds p t) ts rest =
+      (a b c d : List Symbol) × Begins k.OpenBrace s ts a × SpellsDecls ds a b × SpellsPart k.Bar p b c × SpellsPart k.At t c d × Ends k.CloseBrace s d rest
+  Spells (unary s op t) ts rest = (a b : List Symbol) × Before op s t ts a × Spells t a b × After op s t b rest
+  Spells (binary s op x y) ts rest =
+      (a b c : List Symbol) × (s.start ≡ (span_of x).start) × Spells x ts a × Between op a b × Spells y b c × Behind op s y c rest
+  Spells (chain s t ks) ts rest = (a : List Symbol) × (s ≡ over_links t ks) × Spells t ts a × SpellsLinks ks a rest
+  Spells (quantified s q ds p t) ts rest =
+      (a b c d : List Symbol) × Begins (k.Quantifier q) s ts a × SpellsDecls ds a b × SpellsPart k.Bar p b c × Next k.At c d × Spells t d rest
+      × (s.stop ≡ (span_of t).stop)
 
   -- one or more, parted by the symbol
   pub SpellsItems : Kind → Trees → List Symbol → List Symbol → Type 0
@@ -135,18 +163,20 @@ abbrev pub SpellsPredicates : Kind → List Tree → List Symbol → List Symbol
 SpellsPredicates kind [] ts rest = ts ≡ rest
 SpellsPredicates kind (p ∷ ps) ts rest = (a : List Symbol) × Next kind ts a × PartedBy separator Spells (p ∷ ps) a rest
 
--- the first symbol is on this line
-abbrev pub IsOn : ℕ → List Symbol → Type 0
-IsOn line [] = ⊥
-IsOn line (t ∷ ts) = t.line ≡ line
+-- the place of the first symbol
+abbrev pub here : List Symbol → Span
+here [] = nowhere
+here (t ∷ ts) = t.span
 
 abbrev pub SpellsSchema : SchemaTree → List Symbol → List Symbol → Type 0
-SpellsSchema (schema_text ds ps) ts rest =
-    (a b c : List Symbol) × Next k.OpenSquare ts a × PartedBy separator SpellsDecl ds a b × SpellsPredicates k.Bar ps b c × Next k.CloseSquare c rest
-SpellsSchema (schema_reference r) ts rest = SpellsRef r ts rest
-SpellsSchema (both x y) ts rest = (a b : List Symbol) × SpellsSchema x ts a × Next (k.Connective And) a b × SpellsSchema y b rest
-SpellsSchema (either l x y) ts rest = (a b : List Symbol) × IsOn l ts × SpellsSchema x ts a × Next (k.Connective Or) a b × SpellsSchema y b rest
-SpellsSchema (schema_bracket x) ts rest = (a b : List Symbol) × Next k.OpenRound ts a × SpellsSchema x a b × Next k.CloseRound b rest
+SpellsSchema (schema_text s ds ps) ts rest =
+    (a b c : List Symbol) × Begins k.OpenSquare s ts a × PartedBy separator SpellsDecl ds a b × SpellsPredicates k.Bar ps b c × Ends k.CloseSquare s c rest
+SpellsSchema (schema_reference s r) ts rest = (s ≡ through (here ts) r.name.span) × SpellsRef r ts rest
+SpellsSchema (both s x y) ts rest =
+    (a b : List Symbol) × (s ≡ through (schema_span x) (schema_span y)) × SpellsSchema x ts a × Next (k.Connective And) a b × SpellsSchema y b rest
+SpellsSchema (either s x y) ts rest =
+    (a b : List Symbol) × (s ≡ through (schema_span x) (schema_span y)) × SpellsSchema x ts a × Next (k.Connective Or) a b × SpellsSchema y b rest
+SpellsSchema (schema_bracket s x) ts rest = (a b : List Symbol) × Begins k.OpenRound s ts a × SpellsSchema x a b × Ends k.CloseRound s b rest
 
 abbrev pub SpellsParagraph : ParagraphTree → List Symbol → List Symbol → Type 0
 SpellsParagraph (given ns) ts rest = (a b : List Symbol) × Next k.OpenSquare ts a × SpellsNames ns a b × Next k.CloseSquare b rest
@@ -157,7 +187,7 @@ SpellsParagraph (definition n x) ts rest = (a b : List Symbol) × (n.strokes ≡
 abbrev pub SpellsBox : BoxTree → List Symbol → List Symbol → Type 0
 SpellsBox (zed ps) ts rest = (a b : List Symbol) × Next k.BeginZed ts a × PartedBy separator SpellsParagraph ps a b × Next k.EndBox b rest
 SpellsBox (schema_box n ds ps) ts rest =
-    (a b c : List Symbol) × (n.strokes ≡ []) × Starts (k.BeginSchema n.base) n.line ts a × PartedBy separator SpellsDecl ds a b × SpellsPredicates k.Where ps b c
+    (a b c : List Symbol) × (n.strokes ≡ []) × Starts (k.BeginSchema n.base) n.span ts a × PartedBy separator SpellsDecl ds a b × SpellsPredicates k.Where ps b c
     × Next k.EndBox c rest
 
 abbrev pub SpellsBoxes : List BoxTree → List Symbol → Type 0

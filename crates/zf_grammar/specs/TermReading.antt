@@ -1,13 +1,12 @@
 -- Reading a term from left to right, as the parser does. No public clause of `zf_parse` rests on this file.
-use Rattle.std.specs.Prelude.{◌≡◌, ℕ, zero, suc, ◌+◌, max, nat_le, Bool, true, false, not, if◌then◌else◌, List, [], ◌∷◌, ◌++◌, length, Option, Some, None, Result, Ok, Err}
-use Rattle.zf_grammar.specs.Prelude.{TextFault, Mark, Next, Minus, ident_of, line_of, new_decl, new_link, tree_of, Name, Listed, Operator, Unary, Term, quantifier_level, chain_level, expression_level, product_level, postfix_level, unary_level, operator_level, left_place, right_place, member_place, level, ends_names, goes_on, is_mark, next_of, Symbol}
+use Rattle.std.specs.Prelude.{◌≡◌, ℕ, zero, suc, ◌+◌, max, nat_le, Bool, true, false, not, if◌then◌else◌, List, [], ◌∷◌, ◌++◌, length, map, Option, Some, None, Result, Ok, Err}
+use Rattle.zf_grammar.specs.Prelude.{TextFault, Mark, Next, Minus, ident_of, link_of, links, new_decl, new_link, nowhere, Span, span_of, tree_of, trees, Listed, Operator, Unary, Term, quantifier_level, chain_level, expression_level, product_level, postfix_level, unary_level, operator_level, left_place, right_place, member_place, level, ends_names, goes_on, is_mark, next_of, Symbol}
 use Rattle.zf_scan.specs.declared.fault.TextFaultKind.{TextFaultKind}
 use Rattle.zf_scan.specs.declared.fault.TextFaultKind.TheVariants as fault
 use Rattle.zf_scan.specs.declared.next.Mark.TheVariants as mark
 use Rattle.zf_scan.specs.declared.next.Next.TheVariants as next
 use Rattle.zf_grammar.specs.declared.tall.Tall.{Tall}
 use Rattle.zf_tree.specs.declared.symbol.Quantifier.{Quantifier}
-use Rattle.zf_tree.specs.declared.symbol.Relation.{Relation}
 use Rattle.zf_tree.specs.declared.tree.Link.{Link}
 use Rattle.zf_grammar.specs.declared.role.Role.{Role}
 use Rattle.zf_grammar.specs.declared.role.Role.TheVariants as role
@@ -18,25 +17,21 @@ use Rattle.zf_tree.specs.declared.operator.Unary.TheVariants as one
 use Rattle.zf_tree.specs.declared.tree.Term.TheVariants as term
 use Rattle.zf_tree.specs.declared.tree.VarDecl.{VarDecl}
 pub use Rattle.zf_grammar.specs.Reading.{and_then, expect, Outcome, Parser}
-use Rattle.zf_grammar.specs.Reading.{◌>>=◌, ◌>>◌, Fault, first, past, pure, refuse, Refused, read_name, read_names, read_number, rest, too_deep, TooDeep}
-
--- the line of the next symbol
-abbrev pub here : List Symbol → ℕ
-here [] = 0
-here (t ∷ ts) = t.line
+use Rattle.zf_grammar.specs.Spelling.{here, last_tree, over_links, through}
+use Rattle.zf_grammar.specs.Reading.{◌>>=◌, ◌>>◌, first, past, pure, refuse, Refused, read_name, read_names, read_number, rest, too_deep, TooDeep}
 
 -- ---- what a function that reads ensures: the outcome, unless memory ran out
 
-abbrev pub Fails : {A : Type 0} → Outcome A → TextFaultKind → (line : ℕ) → Type 0
-Fails outcome fault.OutOfMemory line = line ≡ 0
-Fails outcome fault.Unexpected line = outcome ≡ Err Refused
-Fails outcome fault.NotInProfile line = outcome ≡ Err Refused
-Fails outcome fault.TooDeep line = outcome ≡ Err TooDeep
-Fails outcome _ line = ⊥
+abbrev pub Fails : {A : Type 0} → Outcome A → TextFaultKind → Span → Type 0
+Fails outcome fault.OutOfMemory span = span ≡ nowhere
+Fails outcome fault.Unexpected span = outcome ≡ Err Refused
+Fails outcome fault.NotInProfile span = outcome ≡ Err Refused
+Fails outcome fault.TooDeep span = outcome ≡ Err TooDeep
+Fails outcome _ span = ⊥
 
 abbrev pub Gives : {A : Type 0} → Outcome A → Result A TextFault → List Symbol → Type 0
 Gives outcome (Ok a) after = outcome ≡ Ok (a, after)
-Gives outcome (Err e) after = Fails outcome e.kind e.line
+Gives outcome (Err e) after = Fails outcome e.kind e.span
 
 -- ---- what a symbol is after a term
 
@@ -118,18 +113,20 @@ abbrev pub beyond : Operator → List Symbol → List Symbol
 beyond operator.Application ts = ts
 beyond _ ts = rest ts
 
-abbrev pub ended_by : Operator → Parser (Unit {0})
-ended_by operator.Image = expect mark.CloseImage
-ended_by _ = pure tt
+-- what stands after two operands, or else the last of them
+abbrev pub ended_by : Operator → Span → Parser Span
+ended_by operator.Image last = expect mark.CloseImage
+ended_by _ last = pure last
 
 abbrev pub parted_by : Listed → Mark
 parted_by list.Product = mark.Cross
 parted_by _ = mark.Comma
 
-abbrev pub closed_by : Listed → Parser (Unit {0})
-closed_by list.Tuple = expect mark.CloseRound
-closed_by list.Display = expect mark.CloseBrace
-closed_by list.Product = pure tt
+-- what stands after the terms of a list, or else the last of them
+abbrev pub closed_by : Listed → Span → Parser Span
+closed_by list.Tuple last = expect mark.CloseRound
+closed_by list.Display last = expect mark.CloseBrace
+closed_by list.Product last = pure last
 
 -- ---- the rules, of which `below` reads a term at a place, one level deeper
 
@@ -171,75 +168,75 @@ module _ (below : ℕ → Parser (Tall Term)) where
       else Ok (tall None 0, ts)
 
   -- the terms of a list, of which the first is read, and what stands after them
-  unfoldable pub listed : ℕ → Listed → Tall Term → Parser (Tall Term)
-  listed line form x = do
+  unfoldable pub listed : Span → Listed → Tall Term → Parser (Tall Term)
+  listed begin form x = do
     all ← further (parted_by form) (member_place form) x
-    closed_by form
-    pure (tall (term.Listed line form all.part) (all.height + 1))
+    end ← closed_by form (last_tree begin (trees (map tree_of all.part)))
+    pure (tall (term.Listed (through begin end) form all.part) (all.height + 1))
 
   -- ---- what begins a term
 
-  unfoldable pub empty_set : ℕ → Parser (Tall Term)
-  empty_set line = do
+  unfoldable pub empty_set : Span → Parser (Tall Term)
+  empty_set begin = do
     expect mark.OpenSquare
     x ← below expression_level
-    expect mark.CloseSquare
-    pure (over (term.EmptySet line) x)
+    end ← expect mark.CloseSquare
+    pure (over (term.EmptySet (through begin end)) x)
 
-  abbrev pub round_by : ℕ → Tall Term → Next → Parser (Tall Term)
-  round_by line x next.CloseRound = past (pure (over (term.Bracket line) x))
-  round_by line x next.Comma = if_at expression_level (level (tree_of x.part)) (listed line list.Tuple x)
-  round_by line x _ = refuse
+  abbrev pub round_by : Span → Tall Term → Next → Parser (Tall Term)
+  round_by begin x next.CloseRound = λ ts. Ok (over (term.Bracket (through begin (here ts))) x, rest ts)
+  round_by begin x next.Comma = if_at expression_level (level (tree_of x.part)) (listed begin list.Tuple x)
+  round_by begin x _ = refuse
 
   -- after an opening bracket
-  unfoldable pub round : ℕ → Parser (Tall Term)
-  round line = do
+  unfoldable pub round : Span → Parser (Tall Term)
+  round begin = do
     x ← below quantifier_level
-    λ ts. round_by line x (first ts) ts
+    λ ts. round_by begin x (first ts) ts
 
-  unfoldable pub display : ℕ → Parser (Tall Term)
-  display line = λ ts.
+  unfoldable pub display : Span → Parser (Tall Term)
+  display begin = λ ts.
       if is_mark mark.CloseBrace (first ts)
       then Err Refused
-      else and_then (below expression_level ts) (listed line list.Display)
+      else and_then (below expression_level ts) (listed begin list.Display)
 
-  unfoldable pub comprehension : ℕ → Parser (Tall Term)
-  comprehension line = do
+  unfoldable pub comprehension : Span → Parser (Tall Term)
+  comprehension begin = do
     ds ← decls
     p ← part mark.Bar quantifier_level
     t ← part mark.At expression_level
-    expect mark.CloseBrace
-    pure (tall (term.Comprehension line ds.part p.part t.part) (max (max ds.height p.height) t.height + 1))
+    end ← expect mark.CloseBrace
+    pure (tall (term.Comprehension (through begin end) ds.part p.part t.part) (max (max ds.height p.height) t.height + 1))
 
-  unfoldable pub braced : ℕ → Parser (Tall Term)
-  braced line = λ ts. if begins_decl true ts then comprehension line ts else display line ts
+  unfoldable pub braced : Span → Parser (Tall Term)
+  braced begin = λ ts. if begins_decl true ts then comprehension begin ts else display begin ts
 
   -- a term over the operand after the next symbol
-  unfoldable pub prefixed : ℕ → ℕ → Unary → Parser (Tall Term)
-  prefixed least line op = if_at least (unary_level op) (past (do
+  unfoldable pub prefixed : ℕ → Span → Unary → Parser (Tall Term)
+  prefixed least begin op = if_at least (unary_level op) (past (do
     x ← below (unary_level op)
-    pure (over (term.Unary line op) x)))
+    pure (over (term.Unary (through begin (span_of (tree_of x.part))) op) x)))
 
-  unfoldable pub quantified : ℕ → Quantifier → Parser (Tall Term)
-  quantified line q = do
+  unfoldable pub quantified : Span → Quantifier → Parser (Tall Term)
+  quantified begin q = do
     ds ← decls
     p ← part mark.Bar quantifier_level
     expect mark.At
     x ← below quantifier_level
-    pure (tall (term.Quantified q line ds.part p.part x.part) (max (max ds.height p.height) x.height + 1))
+    pure (tall (term.Quantified q (through begin (span_of (tree_of x.part))) ds.part p.part x.part) (max (max ds.height p.height) x.height + 1))
 
-  abbrev pub beginning_by : ℕ → ℕ → Next → Parser (Tall Term)
-  beginning_by least line next.Name = λ ts. and_then (read_name ts) (λ n us. Ok (tall (term.Name n.line (ident_of n)) 1, us))
-  beginning_by least line next.Number = λ ts. and_then (read_number ts) (λ v us. Ok (tall (term.Number line v) 1, us))
-  beginning_by least line (next.Constant c) = past (pure (tall (term.Constant line c) 1))
-  beginning_by least line next.EmptySet = past (empty_set line)
-  beginning_by least line next.OpenRound = past (round line)
-  beginning_by least line next.OpenBrace = past (braced line)
-  beginning_by least line (next.Prefix s) = prefixed least line (one.Sign (sign.Symbol s))
-  beginning_by least line (next.Infix Minus) = prefixed least line (one.Sign sign.Minus)
-  beginning_by least line next.Not = prefixed least line one.Not
-  beginning_by least line (next.Quantifier q) = if_at least quantifier_level (past (quantified line q))
-  beginning_by least line _ = refuse
+  abbrev pub beginning_by : ℕ → Span → Next → Parser (Tall Term)
+  beginning_by least begin next.Name = λ ts. and_then (read_name ts) (λ n us. Ok (tall (term.Name n.span (ident_of n)) 1, us))
+  beginning_by least begin next.Number = λ ts. and_then (read_number ts) (λ v us. Ok (tall (term.Number begin v) 1, us))
+  beginning_by least begin (next.Constant c) = past (pure (tall (term.Constant begin c) 1))
+  beginning_by least begin next.EmptySet = past (empty_set begin)
+  beginning_by least begin next.OpenRound = past (round begin)
+  beginning_by least begin next.OpenBrace = past (braced begin)
+  beginning_by least begin (next.Prefix s) = prefixed least begin (one.Sign (sign.Symbol s))
+  beginning_by least begin (next.Infix Minus) = prefixed least begin (one.Sign sign.Minus)
+  beginning_by least begin next.Not = prefixed least begin one.Not
+  beginning_by least begin (next.Quantifier q) = if_at least quantifier_level (past (quantified begin q))
+  beginning_by least begin _ = refuse
 
   unfoldable pub beginning : ℕ → Parser (Tall Term)
   beginning least = λ ts. beginning_by least (here ts) (first ts) ts
@@ -250,20 +247,20 @@ module _ (below : ℕ → Parser (Tall Term)) where
   unfoldable pub binary : Operator → Tall Term → Parser (Tall Term)
   binary op x = λ ts. (do
     y ← below (right_place op)
-    ended_by op
-    pure (over_both (term.Binary (line_of (tree_of x.part)) op) x y)) (beyond op ts)
+    end ← ended_by op (span_of (tree_of y.part))
+    pure (over_both (term.Binary (through (span_of (tree_of x.part)) end) op) x y)) (beyond op ts)
 
   unfoldable pub chained : Tall Term → Parser (Tall Term)
   chained x = do
     ks ← chain_links
-    pure (tall (term.Chain (line_of (tree_of x.part)) x.part ks.part) (max x.height ks.height + 1))
+    pure (tall (term.Chain (over_links (tree_of x.part) (links (map link_of ks.part))) x.part ks.part) (max x.height ks.height + 1))
 
   abbrev pub longer_by : Tall Term → Role → Parser (Tall Term)
   longer_by x role.Ends = pure x
   longer_by x (role.Operator op) = binary op x
   longer_by x role.Relation = chained x
-  longer_by x role.Cross = listed (line_of (tree_of x.part)) list.Product x
-  longer_by x role.Inverse = past (pure (over (term.Unary (line_of (tree_of x.part)) one.Inverse) x))
+  longer_by x role.Cross = listed (span_of (tree_of x.part)) list.Product x
+  longer_by x role.Inverse = λ ts. Ok (over (term.Unary (through (span_of (tree_of x.part)) (here ts)) one.Inverse) x, rest ts)
 
   -- goes on while the symbols bind more tightly than this place, up to this height; the second number bounds the turns
   unfoldable pub climb : ℕ → ℕ → ℕ → Tall Term → Parser (Tall Term)

@@ -48,9 +48,9 @@ fn schema_box<'a>(
 {
     let name = tokens.opening()?;
     if tokens.is_at(Mark::OpenSquare) {
-        let line = tokens.line();
+        let span = tokens.span();
         tokens.skip();
-        return Err(TextFault::not_in_profile(line));
+        return Err(TextFault::not_in_profile(span));
     }
     let decls = decls(arena, tokens, highest)?;
     let predicates = predicates(arena, tokens, highest, Mark::Where)?;

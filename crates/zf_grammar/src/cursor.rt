@@ -1,15 +1,15 @@
 //! The symbols of a text that are left to be read.
 ghost use Rattle.std.specs.Prelude.{◌≡◌, true, length, map};
-ghost use Rattle.zf_grammar.specs.Prelude.{is_mark, symbol_at, Unexpected};
+ghost use Rattle.zf_grammar.specs.Prelude.{is_mark, token_at, Unexpected};
 ghost use Rattle.zf_grammar.specs.BoxReading as boxes;
 ghost use Rattle.zf_grammar.specs.Reading as spec;
 ghost use Rattle.zf_grammar.specs.TermReading as terms;
-ghost use Rattle.zf_grammar.specs.{Gives};
+ghost use Rattle.zf_grammar.specs.{Gives, here};
 
 use std::marker::Model;
 use zf_data::arena::Lent;
 use zf_scan::{Mark, Next, Placed, TextFault, TextFaultKind};
-use zf_tree::{Connective, Listed, Name, Operator};
+use zf_tree::{Connective, Listed, Name, Operator, Span};
 
 /// A place in the reduced list of the symbols of a text, which contracts see as the symbols from there on.
 #[derive(Drop)]
@@ -21,16 +21,16 @@ pub struct Cursor<'a, 'b> {
 impl<'a, 'b> Model for Cursor<'a, 'b> {
     ghost use Rattle.std.specs.Prelude.{List, map};
     ghost use Rattle.zf_scan.specs.Separators.{Symbol};
-    ghost use Rattle.zf_scan.specs.Placing.{symbol_at};
+    ghost use Rattle.zf_scan.specs.Placing.{token_at};
 
     ghost Value = { List Symbol };
 
-    ghost view = { λ c. map (symbol_at c.text.now) c.rest.now };
+    ghost view = { λ c. map (token_at c.text.now) c.rest.now };
 }
 
 impl<'a, 'b> Cursor<'a, 'b> {
     pub fn new(text: &'a [u8], symbols: &'b [Placed]) -> Cursor<'a, 'b>
-        ensures { result ≡ map (symbol_at text.entry.now) symbols.entry.now }
+        ensures { result ≡ map (token_at text.entry.now) symbols.entry.now }
     {
         Cursor {
             text,
@@ -64,13 +64,13 @@ impl<'a, 'b> Cursor<'a, 'b> {
         self.rest.len()
     }
 
-    /// The line of the next symbol; 0 where nothing is left.
-    pub fn line(&self) -> u32
-        ensures { result ≡ terms.here self.now }
+    /// The place of the next symbol; nowhere where nothing is left.
+    pub fn span(&self) -> Span
+        ensures { result ≡ here self.now }
     {
         match self.rest {
-            [] => 0,
-            [first, ..] => first.line,
+            [] => Span { start: 0, stop: 0 },
+            [first, ..] => first.span,
         }
     }
 
@@ -80,7 +80,7 @@ impl<'a, 'b> Cursor<'a, 'b> {
     {
         TextFault {
             kind: TextFaultKind::Unexpected,
-            line: u64::from(self.line()),
+            span: self.span(),
         }
     }
 
@@ -144,15 +144,16 @@ impl<'a, 'b> Cursor<'a, 'b> {
         matches!(self.peek(), Next::End)
     }
 
-    /// Goes past this symbol.
-    pub fn expect(&mut self, mark: Mark) -> Result<(), TextFault>
+    /// Goes past this symbol, and says where it stands.
+    pub fn expect(&mut self, mark: Mark) -> Result<Span, TextFault>
         ensures { Gives (spec.expect mark self.old) result self.new }
     {
         if !self.is_at(mark) {
             return Err(self.unexpected());
         }
+        let span = self.span();
         self.skip();
-        Ok(())
+        Ok(span)
     }
 
     /// Goes past the symbol between two operands; of application there is none.
@@ -164,24 +165,24 @@ impl<'a, 'b> Cursor<'a, 'b> {
         }
     }
 
-    /// Goes past what stands after two operands.
-    pub fn end(&mut self, op: Operator) -> Result<(), TextFault>
-        ensures { Gives (terms.ended_by op self.old) result self.new }
+    /// Goes past what stands after two operands, of which the last is given: where the whole ends.
+    pub fn end(&mut self, op: Operator, last: Span) -> Result<Span, TextFault>
+        ensures { Gives (terms.ended_by op last self.old) result self.new }
     {
-        if matches!(op, Operator::Image) {
-            self.expect(Mark::CloseImage)?;
+        match op {
+            Operator::Image => self.expect(Mark::CloseImage),
+            _ => Ok(last),
         }
-        Ok(())
     }
 
-    /// Goes past what stands after the terms of a list.
-    pub fn close(&mut self, form: Listed) -> Result<(), TextFault>
-        ensures { Gives (terms.closed_by form self.old) result self.new }
+    /// Goes past what stands after the terms of a list, of which the last is given: where the whole ends.
+    pub fn close(&mut self, form: Listed, last: Span) -> Result<Span, TextFault>
+        ensures { Gives (terms.closed_by form last self.old) result self.new }
     {
         match form {
             Listed::Tuple => self.expect(Mark::CloseRound),
             Listed::Display => self.expect(Mark::CloseBrace),
-            Listed::Product => Ok(()),
+            Listed::Product => Ok(last),
         }
     }
 
@@ -194,7 +195,7 @@ impl<'a, 'b> Cursor<'a, 'b> {
                 let name = Name {
                     spelled: Lent::new(first.spelled(self.text)),
                     bare: first.amount,
-                    line: first.line,
+                    span: first.span,
                 };
                 self.rest = rest;
                 Ok(name)
@@ -226,7 +227,7 @@ impl<'a, 'b> Cursor<'a, 'b> {
                 let name = Name {
                     spelled: Lent::new(opened),
                     bare: opened.len(),
-                    line: first.line,
+                    span: first.span,
                 };
                 self.rest = rest;
                 Ok(name)

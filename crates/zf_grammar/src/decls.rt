@@ -64,7 +64,7 @@ fn inclusion<'a>(tokens: &mut Cursor<'a, '_>, highest: u32) -> Read<Decl<'a>>
 {
     let schema = reference(tokens)?;
     if highest < 1 {
-        return Err(too_deep(schema.name.line));
+        return Err(too_deep(schema.name.span));
     }
     Ok(Tall {
         part: Decl::Include(schema),

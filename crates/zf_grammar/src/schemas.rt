@@ -9,20 +9,25 @@ use crate::tall::{Read, Tall, too_deep};
 use bumpalo::Bump;
 use zf_data::arena::Boxed;
 use zf_scan::{Mark, Next};
-use zf_tree::SchemaExp;
+use zf_tree::{SchemaExp, Span};
 
 /// A schema text after its opening bracket, with parts up to the height `below`.
 #[tactic(auto, unfolding(crate::specs::BoxReading::schema_text))]
-fn text<'a>(arena: &'a Bump, tokens: &mut Cursor<'a, '_>, below: u32) -> Read<SchemaExp<'a>>
+fn text<'a>(
+    arena: &'a Bump,
+    tokens: &mut Cursor<'a, '_>,
+    begin: Span,
+    below: u32,
+) -> Read<SchemaExp<'a>>
     requires { below ≤ 999 }
-    ensures value { Gives (spec.schema_text below tokens.old) result tokens.new }
+    ensures value { Gives (spec.schema_text begin below tokens.old) result tokens.new }
     ensures low { IfOk result (λ x. x.height ≤ below + 1) }
 {
     let decls = decls(arena, tokens, below)?;
     let predicates = predicates(arena, tokens, below, Mark::Bar)?;
-    tokens.expect(Mark::CloseSquare)?;
+    let end = tokens.expect(Mark::CloseSquare)?;
     Ok(Tall {
-        part: SchemaExp::Text(decls.part, predicates.part),
+        part: SchemaExp::Text(begin.to(end), decls.part, predicates.part),
         height: decls.height.max(predicates.height) + 1,
     })
 }
@@ -46,15 +51,15 @@ impl<'a, F: Fn(&'a Bump, &mut Cursor<'a, '_>, u32) -> Read<SchemaExp<'a>>> Schem
 
     /// A schema expression in brackets, after the opening one.
     #[tactic(auto, unfolding(crate::specs::BoxReading::schema_bracket))]
-    fn bracket(&self, tokens: &mut Cursor<'a, '_>) -> Read<SchemaExp<'a>>
+    fn bracket(&self, tokens: &mut Cursor<'a, '_>, begin: Span) -> Read<SchemaExp<'a>>
         requires nests { SchemaNests self.now.below (F.pre self.now.read) (F.post self.now.read) }
-        ensures value { Gives (spec.schema_bracket self.now.below (read_schema self.now.below) tokens.old) result tokens.new }
+        ensures value { Gives (spec.schema_bracket self.now.below (read_schema self.now.below) begin tokens.old) result tokens.new }
         ensures low { IfOk result (λ x. x.height ≤ self.now.below + 1) }
     {
         let inner = self.schema(tokens)?;
-        tokens.expect(Mark::CloseRound)?;
+        let end = tokens.expect(Mark::CloseRound)?;
         Ok(Tall {
-            part: SchemaExp::Bracket(Boxed::new(self.arena, inner.part)?),
+            part: SchemaExp::Bracket(begin.to(end), Boxed::new(self.arena, inner.part)?),
             height: inner.height + 1,
         })
     }
@@ -66,19 +71,23 @@ impl<'a, F: Fn(&'a Bump, &mut Cursor<'a, '_>, u32) -> Read<SchemaExp<'a>>> Schem
         ensures value { Gives (spec.schema_part self.now.below (read_schema self.now.below) tokens.old) result tokens.new }
         ensures low { IfOk result (λ x. x.height ≤ self.now.below + 1) }
     {
+        let begin = tokens.span();
         match tokens.peek() {
             Next::OpenSquare => {
                 tokens.skip();
-                text(self.arena, tokens, self.below)
+                text(self.arena, tokens, begin, self.below)
             }
             Next::OpenRound => {
                 tokens.skip();
-                self.bracket(tokens)
+                self.bracket(tokens, begin)
             }
-            _ => Ok(Tall {
-                part: SchemaExp::Ref(reference(tokens)?),
-                height: 1,
-            }),
+            _ => {
+                let schema = reference(tokens)?;
+                Ok(Tall {
+                    part: SchemaExp::Ref(begin.to(schema.name.span), schema),
+                    height: 1,
+                })
+            }
         }
     }
 
@@ -89,7 +98,7 @@ impl<'a, F: Fn(&'a Bump, &mut Cursor<'a, '_>, u32) -> Read<SchemaExp<'a>>> Schem
         ensures value { Gives (spec.conjunction self.now.below (read_schema self.now.below) tokens.old) result tokens.new }
         ensures low { IfOk result (λ x. x.height ≤ self.now.below + 1) }
     {
-        let line = tokens.line();
+        let begin = tokens.span();
         let mut left = self.part(tokens)?;
         for _turn in 0..tokens.left() {
             if !tokens.is_and() {
@@ -99,12 +108,13 @@ impl<'a, F: Fn(&'a Bump, &mut Cursor<'a, '_>, u32) -> Read<SchemaExp<'a>>> Schem
             let right = self.part(tokens)?;
             let height = left.height.max(right.height) + 1;
             if height > self.below + 1 {
-                return Err(too_deep(line));
+                return Err(too_deep(begin));
             }
+            let span = left.part.span().to(right.part.span());
             let first = Boxed::new(self.arena, left.part)?;
             let second = Boxed::new(self.arena, right.part)?;
             left = Tall {
-                part: SchemaExp::Both(first, second),
+                part: SchemaExp::Both(span, first, second),
                 height,
             };
         }
@@ -118,7 +128,7 @@ impl<'a, F: Fn(&'a Bump, &mut Cursor<'a, '_>, u32) -> Read<SchemaExp<'a>>> Schem
         ensures value { Gives (spec.disjunction self.now.below (read_schema self.now.below) tokens.old) result tokens.new }
         ensures low { IfOk result (λ x. x.height ≤ self.now.below + 1) }
     {
-        let line = tokens.line();
+        let begin = tokens.span();
         let mut left = self.conjunction(tokens)?;
         for _turn in 0..tokens.left() {
             if !tokens.is_or() {
@@ -128,12 +138,13 @@ impl<'a, F: Fn(&'a Bump, &mut Cursor<'a, '_>, u32) -> Read<SchemaExp<'a>>> Schem
             let right = self.conjunction(tokens)?;
             let height = left.height.max(right.height) + 1;
             if height > self.below + 1 {
-                return Err(too_deep(line));
+                return Err(too_deep(begin));
             }
+            let span = left.part.span().to(right.part.span());
             let first = Boxed::new(self.arena, left.part)?;
             let second = Boxed::new(self.arena, right.part)?;
             left = Tall {
-                part: SchemaExp::Or(line, first, second),
+                part: SchemaExp::Or(span, first, second),
                 height,
             };
         }
@@ -148,7 +159,7 @@ pub fn schema<'a>(arena: &'a Bump, tokens: &mut Cursor<'a, '_>, highest: u32) ->
     ensures low { IfOk result (λ x. x.height ≤ highest) }
 {
     if highest == 0 {
-        return Err(too_deep(tokens.line()));
+        return Err(too_deep(tokens.span()));
     }
     Schemas {
         arena,

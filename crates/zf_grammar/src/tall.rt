@@ -7,7 +7,7 @@ ghost use Rattle.zf_grammar.specs.{Gives};
 use bumpalo::Bump;
 use zf_data::arena::Boxed;
 use zf_scan::{TextFault, TextFaultKind};
-use zf_tree::Term;
+use zf_tree::{Span, Term};
 
 /// What was read, with the height of the highest term in it.
 #[derive(Drop)]
@@ -37,12 +37,12 @@ pub fn boxed<'a>(arena: &'a Bump, term: Term<'a>, height: u32) -> TermRead<'a>
     })
 }
 
-/// Of a term or schema expression that is higher than allowed, with a line on which it stands.
-pub fn too_deep(line: u32) -> TextFault
+/// Of a term or schema expression that is higher than allowed, with the place where it begins.
+pub fn too_deep(span: Span) -> TextFault
     ensures { result.kind ≡ TooDeep }
 {
     TextFault {
         kind: TextFaultKind::TooDeep,
-        line: u64::from(line),
+        span,
     }
 }

@@ -40,7 +40,7 @@ impl<'a, F: Fn(&'a Bump, &mut Cursor<'a, '_>, u32, u8) -> TermRead<'a>> Grammar<
         ensures value { Gives (spec.climb (read_term self.now.below) (self.now.below + 1) least (self.now.below + 1) left.entry tokens.old) result tokens.new }
         ensures low { IfOk result (λ x. x.height ≤ self.now.below + 1) }
     {
-        let line = left.part.get().line();
+        let begin = left.part.get().span();
         for _turn in 0..self.below + 1 {
             let role = role_of(tokens.peek());
             if role.binds() <= least {
@@ -51,10 +51,10 @@ impl<'a, F: Fn(&'a Bump, &mut Cursor<'a, '_>, u32, u8) -> TermRead<'a>> Grammar<
             }
             left = self.longer(tokens, left, role)?;
             if left.height > self.below + 1 {
-                return Err(too_deep(line));
+                return Err(too_deep(begin));
             }
         }
-        Err(too_deep(line))
+        Err(too_deep(begin))
     }
 
     #[tactic(auto, unfolding(crate::specs::TermReading::whole, crate::specs::TermReading::climb))]
@@ -84,7 +84,7 @@ pub fn term<'a>(
     ensures low { IfOk result (λ x. x.height ≤ highest) }
 {
     if highest == 0 {
-        return Err(too_deep(tokens.line()));
+        return Err(too_deep(tokens.span()));
     }
     Grammar {
         arena,

@@ -123,11 +123,11 @@ member_place list.Product = product_level + 1
 member_place _ = expression_level
 
 abbrev pub level : Tree → ℕ
-level (quantified l q ds p t) = quantifier_level
-level (unary l op t) = unary_level op
-level (binary l op a b) = operator_level op
-level (listed l form ts) = listed_level form
-level (chain l t ks) = chain_level
+level (quantified s q ds p t) = quantifier_level
+level (unary s op t) = unary_level op
+level (binary s op a b) = operator_level op
+level (listed s form ts) = listed_level form
+level (chain s t ks) = chain_level
 level _ = atom_level
 
 abbrev pub AreTwo : Trees → Type 0
@@ -141,14 +141,14 @@ AreEnough _ ts = AreTwo ts
 
 abbrev mutual
   pub IsLevelled : Tree → Type 0
-  IsLevelled (empty_set l t) = (expression_level ≤ level t) × IsLevelled t
-  IsLevelled (bracket l t) = IsLevelled t
-  IsLevelled (listed l form ts) = AreEnough form ts × AreAt (member_place form) ts
-  IsLevelled (comprehension l ds p t) = DeclsAreLevelled ds × PartIsAt quantifier_level p × PartIsAt expression_level t
-  IsLevelled (unary l op t) = (unary_level op ≤ level t) × IsLevelled t
-  IsLevelled (binary l op a b) = (left_place op ≤ level a) × IsLevelled a × (right_place op ≤ level b) × IsLevelled b
-  IsLevelled (chain l t ks) = (expression_level ≤ level t) × IsLevelled t × LinksAreLevelled ks
-  IsLevelled (quantified l q ds p t) = DeclsAreLevelled ds × PartIsAt quantifier_level p × IsLevelled t
+  IsLevelled (empty_set s t) = (expression_level ≤ level t) × IsLevelled t
+  IsLevelled (bracket s t) = IsLevelled t
+  IsLevelled (listed s form ts) = AreEnough form ts × AreAt (member_place form) ts
+  IsLevelled (comprehension s ds p t) = DeclsAreLevelled ds × PartIsAt quantifier_level p × PartIsAt expression_level t
+  IsLevelled (unary s op t) = (unary_level op ≤ level t) × IsLevelled t
+  IsLevelled (binary s op a b) = (left_place op ≤ level a) × IsLevelled a × (right_place op ≤ level b) × IsLevelled b
+  IsLevelled (chain s t ks) = (expression_level ≤ level t) × IsLevelled t × LinksAreLevelled ks
+  IsLevelled (quantified s q ds p t) = DeclsAreLevelled ds × PartIsAt quantifier_level p × IsLevelled t
   IsLevelled _ = Unit {0}
 
   pub AreAt : ℕ → Trees → Type 0
@@ -178,16 +178,16 @@ DeclIsLevelled (include r) = Unit {0}
 
 -- disjunction is looser than conjunction, and both are to the left
 abbrev pub schema_level : SchemaTree → ℕ
-schema_level (either l a b) = 0
-schema_level (both a b) = 1
+schema_level (either s a b) = 0
+schema_level (both s a b) = 1
 schema_level _ = 2
 
 abbrev pub SchemaIsLevelled : SchemaTree → Type 0
-SchemaIsLevelled (schema_text ds ps) = AllByRecursion DeclIsLevelled ds × AllByRecursion IsLevelled ps
-SchemaIsLevelled (schema_reference r) = Unit {0}
-SchemaIsLevelled (both a b) = (1 ≤ schema_level a) × (2 ≤ schema_level b) × SchemaIsLevelled a × SchemaIsLevelled b
-SchemaIsLevelled (either l a b) = (1 ≤ schema_level b) × SchemaIsLevelled a × SchemaIsLevelled b
-SchemaIsLevelled (schema_bracket a) = SchemaIsLevelled a
+SchemaIsLevelled (schema_text s ds ps) = AllByRecursion DeclIsLevelled ds × AllByRecursion IsLevelled ps
+SchemaIsLevelled (schema_reference s r) = Unit {0}
+SchemaIsLevelled (both s a b) = (1 ≤ schema_level a) × (2 ≤ schema_level b) × SchemaIsLevelled a × SchemaIsLevelled b
+SchemaIsLevelled (either s a b) = (1 ≤ schema_level b) × SchemaIsLevelled a × SchemaIsLevelled b
+SchemaIsLevelled (schema_bracket s a) = SchemaIsLevelled a
 
 abbrev pub ParagraphIsLevelled : ParagraphTree → Type 0
 ParagraphIsLevelled (abbreviation n t) = IsAt expression_level t

@@ -1,5 +1,5 @@
 -- What is made of a term's parts is a lift of the term.
-use Rattle.zf_lift.proofs.Prelude.{◌++◌, ◌+◌, ◌<◌, ◌∙◌, ◌∷◌, ◌≡◌, ◌≤◌, [], ap, arith, Bool, get_or, length, List, map, None, Option, refl, Some, subst, sym, take, true, ℕ, Reference, Global, Listed, Operator, Unary, Constant, Quantifier, Relation, link-seen, new_link, new_range, of-Binary, of-Bracket, of-Comprehension, of-Chain, of-Constant, of-EmptySet, of-link, of-Listed, of-Name, of-Number, of-Quantified, of-range, of-Unary, range-seen, links, part_of, range_of, ranges, reference, resolved_link_of, resolved_of, ResolvedTree, terms, Environment, AreEach, IsLonger, is_liftable, IsNamed, Outcome, AreLifts, AreLinkLifts, AreRangeLifts, IsClosed, IsLift, IsPartLift, IsLinkLift, IsRangeLift, need, add-one, SomeIff, suc, zero, Err, IfOk, IfSome, Ok, Result, IsBehind, variables_of}
+use Rattle.zf_lift.proofs.Prelude.{◌++◌, ◌+◌, ◌<◌, ◌∙◌, ◌∷◌, ◌≡◌, ◌≤◌, [], ap, arith, Bool, get_or, length, List, map, None, Option, refl, Some, subst, sym, take, true, ℕ, Reference, Global, Listed, Operator, Unary, Constant, Quantifier, Relation, link-seen, new_link, new_range, of-Binary, of-Bracket, of-Comprehension, of-Chain, of-Constant, of-EmptySet, of-link, of-Listed, of-Name, of-Number, of-Quantified, of-range, of-Unary, range-seen, links, part_of, range_of, ranges, reference, resolved_link_of, resolved_of, ResolvedTree, terms, Environment, AreEach, IsLonger, is_liftable, IsNamed, Outcome, AreLifts, AreLinkLifts, AreRangeLifts, IsClosed, IsLift, IsPartLift, IsLinkLift, IsRangeLift, need, add-one, SomeIff, suc, zero, Err, IfOk, IfSome, Ok, Result, IsBehind, variables_of, Span}
 use Rattle.zf_term.specs.declared.resolved.Range.{Range}
 use Rattle.zf_term.specs.declared.resolved.Resolved.{Resolved}
 use Rattle.zf_term.specs.declared.resolved.Resolved.TheVariants as v
@@ -18,18 +18,18 @@ boxed b f e c inner got part box p q h = across b f e c (resolved_of part) (reso
 
 -- ---- forms without parts
 
-pub name : (b : ℕ) (f e : Environment) (c : Bool) (l : ℕ) (r : Reference) (whole : Resolved) → whole ≡ v.Name l r → ((i : ℕ) → r ≡ Global i → i < length e.outcomes)
+pub name : (b : ℕ) (f e : Environment) (c : Bool) (l : Span) (r : Reference) (whole : Resolved) → whole ≡ v.Name l r → ((i : ℕ) → r ≡ Global i → i < length e.outcomes)
     → IsLonger e f → (c ≡ true → IsClosed e (reference l r)) → IsLift b f e c (resolved_of (v.Name l r)) (resolved_of whole)
 name b f e c l r whole is known h closed = across b f e c _ _ _ _ (of-Name l r) (ap resolved_of is ∙ of-Name l r) (made.name_lift b e f c l r known h closed)
 
-pub number : (b : ℕ) (f e : Environment) (c : Bool) (l n : ℕ) (whole : Resolved) → whole ≡ v.Number l n → IsLift b f e c (resolved_of (v.Number l n)) (resolved_of whole)
+pub number : (b : ℕ) (f e : Environment) (c : Bool) (l : Span) (n : ℕ) (whole : Resolved) → whole ≡ v.Number l n → IsLift b f e c (resolved_of (v.Number l n)) (resolved_of whole)
 number b f e c l n whole is = across b f e c _ _ _ _ (of-Number l n) (ap resolved_of is ∙ of-Number l n) (made.number_lift b f e c l n)
 
-pub constant : (b : ℕ) (f e : Environment) (c : Bool) (l : ℕ) (k : Constant) (whole : Resolved) → whole ≡ v.Constant l k → IsLonger e f
+pub constant : (b : ℕ) (f e : Environment) (c : Bool) (l : Span) (k : Constant) (whole : Resolved) → whole ≡ v.Constant l k → IsLonger e f
     → IsLift b f e c (resolved_of (v.Constant l k)) (resolved_of whole)
 constant b f e c l k whole is h = across b f e c _ _ _ _ (of-Constant l k) (ap resolved_of is ∙ of-Constant l k) (made.constant_lift b f e c l k h)
 
-pub empty_set : (b : ℕ) (f e : Environment) (c : Bool) (l : ℕ) (of got copied t whole : Resolved) → whole ≡ v.EmptySet l of → got ≡ of → copied ≡ got → t ≡ copied
+pub empty_set : (b : ℕ) (f e : Environment) (c : Bool) (l : Span) (of got copied t whole : Resolved) → whole ≡ v.EmptySet l of → got ≡ of → copied ≡ got → t ≡ copied
     → IsLift b f e c (resolved_of (v.EmptySet l t)) (resolved_of whole)
 empty_set b f e c l of got copied t whole is p q r =
     let same : need (resolved_of t) ≤ need (resolved_of of) = subst (λ x. need (resolved_of x) ≤ need (resolved_of of)) (sym (r ∙ q ∙ p)) (omega arith) in
@@ -38,26 +38,26 @@ empty_set b f e c l of got copied t whole is p q r =
 -- ---- forms with operands
 
 -- without its brackets
-pub bare : (b : ℕ) (f e : Environment) (c : Bool) (l : ℕ) (inner got part whole : Resolved) → whole ≡ v.Bracket l inner → got ≡ inner
+pub bare : (b : ℕ) (f e : Environment) (c : Bool) (l : Span) (inner got part whole : Resolved) → whole ≡ v.Bracket l inner → got ≡ inner
     → IsLift b f e c (resolved_of part) (resolved_of got) → IsLift b f e c (resolved_of part) (resolved_of whole)
 bare b f e c l inner got part whole is p h =
     across b f e c _ _ _ _ refl (ap resolved_of is ∙ of-Bracket l inner) (made.inner_lift b f e c l (resolved_of part) (resolved_of inner) (boxed b f e c inner got part part p refl h))
 
-pub signed : (b : ℕ) (f e : Environment) (c : Bool) (l : ℕ) (op : Unary) (of part whole : Resolved) → whole ≡ v.Unary l op of
+pub signed : (b : ℕ) (f e : Environment) (c : Bool) (l : Span) (op : Unary) (of part whole : Resolved) → whole ≡ v.Unary l op of
     → IsLift b f e c (resolved_of part) (resolved_of of) → IsLift b f e c (resolved_of (v.Unary l op part)) (resolved_of whole)
 signed b f e c l op of part whole is h = across b f e c _ _ _ _ (of-Unary l op part) (ap resolved_of is ∙ of-Unary l op of) (made.unary_lift b f e c l op _ _ h)
 
-pub many : (b : ℕ) (f e : Environment) (c : Bool) (l : ℕ) (form : Listed) (items parts : List Resolved) (whole : Resolved) → whole ≡ v.Listed l form items
+pub many : (b : ℕ) (f e : Environment) (c : Bool) (l : Span) (form : Listed) (items parts : List Resolved) (whole : Resolved) → whole ≡ v.Listed l form items
     → AreLifts b f e c (terms (map resolved_of parts)) (terms (map resolved_of items)) → IsLift b f e c (resolved_of (v.Listed l form parts)) (resolved_of whole)
 many b f e c l form items parts whole is h =
     across b f e c _ _ _ _ (of-Listed l form parts) (ap resolved_of is ∙ of-Listed l form items) (made.listed_lift b f e c l form _ _ h)
 
-pub combined : (b : ℕ) (f e : Environment) (c : Bool) (l : ℕ) (op : Operator) (left part_left right part_right whole : Resolved) → whole ≡ v.Binary l op left right
+pub combined : (b : ℕ) (f e : Environment) (c : Bool) (l : Span) (op : Operator) (left part_left right part_right whole : Resolved) → whole ≡ v.Binary l op left right
     → IsLift b f e c (resolved_of part_left) (resolved_of left) → IsLift b f e c (resolved_of part_right) (resolved_of right)
     → IsLift b f e c (resolved_of (v.Binary l op part_left part_right)) (resolved_of whole)
 combined b f e c l op x px y py whole is h k = across b f e c _ _ _ _ (of-Binary l op px py) (ap resolved_of is ∙ of-Binary l op x y) (made.binary_lift b f e c l op _ _ _ _ h k)
 
-pub chained : (b : ℕ) (f e : Environment) (c : Bool) (l : ℕ) (first part : Resolved) (further parts : List ResolvedLink) (whole : Resolved) → whole ≡ v.Chain l first further
+pub chained : (b : ℕ) (f e : Environment) (c : Bool) (l : Span) (first part : Resolved) (further parts : List ResolvedLink) (whole : Resolved) → whole ≡ v.Chain l first further
     → IsLift b f e c (resolved_of part) (resolved_of first) → AreLinkLifts b f e c (links (map resolved_link_of parts)) (links (map resolved_link_of further))
     → IsLift b f e c (resolved_of (v.Chain l part parts)) (resolved_of whole)
 chained b f e c l first part further parts whole is h k =
@@ -68,7 +68,7 @@ chained b f e c l first part further parts whole is h k =
 within_ranges : (b m : ℕ) (got ss : List Range) → got ≡ ss → m ≡ b + variables_of (ranges (map range_of got)) → m ≡ b + variables_of (ranges (map range_of ss))
 within_ranges b m got ss seen h = subst (λ rs. m ≡ b + variables_of (ranges (map range_of rs))) seen h
 
-pub built : (b m : ℕ) (f e : Environment) (c : Bool) (l : ℕ) (rs ss got : List Range) (p q t u : Option Resolved) (whole : Resolved) → whole ≡ v.Comprehension l ss q u
+pub built : (b m : ℕ) (f e : Environment) (c : Bool) (l : Span) (rs ss got : List Range) (p q t u : Option Resolved) (whole : Resolved) → whole ≡ v.Comprehension l ss q u
     → got ≡ ss → m ≡ b + variables_of (ranges (map range_of got)) → AreRangeLifts b f e c (ranges (map range_of rs)) (ranges (map range_of ss))
     → IsPartLift m f e c (part_of p) (part_of q) → IsPartLift m f e c (part_of t) (part_of u)
     → IsLift b f e c (resolved_of (v.Comprehension l rs p t)) (resolved_of whole)
@@ -77,7 +77,7 @@ built b m f e c l rs ss got p q t u whole is seen bound g h k =
     across b f e c _ _ _ _ (of-Comprehension l rs p t) (ap resolved_of is ∙ of-Comprehension l ss q u) (made.comprehension_lift b f e c l _ _ _ _ _ _ g
     (subst (λ n. IsPartLift n f e c (part_of p) (part_of q)) inside h) (subst (λ n. IsPartLift n f e c (part_of t) (part_of u)) inside k))
 
-pub bound : (b m : ℕ) (f e : Environment) (c : Bool) (l : ℕ) (n : Quantifier) (rs ss got : List Range) (p q : Option Resolved) (body part whole : Resolved)
+pub bound : (b m : ℕ) (f e : Environment) (c : Bool) (l : Span) (n : Quantifier) (rs ss got : List Range) (p q : Option Resolved) (body part whole : Resolved)
     → whole ≡ v.Quantified n l ss q body → got ≡ ss → m ≡ b + variables_of (ranges (map range_of got))
     → AreRangeLifts b f e c (ranges (map range_of rs)) (ranges (map range_of ss)) → IsPartLift m f e c (part_of p) (part_of q)
     → IsLift m f e c (resolved_of part) (resolved_of body) → IsLift b f e c (resolved_of (v.Quantified n l rs p part)) (resolved_of whole)

@@ -1,5 +1,5 @@
 -- Terms of one form mean the same where their parts do.
-use Rattle.zf_lift.proofs.Prelude.{◌↔◌, ◌≡◌, ap, List, None, Option, refl, subst, sym, ℕ, if◌then◌else◌, Reference, Outcome, Truth, Value, Listed, Operator, Unary, Constant, Quantifier, Relation, absent, binary, bracket, comprehension, chain, constant, empty_set, link, listed, no_links, no_ranges, no_terms, number, present, quantified, range, Ranges, reference, ResolvedLinks, ResolvedPart, ResolvedTree, ResolvedTrees, term, unary, Infinite, direct, is_membership, Context, outcome_in, within, AreLinked, Builds, HasOutcome, infinite_right, IsConstraint, IsLink, IsTruth, IsTold, opposite, AreSame, AreSameLinks, AreSameRanges, IsSame, IsSamePart, constant_set, HaveRanges, IsConstantOutcome, unended, one_out, one_undefined, repeated, Several, values, ◌+◌, ◌++◌, [], length, replicate, ◌∙◌, arith, length-append, length-replicate, variables_of}
+use Rattle.zf_lift.proofs.Prelude.{◌↔◌, ◌≡◌, ap, List, None, Option, refl, subst, sym, ℕ, if◌then◌else◌, Reference, Outcome, Truth, Value, Listed, Operator, Unary, Constant, Quantifier, Relation, absent, binary, bracket, comprehension, chain, constant, empty_set, link, listed, no_links, no_ranges, no_terms, number, present, quantified, range, Ranges, reference, ResolvedLinks, ResolvedPart, ResolvedTree, ResolvedTrees, term, unary, Infinite, direct, is_membership, Context, outcome_in, within, AreLinked, Builds, HasOutcome, infinite_right, IsConstraint, IsLink, IsTruth, IsTold, opposite, AreSame, AreSameLinks, AreSameRanges, IsSame, IsSamePart, constant_set, HaveRanges, IsConstantOutcome, unended, one_out, one_undefined, repeated, Several, values, ◌+◌, ◌++◌, [], length, replicate, ◌∙◌, arith, length-append, length-replicate, variables_of, Span}
 use Rattle.zf_tree.specs.declared.operator.Operator.TheVariants as operator
 use Rattle.zf_tree.specs.declared.operator.Unary.TheVariants as the_unary
 use Rattle.zf_value.specs.declared.value.Outcome.TheVariants.{Is, Undefined, Out}
@@ -18,7 +18,7 @@ opposite_way c t d u h = record { outcome = λ o. ((h.outcome o).1, (h.outcome o
 
 -- ---- forms without parts
 
-pub same_reference : (c d : Context) (l : ℕ) (r : Reference) → outcome_in c r ≡ outcome_in d r → c.environment.globals ≡ d.environment.globals
+pub same_reference : (c d : Context) (l : Span) (r : Reference) → outcome_in c r ≡ outcome_in d r → c.environment.globals ≡ d.environment.globals
     → c.environment.numbers ≡ d.environment.numbers → IsSame c (reference l r) d (reference l r)
 same_reference c d l r e g m = record {
   outcome = λ o. (λ x. subst (λ y. o ≡ y) e x, λ x. subst (λ y. o ≡ y) (sym e) x);
@@ -26,65 +26,65 @@ same_reference c d l r e g m = record {
   infinite = λ i. unended (direct (g i) (reference l r)) (m i);
 }
 
-pub same_number : (c d : Context) (l n : ℕ) → IsSame c (number l n) d (number l n)
+pub same_number : (c d : Context) (l : Span) (n : ℕ) → IsSame c (number l n) d (number l n)
 same_number c d l n = record { outcome = λ o. (λ x. x, λ x. x); truth = λ a. (λ x. x, λ x. x); infinite = refl }
 
-pub same_constant : (c d : Context) (l : ℕ) (k : Constant) → c.environment.numbers ≡ d.environment.numbers → IsSame c (constant l k) d (constant l k)
+pub same_constant : (c d : Context) (l : Span) (k : Constant) → c.environment.numbers ≡ d.environment.numbers → IsSame c (constant l k) d (constant l k)
 same_constant c d l k m = record {
   outcome = λ o. (λ x. subst (λ n. IsConstantOutcome n k o) m x, λ x. subst (λ n. IsConstantOutcome n k o) (sym m) x);
   truth = λ a. (λ x. x, λ x. x);
   infinite = ap (λ n. unended (constant_set k) n) m;
 }
 
-pub same_empty_set : (c d : Context) (l : ℕ) (t u : ResolvedTree) → IsSame c (empty_set l t) d (empty_set l u)
+pub same_empty_set : (c d : Context) (l : Span) (t u : ResolvedTree) → IsSame c (empty_set l t) d (empty_set l u)
 same_empty_set c d l t u = record { outcome = λ o. (λ x. x, λ x. x); truth = λ a. (λ x. x, λ x. x); infinite = refl }
 
 -- ---- forms with operands
 
-pub same_bracket : (c d : Context) (l : ℕ) (t u : ResolvedTree) → IsSame c t d u → IsSame c (bracket l t) d (bracket l u)
+pub same_bracket : (c d : Context) (l : Span) (t u : ResolvedTree) → IsSame c t d u → IsSame c (bracket l t) d (bracket l u)
 same_bracket c d l t u h = record { outcome = h.outcome; truth = h.truth; infinite = h.infinite }
 
-pub same_listed : (c d : Context) (l : ℕ) (form : Listed) (ts us : ResolvedTrees) → AreSame c ts d us → IsSame c (listed l form ts) d (listed l form us)
+pub same_listed : (c d : Context) (l : Span) (form : Listed) (ts us : ResolvedTrees) → AreSame c ts d us → IsSame c (listed l form ts) d (listed l form us)
 same_listed c d l form ts us h = record {
   outcome = λ o. (λ x. (x.0, (h x.0).0 x.1, x.2), λ x. (x.0, (h x.0).1 x.1, x.2));
   truth = λ a. (λ x. x, λ x. x);
   infinite = refl;
 }
 
-unary_outcome : (c d : Context) (l : ℕ) (op : Unary) (t u : ResolvedTree) → IsSame c t d u → (o : Outcome) → HasOutcome c (unary l op t) o → HasOutcome d (unary l op u) o
+unary_outcome : (c d : Context) (l : Span) (op : Unary) (t u : ResolvedTree) → IsSame c t d u → (o : Outcome) → HasOutcome c (unary l op t) o → HasOutcome d (unary l op u) o
 unary_outcome c d l op t u h o x = (x.0, (h.outcome x.0).0 x.1, x.2)
 
-unary_truth : (c d : Context) (l : ℕ) (op : Unary) (t u : ResolvedTree) → IsSame c t d u → (a : Truth) → IsTruth c (unary l op t) a → IsTruth d (unary l op u) a
+unary_truth : (c d : Context) (l : Span) (op : Unary) (t u : ResolvedTree) → IsSame c t d u → (a : Truth) → IsTruth c (unary l op t) a → IsTruth d (unary l op u) a
 unary_truth c d l the_unary.Not t u h a x = (h.truth (opposite a)).0 x
 unary_truth c d l (the_unary.Sign s) t u h a x = x
 unary_truth c d l the_unary.Inverse t u h a x = x
 
-pub same_unary : (c d : Context) (l : ℕ) (op : Unary) (t u : ResolvedTree) → IsSame c t d u → IsSame c (unary l op t) d (unary l op u)
+pub same_unary : (c d : Context) (l : Span) (op : Unary) (t u : ResolvedTree) → IsSame c t d u → IsSame c (unary l op t) d (unary l op u)
 same_unary c d l op t u h = let k = opposite_way c t d u h in record {
   outcome = λ o. (unary_outcome c d l op t u h o, unary_outcome d c l op u t k o);
   truth = λ a. (unary_truth c d l op t u h a, unary_truth d c l op u t k a);
   infinite = refl;
 }
 
-binary_outcome : (c d : Context) (l : ℕ) (op : Operator) (t u v w : ResolvedTree) → IsSame c t d v → IsSame c u d w → (o : Outcome)
+binary_outcome : (c d : Context) (l : Span) (op : Operator) (t u v w : ResolvedTree) → IsSame c t d v → IsSame c u d w → (o : Outcome)
     → HasOutcome c (binary l op t u) o → HasOutcome d (binary l op v w) o
 binary_outcome c d l op t u v w h k o x = (x.0, x.1, (h.outcome x.0).0 x.2, (k.outcome x.1).0 x.3, x.4)
 
-binary_truth : (c d : Context) (l : ℕ) (op : Operator) (t u v w : ResolvedTree) → IsSame c t d v → IsSame c u d w → (a : Truth) → IsTruth c (binary l op t u) a → IsTruth d (binary l op v w) a
+binary_truth : (c d : Context) (l : Span) (op : Operator) (t u v w : ResolvedTree) → IsSame c t d v → IsSame c u d w → (a : Truth) → IsTruth c (binary l op t u) a → IsTruth d (binary l op v w) a
 binary_truth c d l (operator.Connective n) t u v w h k a x = mapped.connected n (IsTruth c t) (IsTruth c u) (IsTruth d v) (IsTruth d w) (λ p. (h.truth p).0) (λ p. (k.truth p).0) a x
 binary_truth c d l (operator.Function n) t u v w h k a x = x
 binary_truth c d l (operator.Generic n) t u v w h k a x = x
 binary_truth c d l operator.Application t u v w h k a x = x
 binary_truth c d l operator.Image t u v w h k a x = x
 
-pub same_binary : (c d : Context) (l : ℕ) (op : Operator) (t u v w : ResolvedTree) → IsSame c t d v → IsSame c u d w → IsSame c (binary l op t u) d (binary l op v w)
+pub same_binary : (c d : Context) (l : Span) (op : Operator) (t u v w : ResolvedTree) → IsSame c t d v → IsSame c u d w → IsSame c (binary l op t u) d (binary l op v w)
 same_binary c d l op t u v w h k = let i = opposite_way c t d v h in let j = opposite_way c u d w k in record {
   outcome = λ o. (binary_outcome c d l op t u v w h k o, binary_outcome d c l op v w t u i j o);
   truth = λ a. (binary_truth c d l op t u v w h k a, binary_truth d c l op v w t u i j a);
   infinite = refl;
 }
 
-pub same_chain : (c d : Context) (l : ℕ) (t u : ResolvedTree) (ks ls : ResolvedLinks) → IsSame c t d u → AreSameLinks c ks d ls → IsSame c (chain l t ks) d (chain l u ls)
+pub same_chain : (c d : Context) (l : Span) (t u : ResolvedTree) (ks ls : ResolvedLinks) → IsSame c t d u → AreSameLinks c ks d ls → IsSame c (chain l t ks) d (chain l u ls)
 same_chain c d l t u ks ls h k = record {
   outcome = λ o. (λ x. x, λ x. x);
   truth = λ a. (λ x. (x.0, (h.outcome x.0).0 x.1, (k x.0 a).0 x.2), λ x. (x.0, (h.outcome x.0).1 x.1, (k x.0 a).1 x.2));
@@ -126,7 +126,7 @@ rows_told c d q p r t u h k w x =
 other_part : (c d : Context) (p r : ResolvedPart) → IsSamePart c p d r → IsSamePart d r c p
 other_part c d p r h = record { constraint = λ a. ((h.constraint a).1, (h.constraint a).0); builds = λ vs o. ((h.builds vs o).1, (h.builds vs o).0) }
 
-quantified_truth : (c d : Context) (l n : ℕ) (q : Quantifier) (rs ss : Ranges) (p r : ResolvedPart) (t u : ResolvedTree)
+quantified_truth : (c d : Context) (l : Span) (n : ℕ) (q : Quantifier) (rs ss : Ranges) (p r : ResolvedPart) (t u : ResolvedTree)
     → ((s : Several) → HaveRanges c rs s → (vs : List Value) → IsFrom s vs → length vs ≡ n) → AreSameRanges c rs d ss
     → Inside n c d (λ x y. IsSamePart x p y r) → Inside n c d (λ x y. IsSame x t y u)
     → (a : Truth) → IsTruth c (quantified l q rs p t) a → IsTruth d (quantified l q ss r u) a
@@ -141,7 +141,7 @@ quantified_truth c d l n q rs ss p r t u sized g h k a x = (
       a x.2,
 )
 
-pub same_quantified : (c d : Context) (l : ℕ) (q : Quantifier) (rs ss : Ranges) (p r : ResolvedPart) (t u : ResolvedTree) → AreSameRanges c rs d ss
+pub same_quantified : (c d : Context) (l : Span) (q : Quantifier) (rs ss : Ranges) (p r : ResolvedPart) (t u : ResolvedTree) → AreSameRanges c rs d ss
     → Inside (variables_of ss) c d (λ x y. IsSamePart x p y r) → Inside (variables_of ss) c d (λ x y. IsSame x t y u)
     → IsSame c (quantified l q rs p t) d (quantified l q ss r u)
 same_quantified c d l q rs ss p r t u g h k = record {
@@ -154,7 +154,7 @@ same_quantified c d l q rs ss p r t u g h k = record {
   infinite = refl;
 }
 
-comprehension_outcome : (c d : Context) (l n : ℕ) (rs ss : Ranges) (p r t u : ResolvedPart)
+comprehension_outcome : (c d : Context) (l : Span) (n : ℕ) (rs ss : Ranges) (p r t u : ResolvedPart)
     → ((s : Several) → HaveRanges c rs s → (vs : List Value) → IsFrom s vs → length vs ≡ n) → AreSameRanges c rs d ss
     → Inside n c d (λ x y. IsSamePart x p y r) → Inside n c d (λ x y. IsSamePart x t y u)
     → (o : Outcome) → HasOutcome c (comprehension l rs p t) o → HasOutcome d (comprehension l ss r u) o
@@ -165,7 +165,7 @@ comprehension_outcome c d l n rs ss p r t u sized g h k o x = (
       (record { filter = λ vs f a. (h vs (sized x.0 x.1 vs f)).constraint a; term = λ vs f z. (k vs (sized x.0 x.1 vs f)).builds vs z }) o x.2,
 )
 
-pub same_comprehension : (c d : Context) (l : ℕ) (rs ss : Ranges) (p r t u : ResolvedPart) → AreSameRanges c rs d ss
+pub same_comprehension : (c d : Context) (l : Span) (rs ss : Ranges) (p r t u : ResolvedPart) → AreSameRanges c rs d ss
     → Inside (variables_of ss) c d (λ x y. IsSamePart x p y r) → Inside (variables_of ss) c d (λ x y. IsSamePart x t y u)
     → IsSame c (comprehension l rs p t) d (comprehension l ss r u)
 same_comprehension c d l rs ss p r t u g h k = record {

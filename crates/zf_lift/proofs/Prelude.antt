@@ -23,3 +23,4 @@ pub use Rattle.zf_lift.specs.{AreAllLifts, AreEach, AreLifted, AreSame, AreSameL
 pub use Rattle.zf_lift.specs.Lifts.{Lifts}
 unfoldable pub use Rattle.zf_lift.specs.{AreLifts, AreLinkLifts, AreRangeLifts, IsClosed, IsLift, IsPartLift}
 pub use Rattle.std.proofs.lemmas.List.{length-append, length-replicate, append_assoc}
+pub use Rattle.zf_tree.specs.declared.span.Span.{Span}

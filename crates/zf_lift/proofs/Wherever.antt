@@ -1,5 +1,5 @@
 -- Terms of one form are lifts, or closed, where their parts are.
-use Rattle.zf_lift.proofs.Prelude.{◌++◌, ◌<◌, ◌↔◌, ◌∙◌, ◌∷◌, ◌≡◌, ◌≤◌, [], ap, arith, Bool, false, length, List, None, Option, refl, subst, sym, true, ℕ, Reference, Component, Global, Local, Outcome, Truth, Value, Listed, Operator, Unary, Constant, Quantifier, Relation, Defined, absent, binary, bracket, comprehension, chain, constant, empty_set, link, links, listed, number, present, quantified, range, Ranges, ranges, reference, ResolvedLinks, ResolvedPart, ResolvedTree, ResolvedTrees, terms, unary, extent_found, extent_set, Context, Environment, outcome_in, outcome_or, longer, HasOutcome, IsTruth, AreEach, IsLifted, IsLonger, at, is_liftable, AreLifts, AreLinkLifts, AreRangeLifts, IsClosed, IsLift, IsPartLift, AreAllLifts, IsLinkLift, IsRangeLift, IsLater, Lifts, Wherever, need, AreSameLinks, AreSameRanges, IsSame, IsSamePart, ◌&&◌, is_some, Some, true≢false, Infinite, constant_set, constant_truth, infinite_in, unended, ◌+◌, length-append, variables_of}
+use Rattle.zf_lift.proofs.Prelude.{◌++◌, ◌<◌, ◌↔◌, ◌∙◌, ◌∷◌, ◌≡◌, ◌≤◌, [], ap, arith, Bool, false, length, List, None, Option, refl, subst, sym, true, ℕ, Reference, Component, Global, Local, Outcome, Truth, Value, Listed, Operator, Unary, Constant, Quantifier, Relation, Defined, absent, binary, bracket, comprehension, chain, constant, empty_set, link, links, listed, number, present, quantified, range, Ranges, ranges, reference, ResolvedLinks, ResolvedPart, ResolvedTree, ResolvedTrees, terms, unary, extent_found, extent_set, Context, Environment, outcome_in, outcome_or, longer, HasOutcome, IsTruth, AreEach, IsLifted, IsLonger, at, is_liftable, AreLifts, AreLinkLifts, AreRangeLifts, IsClosed, IsLift, IsPartLift, AreAllLifts, IsLinkLift, IsRangeLift, IsLater, Lifts, Wherever, need, AreSameLinks, AreSameRanges, IsSame, IsSamePart, ◌&&◌, is_some, Some, true≢false, Infinite, constant_set, constant_truth, infinite_in, unended, ◌+◌, length-append, variables_of, Span}
 use Rattle.zf_tree.specs.declared.symbol.Constant.TheVariants as constants
 use Rattle.zf_tree.specs.declared.operator.Operator.TheVariants as operator
 use Rattle.zf_tree.specs.declared.operator.Unary.TheVariants as the_unary
@@ -51,7 +51,7 @@ same_named e g row locals (Component i) h k = refl
 same_named e g row locals (Local i) h k = refl
 same_named e g row locals (Global i) h k = ap outcome_or (longer_ones.same_outcome e g i (k i refl) h)
 
-pub name_lift : (b : ℕ) (e f : Environment) (c : Bool) (l : ℕ) (r : Reference) → ((i : ℕ) → r ≡ Global i → i < length e.outcomes) → IsLonger e f
+pub name_lift : (b : ℕ) (e f : Environment) (c : Bool) (l : Span) (r : Reference) → ((i : ℕ) → r ≡ Global i → i < length e.outcomes) → IsLonger e f
     → (c ≡ true → IsClosed e (reference l r)) → IsLift b f e c (reference l r) (reference l r)
 unfolding IsLift IsClosed
 name_lift b e f c l r k h closed = record {
@@ -62,17 +62,17 @@ name_lift b e f c l r k h closed = record {
   closed = closed;
 }
 
-pub local_closed : (e : Environment) (l i : ℕ) → IsClosed e (reference l (Local i))
+pub local_closed : (e : Environment) (l : Span) (i : ℕ) → IsClosed e (reference l (Local i))
 unfolding IsClosed
 local_closed e l i row locals = forms.same_reference (at e [] locals) (at e row locals) l (Local i) refl refl refl
 
-pub global_closed : (e : Environment) (l i : ℕ) → IsClosed e (reference l (Global i))
+pub global_closed : (e : Environment) (l : Span) (i : ℕ) → IsClosed e (reference l (Global i))
 unfolding IsClosed
 global_closed e l i row locals = forms.same_reference (at e [] locals) (at e row locals) l (Global i) refl refl refl
 
 -- ---- forms without parts
 
-pub number_lift : (b : ℕ) (f e : Environment) (c : Bool) (l n : ℕ) → IsLift b f e c (number l n) (number l n)
+pub number_lift : (b : ℕ) (f e : Environment) (c : Bool) (l : Span) (n : ℕ) → IsLift b f e c (number l n) (number l n)
 unfolding IsLift
 number_lift b f e c l n = record {
   needs = omega arith;
@@ -80,7 +80,7 @@ number_lift b f e c l n = record {
   closed = λ z row locals. forms.same_number (at e [] locals) (at e row locals) l n;
 }
 
-pub constant_lift : (b : ℕ) (f e : Environment) (c : Bool) (l : ℕ) (k : Constant) → IsLonger e f → IsLift b f e c (constant l k) (constant l k)
+pub constant_lift : (b : ℕ) (f e : Environment) (c : Bool) (l : Span) (k : Constant) → IsLonger e f → IsLift b f e c (constant l k) (constant l k)
 unfolding IsLift
 constant_lift b f e c l k h = record {
   needs = omega arith;
@@ -88,7 +88,7 @@ constant_lift b f e c l k h = record {
   closed = λ z row locals. forms.same_constant (at e [] locals) (at e row locals) l k refl;
 }
 
-pub empty_set_lift : (b : ℕ) (f e : Environment) (c : Bool) (l : ℕ) (t u : ResolvedTree) → need t ≤ need u → IsLift b f e c (empty_set l t) (empty_set l u)
+pub empty_set_lift : (b : ℕ) (f e : Environment) (c : Bool) (l : Span) (t u : ResolvedTree) → need t ≤ need u → IsLift b f e c (empty_set l t) (empty_set l u)
 unfolding IsLift
 empty_set_lift b f e c l t u h = record {
   needs = h;
@@ -99,7 +99,7 @@ empty_set_lift b f e c l t u h = record {
 -- ---- forms with operands
 
 -- without its brackets
-pub inner_lift : (b : ℕ) (f e : Environment) (c : Bool) (l : ℕ) (t u : ResolvedTree) → IsLift b f e c t u → IsLift b f e c t (bracket l u)
+pub inner_lift : (b : ℕ) (f e : Environment) (c : Bool) (l : Span) (t u : ResolvedTree) → IsLift b f e c t u → IsLift b f e c t (bracket l u)
 unfolding IsLift
 inner_lift b f e c l t u h = record {
   needs = h.needs;
@@ -107,7 +107,7 @@ inner_lift b f e c l t u h = record {
   closed = λ z row locals. forms.same_bracket (at e [] locals) (at e row locals) l u u (h.closed z row locals);
 }
 
-pub listed_lift : (b : ℕ) (f e : Environment) (c : Bool) (l : ℕ) (form : Listed) (ts us : ResolvedTrees) → AreLifts b f e c ts us → IsLift b f e c (listed l form ts) (listed l form us)
+pub listed_lift : (b : ℕ) (f e : Environment) (c : Bool) (l : Span) (form : Listed) (ts us : ResolvedTrees) → AreLifts b f e c ts us → IsLift b f e c (listed l form ts) (listed l form us)
 unfolding IsLift AreLifts
 listed_lift b f e c l form ts us h = record {
   needs = h.needs;
@@ -115,7 +115,7 @@ listed_lift b f e c l form ts us h = record {
   closed = λ z row locals. forms.same_listed (at e [] locals) (at e row locals) l form us us (h.closed z row locals);
 }
 
-pub unary_lift : (b : ℕ) (f e : Environment) (c : Bool) (l : ℕ) (op : Unary) (t u : ResolvedTree) → IsLift b f e c t u → IsLift b f e c (unary l op t) (unary l op u)
+pub unary_lift : (b : ℕ) (f e : Environment) (c : Bool) (l : Span) (op : Unary) (t u : ResolvedTree) → IsLift b f e c t u → IsLift b f e c (unary l op t) (unary l op u)
 unfolding IsLift
 unary_lift b f e c l op t u h = record {
   needs = h.needs;
@@ -123,7 +123,7 @@ unary_lift b f e c l op t u h = record {
   closed = λ z row locals. forms.same_unary (at e [] locals) (at e row locals) l op u u (h.closed z row locals);
 }
 
-pub binary_lift : (b : ℕ) (f e : Environment) (c : Bool) (l : ℕ) (op : Operator) (t u v w : ResolvedTree) → IsLift b f e c t v → IsLift b f e c u w
+pub binary_lift : (b : ℕ) (f e : Environment) (c : Bool) (l : Span) (op : Operator) (t u v w : ResolvedTree) → IsLift b f e c t v → IsLift b f e c u w
     → IsLift b f e c (binary l op t u) (binary l op v w)
 unfolding IsLift
 binary_lift b f e c l op t u v w h k = record {
@@ -133,7 +133,7 @@ binary_lift b f e c l op t u v w h k = record {
   closed = λ z row locals. forms.same_binary (at e [] locals) (at e row locals) l op v w v w (h.closed z row locals) (k.closed z row locals);
 }
 
-pub chain_lift : (b : ℕ) (f e : Environment) (c : Bool) (l : ℕ) (t u : ResolvedTree) (ks ls : ResolvedLinks) → IsLift b f e c t u → AreLinkLifts b f e c ks ls
+pub chain_lift : (b : ℕ) (f e : Environment) (c : Bool) (l : Span) (t u : ResolvedTree) (ks ls : ResolvedLinks) → IsLift b f e c t u → AreLinkLifts b f e c ks ls
     → IsLift b f e c (chain l t ks) (chain l u ls)
 unfolding IsLift AreLinkLifts
 chain_lift b f e c l t u ks ls h k = record {
@@ -148,7 +148,7 @@ chain_lift b f e c l t u ks ls h k = record {
 inside : (locals vs : List Value) (b m : ℕ) → length locals ≡ b → length vs ≡ m → length (locals ++ vs) ≡ b + m
 inside locals vs b m h k = omega (arith, length-append locals vs, h, k)
 
-pub comprehension_lift : (b : ℕ) (f e : Environment) (c : Bool) (l : ℕ) (rs ss : Ranges) (p q t u : ResolvedPart) → AreRangeLifts b f e c rs ss
+pub comprehension_lift : (b : ℕ) (f e : Environment) (c : Bool) (l : Span) (rs ss : Ranges) (p q t u : ResolvedPart) → AreRangeLifts b f e c rs ss
     → IsPartLift (b + variables_of ss) f e c p q → IsPartLift (b + variables_of ss) f e c t u → IsLift b f e c (comprehension l rs p t) (comprehension l ss q u)
 unfolding IsLift AreRangeLifts IsPartLift
 comprehension_lift b f e c l rs ss p q t u h k m = record {
@@ -160,7 +160,7 @@ comprehension_lift b f e c l rs ss p q t u h k m = record {
       (λ vs w. k.closed z row (locals ++ vs)) (λ vs w. m.closed z row (locals ++ vs));
 }
 
-pub quantified_lift : (b : ℕ) (f e : Environment) (c : Bool) (l : ℕ) (n : Quantifier) (rs ss : Ranges) (p q : ResolvedPart) (t u : ResolvedTree)
+pub quantified_lift : (b : ℕ) (f e : Environment) (c : Bool) (l : Span) (n : Quantifier) (rs ss : Ranges) (p q : ResolvedPart) (t u : ResolvedTree)
     → AreRangeLifts b f e c rs ss → IsPartLift (b + variables_of ss) f e c p q → IsLift (b + variables_of ss) f e c t u
     → IsLift b f e c (quantified l n rs p t) (quantified l n ss q u)
 unfolding IsLift AreRangeLifts IsPartLift
@@ -296,7 +296,7 @@ no_infinite e (quantified l q rs p t) h = refl
 found_none : (n : Option ℕ) (o : Option Defined) → o ≡ None → unended (extent_set (extent_found o)) n ≡ None
 found_none n o h = ap (λ p. unended (extent_set (extent_found p)) n) h
 
-pub named_lift : (b : ℕ) (e f g : Environment) (c : Bool) (l : ℕ) (t u : ResolvedTree) (x : Outcome) → IsLonger e f → length f.globals ≤ length f.outcomes
+pub named_lift : (b : ℕ) (e f g : Environment) (c : Bool) (l : Span) (t u : ResolvedTree) (x : Outcome) → IsLonger e f → length f.globals ≤ length f.outcomes
     → g ≡ longer f (x ∷ []) → is_liftable e.numbers u ≡ true → IsClosed e u → IsLift b f e c t u → IsBehind f [] b t x
     → IsLift b g e c (reference l (Global (length f.outcomes))) u
 unfolding IsLift IsClosed IsBehind

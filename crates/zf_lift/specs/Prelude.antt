@@ -6,3 +6,4 @@ pub use Rattle.zf_value.specs.declared.plain.Value.{Value}
 pub use Rattle.zf_value.specs.declared.value.Truth.{Truth}
 pub use Rattle.zf_extent.specs.{constant_set}
 pub use Rattle.zf_term.specs.ResolvedTrees.{ResolvedTrees}
+pub use Rattle.zf_tree.specs.declared.span.Span.{Span}

@@ -1,6 +1,6 @@
 //! Which parts of a predicate are worth a name.
 ghost use Rattle.std.specs.Prelude.{◌≡◌, ◌&&◌, ℕ, Option, is_some};
-ghost use Rattle.zf_lift.specs.Prelude.{constant_set, binary, resolved_of, ResolvedTree, unary, environment_of};
+ghost use Rattle.zf_lift.specs.Prelude.{constant_set, binary, resolved_of, ResolvedTree, unary, environment_of, Span};
 ghost use Rattle.zf_lift.specs.Lifts as spec;
 
 use zf_meaning::{Env, value_of};
@@ -70,14 +70,14 @@ fn is_number_set(symbol: Constant) -> bool
 
 /// Whether what stands before or after a term makes a value of it.
 fn builds(operator: Unary) -> bool
-    ensures { (n : Option ℕ) (l : ℕ) (t : ResolvedTree) → result ≡ spec.is_liftable n (unary l operator t) }
+    ensures { (n : Option ℕ) (span : Span) (t : ResolvedTree) → result ≡ spec.is_liftable n (unary span operator t) }
 {
     !matches!(operator, Unary::Not)
 }
 
 /// Whether what stands between two terms makes a value of them.
 fn combines(operator: Operator) -> bool
-    ensures { (n : Option ℕ) (l : ℕ) (t u : ResolvedTree) → result ≡ spec.is_liftable n (binary l operator t u) }
+    ensures { (n : Option ℕ) (span : Span) (t u : ResolvedTree) → result ≡ spec.is_liftable n (binary span operator t u) }
 {
     !matches!(operator, Operator::Connective(_))
 }

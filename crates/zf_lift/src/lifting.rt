@@ -1,6 +1,6 @@
 //! Terms in which closed parts are names of what they come to.
 ghost use Rattle.std.specs.Prelude.{◌≡◌, ◌+◌, ◌<◌, ℕ, Bool, true, IfOk, IfSome, OnOk, length, map};
-ghost use Rattle.zf_lift.specs.Prelude.{environment_of};
+ghost use Rattle.zf_lift.specs.Prelude.{environment_of, Span};
 ghost use Rattle.zf_reference.specs.declared.reference.Reference.TheVariants as names;
 ghost use Rattle.zf_term.specs.{links, part_of, range_of, ranges, reference as reference_tree, resolved_link_of, resolved_of, terms};
 ghost use Rattle.zf_lift.specs.{Follows, IsLinkLift, IsLonger, IsNamed, IsRangeLift};
@@ -65,7 +65,7 @@ fn named<'g, 'a>(
     };
     let place = own.count();
     own.add(outcome)?;
-    Ok(Resolved::Name(part.line(), Reference::Global(place)))
+    Ok(Resolved::Name(part.span(), Reference::Global(place)))
 }
 
 /// What the part of a term comes to that gets a name: not where it names a variable bound around it, or memory ends, as it may be that nothing asks for it.
@@ -104,48 +104,48 @@ fn rebuilt<'g, 'a>(
     ensures same { IsLonger (environment_of base.now) (environment_of own.old.env) → IfOk result (λ p. spec.IsLift depth (environment_of own.new.env) (environment_of base.now) own.new.is_closed (resolved_of p) (resolved_of term.now)) }
 {
     match term {
-        Resolved::Name(line, reference) => {
+        Resolved::Name(span, reference) => {
             let is_fixed = is_fixed(*reference, base)?;
             own.is_closed = are_both(own.is_closed, is_fixed);
-            Ok(Resolved::Name(*line, *reference))
+            Ok(Resolved::Name(*span, *reference))
         }
-        Resolved::Number(line, value) => Ok(Resolved::Number(*line, *value)),
-        Resolved::Constant(line, constant) => Ok(Resolved::Constant(*line, *constant)),
-        Resolved::EmptySet(line, of) => {
-            Ok(Resolved::EmptySet(*line, Boxed::new(arena, copy(of.get(), arena)?)?))
+        Resolved::Number(span, value) => Ok(Resolved::Number(*span, *value)),
+        Resolved::Constant(span, constant) => Ok(Resolved::Constant(*span, *constant)),
+        Resolved::EmptySet(span, of) => {
+            Ok(Resolved::EmptySet(*span, Boxed::new(arena, copy(of.get(), arena)?)?))
         }
         Resolved::Bracket(_, inner) => rebuilt(inner.get(), arena, depth, base, own),
-        Resolved::Listed(line, form, items) => {
+        Resolved::Listed(span, form, items) => {
             let items = lifted_terms(items, arena, depth, base, own)?;
-            Ok(Resolved::Listed(*line, *form, items))
+            Ok(Resolved::Listed(*span, *form, items))
         }
-        Resolved::Comprehension(line, variables, filter, term) => {
+        Resolved::Comprehension(span, variables, filter, term) => {
             let inside = bound_behind(depth, variables.as_slice())?;
             let variables = lifted_ranges(variables, arena, depth, base, own)?;
             let filter = lifted_part(filter, arena, inside, base, own)?;
             let term = lifted_part(term, arena, inside, base, own)?;
-            Ok(Resolved::Comprehension(*line, variables, filter, term))
+            Ok(Resolved::Comprehension(*span, variables, filter, term))
         }
-        Resolved::Unary(line, operator, of) => {
+        Resolved::Unary(span, operator, of) => {
             let of = lifted_box(of, arena, depth, base, own)?;
-            Ok(Resolved::Unary(*line, *operator, of))
+            Ok(Resolved::Unary(*span, *operator, of))
         }
-        Resolved::Binary(line, operator, left, right) => {
+        Resolved::Binary(span, operator, left, right) => {
             let left = lifted_box(left, arena, depth, base, own)?;
             let right = lifted_box(right, arena, depth, base, own)?;
-            Ok(Resolved::Binary(*line, *operator, left, right))
+            Ok(Resolved::Binary(*span, *operator, left, right))
         }
-        Resolved::Chain(line, first, further) => {
+        Resolved::Chain(span, first, further) => {
             let first = lifted_box(first, arena, depth, base, own)?;
             let further = lifted_links(further, arena, depth, base, own)?;
-            Ok(Resolved::Chain(*line, first, further))
+            Ok(Resolved::Chain(*span, first, further))
         }
-        Resolved::Quantified(quantifier, line, variables, constraint, body) => {
+        Resolved::Quantified(quantifier, span, variables, constraint, body) => {
             let inside = bound_behind(depth, variables.as_slice())?;
             let variables = lifted_ranges(variables, arena, depth, base, own)?;
             let constraint = lifted_part(constraint, arena, inside, base, own)?;
             let body = lifted_box(body, arena, inside, base, own)?;
-            Ok(Resolved::Quantified(*quantifier, *line, variables, constraint, body))
+            Ok(Resolved::Quantified(*quantifier, *span, variables, constraint, body))
         }
     }
 }
@@ -182,7 +182,7 @@ fn bound_behind(depth: usize, variables: &[Range<'_>]) -> Result<usize, Unlifted
 /// Whether what the name stands for is no component. A name of a global that has no outcome is refused.
 fn is_fixed(reference: Reference, base: &Env<'_, '_>) -> Result<bool, Unlifted>
     ensures known { OnOk result ((i : ℕ) → reference ≡ names.Global i → i < length (environment_of base.now).outcomes) }
-    ensures closed { IfOk result (λ fixed. fixed ≡ true → (l : ℕ) → spec.IsClosed (environment_of base.now) (reference_tree l reference)) }
+    ensures closed { IfOk result (λ fixed. fixed ≡ true → (span : Span) → spec.IsClosed (environment_of base.now) (reference_tree span reference)) }
 {
     match reference {
         Reference::Component(_) => Ok(false),

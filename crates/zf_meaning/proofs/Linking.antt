@@ -1,5 +1,5 @@
 -- The links of a chain, one after another.
-use Rattle.zf_meaning.proofs.Prelude.{◌+◌, ◌<◌, ◌∙◌, ◌∷◌, ◌≡◌, ◌≤◌, ap, drop, get_or, inl, length, List, map, None, Option, refl, subst, sym, ℕ, drop_more, IfOk-weaker, Result, IfOk, AllocError, Outcome, Truth, False, True, Relation, link-seen, chain, links, resolved_link_of, resolved_of, ResolvedTree, Infinite, Resolved, ResolvedLink, conjunction, IsDescribed, Describes, IsTruthIn, Context, AreLinked, HasOutcome, infinite_right, IsLink, IsTruth, Described}
+use Rattle.zf_meaning.proofs.Prelude.{◌+◌, ◌<◌, ◌∙◌, ◌∷◌, ◌≡◌, ◌≤◌, ap, drop, get_or, inl, length, List, map, None, Option, refl, subst, sym, ℕ, drop_more, IfOk-weaker, Result, IfOk, AllocError, Outcome, Truth, False, True, Relation, link-seen, chain, links, resolved_link_of, resolved_of, ResolvedTree, Infinite, Resolved, ResolvedLink, conjunction, IsDescribed, Describes, IsTruthIn, Context, AreLinked, HasOutcome, infinite_right, IsLink, IsTruth, Described, Span}
 use Rattle.zf_meaning.specs.{IsLastLink}
 use Rattle.zf_meaning.proofs.Connecting.{conjoined, conjunction-assoc, conjunction-true, conjunction-false}
 use Rattle.zf_meaning.proofs.Gathering.{drop-past}
@@ -63,7 +63,7 @@ unfolding IsLastLink
 last-worked c r t x y i u e h k = (y, h, subst (λ j. IsLink j r x y u) e k)
 
 -- a whole chain
-pub chain-told : (c : Context) (d : ResolvedTree) (l : ℕ) (t a : Resolved) (ks sl : List ResolvedLink) (x : Outcome) (r : Result Truth AllocError)
+pub chain-told : (c : Context) (d : ResolvedTree) (l : Span) (t a : Resolved) (ks sl : List ResolvedLink) (x : Outcome) (r : Result Truth AllocError)
     → d ≡ chain l (resolved_of t) (links (map resolved_link_of ks)) → a ≡ t → sl ≡ ks → HasOutcome c (resolved_of a) x
     → IfOk r (AreLinked c x (links (map resolved_link_of sl))) → IfOk r (IsTruth c d)
 chain-told c d l t a ks sl x r e f g h k =

@@ -1,5 +1,5 @@
 -- The numbers that terms come to.
-use Rattle.zf_meaning.proofs.Prelude.{◌<◌, ◌∙◌, ◌∷◌, ◌≡◌, [], ap, arith, false, get_or, inl, length, List, map, None, Option, refl, Some, subst, sym, ℕ, ℤ, IfSome, Bor, is_Int, number_of-Int, number_of, OnNumbers, IsApplied, members, Outcome, Is, Truth, Int, Value, Application, Relation, link-seen, binary, chain, links, resolved_link_of, resolved_of, ResolvedTree, Resolved, ResolvedLink, is_membership, Context, found_of, HasOutcome, infinite_right, IsLink, IsTruth, Holds, IsAtom, IsConjunction}
+use Rattle.zf_meaning.proofs.Prelude.{◌<◌, ◌∙◌, ◌∷◌, ◌≡◌, [], ap, arith, false, get_or, inl, length, List, map, None, Option, refl, Some, subst, sym, ℕ, ℤ, IfSome, Bor, is_Int, number_of-Int, number_of, OnNumbers, IsApplied, members, Outcome, Is, Truth, Int, Value, Application, Relation, link-seen, binary, chain, links, resolved_link_of, resolved_of, ResolvedTree, Resolved, ResolvedLink, is_membership, Context, found_of, HasOutcome, infinite_right, IsLink, IsTruth, Holds, IsAtom, IsConjunction, Span}
 use Rattle.zf_value.specs.declared.value.Truth.TheVariants.{True, False, Out}
 
 -- ---- names
@@ -23,7 +23,7 @@ pub on-numbers : (P : ℤ → ℤ → Outcome → Type 0) (m n : ℤ) (o : Outco
 on-numbers P m n o None h e = tt
 on-numbers P m n o (Some k) h e = rw (number_of-Int m, number_of-Int n) (subst (P m n) e h)
 
-pub number-applied : (c : Context) (l : ℕ) (a b : ResolvedTree) (f x y : Value) (r : Option ℤ) → HasOutcome c a (Is f) → HasOutcome c b (Is x)
+pub number-applied : (c : Context) (l : Span) (a b : ResolvedTree) (f x y : Value) (r : Option ℤ) → HasOutcome c a (Is f) → HasOutcome c b (Is x)
     → IsApplied (members f) x (Is y) → r ≡ number_of y → IfSome r (λ n. HasOutcome c (binary l Application a b) (Is (Int n)))
 number-applied c l a b f x y None h g k q = tt
 number-applied c l a b f x y (Some n) h g k q = (Is f, Is x, h, g, subst (λ (z : Value). IsApplied (members f) x (Is z)) (is_Int y n q) k)
@@ -43,7 +43,7 @@ one-link (i ∷ j ∷ ks) k l m e = absurd (omega arith)
 comparison : (c : Context) (r : Relation) (t : ResolvedTree) (x y : Outcome) (u : Truth) → is_membership r ≡ false → IsAtom x y (Holds r) u → IsLink (infinite_right c r t) r x y u
 comparison c r t x y u e h = rw e h
 
-pub compared-told : (c : Context) (l : ℕ) (a : ResolvedTree) (k : ResolvedLink) (m n : ℤ) (u : Truth) → is_membership k.relation ≡ false
+pub compared-told : (c : Context) (l : Span) (a : ResolvedTree) (k : ResolvedLink) (m n : ℤ) (u : Truth) → is_membership k.relation ≡ false
     → HasOutcome c a (Is (Int m)) → HasOutcome c (resolved_of k.right) (Is (Int n)) → IsAtom (Is (Int m)) (Is (Int n)) (Holds k.relation) u
     → IsTruth c (chain l a (links (map resolved_link_of (k ∷ [])))) u
 compared-told c l a k m n u e h g q =
@@ -58,7 +58,7 @@ compared-told c l a k m n u e h g q =
       ),
     )
 
-pub chain-compared : (c : Context) (d : ResolvedTree) (l : ℕ) (t a : Resolved) (ks sl : List ResolvedLink) (r : Option Truth)
+pub chain-compared : (c : Context) (d : ResolvedTree) (l : Span) (t a : Resolved) (ks sl : List ResolvedLink) (r : Option Truth)
     → d ≡ chain l (resolved_of t) (links (map resolved_link_of ks)) → a ≡ t → sl ≡ ks
     → IfSome r (IsTruth c (chain l (resolved_of a) (links (map resolved_link_of sl)))) → IfSome r (IsTruth c d)
 chain-compared c d l t a ks sl r e f g h =

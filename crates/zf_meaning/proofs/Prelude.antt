@@ -58,7 +58,7 @@ unfoldable pub use Rattle.zf_meaning.specs.{all_rows, ArePassed, ArePlaces, Fals
 pub use Rattle.zf_outcome.specs.declared.described.Described.{Described}
 pub use Rattle.zf_outcome.specs.declared.described.Described.TheVariants.{Arrows, Interval, Plain}
 pub use Rattle.zf_meaning.specs.declared.env.Env.{Env}
-pub use Rattle.zf_meaning.specs.declared.evaluate.early.Span.{Span}
+pub use Rattle.zf_meaning.specs.declared.evaluate.early.Frame.{Frame}
 pub use Rattle.zf_meaning.specs.declared.evaluate.early.Wanted.{Wanted}
 pub use Rattle.zf_meaning.specs.declared.evaluate.ranges.Spread.{Spread}
 pub use Rattle.zf_outcome.specs.declared.gathered.Lack.{Lack}
@@ -74,3 +74,4 @@ pub use Rattle.zf_term.specs.declared.extent.Infinite.TheVariants.{Num, Nat, Nat
 pub use Rattle.zf_tree.specs.declared.symbol.Constant.{Constant}
 pub use Rattle.zf_outcome.proofs.Tests.{plain-describes}
 pub use Rattle.zf_outcome.proofs.Comparisons.{written-both}
+pub use Rattle.zf_tree.specs.declared.span.Span.{Span}

@@ -1,5 +1,5 @@
 -- One turn of a walk over rows, for a quantifier and for a comprehension.
-use Rattle.zf_meaning.proofs.Prelude.{◌+◌, ◌<◌, ◌∙◌, ◌∷◌, ◌≡◌, [], ap, arith, Bool, inl, inr, length, length-append, List, map, Option, subst, sym, ℕ, ⊎_elim, length-map, Bor, AreFrom, IsDisplay, members, Outcome, Truth, Value, Quantifier, part_of, resolved_of, ResolvedPart, ResolvedTree, Range, Resolved, AddsRow, IsBound, ArePassed, Context, within, Builds, IsBuiltOver, IsConstraint, IsTruth, seen, ahead, IsFirst, IsNext, lists_of, Passing, row_of, Skips, scope_of, truth_by, IsOver, IsTold, Env, Span, Rows, Tally}
+use Rattle.zf_meaning.proofs.Prelude.{◌+◌, ◌<◌, ◌∙◌, ◌∷◌, ◌≡◌, [], ap, arith, Bool, inl, inr, length, length-append, List, map, Option, subst, sym, ℕ, ⊎_elim, length-map, Bor, AreFrom, IsDisplay, members, Outcome, Truth, Value, Quantifier, part_of, resolved_of, ResolvedPart, ResolvedTree, Range, Resolved, AddsRow, IsBound, ArePassed, Context, within, Builds, IsBuiltOver, IsConstraint, IsTruth, seen, ahead, IsFirst, IsNext, lists_of, Passing, row_of, Skips, scope_of, truth_by, IsOver, IsTold, Env, Frame, Rows, Tally, Span}
 use Rattle.zf_term.specs.declared.resolved.Resolved.TheVariants as v
 use Rattle.zf_meaning.proofs.Builds.{IsSingle, HasBuilt, built-all}
 use Rattle.zf_meaning.proofs.Early.{neutral-told, neutral-built, may-pass, from_length}
@@ -34,8 +34,8 @@ one-told c q p e vs x y h k = one_told_of q (λ a. IsConstraint (within c vs) p 
 
 -- ---- how many variables are bound
 
-pub span-bound : (r : Rows) (outside ss : List Value) (lists : List (List Value)) (n : ℕ) → lists ≡ map members ss → IsFirst outside lists r → n ≡ length r.bound.items → length outside + length ss ≡ n
-span-bound r outside ss lists n e f b =
+pub frame-bound : (r : Rows) (outside ss : List Value) (lists : List (List Value)) (n : ℕ) → lists ≡ map members ss → IsFirst outside lists r → n ≡ length r.bound.items → length outside + length ss ≡ n
+frame-bound r outside ss lists n e f b =
     omega (
       arith,
       b,
@@ -49,10 +49,10 @@ span-bound r outside ss lists n e f b =
     )
 
 pub row-bound : (N : List Value → Type 0) (env : Env) (row : List Value) (locals bound : List (Bor Value)) (r : Rows) (ss : List Value)
-    (done : List (List Value)) (span : Span) → bound ≡ r.bound.items → span.outside ≡ length locals → length (seen locals) + length ss ≡ span.whole
+    (done : List (List Value)) (frame : Frame) → bound ≡ r.bound.items → frame.outside ≡ length locals → length (seen locals) + length ss ≡ frame.whole
     → WalksOver N r (seen locals) ss done
-    → IsBound span (scope_of env row bound) (scope_of env row locals) (row_of r)
-row-bound N env row locals bound r ss done span e o w h = record {
+    → IsBound frame (scope_of env row bound) (scope_of env row locals) (row_of r)
+row-bound N env row locals bound r ss done frame e o w h = record {
   is = scope-row env row locals bound (row_of r) (ap seen e ∙ h.at.1);
   outside = seen-length locals ∙ sym o;
   whole = ap (λ n. length (seen locals) + n) (from_length ss (row_of r) (walk-row N r (seen locals) ss done h)) ∙ w;
@@ -67,7 +67,7 @@ next-turn d c old new outside ss done passing h a n = walk-next (NeutralIn d c) 
     (may-pass (resolved_of d) c ss (row_of old) passing (walk-row (NeutralIn d c) old outside ss done h) a) n
 
 -- what a quantifier tells where no row is left
-pub told-ended : (d : Resolved) (q : Quantifier) (l : ℕ) (rs : List Range) (p : Option Resolved) (e : Resolved) (c : Context) (r : Rows)
+pub told-ended : (d : Resolved) (q : Quantifier) (l : Span) (rs : List Range) (p : Option Resolved) (e : Resolved) (c : Context) (r : Rows)
     (outside ss : List Value) (done : List (List Value)) (passing : Passing) (t : Tally) → d ≡ v.Quantified q l rs p e
     → WalksOver (NeutralIn d c) r outside ss done
     → ArePassed (resolved_of d) c (row_of r) passing → Skips passing (row_of r) (ahead r) []
@@ -81,7 +81,7 @@ told-ended d q l rs p e c r outside ss done passing t i h a n k =
     (walk-done (NeutralIn d c) r outside ss done h) k
 
 -- what a comprehension builds where no row is left
-pub built-ended : (d : Resolved) (l : ℕ) (rs : List Range) (p e : Option Resolved) (c : Context) (r : Rows) (outside ss : List Value)
+pub built-ended : (d : Resolved) (l : Span) (rs : List Range) (p e : Option Resolved) (c : Context) (r : Rows) (outside ss : List Value)
     (done : List (List Value)) (passing : Passing) (built : List Value) (o : Outcome) → d ≡ v.Comprehension l rs p e → WalksOver (NeutralIn d c) r outside ss done
     → ArePassed (resolved_of d) c (row_of r) passing → Skips passing (row_of r) (ahead r) []
     → HasBuilt (FilterIn c (part_of p)) (TermIn c (part_of e)) (row_of r ∷ done) built → IsDisplay built o

@@ -1,12 +1,12 @@
 -- Rows that do not count, and the parts of a binder that tell so before all variables are bound. No public clause rests on this.
 use Rattle.std.specs.Prelude.{◌≡◌, ◌⊎◌, ℕ, ◌+◌, ◌<◌, ◌≤◌, max, List, length, Option, Some, None, IfSome, slice_get}
-use Rattle.zf_meaning.specs.Prelude.{Local, Quantifier, Resolved, size-Resolved, binary, bracket, comprehension, chain, constant, empty_set, link, listed, no_links, number, quantified, reference, resolved_of, ResolvedPart, ResolvedTree, unary, Value, Outcome, Truth, IsTold}
+use Rattle.zf_meaning.specs.Prelude.{Local, Quantifier, Resolved, size-Resolved, binary, bracket, comprehension, chain, constant, empty_set, link, listed, no_links, number, quantified, reference, resolved_of, ResolvedPart, ResolvedTree, unary, Value, Outcome, Truth, IsTold, Span}
 use Rattle.zf_tree.specs.declared.symbol.Quantifier.TheVariants.{ForAll, Exists, ExistsOne}
 use Rattle.zf_tree.specs.declared.symbol.Relation.TheVariants.{Equal}
 use Rattle.zf_value.specs.declared.value.Outcome.TheVariants as outcome
 use Rattle.zf_value.specs.declared.value.Truth.TheVariants.{True, False}
 use Rattle.zf_meaning.specs.declared.evaluate.early.Piece.{Piece}
-use Rattle.zf_meaning.specs.declared.evaluate.early.Span.{Span}
+use Rattle.zf_meaning.specs.declared.evaluate.early.Frame.{Frame}
 use Rattle.zf_meaning.specs.declared.evaluate.early.Wanted.{Wanted}
 use Rattle.zf_meaning.specs.declared.rows.Passing.{Passing}
 use Rattle.zf_meaning.specs.declared.rows.Passing.TheVariants as passing
@@ -51,10 +51,10 @@ pub record IsPart (whole part : Resolved) : Type 0 where
 -- ---- what a variable has to equal
 
 abbrev pub IsVariable : ℕ → ResolvedTree → Type 0
-IsVariable place t = (l : ℕ) × (t ≡ reference l (Local place))
+IsVariable place t = (l : Span) × (t ≡ reference l (Local place))
 
 abbrev pub IsEquation : ResolvedTree → ResolvedTree → ResolvedTree → Type 0
-IsEquation a b t = (l : ℕ) × (t ≡ chain l a (link Equal b no_links))
+IsEquation a b t = (l : Span) × (t ≡ chain l a (link Equal b no_links))
 
 -- an outcome, not out, other than that of a variable with this value
 abbrev pub IsOther : Outcome → Option Value → Type 0
@@ -67,14 +67,14 @@ unfoldable pub Wants : ResolvedTree → ℕ → ResolvedTree → Type 0
 Wants t place e = (c : Context) (o : Outcome) → HasOutcome c e o → IsOther o (slice_get c.locals place) → IsTruth c t False
 
 -- the term needs only variables before the one that it is wanted for, which is of the binder
-pub record IsEarlier (span : Span) (wanted : Wanted) : Type 0 where
-  pub outside : span.outside ≤ wanted.local
-  pub needs : need span.whole (resolved_of wanted.term.now) ≤ wanted.local
+pub record IsEarlier (frame : Frame) (wanted : Wanted) : Type 0 where
+  pub outside : frame.outside ≤ wanted.local
+  pub needs : need frame.whole (resolved_of wanted.term.now) ≤ wanted.local
 
-pub record IsWanted (term : Resolved) (span : Span) (wanted : Wanted) : Type 0 where
+pub record IsWanted (term : Resolved) (frame : Frame) (wanted : Wanted) : Type 0 where
   pub wants : Wants (resolved_of term) wanted.local (resolved_of wanted.term.now)
   pub smaller : size-Resolved wanted.term.now < size-Resolved term
-  pub earlier : IsEarlier span wanted
+  pub earlier : IsEarlier frame wanted
 
 -- which rows are passed for a term of this outcome, of which the place of the row tells
 abbrev pub PassesBy : Outcome → ℕ → Passing → Type 0
@@ -85,14 +85,14 @@ PassesBy outcome.Out place p = ⊥
 -- ---- pieces
 
 -- such a part, which needs as many first variables as it says
-pub record IsPiece (whole : Resolved) (span : Span) (piece : Piece) : Type 0 where
+pub record IsPiece (whole : Resolved) (frame : Frame) (piece : Piece) : Type 0 where
   pub part : IsPart whole piece.term.now
-  pub needs : need span.whole (resolved_of piece.term.now) ≤ span.outside + piece.front
-  pub wanted : IfSome piece.wanted (IsWanted piece.term.now span)
+  pub needs : need frame.whole (resolved_of piece.term.now) ≤ frame.outside + piece.front
+  pub wanted : IfSome piece.wanted (IsWanted piece.term.now frame)
 
 -- a quantifier with this constraint and body needs so many first variables of its own
-abbrev pub NeedsFront : Span → ℕ → ResolvedPart → ResolvedTree → Type 0
-NeedsFront span front p t = max (need span.whole t) (part_need span.whole p) ≤ span.outside + front
+abbrev pub NeedsFront : Frame → ℕ → ResolvedPart → ResolvedTree → Type 0
+NeedsFront frame front p t = max (need frame.whole t) (part_need frame.whole p) ≤ frame.outside + front
 
 -- of the rows that may be passed beside this one, none counts but it
 unfoldable pub ArePassed : ResolvedTree → Context → List Value → Passing → Type 0
@@ -103,11 +103,11 @@ pub record AreNeutral (whole : ResolvedTree) (c : Context) (row : List Value) (p
   pub here : IsNeutral whole (within c row)
   pub passed : ArePassed whole c row passing
 
--- the variables of the span are bound to the row
-pub record IsBound (span : Span) (here c : Context) (row : List Value) : Type 0 where
+-- the variables of the frame are bound to the row
+pub record IsBound (frame : Frame) (here c : Context) (row : List Value) : Type 0 where
   pub is : here ≡ within c row
-  pub outside : length c.locals ≡ span.outside
-  pub whole : length c.locals + length row ≡ span.whole
+  pub outside : length c.locals ≡ frame.outside
+  pub whole : length c.locals + length row ≡ frame.whole
 
 abbrev pub AreNeutralIf : ResolvedTree → Context → List Value → Option Passing → Type 0
 AreNeutralIf whole c row None = Unit {0}

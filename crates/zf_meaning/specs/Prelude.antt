@@ -20,3 +20,4 @@ pub use Rattle.zf_term.specs.ResolvedTrees.{ResolvedTrees}
 pub use denote.Bor.{Bor}
 pub use Rattle.zf_value.specs.declared.TheConstants.{SET_MAX}
 pub use Rattle.std.specs.List.{AllByRecursion, All, list_any}
+pub use Rattle.zf_tree.specs.declared.span.Span.{Span}

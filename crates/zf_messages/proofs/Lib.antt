@@ -1,2 +1,5 @@
 pub mod Prelude
+pub mod Lines
+pub mod Words
+pub mod Told
 pub mod Listing

@@ -16,4 +16,5 @@ more old here rest whole new h e = ap (λ xs. xs ++ rest) e ∙ append_assoc old
 
 pub schemas-more : (g : List Defined) (place : ℕ) (old new : List (List ℕ)) → old ++ schemas (drop place g) ≡ schemas g → new ≡ old ++ schema_at place g
     → new ++ schemas (drop (place + 1) g) ≡ schemas g
-schemas-more g place old new h e = more old (schema_at place g) (schemas (drop (place + 1) g)) (schemas g) new (ap (λ xs. old ++ xs) (sym (schemas-step g place)) ∙ h) e
+schemas-more g place old new h e =
+    more old (schema_at place g) (schemas (drop (place + 1) g)) (schemas g) new (ap (λ xs. old ++ xs) (sym (schemas-step g place)) ∙ h) e

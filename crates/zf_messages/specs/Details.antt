@@ -1,6 +1,6 @@
--- The lines that say what a fault is about, after its own. Each begins with four blanks.
-use Rattle.std.specs.Prelude.{ℕ, nat_eq, nat_lt, Bool, if◌then◌else◌, List, [], ◌∷◌, ◌++◌, Some, None, codes, decimal, slice_get, ◌≡◌, ◌==◌, map}
-use Rattle.std.specs.List.{starts_with, flat_map}
+-- What a fault is about: the details of its message.
+use Rattle.std.specs.Prelude.{ℕ, zero, suc, nat_eq, nat_le, nat_lt, Bool, if◌then◌else◌, List, [], ◌∷◌, ◌++◌, length, take, get_or, Some, None, codes, decimal, slice_get, ◌≡◌, ◌==◌, map}
+use Rattle.std.specs.List.{fold, starts_with}
 use Rattle.std.specs.Option.{option_map_or}
 use Rattle.std.specs.Char.{is_ascii_graphic}
 use Rattle.zf_tree.specs.declared.symbol.Constant.{Constant}
@@ -12,27 +12,25 @@ use Rattle.zf_scan.specs.declared.fault.TextFaultKind.{TextFaultKind}
 use Rattle.zf_scan.specs.declared.fault.TextFaultKind.TheVariants.{BadByte, UnknownCommand, NotInProfile, UnclosedBox, Unexpected, NumberTooLarge, TooDeep, TooLong, OutOfMemory}
 use Rattle.zf_term.specs.declared.fault.Limit.{Limit}
 use Rattle.zf_term.specs.declared.fault.Limit.TheVariants.{TypeNodes, Components, Sets, Conjuncts, Nodes, Height}
-use Rattle.zf_term.specs.{a_schema, already_defined, clash, components_max, conjuncts_max, Defined, Fault, first_named, height_max, local_twice, mismatch, misplaced, no_members, nodes_max, not_a_schema, not_declared, Offence, predicate, Schema, schema, sets_max, Sort, too_large, type_nodes_max, type_text, typed, unfit}
+use Rattle.zf_term.specs.{a_schema, already_defined, clash, components_max, conjuncts_max, Defined, Fault, first_named, height_max, kind_of, local_twice, mismatch, misplaced, no_members, nodes_max, not_a_schema, not_declared, Offence, predicate, Schema, schema, sets_max, Sort, too_large, type_nodes_max, type_text, typed, unfit}
 use Rattle.zf_grammar.specs.{height_limit}
 use Rattle.zf_extent.specs.declared.offender.Offender.{Offender}
 use Rattle.zf_extent.specs.declared.offender.Offender.TheVariants.{Name, Symbol}
 use Rattle.zf_finite.specs.declared.not_finite.NotFinite.{NotFinite}
 use Rattle.zf_finite.specs.declared.not_finite.NotFinite.TheVariants.{Unbounded, Offends}
-use Rattle.zf_finite.specs.{cause_line}
-use Rattle.zf_messages.specs.Texts.{fault_line, not_finite_text, text_fault_line, type_fault_line}
+use Rattle.zf_finite.specs.{cause_span}
+use Rattle.zf_tree.specs.declared.span.Span.{Span}
+use Rattle.zf_messages.specs.declared.message.At.{At}
+use Rattle.zf_messages.specs.declared.message.At.TheVariants.{File, Line}
+use Rattle.zf_messages.specs.declared.message.Detail.{Detail}
+use Rattle.zf_messages.specs.declared.message.Message.{Message}
+use Rattle.zf_messages.specs.Messages.{detail, detail_if_any, message}
+use Rattle.zf_messages.specs.Places.{line_at, quoted}
+use Rattle.zf_messages.specs.Texts.{not_finite_text, text_fault_text, type_fault_text}
 
--- `    WORD: TEXT`
-abbrev pub detail : List ℕ → List ℕ → List ℕ
-detail word text = codes "    " ++ word ++ codes ": " ++ text ++ codes "\n"
-
--- the same, of a text that may be missing
-abbrev pub detail_if_any : List ℕ → List ℕ → List ℕ
-detail_if_any word [] = []
-detail_if_any word (c ∷ text) = detail word (c ∷ text)
-
--- the line of a fault; after it what it is about, if that is asked for
-abbrev pub with_details : (details : Bool) → List ℕ → List ℕ → List ℕ
-with_details details line lines = if details then line ++ lines else line
+-- the message with what it is about, if that is asked for
+abbrev pub with_details : (details : Bool) → At → (text : List ℕ) → List Detail → Message
+with_details details at text about = message at text (if details then about else [])
 
 -- ---- faults of types
 
@@ -49,7 +47,7 @@ limit_text Conjuncts = decimal conjuncts_max ++ codes " conjuncts in a schema"
 limit_text Nodes = decimal nodes_max ++ codes " nodes in the terms of a schema"
 limit_text Height = decimal height_max ++ codes " levels in a conjunct"
 
-abbrev pub offence_details : Offence → List ℕ
+abbrev pub offence_details : Offence → List Detail
 offence_details (not_declared x) = detail (codes "name") x
 offence_details (already_defined x) = detail (codes "name") x
 offence_details (not_a_schema x) = detail (codes "name") x
@@ -61,38 +59,64 @@ offence_details (misplaced n z) = detail (codes "found") (sort_text z)
 offence_details (clash x t u) = detail (codes "component") x ++ (detail (codes "left") (type_text t) ++ detail (codes "right") (type_text u))
 offence_details (too_large l) = detail (codes "limit") (limit_text l)
 
--- what is reported beside an offence: the text of the term that offends, with the lines of its first and last symbol, or a name like the missing one
+-- what is reported beside an offence: the term that offends, by its place; a name like the missing one; both, with a symbol that is meant; or, by its line, a paragraph that would declare it and has a fault itself
 pub data Aside : Type 0 where
   nothing : Aside
-  quoted : (text : List ℕ) → (first last : ℕ) → Aside
+  term : (span : Span) → Aside
   like : (name : List ℕ) → Aside
+  meant : (span : Span) → (symbol : List ℕ) → Aside
+  lost : (line : ℕ) → Aside
 
--- the lines of a term that goes over more than one
-abbrev pub line_range : (first last : ℕ) → List ℕ
+-- how many bytes of a term are quoted at most
+abbrev pub width : ℕ
+width = 60
+
+-- the longest front of so many bytes or fewer that ends before a blank; where there is none, all that is quoted at most
+unfoldable pub front_of_words : ℕ → List ℕ → List ℕ
+front_of_words zero text = take width text
+front_of_words (suc n) text = if get_or text (suc n) 0 == 32 then take (suc n) text else front_of_words n text
+
+abbrev pub shortened : List ℕ → List ℕ
+shortened text = if nat_le (length text) width then text else front_of_words width text ++ codes " .."
+
+-- the lines of a part of a source that goes over more than one
+abbrev pub line_range : (first last : ℕ) → List Detail
 line_range first last = if first == last then [] else detail (codes "lines") (decimal first ++ codes " to " ++ decimal last)
 
-abbrev pub quoted_details : (text : List ℕ) → (first last : ℕ) → List ℕ
-quoted_details text first last = detail (codes "term") text ++ line_range first last
+abbrev pub lines_details : (source : List ℕ) → Span → List Detail
+lines_details source s = line_range (line_at source s.start) (line_at source s.stop)
 
--- the term comes before what is wrong with it, and the name that is like the missing one after that
-abbrev pub beside : Aside → List ℕ → List ℕ
-beside nothing lines = lines
-beside (quoted text first last) lines = quoted_details text first last ++ lines
-beside (like name) lines = lines ++ detail (codes "like") name
+abbrev pub term_details : (source : List ℕ) → Span → List Detail
+term_details source s = detail (codes "term") (shortened (quoted source s)) ++ lines_details source s
 
-abbrev pub type_fault_lines : (details : Bool) → (file : List ℕ) → Fault → Aside → List ℕ
-type_fault_lines details file fault aside = with_details details (type_fault_line file fault) (beside aside (offence_details fault.offence))
+-- the term comes before what is wrong with it, other things after that
+abbrev pub before : (source : List ℕ) → Aside → List Detail
+before source (term s) = term_details source s
+before source (meant s symbol) = term_details source s
+before source _ = []
 
+abbrev pub after : Aside → List Detail
+after (like name) = detail (codes "like") name
+after (meant s symbol) = detail (codes "like") symbol
+after (lost line) = detail (codes "declared at") (decimal line ++ codes ", in a paragraph with a fault")
+after _ = []
+
+abbrev pub beside : (source : List ℕ) → Aside → List Detail → List Detail
+beside source aside details = before source aside ++ details ++ after aside
+
+abbrev pub type_fault_message : (details : Bool) → (source : List ℕ) → Fault → Aside → Message
+type_fault_message details source fault aside =
+    with_details details (Line (line_at source fault.span.start)) (type_fault_text (kind_of fault.offence)) (beside source aside (offence_details fault.offence))
+
+-- a fault, and what is reported beside it
 pub record Reported : Type 0 where
   pub fault : Fault
   pub aside : Aside
 
-abbrev pub reported_lines : (details : Bool) → (file : List ℕ) → List Reported → List ℕ
-reported_lines details file rs = flat_map (λ r. type_fault_lines details file r.fault r.aside) rs
-
--- the lines of these faults, in their order, each with something beside it
-abbrev pub AreLines : (details : Bool) → (file : List ℕ) → List Fault → (lines : List ℕ) → Type 0
-AreLines details file faults lines = (rs : List Reported) × (map (λ r. r.fault) rs ≡ faults) × (lines ≡ reported_lines details file rs)
+-- the messages of these faults, in their order, each with something beside it
+abbrev pub AreFaultMessages : (details : Bool) → (source : List ℕ) → List Fault → List Message → Type 0
+AreFaultMessages details source faults ms =
+    (rs : List Reported) × (map (λ r. r.fault) rs ≡ faults) × (ms ≡ map (λ r. type_fault_message details source r.fault r.aside) rs)
 
 -- ---- faults of the text
 
@@ -100,65 +124,83 @@ AreLines details file faults lines = (rs : List Reported) × (map (λ r. r.fault
 abbrev pub symbol_text : List ℕ → List ℕ
 symbol_text symbol = if starts_with nat_eq symbol (codes "\\end{") then codes "end of the box" else symbol
 
--- a byte that is printed, or its number
-abbrev pub is_printed : ℕ → Bool
-is_printed = is_ascii_graphic
-
 -- a command; without the byte after its backslash, where that is not printed
 abbrev pub command_text : List ℕ → List ℕ
 command_text [] = []
 command_text (a ∷ []) = a ∷ []
-command_text (a ∷ b ∷ []) = if is_printed b then a ∷ b ∷ [] else a ∷ []
+command_text (a ∷ b ∷ []) = if is_ascii_graphic b then a ∷ b ∷ [] else a ∷ []
 command_text (a ∷ b ∷ c ∷ text) = a ∷ b ∷ c ∷ text
 
+-- a byte that is printed, or its number
 abbrev pub byte_text : ℕ → List ℕ
-byte_text b = if is_printed b then b ∷ [] else decimal b
+byte_text b = if is_ascii_graphic b then b ∷ [] else decimal b
 
 -- what more than one byte is, by the first: a character outside ASCII, or a command
 abbrev pub bad_word : ℕ → List ℕ
 bad_word b = if nat_lt b 128 then codes "symbol" else codes "character"
 
 -- of a byte or character that begins no piece, or of a command after which something is missing
-abbrev pub byte_details : List ℕ → List ℕ
+abbrev pub byte_details : List ℕ → List Detail
 byte_details [] = []
 byte_details (b ∷ []) = detail (codes "byte") (byte_text b)
 byte_details (b ∷ c ∷ text) = detail (bad_word b) (b ∷ c ∷ text)
 
--- the symbols that a fault of the text is about, as they are spelled, with the line of the second
+-- the symbols that a fault of the text is about, as they are spelled, with the place of the second; what is meant by the first; the part of the text that lacks a separator, if it goes over a line end; where one reads what to write; and what further symbols are left out, with their places
 pub record Cited : Type 0 where
   pub symbol : List ℕ
   pub other : List ℕ
-  pub line : ℕ
+  pub span : Span
+  pub like : List ℕ
+  pub across : Span
+  pub entry : List ℕ
+  pub others : List (List ℕ × Span)
 
-abbrev pub located : List ℕ → ℕ → List ℕ
-located symbol line = symbol ++ codes ", line " ++ decimal line
+abbrev pub located : (source symbol : List ℕ) → Span → List ℕ
+located source symbol s = symbol ++ codes ", line " ++ decimal (line_at source s.start)
 
 -- at what a box shows that it is not closed
-abbrev pub closing_details : List ℕ → ℕ → List ℕ
-closing_details [] line = detail (codes "closed by") (codes "the end of the text")
-closing_details (c ∷ other) line = detail (codes "closed by") (located (c ∷ other) line)
+abbrev pub closing_details : (source other : List ℕ) → Span → List Detail
+closing_details source [] s = detail (codes "closed by") (codes "the end of the text")
+closing_details source (c ∷ other) s = detail (codes "closed by") (located source (c ∷ other) s)
 
 -- a bracket that is not closed, where there is one
-abbrev pub open_details : List ℕ → ℕ → List ℕ
-open_details [] line = []
-open_details (c ∷ bracket) line = detail (codes "open") (located (c ∷ bracket) line)
+abbrev pub open_details : (source bracket : List ℕ) → Span → List Detail
+open_details source [] s = []
+open_details source (c ∷ bracket) s = detail (codes "open") (located source (c ∷ bracket) s)
 
-abbrev pub unexpected_details : Cited → List ℕ
-unexpected_details about = detail_if_any (codes "symbol") (symbol_text about.symbol) ++ open_details about.other about.line
+abbrev pub unexpected_details : (source : List ℕ) → Cited → List Detail
+unexpected_details source about =
+    detail_if_any (codes "symbol") (symbol_text about.symbol) ++ open_details source about.other about.span ++ detail_if_any (codes "like") about.like ++ lines_details source about.across
 
-abbrev pub text_details : TextFaultKind → Cited → List ℕ
-text_details BadByte about = byte_details about.symbol
-text_details UnknownCommand about = detail_if_any (codes "command") (command_text about.symbol)
-text_details NotInProfile about = detail_if_any (codes "symbol") about.symbol
-text_details UnclosedBox about = closing_details about.other about.line
-text_details Unexpected about = unexpected_details about
-text_details NumberTooLarge about = detail (codes "limit") (decimal number_max)
-text_details TooDeep about = detail (codes "limit") (decimal height_limit ++ codes " levels")
-text_details TooLong about = detail (codes "limit") (decimal SOURCE_MAX ++ codes " bytes")
-text_details OutOfMemory about = []
+-- `A; B; C`
+abbrev pub and_other : List ℕ → List ℕ → List ℕ
+and_other [] other = other
+and_other (c ∷ text) other = (c ∷ text) ++ codes "; " ++ other
 
-abbrev pub text_fault_lines : (details : Bool) → (file : List ℕ) → TextFault → (about : Cited) → List ℕ
-text_fault_lines details file fault about = with_details details (text_fault_line file fault) (text_details fault.kind about)
+abbrev pub others_text : (source : List ℕ) → List (List ℕ × Span) → List ℕ
+others_text source others = fold (λ text o. and_other text (located source o.0 o.1)) [] others
+
+-- what else of the same kind the text has
+abbrev pub others_details : (source : List ℕ) → Cited → List Detail
+others_details source about = detail_if_any (codes "see") about.entry ++ detail_if_any (codes "also") (others_text source about.others)
+
+abbrev pub text_details : (source : List ℕ) → TextFaultKind → Cited → List Detail
+text_details source BadByte about = byte_details about.symbol
+text_details source UnknownCommand about = detail_if_any (codes "command") (command_text about.symbol) ++ others_details source about
+text_details source NotInProfile about = detail_if_any (codes "symbol") about.symbol ++ others_details source about
+text_details source UnclosedBox about = closing_details source about.other about.span
+text_details source Unexpected about = unexpected_details source about
+text_details source NumberTooLarge about = detail (codes "limit") (decimal number_max)
+text_details source TooDeep about = detail (codes "limit") (decimal height_limit ++ codes " levels")
+text_details source TooLong about = detail (codes "limit") (decimal SOURCE_MAX ++ codes " bytes")
+text_details source OutOfMemory about = []
+
+-- a source that is too long has no line
+abbrev pub place_of_fault : (source : List ℕ) → TextFault → At
+place_of_fault source fault = elim fault.kind [ TooLong ↦ File | _ ↦ Line (line_at source fault.span.start) ]
+
+abbrev pub text_fault_message : (details : Bool) → (source : List ℕ) → TextFault → (about : Cited) → Message
+text_fault_message details source fault about = with_details details (place_of_fault source fault) (text_fault_text fault.kind) (text_details source fault.kind about)
 
 -- ---- schemas that are not finite
 
@@ -188,9 +230,9 @@ abbrev pub IsReportedBeside : List Defined → NotFinite → (side : List ℕ) �
 IsReportedBeside g (Unbounded l name) side = IsWithout g name side
 IsReportedBeside g (Offends o) side = side ≡ []
 
-abbrev pub cause_details : List Defined → NotFinite → (side : List ℕ) → List ℕ
+abbrev pub cause_details : List Defined → NotFinite → (side : List ℕ) → List Detail
 cause_details g (Unbounded l name) side = detail (codes "component") name ++ detail_if_any (codes "not declared in") side
 cause_details g (Offends o) side = detail (codes "name") (offender_text g o)
 
-abbrev pub not_finite_lines : (details : Bool) → (file : List ℕ) → List Defined → NotFinite → (side : List ℕ) → List ℕ
-not_finite_lines details file g cause side = with_details details (fault_line file (cause_line cause) not_finite_text) (cause_details g cause side)
+abbrev pub not_finite_message : (details : Bool) → (source : List ℕ) → List Defined → NotFinite → (side : List ℕ) → Message
+not_finite_message details source g cause side = with_details details (Line (line_at source (cause_span cause).start)) not_finite_text (cause_details g cause side)

@@ -1,9 +1,11 @@
--- The lines for a schema or a size that is missing: if details are asked for, with the names that there are.
+-- The messages for a schema or a size that is missing: if details are asked for, with the names that there are.
 use Rattle.std.specs.Prelude.{ℕ, Bool, if◌then◌else◌, List, [], ◌∷◌, ◌++◌, codes}
 use Rattle.std.specs.List.{flat_map, fold}
 use Rattle.zf_term.specs.{Defined, Definition, is_like, schema}
-use Rattle.zf_messages.specs.Details.{detail_if_any, with_details}
-use Rattle.zf_messages.specs.Texts.{no_schema_line, no_size_line}
+use Rattle.zf_messages.specs.declared.message.At.TheVariants.{Nowhere}
+use Rattle.zf_messages.specs.declared.message.Message.{Message}
+use Rattle.zf_messages.specs.Messages.{detail_if_any}
+use Rattle.zf_messages.specs.Details.{with_details}
 
 abbrev pub and_name : List ℕ → List ℕ → List ℕ
 and_name [] name = name
@@ -25,10 +27,11 @@ abbrev pub first_like : List ℕ → List (List ℕ) → List ℕ
 first_like name [] = []
 first_like name (other ∷ names) = if is_like name other then other else first_like name names
 
--- `zf: no schema S`; after it the first schema that is like it, and all that there are
-abbrev pub no_schema_lines : (details : Bool) → List Defined → List ℕ → List ℕ
-no_schema_lines details g name = with_details details (no_schema_line name) (detail_if_any (codes "like") (first_like name (schemas g)) ++ detail_if_any (codes "schemas") (names_text (schemas g)))
+-- `zf: no schema S`; with it the first schema that is like it, and all that there are
+abbrev pub no_schema_message : (details : Bool) → List Defined → List ℕ → Message
+no_schema_message details g name =
+    with_details details Nowhere (codes "zf: no schema " ++ name) (detail_if_any (codes "like") (first_like name (schemas g)) ++ detail_if_any (codes "schemas") (names_text (schemas g)))
 
--- `zf: no size for N`; after it all given sets without a size
-abbrev pub no_size_lines : (details : Bool) → List (List ℕ) → List ℕ → List ℕ
-no_size_lines details sets name = with_details details (no_size_line name) (detail_if_any (codes "no size for") (names_text sets))
+-- `zf: no size for N`; with it all given sets without a size
+abbrev pub no_size_message : (details : Bool) → List (List ℕ) → List ℕ → Message
+no_size_message details sets name = with_details details Nowhere (codes "zf: no size for " ++ name) (detail_if_any (codes "no size for") (names_text sets))

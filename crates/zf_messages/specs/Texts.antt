@@ -1,9 +1,10 @@
--- The lines of refusals. Each ends in a newline byte.
+-- The messages of faults and of refusals, without details.
 use Rattle.std.specs.Prelude.{ℕ, List, ◌++◌, codes, decimal}
-use Rattle.zf_scan.specs.declared.fault.TextFault.{TextFault}
 use Rattle.zf_scan.specs.declared.fault.TextFaultKind.{TextFaultKind}
 use Rattle.zf_scan.specs.declared.fault.TextFaultKind.TheVariants.{BadByte, UnknownCommand, NotInProfile, UnclosedBox, Unexpected, NumberTooLarge, TooDeep, TooLong, OutOfMemory}
-use Rattle.zf_term.specs.{Fault, kind_of}
+use Rattle.zf_messages.specs.declared.message.At.TheVariants.{Nowhere}
+use Rattle.zf_messages.specs.declared.message.Message.{Message}
+use Rattle.zf_messages.specs.Messages.{plain}
 use Rattle.zf_term.specs.declared.fault.TypeFaultKind.{TypeFaultKind}
 use Rattle.zf_term.specs.declared.fault.TypeFaultKind.TheVariants.{NotDeclared, AlreadyDefined, Mismatch, NotASet, NotANumber, NotARelation, NotAPredicate, NotAnExpression, ComponentClash, NotASchema, LocalTwice, TooLarge}
 
@@ -35,50 +36,37 @@ type_fault_text TooLarge = codes "too large"
 abbrev pub not_finite_text : List ℕ
 not_finite_text = codes "not finite"
 
--- `FILE:LINE: TEXT`
-abbrev pub fault_line : List ℕ → ℕ → List ℕ → List ℕ
-fault_line file line text = file ++ codes ":" ++ decimal line ++ codes ": " ++ text ++ codes "\n"
+-- ---- what is wrong with the words of a command
 
-abbrev pub too_long_line : List ℕ → List ℕ
-too_long_line file = file ++ codes ": source too long\n"
+abbrev pub about_words : (text : List ℕ) → Message
+about_words text = plain Nowhere (codes "zf: " ++ text)
 
--- the line of a fault of a text; a source that is too long has no line number
-abbrev pub text_fault_line : List ℕ → TextFault → List ℕ
-text_fault_line file fault = elim fault.kind [ TooLong ↦ too_long_line file | _ ↦ fault_line file fault.line (text_fault_text fault.kind) ]
+abbrev pub no_component : (schema component : List ℕ) → Message
+no_component schema component = about_words (schema ++ codes " has no component " ++ component)
 
-abbrev pub type_fault_line : List ℕ → Fault → List ℕ
-type_fault_line file fault = fault_line file fault.line (type_fault_text (kind_of fault.offence))
+abbrev pub numbers_too_large : Message
+numbers_too_large = about_words (codes "numbers are too large")
 
-abbrev pub no_schema_line : List ℕ → List ℕ
-no_schema_line schema = codes "zf: no schema " ++ schema ++ codes "\n"
+abbrev pub not_given : (name : List ℕ) → Message
+not_given name = about_words (name ++ codes " is not a given set")
 
-abbrev pub no_component_line : (schema component : List ℕ) → List ℕ
-no_component_line schema component = codes "zf: " ++ schema ++ codes " has no component " ++ component ++ codes "\n"
+abbrev pub size_twice : (name : List ℕ) → Message
+size_twice name = about_words (codes "two sizes for " ++ name)
 
-abbrev pub numbers_too_large_line : List ℕ
-numbers_too_large_line = codes "zf: numbers are too large\n"
-
-abbrev pub no_size_line : List ℕ → List ℕ
-no_size_line name = codes "zf: no size for " ++ name ++ codes "\n"
-
-abbrev pub not_given_line : List ℕ → List ℕ
-not_given_line name = codes "zf: " ++ name ++ codes " is not a given set\n"
-
-abbrev pub size_twice_line : List ℕ → List ℕ
-size_twice_line name = codes "zf: two sizes for " ++ name ++ codes "\n"
-
-abbrev pub size_too_large_line : List ℕ → List ℕ
-size_too_large_line name = codes "zf: size of " ++ name ++ codes " is too large\n"
+abbrev pub size_too_large : (name : List ℕ) → Message
+size_too_large name = about_words (codes "size of " ++ name ++ codes " is too large")
 
 -- the place, from 0, of the first byte of what does not fit
-abbrev pub not_a_binding_line : ℕ → List ℕ
-not_a_binding_line place = codes "zf: after: not a binding at byte " ++ decimal place ++ codes "\n"
+abbrev pub not_a_binding : (place : ℕ) → Message
+not_a_binding place = about_words (codes "after: not a binding at byte " ++ decimal place)
 
-abbrev pub not_components_line : ℕ → List ℕ
-not_components_line place = codes "zf: only: not components at byte " ++ decimal place ++ codes "\n"
+abbrev pub not_components : (place : ℕ) → Message
+not_components place = about_words (codes "only: not components at byte " ++ decimal place)
 
-abbrev pub not_held_line : ℕ → List ℕ
-not_held_line place = codes "zf: with: not a binding at byte " ++ decimal place ++ codes "\n"
+abbrev pub not_held : (place : ℕ) → Message
+not_held place = about_words (codes "with: not a binding at byte " ++ decimal place)
 
-abbrev pub declared_out_line : List ℕ → List ℕ
-declared_out_line name = codes "out of bounds in the declaration of " ++ name ++ codes "\n"
+-- ---- of a schema
+
+abbrev pub declared_out : (name : List ℕ) → Message
+declared_out name = plain Nowhere (codes "out of bounds in the declaration of " ++ name)

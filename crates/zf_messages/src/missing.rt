@@ -1,61 +1,62 @@
-//! The lines for a schema or a size that is missing: if details are asked for, with the names that there are.
+//! The messages for a schema or a size that is missing: if details are asked for, with the names that there are.
 ghost use Rattle.std.specs.Prelude.{◌≡◌, ◌++◌, ◌∷◌, [], IfOk, MatchOption, OnOk, codes};
 ghost use Rattle.zf_messages.specs.{detail_if_any, schema_at};
 ghost use Rattle.zf_messages.specs.Missing as spec;
 ghost use Rattle.zf_term.specs.{globals_of};
 
-use crate::details::append_if_any;
-use crate::texts::around;
+use crate::details::add_if_any;
+use crate::message::{Detail, Message};
+use crate::texts::about_words;
 use std::alloc::{AllocError, Global};
-use zf_data::Text;
+use zf_data::{Items, Text};
 use zf_term::{Entry, Globals, is_like};
 
-/// The lines for a name that no schema has.
-pub fn no_schema_lines(
+/// The message for a name that no schema has.
+pub fn no_schema_message(
     alloc: Global,
     details: bool,
     globals: &Globals<'_>,
     name: &[u8],
-) -> Result<Vec<u8>, AllocError>
-    ensures { IfOk result (λ v. v.items ≡ spec.no_schema_lines details (globals_of globals.now) name.now) }
+) -> Result<Message, AllocError>
+    ensures { IfOk result (λ m. m ≡ spec.no_schema_message details (globals_of globals.now) name.now) }
 {
-    let mut lines = around(alloc, b"zf: no schema ", name, b"\n")?;
+    let mut message = about_words(alloc, b"no schema ", name, b"")?;
     if details {
-        append_schemas(alloc, &mut lines, globals, name)?;
+        add_schemas(&mut message.details, alloc, globals, name)?;
     }
-    Ok(lines)
+    Ok(message)
 }
 
 /// The first schema with a name like this one, and all schemas.
-fn append_schemas(
+fn add_schemas(
+    details: &mut Items<Detail>,
     alloc: Global,
-    lines: &mut Vec<u8>,
     globals: &Globals<'_>,
     name: &[u8],
 ) -> Result<(), AllocError>
-    ensures { OnOk result (lines.new.items ≡ lines.old.items ++ (detail_if_any (codes "like") (spec.first_like name.now (spec.schemas (globals_of globals.now))) ++ detail_if_any (codes "schemas") (spec.names_text (spec.schemas (globals_of globals.now))))) }
+    ensures { OnOk result (details.new ≡ details.old ++ (detail_if_any (codes "like") (spec.first_like name.now (spec.schemas (globals_of globals.now))) ++ detail_if_any (codes "schemas") (spec.names_text (spec.schemas (globals_of globals.now))))) }
 {
     let names = schemas(alloc, globals)?;
     let text = names_text(alloc, &names)?;
-    append_if_any(lines, b"like", first_like(name, &names))?;
-    append_if_any(lines, b"schemas", &text)
+    add_if_any(details, alloc, b"like", first_like(name, &names))?;
+    add_if_any(details, alloc, b"schemas", &text)
 }
 
-/// The lines for a given set without a size, where these are all such sets.
-pub fn no_size_lines(
+/// The message for a given set without a size, where these are all such sets.
+pub fn no_size_message(
     alloc: Global,
     details: bool,
     sets: &[Text],
     name: &[u8],
-) -> Result<Vec<u8>, AllocError>
-    ensures { IfOk result (λ v. v.items ≡ spec.no_size_lines details sets.now name.now) }
+) -> Result<Message, AllocError>
+    ensures { IfOk result (λ m. m ≡ spec.no_size_message details sets.now name.now) }
 {
-    let mut lines = around(alloc, b"zf: no size for ", name, b"\n")?;
+    let mut message = about_words(alloc, b"no size for ", name, b"")?;
     if details {
         let text = names_text(alloc, sets)?;
-        append_if_any(&mut lines, b"no size for", &text)?;
+        add_if_any(&mut message.details, alloc, b"no size for", &text)?;
     }
-    Ok(lines)
+    Ok(message)
 }
 
 /// The names of the schemas, in order of definition.

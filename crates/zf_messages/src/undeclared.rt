@@ -201,10 +201,10 @@ fn is_spelled(name: &Name<'_>, spelling: &[u8]) -> bool {
 /// Why nothing bounds the component of the schema expression.
 fn cause_in_schema(globals: &Globals<'_>, exp: &SchemaExp<'_>, component: &[u8]) -> Option<Cause> {
     match exp {
-        SchemaExp::Text(decls, _) => cause_in_decls(globals, decls.as_slice(), component),
-        SchemaExp::Ref(reference) => cause_in_reference(globals, reference, component),
-        SchemaExp::Bracket(inner) => cause_in_schema(globals, inner.get(), component),
-        SchemaExp::Both(left, right) => {
+        SchemaExp::Text(_, decls, _) => cause_in_decls(globals, decls.as_slice(), component),
+        SchemaExp::Ref(_, reference) => cause_in_reference(globals, reference, component),
+        SchemaExp::Bracket(_, inner) => cause_in_schema(globals, inner.get(), component),
+        SchemaExp::Both(_, left, right) => {
             let cause = cause_in_schema(globals, left.get(), component);
             cause.or(cause_in_schema(globals, right.get(), component))
         }
@@ -249,8 +249,8 @@ fn cause_in_reference(
 /// The side, if it is a schema that does not have the component.
 fn lacking_side(globals: &Globals<'_>, side: &SchemaExp<'_>, component: &[u8]) -> Option<Cause> {
     match side {
-        SchemaExp::Bracket(inner) => lacking_side(globals, inner.get(), component),
-        SchemaExp::Ref(reference) => match referred_to(globals, reference, component) {
+        SchemaExp::Bracket(_, inner) => lacking_side(globals, inner.get(), component),
+        SchemaExp::Ref(_, reference) => match referred_to(globals, reference, component) {
             Some((schema, None)) => Some(Cause::Undeclared(schema)),
             _ => None,
         },

@@ -1,5 +1,5 @@
 -- What an outcome of the rules says of the trees that read the tokens.
-use Rattle.zf_parse.proofs.Prelude.{◌∙◌, ◌≡◌, ◌≤◌, [], ap, arith, Err, inl, inr, List, map, max, Ok, refl, sym, ℕ, ◌⊎◌, box_of, BoxTree, ZBox, IsCutInto, IsWantOfMemory, reduced, Symbol, TextFaultKind, Token, read_all, height_limit, highest, ReadsLow, RefusesTokens, RefusesSource, Reads, Fails, Refused, TooDeep}
+use Rattle.zf_parse.proofs.Prelude.{Span, ◌∙◌, ◌≡◌, ◌≤◌, [], ap, arith, Err, inl, inr, List, map, max, Ok, refl, sym, ℕ, ◌⊎◌, box_of, BoxTree, ZBox, IsCutInto, IsWantOfMemory, reduced, Symbol, TextFaultKind, Token, read_all, height_limit, highest, ReadsLow, RefusesTokens, RefusesSource, Reads, Fails, Refused, TooDeep}
 use Rattle.zf_scan.specs.declared.fault.TextFaultKind.TheVariants as fault
 use Rattle.zf_grammar.proofs.BoxItems.{never_refused, above_limit}
 use Rattle.zf_grammar.proofs.BoxesRead.{AreRead, all_sound, all_answers}
@@ -19,12 +19,12 @@ none_reads n tokens e boxes r = never_refused (answers n tokens boxes r) e
 none_low : (n : ℕ) (tokens : List Token) → read_all n (reduced tokens) ≡ Err TooDeep → (boxes : List BoxTree) → Reads boxes tokens → highest boxes ≤ n → ⊥
 none_low n tokens e boxes r low = omega (arith, above_limit (answers n tokens boxes r) e)
 
-pub refused : (kind : TextFaultKind) (line : ℕ) (tokens : List Token) → Fails (read_all height_limit (reduced tokens)) kind line → RefusesTokens kind line tokens
-refused fault.OutOfMemory line tokens h = h
-refused fault.Unexpected line tokens h = none_reads height_limit tokens h
-refused fault.NotInProfile line tokens h = none_reads height_limit tokens h
-refused fault.TooDeep line tokens h = λ boxes r. none_low height_limit tokens h boxes r.reads r.low
-refused _ line tokens h = absurd h
+pub refused : (kind : TextFaultKind) (span : Span) (tokens : List Token) → Fails (read_all height_limit (reduced tokens)) kind span → RefusesTokens kind span tokens
+refused fault.OutOfMemory span tokens h = h
+refused fault.Unexpected span tokens h = none_reads height_limit tokens h
+refused fault.NotInProfile span tokens h = none_reads height_limit tokens h
+refused fault.TooDeep span tokens h = λ boxes r. none_low height_limit tokens h boxes r.reads r.low
+refused _ span tokens h = absurd h
 
 -- what is read, where nothing is too high
 reads_them : (n : ℕ) (tokens : List Token) (boxes : List BoxTree) → Reads boxes tokens → highest boxes ≤ n → (bs : List ZBox) × (map box_of bs ≡ boxes) × (read_all n (reduced tokens) ≡ Ok (bs, []))
@@ -45,10 +45,10 @@ only_one a b tokens r s =
 
 -- ---- a source
 
-pub refuses_source : (kind : TextFaultKind) (line : ℕ) (source : List ℕ) (tokens : List Token) → IsCutInto source tokens → RefusesTokens kind line tokens
-    → IsWantOfMemory (record { kind = kind; line = line }) ⊎ RefusesSource source (record { kind = kind; line = line })
-refuses_source fault.OutOfMemory line source tokens cut h = inl (refl, h)
-refuses_source fault.Unexpected line source tokens cut h = inr (inr (tokens, cut, h, tt))
-refuses_source fault.NotInProfile line source tokens cut h = inr (inr (tokens, cut, h, tt))
-refuses_source fault.TooDeep line source tokens cut h = inr (inr (tokens, cut, h, tt))
-refuses_source _ line source tokens cut h = absurd h
+pub refuses_source : (kind : TextFaultKind) (span : Span) (source : List ℕ) (tokens : List Token) → IsCutInto source tokens → RefusesTokens kind span tokens
+    → IsWantOfMemory (record { kind = kind; span = span }) ⊎ RefusesSource source (record { kind = kind; span = span })
+refuses_source fault.OutOfMemory span source tokens cut h = inl (refl, h)
+refuses_source fault.Unexpected span source tokens cut h = inr (inr (tokens, cut, h, tt))
+refuses_source fault.NotInProfile span source tokens cut h = inr (inr (tokens, cut, h, tt))
+refuses_source fault.TooDeep span source tokens cut h = inr (inr (tokens, cut, h, tt))
+refuses_source _ span source tokens cut h = absurd h

@@ -1,9 +1,8 @@
 -- Where a box ends: after its end, whatever follows.
-use Rattle.zf_parse.proofs.Prelude.{◌++◌, ◌∙◌, ◌∷◌, ◌≡◌, ◌≤◌, [], ap, arith, false, length, List, refl, subst, sym, true, ℕ, append_cancel_right, if◌then◌else◌, BoxTree, DeclTree, include, ParagraphTree, schema_reference, schema_box, SchemaTree, Tree, vars, zed, And, Or, Name, RefMark, Delta, Plain, Xi, ends_box, separator, Symbol, symbol, Kind, IsOn, Next, PartedBy, Spells, SpellsBox, SpellsDecl, SpellsMarked, SpellsName, SpellsParagraph, SpellsPredicates, SpellsSchema}
+use Rattle.zf_parse.proofs.Prelude.{◌++◌, ◌∙◌, ◌∷◌, ◌≡◌, [], ap, false, List, refl, subst, sym, true, append_cancel_right, if◌then◌else◌, BoxTree, DeclTree, include, ParagraphTree, schema_reference, schema_box, SchemaTree, Tree, vars, zed, And, Or, Name, RefMark, Delta, Plain, Xi, ends_box, separator, Symbol, symbol, Kind, here, Next, Span, through, PartedBy, Spells, SpellsBox, SpellsDecl, SpellsMarked, SpellsName, SpellsParagraph, SpellsPredicates, SpellsSchema}
 use Rattle.zf_scan.specs.declared.token.Kind.TheVariants as k
 use Rattle.zf_tree.specs.Trees as shape
-use Rattle.zf_grammar.proofs.SchemaExps.{schema_shorter}
-use Rattle.zf_grammar.proofs.TermsApart.{behind, Spelling, Own, starts_own, next_own, nothing_own, as_own, two, then_own, three, four, parted_own, name_own, names_own, term_own}
+use Rattle.zf_grammar.proofs.TermsApart.{behind, Spelling, Own, starts_own, begins_own, ends_own, next_own, nothing_own, as_own, two, then_own, three, four, parted_own, name_own, names_own, term_own}
 
 -- ---- declarations, schema expressions and paragraphs
 
@@ -24,38 +23,32 @@ predicates_own kind kept [] ts us h = nothing_own (SpellsPredicates kind []) ts 
 predicates_own kind kept (p ∷ ps) ts us h =
     two (next_own kind ts h.0 kept h.1) (parted_own separator Spells refl term_own (p ∷ ps) h.0 us h.2) (λ x a y p q. (a, p, q))
 
--- the first symbol of a list that is not empty has its line before anything
-on_before : (l : ℕ) (ts us : List Symbol) → 1 ≤ length ts → IsOn l (ts ++ us) → IsOn l ts
-on_before l [] us some h = absurd (omega arith)
-on_before l (t ∷ ts) us some h = h
+-- a schema reference, of which the first symbol shows where it begins
+abbrev Reference : Span → RefMark → Name → Spelling
+Reference l m n ts us = (l ≡ through (here ts) n.span) × SpellsMarked m n ts us
 
-before_on : (l : ℕ) (ts us : List Symbol) → IsOn l ts → IsOn l (ts ++ us)
-before_on l [] us h = absurd h
-before_on l (t ∷ ts) us h = h
+same_place : {l : Span} {ts us vs xs : List Symbol} (n : Name) (s : Symbol) → l ≡ through (here ts) n.span → ts ≡ s ∷ us → vs ≡ s ∷ xs
+    → l ≡ through (here vs) n.span
+same_place n s at e f = at ∙ ap (λ ts. through (here ts) n.span) e ∙ sym (ap (λ ts. through (here ts) n.span) f)
 
--- a schema expression begins on the same line, whatever follows
-on_own : (l : ℕ) (x : SchemaTree) (ts us : List Symbol) (o : Own (SpellsSchema x) ts us) → IsOn l ts → (r : List Symbol) → IsOn l (o.own r)
-on_own l x ts us o h r =
-    let some : 1 ≤ length (o.own []) = omega (arith, schema_shorter x (o.own []) [] (o.always [])) in
-    let here : IsOn l (o.own [] ++ us) = subst (IsOn l) (o.whole ∙ o.appends [] us) h in
-    subst (IsOn l) (sym (o.appends [] r)) (before_on l (o.own []) r (on_before l (o.own []) us some here))
-
--- a spelling that begins on this line
-abbrev Begins : ℕ → Spelling → Spelling
-Begins l S ts us = IsOn l ts × S ts us
-
-on_line : (l : ℕ) (x : SchemaTree) (ts us : List Symbol) → Own (SpellsSchema x) ts us → IsOn l ts → Own (Begins l (SpellsSchema x)) ts us
-on_line l x ts us o h = record { own = o.own; whole = o.whole; always = λ r. (on_own l x ts us o h r, o.always r); passes = o.passes; appends = o.appends }
+reference_own : (l : Span) (m : RefMark) (n : Name) (ts us : List Symbol) → Reference l m n ts us → Own (Reference l m n) ts us
+reference_own l Plain n ts us h = as_own (name_own n ts us h.1) (λ x y p. (same_place n _ h.0 h.1 p, p))
+reference_own l Delta n ts us h =
+    two (starts_own k.Delta h.1.1.0 ts h.1.0 refl h.1.1.1) (name_own n h.1.0 us h.1.2) (λ x a y p q. (same_place n _ h.0 h.1.1.1 p, (a, (h.1.1.0, p), q)))
+reference_own l Xi n ts us h =
+    two (starts_own k.Xi h.1.1.0 ts h.1.0 refl h.1.1.1) (name_own n h.1.0 us h.1.2) (λ x a y p q. (same_place n _ h.0 h.1.1.1 p, (a, (h.1.1.0, p), q)))
 
 schema_own : (x : SchemaTree) (ts us : List Symbol) → SpellsSchema x ts us → Own (SpellsSchema x) ts us
-schema_own (shape.schema_text ds ps) ts us h =
-    four (next_own k.OpenSquare ts h.0 refl h.3) (decls_own ds h.0 h.1 h.4) (predicates_own k.Bar refl ps h.1 h.2 h.5) (next_own k.CloseSquare h.2 us refl h.6)
+schema_own (shape.schema_text l ds ps) ts us h =
+    four (begins_own k.OpenSquare l ts h.0 refl h.3) (decls_own ds h.0 h.1 h.4) (predicates_own k.Bar refl ps h.1 h.2 h.5) (ends_own k.CloseSquare l h.2 us refl h.6)
     (λ x a b c y p q r s. (a, b, c, p, q, r, s))
-schema_own (schema_reference r) ts us h = as_own (marked_own r.mark r.name ts us h) (λ x y p. p)
-schema_own (shape.both x y) ts us h = three (schema_own x ts h.0 h.2) (next_own (k.Connective And) h.0 h.1 refl h.3) (schema_own y h.1 us h.4) (λ x a b y p q r. (a, b, p, q, r))
+schema_own (schema_reference l r) ts us h = as_own (reference_own l r.mark r.name ts us h) (λ x y p. p)
+schema_own (shape.both l x y) ts us h =
+    three (schema_own x ts h.0 h.3) (next_own (k.Connective And) h.0 h.1 refl h.4) (schema_own y h.1 us h.5) (λ x a b y p q r. (a, b, h.2, p, q, r))
 schema_own (shape.either l x y) ts us h =
-    three (on_line l x ts h.0 (schema_own x ts h.0 h.3) h.2) (next_own (k.Connective Or) h.0 h.1 refl h.4) (schema_own y h.1 us h.5) (λ x a b y p q r. (a, b, p.0, p.1, q, r))
-schema_own (shape.schema_bracket x) ts us h = three (next_own k.OpenRound ts h.0 refl h.2) (schema_own x h.0 h.1 h.3) (next_own k.CloseRound h.1 us refl h.4) (λ x a b y p q r. (a, b, p, q, r))
+    three (schema_own x ts h.0 h.3) (next_own (k.Connective Or) h.0 h.1 refl h.4) (schema_own y h.1 us h.5) (λ x a b y p q r. (a, b, h.2, p, q, r))
+schema_own (shape.schema_bracket l x) ts us h =
+    three (begins_own k.OpenRound l ts h.0 refl h.2) (schema_own x h.0 h.1 h.3) (ends_own k.CloseRound l h.1 us refl h.4) (λ x a b y p q r. (a, b, p, q, r))
 
 paragraph_own : (p : ParagraphTree) (ts us : List Symbol) → SpellsParagraph p ts us → Own (SpellsParagraph p) ts us
 paragraph_own (shape.given ns) ts us h = three (next_own k.OpenSquare ts h.0 refl h.2) (names_own ns h.0 h.1 h.3) (next_own k.CloseSquare h.1 us refl h.4) (λ x a b y p q r. (a, b, p, q, r))
@@ -90,7 +83,7 @@ box_closed : (b : BoxTree) (ts us : List Symbol) → SpellsBox b ts us → Close
 box_closed (zed ps) ts us h =
     closed (then_own (next_own k.BeginZed ts h.0 refl h.2) (parted_own separator SpellsParagraph refl paragraph_own ps h.0 h.1 h.3)) h.4 (λ x b y m e. (m.0, b, m.1, m.2, e))
 box_closed (schema_box n ds ps) ts us h =
-    closed (then_own (starts_own (k.BeginSchema n.base) n.line ts h.0 refl h.4) (then_own (decls_own ds h.0 h.1 h.5) (predicates_own k.Where refl ps h.1 h.2 h.6))) h.7
+    closed (then_own (starts_own (k.BeginSchema n.base) n.span ts h.0 refl h.4) (then_own (decls_own ds h.0 h.1 h.5) (predicates_own k.Where refl ps h.1 h.2 h.6))) h.7
     (λ x c y m e. (m.0, m.2.0, c, h.3, m.1, m.2.1, m.2.2, e))
 
 -- the symbols of one box: its end stands last, and nowhere else

@@ -1,5 +1,5 @@
 -- A source that is read box by box: what the boxes so far are, and what one that is refused says of the whole.
-use Rattle.zf_parse.proofs.Prelude.{◌++◌, ◌∙◌, ◌∷◌, ◌≡◌, ◌≤◌, [], ap, append_assoc, arith, Bool, Err, false, inl, inr, length, List, map, Ok, refl, subst, sym, true, ℕ, append-nil, map-append, AllByRecursion, if◌then◌else◌, ◌==◌, ◌||◌, ◌⊎◌, box_of, BoxTree, ZBox, begins_box, BeginsBox, ends_box, Follows, IsBoxAtMost, IsCutOn, IsCutUpTo, IsWantOfMemory, token_at, canonical, closes, is_separator, opens, reduced, reduced_after, starts_closed, Symbol, symbol_of, TextFaultKind, Placed, Kind, Token, AreSoFar, Later, ReadsBox, ReadsUpTo, RefusesBox, SpellsUpTo, read_box, read_only, box_height, height_limit, highest, BoxIsLevelled, ReadsSource, RefusesTokens, RefusesSource, first, is_end, Reads, SpellsBox, SpellsBoxes, Fails, Refused, TooDeep}
+use Rattle.zf_parse.proofs.Prelude.{Span, ◌++◌, ◌∙◌, ◌∷◌, ◌≡◌, ◌≤◌, [], ap, append_assoc, arith, Bool, Err, false, inl, inr, length, List, map, Ok, refl, subst, sym, true, ℕ, append-nil, map-append, AllByRecursion, if◌then◌else◌, ◌==◌, ◌||◌, ◌⊎◌, box_of, BoxTree, ZBox, begins_box, BeginsBox, ends_box, Follows, IsBoxAtMost, IsCutOn, IsCutUpTo, IsWantOfMemory, token_at, canonical, closes, is_separator, opens, reduced, reduced_after, starts_closed, Symbol, symbol_of, TextFaultKind, Placed, Kind, Token, AreSoFar, Later, ReadsBox, ReadsUpTo, RefusesBox, SpellsUpTo, read_box, read_only, box_height, height_limit, highest, BoxIsLevelled, ReadsSource, RefusesTokens, RefusesSource, first, is_end, Reads, SpellsBox, SpellsBoxes, Fails, Refused, TooDeep}
 use Rattle.zf_scan.specs.declared.fault.TextFaultKind.TheVariants as fault
 use Rattle.zf_scan.specs.declared.scan.Border.{Border}
 use Rattle.zf_scan.specs.declared.token.Kind.TheVariants as k
@@ -36,12 +36,12 @@ none_reads n ts e b lev h = never_refused (only_answers n ts b lev h) e
 none_low : (n : ℕ) (ts : List Symbol) → read_only n ts ≡ Err TooDeep → (b : BoxTree) → BoxIsLevelled b → SpellsBox b ts [] → box_height b ≤ n → ⊥
 none_low n ts e b lev h low = omega (arith, above_limit (only_answers n ts b lev h) e)
 
-pub only_refused : (kind : TextFaultKind) (line : ℕ) (ts : List Symbol) → Fails (read_only height_limit ts) kind line → RefusesBox kind line ts
-only_refused fault.OutOfMemory line ts h = h
-only_refused fault.Unexpected line ts h = none_reads height_limit ts h
-only_refused fault.NotInProfile line ts h = none_reads height_limit ts h
-only_refused fault.TooDeep line ts h = λ b r. none_low height_limit ts h b r.levelled r.spelled r.low
-only_refused _ line ts h = absurd h
+pub only_refused : (kind : TextFaultKind) (span : Span) (ts : List Symbol) → Fails (read_only height_limit ts) kind span → RefusesBox kind span ts
+only_refused fault.OutOfMemory span ts h = h
+only_refused fault.Unexpected span ts h = none_reads height_limit ts h
+only_refused fault.NotInProfile span ts h = none_reads height_limit ts h
+only_refused fault.TooDeep span ts h = λ b r. none_low height_limit ts h b r.levelled r.spelled r.low
+only_refused _ span ts h = absurd h
 
 pub box_read : (b : ZBox) (ts us : List Symbol) → read_only height_limit ts ≡ Ok (b, us) → ReadsBox (box_of b) ts
 box_read b ts us h = only_sound height_limit ts us b refl h
@@ -162,15 +162,15 @@ whole_unread bs ts rs us all f ends e none boxes r =
     let l = f.apart boxes (rs ++ us) r.levelled (subst (SpellsBoxes boxes) e r.spelled) in
     first_unread l.later rs us ends l.levelled l.spelled none
 
-whole_refused : (bs : List BoxTree) (ts rs us : List Symbol) (all : List Token) (kind : TextFaultKind) (line : ℕ) → AreSoFar bs ts → EndsOnce rs
-    → reduced all ≡ ts ++ (rs ++ us) → RefusesBox kind line rs → RefusesTokens kind line all
-whole_refused bs ts rs us all fault.OutOfMemory line f ends e h = h
-whole_refused bs ts rs us all fault.Unexpected line f ends e h = whole_unread bs ts rs us all f ends e h
-whole_refused bs ts rs us all fault.NotInProfile line f ends e h = whole_unread bs ts rs us all f ends e h
-whole_refused bs ts rs us all fault.TooDeep line f ends e h = λ boxes r.
+whole_refused : (bs : List BoxTree) (ts rs us : List Symbol) (all : List Token) (kind : TextFaultKind) (span : Span) → AreSoFar bs ts → EndsOnce rs
+    → reduced all ≡ ts ++ (rs ++ us) → RefusesBox kind span rs → RefusesTokens kind span all
+whole_refused bs ts rs us all fault.OutOfMemory span f ends e h = h
+whole_refused bs ts rs us all fault.Unexpected span f ends e h = whole_unread bs ts rs us all f ends e h
+whole_refused bs ts rs us all fault.NotInProfile span f ends e h = whole_unread bs ts rs us all f ends e h
+whole_refused bs ts rs us all fault.TooDeep span f ends e h = λ boxes r.
     let l = f.apart boxes (rs ++ us) r.reads.levelled (subst (SpellsBoxes boxes) e r.reads.spelled) in
     first_refused boxes l.later rs us ends l.levelled l.spelled l.low r.low h
-whole_refused bs ts rs us all _ line f ends e h = absurd h
+whole_refused bs ts rs us all _ span f ends e h = absurd h
 
 -- ---- a turn
 
@@ -196,15 +196,15 @@ added source border next boxes more r step one some b read all pushed =
 
 pub refused_there : (source : List ℕ) (border next : Border) (boxes : List ZBox) (more : List Token) → ReadsUpTo source border boxes
     → Steps source border next more → IsBoxAtMost more → (more ≡ [] → ⊥)
-    → (kind : TextFaultKind) (line : ℕ) → RefusesBox kind line (reduced more) → ((ts : List Token) → IsCutUpTo source next ts → IsCutOn source ts)
-    → IsWantOfMemory (record { kind = kind; line = line }) ⊎ RefusesSource source (record { kind = kind; line = line })
-refused_there source border next boxes more r step one some kind line h rest =
+    → (kind : TextFaultKind) (span : Span) → RefusesBox kind span (reduced more) → ((ts : List Token) → IsCutUpTo source next ts → IsCutOn source ts)
+    → IsWantOfMemory (record { kind = kind; span = span }) ⊎ RefusesSource source (record { kind = kind; span = span })
+refused_there source border next boxes more r step one some kind span h rest =
     let m = a_box more one some in
     let cut = rest (r.0 ++ more) (step r.0 r.1) in
     let whole : reduced ((r.0 ++ more) ++ cut.0) ≡ reduced r.0 ++ (reduced more ++ reduced cut.0) =
     apart_reduced (r.0 ++ more) cut.0 cut.1 ∙ ap (λ ss. ss ++ reduced cut.0) (apart_reduced r.0 more (inr m.begins)) ∙ append_assoc (reduced r.0) (reduced more) (reduced cut.0) in
-    refuses_source kind line source ((r.0 ++ more) ++ cut.0) cut.2 (whole_refused (map box_of boxes) (reduced r.0) (reduced more) (reduced cut.0)
-    ((r.0 ++ more) ++ cut.0) kind line r.2 (ends_reduced true more m.ends) whole h)
+    refuses_source kind span source ((r.0 ++ more) ++ cut.0) cut.2 (whole_refused (map box_of boxes) (reduced r.0) (reduced more) (reduced cut.0)
+    ((r.0 ++ more) ++ cut.0) kind span r.2 (ends_reduced true more m.ends) whole h)
 
 pub none_there : (ps : List Placed) → (length ps == 0) ≡ true → ps ≡ []
 none_there [] e = refl

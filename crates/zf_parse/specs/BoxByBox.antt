@@ -1,6 +1,6 @@
 -- Reading a source box by box. No public clause rests on this file.
 use Rattle.std.specs.Prelude.{◌≡◌, ℕ, ◌≤◌, List, [], ◌++◌, Result, Ok, Err, map}
-use Rattle.zf_parse.specs.Prelude.{AllByRecursion, TextFaultKind, Unexpected, NotInProfile, TooDeep, OutOfMemory, Token, IsCutUpTo, reduced, Symbol, box_height, highest, height_limit, BoxIsLevelled, SpellsBox, SpellsBoxes, SpellsUpTo, box_of, BoxTree}
+use Rattle.zf_parse.specs.Prelude.{AllByRecursion, TextFaultKind, Unexpected, NotInProfile, TooDeep, nowhere, OutOfMemory, Span, Token, IsCutUpTo, reduced, Symbol, box_height, highest, height_limit, BoxIsLevelled, SpellsBox, SpellsBoxes, SpellsUpTo, box_of, BoxTree}
 use Rattle.zf_scan.specs.declared.scan.Border.{Border}
 use Rattle.zf_tree.specs.declared.tree.ZBox.{ZBox}
 use Rattle.zf_parse.specs.declared.unread.Unread.{Unread}
@@ -13,16 +13,16 @@ pub record ReadsBox (b : BoxTree) (ts : List Symbol) : Type 0 where
   pub spelled : SpellsBox b ts []
   pub low : box_height b ≤ height_limit
 
-abbrev pub RefusesBox : TextFaultKind → (line : ℕ) → List Symbol → Type 0
-RefusesBox Unexpected line ts = (b : BoxTree) → BoxIsLevelled b → SpellsBox b ts [] → ⊥
-RefusesBox NotInProfile line ts = (b : BoxTree) → BoxIsLevelled b → SpellsBox b ts [] → ⊥
-RefusesBox TooDeep line ts = (b : BoxTree) → ReadsBox b ts → ⊥
-RefusesBox OutOfMemory line ts = line ≡ 0
-RefusesBox _ line ts = ⊥
+abbrev pub RefusesBox : TextFaultKind → Span → List Symbol → Type 0
+RefusesBox Unexpected span ts = (b : BoxTree) → BoxIsLevelled b → SpellsBox b ts [] → ⊥
+RefusesBox NotInProfile span ts = (b : BoxTree) → BoxIsLevelled b → SpellsBox b ts [] → ⊥
+RefusesBox TooDeep span ts = (b : BoxTree) → ReadsBox b ts → ⊥
+RefusesBox OutOfMemory span ts = span ≡ nowhere
+RefusesBox _ span ts = ⊥
 
 abbrev pub ReadsOneBox : Result ZBox Unread → List Symbol → Type 0
 ReadsOneBox (Ok b) ts = ReadsBox (box_of b) ts
-ReadsOneBox (Err unread) ts = RefusesBox unread.fault.kind unread.fault.line ts
+ReadsOneBox (Err unread) ts = RefusesBox unread.fault.kind unread.fault.span ts
 
 -- ---- the boxes so far
 

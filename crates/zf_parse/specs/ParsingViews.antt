@@ -7,7 +7,7 @@ use Rattle.zf_parse.specs.Parsing.{ReadsLow, RefusesTokens, ReadsSource, Refuses
 
 abbrev pub Parses : Result Spec TextFault → List Token → Type 0
 Parses (Ok spec) tokens = ReadsLow (boxes_of spec) tokens
-Parses (Err fault) tokens = RefusesTokens fault.kind fault.line tokens
+Parses (Err fault) tokens = RefusesTokens fault.kind fault.span tokens
 
 abbrev pub ReadsSpec : Result Spec Unread → List ℕ → Type 0
 ReadsSpec (Ok spec) source = ReadsSource (boxes_of spec) source

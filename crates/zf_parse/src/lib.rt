@@ -1,9 +1,12 @@
 //! From bytes to trees: `read_spec` gives the tree that reads the tokens of a source.
 #![tactic(auto)]
 
+mod about;
 mod brackets;
+mod left_out;
 mod reading;
 mod unread;
 
+pub use left_out::LeftOut;
 pub use reading::{parse, read_spec};
 pub use unread::{About, Unread};

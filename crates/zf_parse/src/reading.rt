@@ -1,11 +1,11 @@
 //! Trees out of tokens, and out of a source.
 ghost use Rattle.std.specs.Prelude.{◌≡◌, ◌≤◌, ◌<◌, ◌⊎◌, ◌++◌, ℕ, List, IfErr, OnOk, length, map, slice_index_or, slice_set};
-ghost use Rattle.zf_parse.specs.Prelude.{IsBorder, IsBoxAtMost, IsCutOn, IsCutUpTo, IsStuck, IsWantOfMemory, reduced, starts_closed, symbol_at, token_at, unplaced, BoxTree, Token};
+ghost use Rattle.zf_parse.specs.Prelude.{IsBorder, IsBoxAtMost, IsCutOn, IsCutUpTo, IsStuck, IsWantOfMemory, reduced, starts_closed, token_at, BoxTree, Token};
 ghost use Rattle.zf_parse.specs.{Parses, ReadsOneBox, ReadsSpec, ReadsUpTo, RefusesSource};
 ghost use Rattle.zf_parse.specs.Reads.{Reads};
 ghost use Rattle.zf_scan.specs.declared.placed.Placed.{Placed};
 
-use crate::brackets::unclosed;
+use crate::about::about;
 use crate::unread::{About, Unread};
 use bumpalo::Bump;
 use bumpalo::collections::into_bump_slice;
@@ -13,11 +13,11 @@ use std::alloc::Global;
 use zf_data::Items;
 use zf_grammar::Cursor;
 use zf_grammar::boxes::{all, only};
-use zf_scan::scan::{cut_rest, next_box};
+use zf_scan::scan::{SOURCE_MAX, cut_rest, next_box};
 use zf_scan::{
     Border, Laid, Placed, TextFault, TextFaultKind, Token, lay_out, refused_at, refused_place,
 };
-use zf_tree::{Spec, ZBox};
+use zf_tree::{Span, Spec, ZBox};
 
 /// Whether a separator before these symbols is dropped.
 fn starts_closed(symbols: &[Placed]) -> bool
@@ -43,7 +43,7 @@ fn put(symbols: &mut Vec<Placed>, to: usize, from: usize)
 
 /// Takes out the separators that are dropped.
 fn reduce(symbols: &mut Vec<Placed>)
-    ensures { (text : List ℕ) → map (symbol_at text) symbols.new.items ≡ reduced (map (token_at text) symbols.old.items) }
+    ensures { (text : List ℕ) → map (token_at text) symbols.new.items ≡ reduced (map (token_at text) symbols.old.items) }
 {
     let mut kept = 0;
     let mut drops = true;
@@ -74,7 +74,7 @@ fn parsed<'a>(
     text: &'a [u8],
     mut symbols: Vec<Placed>,
 ) -> Result<Spec<'a>, TextFault>
-    ensures { (tokens : List Token) → map unplaced tokens ≡ map (symbol_at text.now) symbols.items → Parses result tokens }
+    ensures { Parses result (map (token_at text.now) symbols.items) }
 {
     reduce(&mut symbols);
     let mut cursor = Cursor::new(text, symbols.as_slice());
@@ -88,40 +88,6 @@ pub fn parse<'a>(alloc: Global, arena: &'a Bump, tokens: &[Token]) -> Result<Spe
 {
     let Laid { text, symbols } = lay_out(alloc, arena, tokens)?;
     parsed(alloc, arena, into_bump_slice(text), symbols)
-}
-
-/// The symbol at a place, as the text spells it; nothing where there is none.
-fn spelled_at<'a>(text: &'a [u8], symbols: &[Placed], place: usize) -> &'a [u8] {
-    match symbols.get(place) {
-        Some(symbol) => symbol.spelled(text),
-        None => b"",
-    }
-}
-
-/// An unexpected symbol, with the bracket before it that is not closed.
-fn unexpected<'a>(text: &'a [u8], symbols: &[Placed], place: usize) -> About<'a> {
-    let symbol = spelled_at(text, symbols, place);
-    match unclosed(symbols, place) {
-        Some(bracket) => About {
-            symbol,
-            other: bracket.spelled(text),
-            line: bracket.line,
-        },
-        None => About::of(symbol),
-    }
-}
-
-/// What a fault of the grammar is about, where so many symbols are left: the next one, or, of a form that is not read, the one
-/// before it.
-fn about<'a>(fault: TextFault, text: &'a [u8], symbols: &[Placed], left: usize) -> About<'a> {
-    let next = symbols.len().saturating_sub(left);
-    match fault.kind {
-        TextFaultKind::Unexpected => unexpected(text, symbols, next),
-        TextFaultKind::NotInProfile => {
-            About::of(spelled_at(text, symbols, next.saturating_sub(1)))
-        }
-        _ => About::of(spelled_at(text, symbols, next)),
-    }
 }
 
 /// The box that the symbols are, and nothing after it.
@@ -143,15 +109,29 @@ fn only_box<'a>(
     }
 }
 
+/// A place of a source, which has no further ones.
+fn place(at: usize) -> u32 {
+    at.min(SOURCE_MAX) as u32
+}
+
+/// The part of a source that begins at a place and is spelled so.
+fn part(start: usize, spelled: &[u8]) -> Span {
+    Span {
+        start: place(start),
+        stop: place(start.saturating_add(spelled.len())),
+    }
+}
+
 /// What a fault of the scanner is about: the piece at the border.
 fn refused<'a>(fault: TextFault, source: &'a [u8], border: Border) -> About<'a> {
-    let Border { line, start } = border;
+    let Border { start } = border;
     match fault.kind {
-        TextFaultKind::UnclosedBox => About {
-            symbol: b"",
-            other: refused_at(source, start),
-            line,
-        },
+        TextFaultKind::UnclosedBox => {
+            let mut about = About::of(b"");
+            about.other = refused_at(source, start);
+            about.span = part(start, about.other);
+            about
+        }
         _ => About::of(refused_at(source, refused_place(source, start))),
     }
 }
@@ -228,12 +208,22 @@ fn push_next<'a>(
 /// A box is mostly longer. Where a text has many shorter ones, the list of its boxes grows as it goes.
 const BYTES_OF_A_BOX: usize = 64;
 
-/// The tree that `scan` and then `parse` give, made box by box, so that few symbols stand in memory.
+/// The tree that `scan` and then `parse` give. A fault says what it is about, as far as that helps.
 pub fn read_spec<'a>(
     alloc: Global,
     arena: &'a Bump,
     source: &'a [u8],
 ) -> Result<Spec<'a>, Unread<'a>>
+    ensures { ReadsSpec result source.now }
+{
+    match read_boxes(alloc, arena, source) {
+        Ok(spec) => Ok(spec),
+        Err(unread) => Err(unread.with_others(arena, source)),
+    }
+}
+
+/// The tree, made box by box, so that few symbols stand in memory.
+fn read_boxes<'a>(alloc: Global, arena: &'a Bump, source: &'a [u8]) -> Result<Spec<'a>, Unread<'a>>
     ensures { ReadsSpec result source.now }
 {
     let mut border = match Border::of(source) {

@@ -1,9 +1,13 @@
 //! Why a source is not read.
 ghost use Rattle.std.specs.Prelude.{◌≡◌};
+ghost use Rattle.zf_scan.specs.{nowhere};
 ghost use Rattle.zf_scan.specs.declared.fault.TextFaultKind.TheVariants.{OutOfMemory};
 
+use crate::left_out::{LeftOut, entry_of, left_out};
+use bumpalo::Bump;
 use std::alloc::AllocError;
 use zf_scan::TextFault;
+use zf_tree::Span;
 
 /// What a fault of a text is about, as the source spells it.
 #[derive(Clone, Copy, Debug)]
@@ -14,8 +18,16 @@ pub struct About<'a> {
     /// Of an unexpected symbol the bracket before it that is not closed, empty where there is none; of a box that is not closed
     /// the `\begin` or `\end` at which that shows, empty at the end of the text.
     pub other: &'a [u8],
-    /// The line of the other one.
-    pub line: u32,
+    /// Where the other one is, or would be.
+    pub span: Span,
+    /// A command that is meant by the symbol and the one before it; empty where there is none.
+    pub like: &'static [u8],
+    /// The part of the text in which a separator may be missing, if it goes over a line end.
+    pub across: Span,
+    /// The title of the part of the page on the language that says what to write; empty where there is none.
+    pub entry: &'static [u8],
+    /// What further Z the text has that is left out.
+    pub others: &'a [LeftOut<'a>],
 }
 
 impl<'a> About<'a> {
@@ -24,7 +36,11 @@ impl<'a> About<'a> {
         About {
             symbol,
             other: b"",
-            line: 0,
+            span: Span { start: 0, stop: 0 },
+            like: b"",
+            across: Span { start: 0, stop: 0 },
+            entry: entry_of(symbol),
+            others: &[],
         }
     }
 }
@@ -48,8 +64,31 @@ impl<'a> Unread<'a> {
     }
 }
 
+impl<'a> Unread<'a> {
+    /// The same; where it is Z that is left out, with all that follows in the source.
+    pub(crate) fn with_others(self, arena: &'a Bump, source: &'a [u8]) -> Unread<'a>
+        ensures { result.fault ≡ self.entry.fault }
+    {
+        if self.about.entry.is_empty() {
+            return self;
+        }
+        let start = self.fault.span.start as usize;
+        let start = start.saturating_add(self.about.symbol.len());
+        match left_out(arena, source, start) {
+            Ok(others) => Unread {
+                fault: self.fault,
+                about: About {
+                    others,
+                    ..self.about
+                },
+            },
+            Err(_) => self,
+        }
+    }
+}
+
 impl<'a> From<AllocError> for Unread<'a> {
-    ghost from_gives = { λ _ unread. (unread.fault.kind ≡ OutOfMemory) × (unread.fault.line ≡ 0) };
+    ghost from_gives = { λ _ unread. (unread.fault.kind ≡ OutOfMemory) × (unread.fault.span ≡ nowhere) };
 
     fn from(error: AllocError) -> Unread<'a> {
         Unread::of(TextFault::from(error))

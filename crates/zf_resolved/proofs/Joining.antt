@@ -1,13 +1,10 @@
--- Terms that are joined one after another, and conjuncts as terms.
-use Rattle.zf_resolved.proofs.Prelude.{◌++◌, ◌∙◌, ◌∷◌, ◌≡◌, [], ap, drop, get_or, length, List, map, None, Option, refl, Some, sym, ◌<◌, ◌+◌, ◌≤◌, ℕ, all_of, Conjunct, Resolved, ResolvedLink, all_joined, batch_of, binary, both_hold, chain, conjunct_of, is_member, joined, link, links, moved, no_links, numbering, reference, resolved_link_of, resolved_of, ResolvedTree, term_line, of-Either, of-Member, of-Term, new_link, of-Chain, of-Constant, of-link, of-Name, behind, onto, or_true, tree_in}
+-- Memberships, and terms that are joined one after another.
+use Rattle.zf_resolved.proofs.Prelude.{◌++◌, ◌∙◌, ◌∷◌, ◌≡◌, [], ap, drop, get_or, length, List, map, None, Option, refl, Some, sym, ◌<◌, ◌+◌, ◌≤◌, ℕ, all_of, Conjunct, Resolved, ResolvedLink, all_joined, batch_of, both_hold, chain, conjunct_of, is_member, joined, link, links, moved, no_links, numbering, reference, resolved_link_of, resolved_of, ResolvedTree, term_span, new_link, of-Chain, of-Constant, of-link, of-Name, behind, onto, or_true, tree_in, Span}
 use Rattle.std.proofs.lemmas.List.{drop_all}
 use Rattle.zf_reference.specs.declared.reference.Reference.TheVariants.{Component}
-use Rattle.zf_tree.specs.declared.operator.Operator.TheVariants.{Connective}
-use Rattle.zf_tree.specs.declared.symbol.Connective.TheVariants.{Or}
 use Rattle.zf_tree.specs.declared.symbol.Constant.TheVariants.{True}
 use Rattle.zf_tree.specs.declared.symbol.Relation.TheVariants.{Member}
 use Rattle.zf_term.specs.declared.conjunct.Batch.{Batch}
-use Rattle.zf_term.specs.declared.conjunct.Conjunct.TheVariants as conjuncts
 use Rattle.zf_term.specs.declared.resolved.Resolved.TheVariants as v
 use Rattle.zf_term.proofs.Places.{unmoved}
 use Rattle.zf_term.proofs.Walk.{dropped}
@@ -19,14 +16,14 @@ kept t u places none is = is ∙ sym (ap (λ (ps : Option (List ℕ)). moved (nu
 
 -- ---- memberships
 
-pub member_seen : (l i : ℕ) (e t : Resolved) (ks : List ResolvedLink) → l ≡ term_line (resolved_of e) → t ≡ v.Name l (Component i)
+pub member_seen : (l : Span) (i : ℕ) (e t : Resolved) (ks : List ResolvedLink) → l ≡ term_span (resolved_of e) → t ≡ v.Name l (Component i)
     → ks ≡ new_link Member e ∷ [] → resolved_of (v.Chain l t ks) ≡ is_member i (resolved_of e)
 member_seen l i e t ks m g h =
     of-Chain l t ks
     ∙ ap (λ (u : ResolvedTree). chain l u (links (map resolved_link_of ks))) (ap resolved_of g ∙ of-Name l (Component i))
     ∙ ap (λ (ls : List ResolvedLink). chain l (reference l (Component i)) (links (map resolved_link_of ls))) h
     ∙ ap (λ q. chain l (reference l (Component i)) (links (q ∷ []))) (of-link Member e)
-    ∙ ap (λ (n : ℕ). chain n (reference n (Component i)) (link Member (resolved_of e) no_links)) m
+    ∙ ap (λ (n : Span). chain n (reference n (Component i)) (link Member (resolved_of e) no_links)) m
 
 -- ---- terms that are joined
 
@@ -38,7 +35,7 @@ onto_some : (t : ResolvedTree) (ts : List ResolvedTree) → onto (Some t) ts ≡
 onto_some t [] = refl
 onto_some t (u ∷ us) = onto_some (both_hold t u) us
 
-pub whole_joined : (l : ℕ) (ts : List ResolvedTree) → or_true l (onto None ts) ≡ joined l ts
+pub whole_joined : (l : Span) (ts : List ResolvedTree) → or_true l (onto None ts) ≡ joined l ts
 whole_joined l [] = refl
 whole_joined l (t ∷ ts) = ap (or_true l) (onto_some t ts)
 
@@ -69,41 +66,15 @@ conjuncts_step b xs i x t u whole before after at l is one term step =
     ∙ ap (λ (ys : List Conjunct). onto before (numbered_anew b ys)) (sym (dropped xs i x l at))
     ∙ is
 
--- ---- conjuncts
-
-pub of_term : (t : Resolved) (ps : Option (List ℕ)) (whole : Conjunct) (u : Resolved) → whole ≡ conjuncts.Term t ps
-    → resolved_of u ≡ moved (numbering ps) (resolved_of t) → resolved_of u ≡ conjunct_of whole
-of_term t ps whole u is e = e ∙ sym (ap conjunct_of is ∙ of-Term t ps)
-
-pub of_member : (i : ℕ) (t : Resolved) (ps : Option (List ℕ)) (whole : Conjunct) (s m u : Resolved) → whole ≡ conjuncts.Member i t ps → s ≡ t
-    → resolved_of m ≡ is_member i (resolved_of s) → resolved_of u ≡ moved (numbering ps) (resolved_of m) → resolved_of u ≡ conjunct_of whole
-of_member i t ps whole s m u is same made e =
-    e
-    ∙ ap (moved (numbering ps)) made
-    ∙ ap (λ (r : Resolved). moved (numbering ps) (is_member i (resolved_of r))) same
-    ∙ sym (ap conjunct_of is ∙ of-Member i t ps)
-
-pub of_either :
-    (l : ℕ) (left right : List Batch) (ps : Option (List ℕ)) (whole : Conjunct) (a b m u : Resolved) → whole ≡ conjuncts.Either l left right ps
-    → resolved_of a ≡ joined l (all_of (map batch_of left)) → resolved_of b ≡ joined l (all_of (map batch_of right))
-    → resolved_of m ≡ binary l (Connective Or) (resolved_of a) (resolved_of b) → resolved_of u ≡ moved (numbering ps) (resolved_of m)
-    → resolved_of u ≡ conjunct_of whole
-of_either l left right ps whole a b m u is one other made e =
-    e
-    ∙ ap (moved (numbering ps)) made
-    ∙ ap (λ (t : ResolvedTree). moved (numbering ps) (binary l (Connective Or) t (resolved_of b))) one
-    ∙ ap (λ (t : ResolvedTree). moved (numbering ps) (binary l (Connective Or) (joined l (all_of (map batch_of left))) t)) other
-    ∙ sym (ap conjunct_of is ∙ of-Either l left right ps)
-
 -- ---- no batch is ahead
 
 all_done : (xs : List Batch) (i : ℕ) (whole : Option ResolvedTree) (ts : List ResolvedTree) → length xs ≤ i → onto whole (all_of (map batch_of (drop i xs))) ≡ onto None ts → whole ≡ onto None ts
 all_done xs i whole ts past is = ap (λ (ys : List Batch). onto whole (all_of (map batch_of ys))) (sym (drop_all i xs past)) ∙ is
 
-pub none_joined : (l : ℕ) (xs : List Batch) (i : ℕ) (whole : Option Resolved) (ts : List ResolvedTree) → whole ≡ None → length xs ≤ i
+pub none_joined : (l : Span) (xs : List Batch) (i : ℕ) (whole : Option Resolved) (ts : List ResolvedTree) → whole ≡ None → length xs ≤ i
     → onto (tree_in whole) (all_of (map batch_of (drop i xs))) ≡ onto None ts → resolved_of (v.Constant l True) ≡ joined l ts
 none_joined l xs i whole ts none past is = of-Constant l True ∙ ap (or_true l) (sym (ap tree_in none) ∙ all_done xs i (tree_in whole) ts past is) ∙ whole_joined l ts
 
-pub some_joined : (l : ℕ) (xs : List Batch) (i : ℕ) (whole : Option Resolved) (t : Resolved) (ts : List ResolvedTree) → whole ≡ Some t → length xs ≤ i
+pub some_joined : (l : Span) (xs : List Batch) (i : ℕ) (whole : Option Resolved) (t : Resolved) (ts : List ResolvedTree) → whole ≡ Some t → length xs ≤ i
     → onto (tree_in whole) (all_of (map batch_of (drop i xs))) ≡ onto None ts → resolved_of t ≡ joined l ts
 some_joined l xs i whole t ts some past is = ap (or_true l) (sym (ap tree_in some) ∙ all_done xs i (tree_in whole) ts past is) ∙ whole_joined l ts

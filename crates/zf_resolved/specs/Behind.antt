@@ -1,5 +1,6 @@
 -- Terms that are joined one after another. For private contracts alone.
-use Rattle.std.specs.Prelude.{ℕ, List, [], ◌∷◌, Option, None, Some}
+use Rattle.std.specs.Prelude.{List, [], ◌∷◌, Option, None, Some}
+use Rattle.zf_tree.specs.declared.span.Span.{Span}
 use Rattle.zf_tree.specs.declared.symbol.Constant.TheVariants.{True}
 use Rattle.zf_term.specs.{both_hold, constant, resolved_of, ResolvedTree}
 use Rattle.zf_term.specs.declared.resolved.Resolved.{Resolved}
@@ -17,6 +18,6 @@ abbrev pub onto : Option ResolvedTree → List ResolvedTree → Option ResolvedT
 onto o [] = o
 onto o (t ∷ ts) = onto (Some (behind o t)) ts
 
-abbrev pub or_true : (line : ℕ) → Option ResolvedTree → ResolvedTree
+abbrev pub or_true : Span → Option ResolvedTree → ResolvedTree
 or_true l None = constant l True
 or_true l (Some t) = t

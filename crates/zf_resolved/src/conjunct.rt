@@ -15,7 +15,7 @@ use std::alloc::AllocError;
 use zf_data::arena::{Boxed, Items};
 use zf_reference::Reference;
 use zf_term::{Batch, Conjunct, Places, Resolved, ResolvedLink};
-use zf_tree::{Connective, Constant, Operator, Relation};
+use zf_tree::{Connective, Constant, Operator, Relation, Span};
 
 /// The term, by the places in the schema.
 #[cycle(resolved)]
@@ -30,10 +30,11 @@ pub fn resolved<'a>(conjunct: &Conjunct<'a>, arena: &'a Bump) -> Result<Resolved
             let term = membership(arena, *place, set)?;
             numbered(arena, term, places)
         }
-        Conjunct::Either(line, left, right, places) => {
-            let left = joined(left.get(), *line, arena)?;
-            let right = joined(right.get(), *line, arena)?;
-            let term = one_holds(arena, *line, left, right)?;
+        Conjunct::Either(sides, left, right, places) => {
+            let span = sides.span();
+            let left = joined(left.get(), span, arena)?;
+            let right = joined(right.get(), span, arena)?;
+            let term = one_holds(arena, span, left, right)?;
             numbered(arena, term, places)
         }
     }
@@ -76,7 +77,7 @@ fn membership<'a>(
 ) -> Result<Resolved<'a>, AllocError>
     ensures { IfOk result (λ t. resolved_of t ≡ spec.is_member place (resolved_of set.entry)) }
 {
-    let first = set.line();
+    let first = set.span();
     let left = Boxed::new(arena, Resolved::Name(first, Reference::Component(place)))?;
     let links = Items::of(
         arena,
@@ -92,17 +93,17 @@ fn membership<'a>(
 #[cycle(resolved)]
 fn joined<'a>(
     batches: &Items<'a, Batch<'a>>,
-    line: u32,
+    span: Span,
     arena: &'a Bump,
 ) -> Result<Resolved<'a>, AllocError>
-    ensures { IfOk result (λ t. resolved_of t ≡ spec.joined line (all_of (map batch_of batches.now))) }
+    ensures { IfOk result (λ t. resolved_of t ≡ spec.joined span (all_of (map batch_of batches.now))) }
 {
     let mut whole = None;
     for batch in batches.as_slice() {
         whole = all_joined(batch, whole, arena)?;
     }
     match whole {
-        None => Ok(Resolved::Constant(line, Constant::True)),
+        None => Ok(Resolved::Constant(span, Constant::True)),
         Some(term) => Ok(term),
     }
 }
@@ -136,7 +137,7 @@ fn both<'a>(
     let Some(left) = before else {
         return Ok(right);
     };
-    let first = left.line();
+    let first = left.span();
     let left = Boxed::new(arena, left)?;
     let right = Boxed::new(arena, right)?;
     Ok(Resolved::Binary(first, Operator::Connective(Connective::And), left, right))
@@ -146,13 +147,13 @@ fn both<'a>(
 #[tactic(auto, using(zf_term::proofs::ResolvedSeen::seen))]
 fn one_holds<'a>(
     arena: &'a Bump,
-    line: u32,
+    span: Span,
     left: Resolved<'a>,
     right: Resolved<'a>,
 ) -> Result<Resolved<'a>, AllocError>
-    ensures { IfOk result (λ t. resolved_of t ≡ binary line (operator.Connective connective.Or) (resolved_of left.entry) (resolved_of right.entry)) }
+    ensures { IfOk result (λ t. resolved_of t ≡ binary span (operator.Connective connective.Or) (resolved_of left.entry) (resolved_of right.entry)) }
 {
     let left = Boxed::new(arena, left)?;
     let right = Boxed::new(arena, right)?;
-    Ok(Resolved::Binary(line, Operator::Connective(Connective::Or), left, right))
+    Ok(Resolved::Binary(span, Operator::Connective(Connective::Or), left, right))
 }

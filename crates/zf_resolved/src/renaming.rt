@@ -29,42 +29,42 @@ pub fn renamed<'a, N: Naming>(
     ensures { IfOk result (λ t. resolved_of t ≡ spec.renamed (N.becomes naming.now) (resolved_of term.now)) }
 {
     match term {
-        Resolved::Name(line, reference) => Ok(Resolved::Name(*line, naming.named(*reference))),
-        Resolved::Number(line, value) => Ok(Resolved::Number(*line, *value)),
-        Resolved::Constant(line, constant) => Ok(Resolved::Constant(*line, *constant)),
-        Resolved::EmptySet(line, of) => {
-            Ok(Resolved::EmptySet(*line, renamed_box(of, arena, naming)?))
+        Resolved::Name(span, reference) => Ok(Resolved::Name(*span, naming.named(*reference))),
+        Resolved::Number(span, value) => Ok(Resolved::Number(*span, *value)),
+        Resolved::Constant(span, constant) => Ok(Resolved::Constant(*span, *constant)),
+        Resolved::EmptySet(span, of) => {
+            Ok(Resolved::EmptySet(*span, renamed_box(of, arena, naming)?))
         }
-        Resolved::Bracket(line, inner) => {
-            Ok(Resolved::Bracket(*line, renamed_box(inner, arena, naming)?))
+        Resolved::Bracket(span, inner) => {
+            Ok(Resolved::Bracket(*span, renamed_box(inner, arena, naming)?))
         }
-        Resolved::Listed(line, form, items) => {
-            Ok(Resolved::Listed(*line, *form, renamed_terms(items, arena, naming)?))
+        Resolved::Listed(span, form, items) => {
+            Ok(Resolved::Listed(*span, *form, renamed_terms(items, arena, naming)?))
         }
-        Resolved::Comprehension(line, variables, filter, term) => {
+        Resolved::Comprehension(span, variables, filter, term) => {
             let variables = renamed_ranges(variables, arena, naming)?;
             let filter = renamed_part(filter, arena, naming)?;
             let term = renamed_part(term, arena, naming)?;
-            Ok(Resolved::Comprehension(*line, variables, filter, term))
+            Ok(Resolved::Comprehension(*span, variables, filter, term))
         }
-        Resolved::Unary(line, op, of) => {
-            Ok(Resolved::Unary(*line, *op, renamed_box(of, arena, naming)?))
+        Resolved::Unary(span, op, of) => {
+            Ok(Resolved::Unary(*span, *op, renamed_box(of, arena, naming)?))
         }
-        Resolved::Binary(line, op, left, right) => {
+        Resolved::Binary(span, op, left, right) => {
             let left = renamed_box(left, arena, naming)?;
             let right = renamed_box(right, arena, naming)?;
-            Ok(Resolved::Binary(*line, *op, left, right))
+            Ok(Resolved::Binary(*span, *op, left, right))
         }
-        Resolved::Chain(line, first, further) => {
+        Resolved::Chain(span, first, further) => {
             let first = renamed_box(first, arena, naming)?;
             let further = renamed_links(further, arena, naming)?;
-            Ok(Resolved::Chain(*line, first, further))
+            Ok(Resolved::Chain(*span, first, further))
         }
-        Resolved::Quantified(quantifier, line, variables, constraint, body) => {
+        Resolved::Quantified(quantifier, span, variables, constraint, body) => {
             let variables = renamed_ranges(variables, arena, naming)?;
             let constraint = renamed_part(constraint, arena, naming)?;
             let body = renamed_box(body, arena, naming)?;
-            Ok(Resolved::Quantified(*quantifier, *line, variables, constraint, body))
+            Ok(Resolved::Quantified(*quantifier, *span, variables, constraint, body))
         }
     }
 }

@@ -3,16 +3,17 @@ use std::alloc::Global;
 use std::fmt::Display;
 use std::{fmt, io};
 use zf_data::arena::Boxed;
+use zf_messages::line_of;
 use zf_tree::{
-    Decl, Link, Listed, Name, Operator, Paragraph, Part, SchemaExp, SchemaRef, Sign, Spec, Term,
-    Unary, VarDecl, ZBox,
+    Decl, Link, Listed, Name, Operator, Paragraph, Part, SchemaExp, SchemaRef, Sign, Span, Spec,
+    Term, Unary, VarDecl, ZBox,
 };
 
-/// The text of the boxes; with lines, that of each name and term stands after it and `@`.
-pub fn printed(alloc: Global, spec: &Spec<'_>, has_lines: bool) -> io::Result<String> {
+/// The text of the boxes; where the source is given, the line of each name and term in it stands after it and `@`.
+pub fn printed(alloc: Global, spec: &Spec<'_>, source: Option<&[u8]>) -> io::Result<String> {
     let mut printer = Printer {
         text: String::new(alloc),
-        has_lines,
+        source,
     };
     for zbox in spec.boxes.as_slice() {
         printer.zbox(zbox)?;
@@ -22,12 +23,12 @@ pub fn printed(alloc: Global, spec: &Spec<'_>, has_lines: bool) -> io::Result<St
 
 /// The text so far.
 #[derive(Drop)]
-struct Printer {
+struct Printer<'s> {
     text: String,
-    has_lines: bool,
+    source: Option<&'s [u8]>,
 }
 
-impl Printer {
+impl<'s> Printer<'s> {
     fn open(&mut self, form: &str) -> fmt::Result {
         Ok(write!(self.text, " ({form}")?)
     }
@@ -36,15 +37,15 @@ impl Printer {
         Ok(self.text.push_str(")")?)
     }
 
-    /// A word that has a line: a name, or a bracket with the name of a form.
-    fn word<W: Display + Drop>(&mut self, word: W, line: u32) -> fmt::Result {
+    /// A word that has a place: a name, or a bracket with the name of a form.
+    fn word<W: Display + Drop>(&mut self, word: W, span: Span) -> fmt::Result {
         write!(self.text, " {word}")?;
-        self.at(line)
+        self.at(span)
     }
 
-    fn at(&mut self, line: u32) -> fmt::Result {
-        if self.has_lines {
-            write!(self.text, "@{line}")?;
+    fn at(&mut self, span: Span) -> fmt::Result {
+        if let Some(source) = self.source {
+            write!(self.text, "@{}", line_of(source, span.start))?;
         }
         Ok(())
     }
@@ -54,7 +55,7 @@ impl Printer {
         if !name.is_bare() {
             write!(self.text, "^{}", text_of(name.strokes())?)?;
         }
-        self.at(name.line)
+        self.at(name.span)
     }
 
     fn names(&mut self, names: &[Name<'_>]) -> fmt::Result {
@@ -65,59 +66,59 @@ impl Printer {
     }
 
     /// The bracket and the name of what is applied to one term.
-    fn unary(&mut self, line: u32, op: Unary) -> fmt::Result {
+    fn unary(&mut self, span: Span, op: Unary) -> fmt::Result {
         match op {
-            Unary::Sign(Sign::Symbol(prefix)) => self.word(format_args!("({prefix:?}"), line),
-            Unary::Sign(Sign::Minus) => self.word("(Minus", line),
-            Unary::Inverse => self.word("(Inverse", line),
-            Unary::Not => self.word("(Not", line),
+            Unary::Sign(Sign::Symbol(prefix)) => self.word(format_args!("({prefix:?}"), span),
+            Unary::Sign(Sign::Minus) => self.word("(Minus", span),
+            Unary::Inverse => self.word("(Inverse", span),
+            Unary::Not => self.word("(Not", span),
         }
     }
 
     /// The bracket and the name of what stands between two terms.
-    fn operator(&mut self, line: u32, op: Operator) -> fmt::Result {
+    fn operator(&mut self, span: Span, op: Operator) -> fmt::Result {
         match op {
-            Operator::Function(op) => self.word(format_args!("({op:?}"), line),
-            Operator::Generic(arrow) => self.word(format_args!("({arrow:?}"), line),
-            Operator::Connective(connective) => self.word(format_args!("({connective:?}"), line),
-            Operator::Application => self.word("(Apply", line),
-            Operator::Image => self.word("(Image", line),
+            Operator::Function(op) => self.word(format_args!("({op:?}"), span),
+            Operator::Generic(arrow) => self.word(format_args!("({arrow:?}"), span),
+            Operator::Connective(connective) => self.word(format_args!("({connective:?}"), span),
+            Operator::Application => self.word("(Apply", span),
+            Operator::Image => self.word("(Image", span),
         }
     }
 
     /// The bracket and the name of what makes one term of several.
-    fn listed(&mut self, line: u32, form: Listed) -> fmt::Result {
+    fn listed(&mut self, span: Span, form: Listed) -> fmt::Result {
         match form {
-            Listed::Tuple => self.word("(Tuple", line),
-            Listed::Display => self.word("(Display", line),
-            Listed::Product => self.word("(Product", line),
+            Listed::Tuple => self.word("(Tuple", span),
+            Listed::Display => self.word("(Display", span),
+            Listed::Product => self.word("(Product", span),
         }
     }
 
     #[cycle(terms)]
     fn term(&mut self, term: &Term<'_>) -> fmt::Result {
         match term {
-            Term::Name(line, name) => self.name(&name.at(*line)),
-            Term::Number(line, value) => self.word(*value, *line),
-            Term::Constant(line, constant) => self.word(format_args!("{constant:?}"), *line),
-            Term::EmptySet(line, set) => self.marked("(EmptySet", *line, set.get()),
-            Term::Bracket(line, inner) => self.marked("(Bracket", *line, inner.get()),
-            Term::Listed(line, form, terms) => {
-                self.listed(*line, *form)?;
+            Term::Name(span, name) => self.name(&name.at(*span)),
+            Term::Number(span, value) => self.word(*value, *span),
+            Term::Constant(span, constant) => self.word(format_args!("{constant:?}"), *span),
+            Term::EmptySet(span, set) => self.marked("(EmptySet", *span, set.get()),
+            Term::Bracket(span, inner) => self.marked("(Bracket", *span, inner.get()),
+            Term::Listed(span, form, terms) => {
+                self.listed(*span, *form)?;
                 self.all(terms.as_slice())
             }
             Term::Comprehension(_, _, _, _) => self.comprehension(term),
-            Term::Unary(line, op, operand) => {
-                self.unary(*line, *op)?;
+            Term::Unary(span, op, operand) => {
+                self.unary(*span, *op)?;
                 self.last(operand.get())
             }
-            Term::Binary(line, op, left, right) => {
-                self.operator(*line, *op)?;
+            Term::Binary(span, op, left, right) => {
+                self.operator(*span, *op)?;
                 self.term(left.get())?;
                 self.last(right.get())
             }
-            Term::Chain(line, first, links) => {
-                self.word("(Chain", *line)?;
+            Term::Chain(span, first, links) => {
+                self.word("(Chain", *span)?;
                 self.term(first.get())?;
                 self.links(links.as_slice())
             }
@@ -126,17 +127,17 @@ impl Printer {
     }
 
     #[cycle(terms)]
-    fn marked(&mut self, form: &str, line: u32, term: &Term<'_>) -> fmt::Result {
-        self.word(form, line)?;
+    fn marked(&mut self, form: &str, span: Span, term: &Term<'_>) -> fmt::Result {
+        self.word(form, span)?;
         self.last(term)
     }
 
     #[cycle(terms)]
     fn comprehension(&mut self, term: &Term<'_>) -> fmt::Result {
-        let Term::Comprehension(line, decls, filter, term) = term else {
+        let Term::Comprehension(span, decls, filter, term) = term else {
             return Ok(());
         };
-        self.word("(Comprehension", *line)?;
+        self.word("(Comprehension", *span)?;
         self.bound(decls.as_slice())?;
         self.optional("|", filter)?;
         self.optional("@", term)?;
@@ -145,10 +146,10 @@ impl Printer {
 
     #[cycle(terms)]
     fn quantified(&mut self, term: &Term<'_>) -> fmt::Result {
-        let Term::Quantified(quantifier, line, decls, filter, body) = term else {
+        let Term::Quantified(quantifier, span, decls, filter, body) = term else {
             return Ok(());
         };
-        self.word(format_args!("({quantifier:?}"), *line)?;
+        self.word(format_args!("({quantifier:?}"), *span)?;
         self.bound(decls.as_slice())?;
         self.optional("|", filter)?;
         self.open("@")?;
@@ -241,22 +242,22 @@ impl Printer {
     #[cycle(schemas)]
     fn schema(&mut self, schema: &SchemaExp<'_>) -> fmt::Result {
         match schema {
-            SchemaExp::Text(decls, predicates) => {
+            SchemaExp::Text(_, decls, predicates) => {
                 self.open("Text")?;
                 self.body(decls.as_slice(), predicates.as_slice())
             }
-            SchemaExp::Ref(reference) => self.reference(reference),
-            SchemaExp::Both(left, right) => {
+            SchemaExp::Ref(_, reference) => self.reference(reference),
+            SchemaExp::Both(_, left, right) => {
                 self.open("Both")?;
                 self.schema(left.get())?;
                 self.last_schema(right.get())
             }
-            SchemaExp::Or(line, left, right) => {
-                self.word("(Or", *line)?;
+            SchemaExp::Or(span, left, right) => {
+                self.word("(Or", *span)?;
                 self.schema(left.get())?;
                 self.last_schema(right.get())
             }
-            SchemaExp::Bracket(inner) => {
+            SchemaExp::Bracket(_, inner) => {
                 self.open("Bracket")?;
                 self.last_schema(inner.get())
             }

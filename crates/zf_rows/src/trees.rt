@@ -26,6 +26,7 @@ use bumpalo::Bump;
 use std::alloc::{AllocError, Global};
 use std::io;
 use std::io::ErrorKind;
+use zf_messages::line_of;
 use zf_parse::read_spec;
 use zf_scan::TextFault;
 use zf_tree::Spec;
@@ -198,22 +199,23 @@ impl Rows {
         let alloc = *self.source.allocator();
         let arena = Bump::new(alloc);
         match read_spec(alloc, &arena, source.as_bytes()) {
-            Ok(spec) => self.tree_of(alloc, &spec),
-            Err(unread) => fault_text(alloc, unread.fault),
+            Ok(spec) => self.tree_of(alloc, &spec, source.as_bytes()),
+            Err(unread) => fault_text(alloc, source.as_bytes(), unread.fault),
         }
     }
 
-    fn tree_of(&self, alloc: Global, spec: &Spec<'_>) -> io::Result<String> {
+    fn tree_of(&self, alloc: Global, spec: &Spec<'_>, source: &[u8]) -> io::Result<String> {
         match self.asked {
-            Asked::Tree => printed(alloc, spec, false),
-            Asked::TreeWithLines => printed(alloc, spec, true),
+            Asked::Tree => printed(alloc, spec, None),
+            Asked::TreeWithLines => printed(alloc, spec, Some(source)),
             Asked::Fault => Ok(String::from_str(alloc, "read")?),
         }
     }
 }
 
-fn fault_text(alloc: Global, fault: TextFault) -> io::Result<String> {
-    Ok(format!(in alloc; "{}: {}", fault.line, fault.kind)?)
+fn fault_text(alloc: Global, source: &[u8], fault: TextFault) -> io::Result<String> {
+    let line = line_of(source, fault.span.start);
+    Ok(format!(in alloc; "{line}: {}", fault.kind)?)
 }
 
 /// Whether the fault is one of those, which are parted by commas.

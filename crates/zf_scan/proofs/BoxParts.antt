@@ -1,5 +1,5 @@
 -- What the list of the symbols of a box is while the scanner fills it.
-use Rattle.zf_scan.proofs.Prelude.{◌++◌, ◌∙◌, ◌∷◌, ◌≡◌, ◌≤◌, [], ap, append_assoc, Bool, false, inl, inr, length, List, refl, subst, sym, take, true, ℕ, append-nil, list_all, if◌then◌else◌, begins_box, BeginsBox, ends_box, EndsOnce, Follows, IsBox, IsBoxAtMost, IsCutOn, IsCutUpTo, entered, escape, informal, is_directive, opening, OutsideKind, remark, schema_opening, SpellsOutside, openings, kind_of, Match, NotInProfile, Next, Piece, Plain, Refused, Symbol, Region, Border, Kind, BeginSchema, BeginZed, EndBox, Token, Outside, Zed, Schema}
+use Rattle.zf_scan.proofs.Prelude.{◌++◌, ◌∙◌, ◌∷◌, ◌≡◌, ◌≤◌, [], ap, append_assoc, Bool, false, inl, inr, length, List, refl, subst, sym, take, true, ℕ, append-nil, list_all, if◌then◌else◌, begins_box, BeginsBox, ends_box, EndsOnce, Follows, IsBox, IsBoxAtMost, IsCutOn, IsCutUpTo, entered, escape, informal, is_directive, opening, OutsideKind, remark, schema_opening, SpellsOutside, openings, kind_of, Match, NotInProfile, Next, Piece, Plain, Refused, Symbol, Region, Border, Kind, BeginSchema, BeginZed, EndBox, Token, Outside, Zed, Schema, Span}
 use Rattle.zf_scan.specs.declared.next.Next.TheVariants as next
 use Rattle.zf_scan.proofs.Laws.{cut_whole}
 use Rattle.zf_scan.proofs.Scanned.{StandsAt}
@@ -31,8 +31,8 @@ outside_begins informal kind p h = let e = h.1 in absurd (cc)
 
 pub begins_there : (place : Region) (s : List ℕ) (f : Match) (kind : Kind) → StandsAt place s f → f.piece ≡ Symbol kind → place ≡ Outside → begins_box kind ≡ true
 begins_there Outside s f kind a e out = outside_begins a.stands.kind kind (take f.len s) (subst (λ piece. SpellsOutside a.stands.kind piece (take f.len s)) e a.stands.spells)
-begins_there (Zed line) s f kind a e out = absurd (cc)
-begins_there (Schema line) s f kind a e out = absurd (cc)
+begins_there (Zed span) s f kind a e out = absurd (cc)
+begins_there (Schema span) s f kind a e out = absurd (cc)
 
 -- the text doesn't matter to that
 abbrev begins_next : Next → Bool
@@ -61,8 +61,8 @@ pub record IsOpen (tokens : List Token) : Type 0 where
 -- nothing outside of boxes; inside, the beginning of a box, without its end
 abbrev pub IsPart : Region → List Token → Type 0
 IsPart Outside tokens = tokens ≡ []
-IsPart (Zed line) tokens = IsOpen tokens
-IsPart (Schema line) tokens = IsOpen tokens
+IsPart (Zed span) tokens = IsOpen tokens
+IsPart (Schema span) tokens = IsOpen tokens
 
 begins_still : (ts us : List Token) → BeginsBox ts → BeginsBox (ts ++ us)
 begins_still [] us h = absurd h
@@ -83,46 +83,46 @@ one_of_both _ b e = cc
 
 is_inside : (place : Region) (ts : List Token) → IsOpen ts → (place ≡ Outside → ⊥) → IsPart place ts
 is_inside Outside ts open_ inside = absurd (inside refl)
-is_inside (Zed line) ts open_ inside = open_
-is_inside (Schema line) ts open_ inside = open_
+is_inside (Zed span) ts open_ inside = open_
+is_inside (Schema span) ts open_ inside = open_
 
-begun_inside : (line : ℕ) (kind : Kind) → begins_box kind ≡ true → entered Outside line (Symbol kind) ≡ Outside → ⊥
-begun_inside line BeginZed b e = cc
-begun_inside line (BeginSchema name) b e = cc
-begun_inside line _ b e = cc
+begun_inside : (span : Span) (kind : Kind) → begins_box kind ≡ true → entered Outside span (Symbol kind) ≡ Outside → ⊥
+begun_inside span BeginZed b e = cc
+begun_inside span (BeginSchema name) b e = cc
+begun_inside span _ b e = cc
 
-stays_inside : (place : Region) (line : ℕ) (kind : Kind) → ends_box kind ≡ false → (place ≡ Outside → ⊥) → entered place line (Symbol kind) ≡ Outside → ⊥
-stays_inside place line BeginZed e inside out = cc
-stays_inside place line (BeginSchema name) e inside out = cc
-stays_inside place line EndBox e inside out = cc
-stays_inside place line _ e inside out = inside out
+stays_inside : (place : Region) (span : Span) (kind : Kind) → ends_box kind ≡ false → (place ≡ Outside → ⊥) → entered place span (Symbol kind) ≡ Outside → ⊥
+stays_inside place span BeginZed e inside out = cc
+stays_inside place span (BeginSchema name) e inside out = cc
+stays_inside place span EndBox e inside out = cc
+stays_inside place span _ e inside out = inside out
 
 more_open : (ts : List Token) (t : Token) → IsOpen ts → ends_box t.kind ≡ false → IsOpen (ts ++ t ∷ [])
 more_open ts t o e = record { begins = begins_still ts (t ∷ []) o.begins; no_end = no_more_ends ts t o.no_end e }
 
-grows : (place : Region) (line : ℕ) (ts : List Token) (t : Token) → (place ≡ Outside → begins_box t.kind ≡ true) → ends_box t.kind ≡ false → IsPart place ts
-    → IsPart (entered place line (Symbol t.kind)) (ts ++ t ∷ [])
-grows Outside line ts t opens e h =
-    subst (λ ts. IsPart (entered Outside line (Symbol t.kind)) (ts ++ t ∷ [])) (sym h)
-    (is_inside (entered Outside line (Symbol t.kind)) (t ∷ []) (record { begins = opens refl; no_end = (e, tt) }) (begun_inside line t.kind (opens refl)))
-grows (Zed l) line ts t opens e h = is_inside (entered (Zed l) line (Symbol t.kind)) (ts ++ t ∷ []) (more_open ts t h e) (stays_inside (Zed l) line t.kind e (λ out. cc))
-grows (Schema l) line ts t opens e h = is_inside (entered (Schema l) line (Symbol t.kind)) (ts ++ t ∷ []) (more_open ts t h e) (stays_inside (Schema l) line t.kind e (λ out. cc))
+grows : (place : Region) (span : Span) (ts : List Token) (t : Token) → (place ≡ Outside → begins_box t.kind ≡ true) → ends_box t.kind ≡ false → IsPart place ts
+    → IsPart (entered place span (Symbol t.kind)) (ts ++ t ∷ [])
+grows Outside span ts t opens e h =
+    subst (λ ts. IsPart (entered Outside span (Symbol t.kind)) (ts ++ t ∷ [])) (sym h)
+    (is_inside (entered Outside span (Symbol t.kind)) (t ∷ []) (record { begins = opens refl; no_end = (e, tt) }) (begun_inside span t.kind (opens refl)))
+grows (Zed l) span ts t opens e h = is_inside (entered (Zed l) span (Symbol t.kind)) (ts ++ t ∷ []) (more_open ts t h e) (stays_inside (Zed l) span t.kind e (λ out. cc))
+grows (Schema l) span ts t opens e h = is_inside (entered (Schema l) span (Symbol t.kind)) (ts ++ t ∷ []) (more_open ts t h e) (stays_inside (Schema l) span t.kind e (λ out. cc))
 
 -- a symbol that ends no box
-pub grown : (place : Region) (line : ℕ) (ts : List Token) (t : Token) → (place ≡ Outside → begins_box t.kind ≡ true) → ends_box t.kind ≡ false → IsPart place ts
-    → (behind : Region) (more : List Token) → behind ≡ entered place line (Symbol t.kind) → more ≡ ts ++ t ∷ [] → IsPart behind more
-grown place line ts t opens e h behind more place_is more_is =
-    subst (λ behind. IsPart behind more) (sym place_is) (subst (IsPart (entered place line (Symbol t.kind))) (sym more_is) (grows place line ts t opens e h))
+pub grown : (place : Region) (span : Span) (ts : List Token) (t : Token) → (place ≡ Outside → begins_box t.kind ≡ true) → ends_box t.kind ≡ false → IsPart place ts
+    → (behind : Region) (more : List Token) → behind ≡ entered place span (Symbol t.kind) → more ≡ ts ++ t ∷ [] → IsPart behind more
+grown place span ts t opens e h behind more place_is more_is =
+    subst (λ behind. IsPart behind more) (sym place_is) (subst (IsPart (entered place span (Symbol t.kind))) (sym more_is) (grows place span ts t opens e h))
 
 -- one that ends the box
 pub closed : (place : Region) (ts : List Token) (t : Token) → (place ≡ Outside → begins_box t.kind ≡ true) → ends_box t.kind ≡ true → IsPart place ts → IsBox (ts ++ t ∷ [])
 closed Outside ts t opens e h = absurd (one_of_both t.kind (opens refl) e)
-closed (Zed line) ts t opens e h = record { begins = begins_still ts (t ∷ []) h.begins; ends = ends_last ts t h.no_end e }
-closed (Schema line) ts t opens e h = record { begins = begins_still ts (t ∷ []) h.begins; ends = ends_last ts t h.no_end e }
+closed (Zed span) ts t opens e h = record { begins = begins_still ts (t ∷ []) h.begins; ends = ends_last ts t h.no_end e }
+closed (Schema span) ts t opens e h = record { begins = begins_still ts (t ∷ []) h.begins; ends = ends_last ts t h.no_end e }
 
-pub ended_outside : (place : Region) (line : ℕ) (kind : Kind) → ends_box kind ≡ true → Outside ≡ entered place line (Symbol kind)
-ended_outside place line EndBox e = refl
-ended_outside place line _ e = cc
+pub ended_outside : (place : Region) (span : Span) (kind : Kind) → ends_box kind ≡ true → Outside ≡ entered place span (Symbol kind)
+ended_outside place span EndBox e = refl
+ended_outside place span _ e = cc
 
 -- ---- further boxes
 

@@ -1,5 +1,5 @@
 -- A source is cut in one way, and where it fails nothing goes on.
-use Rattle.zf_scan.proofs.Prelude.{◌++◌, ◌<◌, ◌∙◌, ◌∷◌, ◌≡◌, ◌≤◌, ◌⊎◌, [], ap, arith, drop, inl, inr, length, length-append, List, refl, subst, sym, take, take-append-drop, ℕ, ⊎_elim, append-nil, Before, IsCutUpTo, Cuts, Fails, reported_line, FaultsOnce, IsCutInto, IsCutOnce, IsNotBoth, IsRead, IsStuck, IsUncut, IsWantOfMemory, spot_line, past, Spot, Stands, start, tokens_from, Match, TextFault, TextFaultKind, BadByte, UnclosedBox, Piece, Refused, Region, Border, SOURCE_MAX, Token}
+use Rattle.zf_scan.proofs.Prelude.{◌++◌, ◌<◌, ◌∙◌, ◌∷◌, ◌≡◌, ◌≤◌, ◌⊎◌, [], ap, arith, drop, inl, inr, length, length-append, List, refl, subst, sym, take, take-append-drop, ℕ, ⊎_elim, append-nil, Before, IsCutUpTo, Cuts, Fails, reported, FaultsOnce, IsCutInto, IsCutOnce, IsNotBoth, IsRead, IsStuck, IsUncut, IsWantOfMemory, past, Spot, Stands, start, tokens_from, Match, TextFault, TextFaultKind, BadByte, UnclosedBox, Piece, Refused, Region, Border, SOURCE_MAX, Token}
 use Rattle.std.proofs.Math.ListN.{drop_of_length-le}
 use Rattle.zf_scan.specs.declared.pieces.Region.TheVariants as places
 use Rattle.zf_scan.proofs.Same.{same, stands_some}
@@ -67,9 +67,9 @@ uncut_then source fault (inr s) = inr (uncut source fault s)
 
 -- ---- the ends of the loop
 
-pub finished : (source : List ℕ) (at line : ℕ) (place : Region) (tokens : List Token) → Before source at line place tokens → length source ≤ at
+pub finished : (source : List ℕ) (at : ℕ) (place : Region) (tokens : List Token) → Before source at place tokens → length source ≤ at
     → place ≡ places.Outside → length source ≤ SOURCE_MAX → IsCutInto source tokens
-finished source at line place tokens b over out short = record {
+finished source at place tokens b over out short = record {
   short = short;
   pieces = b.pieces;
   end = b.spot;
@@ -79,19 +79,20 @@ finished source at line place tokens b over out short = record {
 }
 
 pub cut_whole : (source : List ℕ) (border : Border) (tokens : List Token) → IsCutUpTo source border tokens → length source ≤ border.start → IsCutInto source tokens
-cut_whole source border tokens up over = finished source border.start border.line places.Outside tokens up.before over refl up.short
+cut_whole source border tokens up over = finished source border.start places.Outside tokens up.before over refl up.short
 
-pub stuck : (source : List ℕ) (at line : ℕ) (place : Region) (tokens : List Token) → Before source at line place tokens → length source ≤ SOURCE_MAX
-    → (fault : TextFault) (kind : TextFaultKind) → fault.kind ≡ kind → fault.line ≡ reported_line place line kind
+pub stuck : (source : List ℕ) (at : ℕ) (place : Region) (tokens : List Token) → Before source at place tokens → length source ≤ SOURCE_MAX
+    → (fault : TextFault) (kind : TextFaultKind) → fault.kind ≡ kind → fault.span ≡ reported place at kind
     → Fails place (drop at source) kind → IsStuck source fault
-stuck source at line place tokens b short fault kind e f fails = record {
+stuck source at place tokens b short fault kind e f fails = record {
   short = short;
   pieces = b.pieces;
   spot = b.spot;
   rest = drop at source;
   cuts = b.cuts;
   fails = subst (λ kind. Fails b.spot.place (drop at source) kind) (sym e) (subst (λ place. Fails place (drop at source) kind) b.place_is fails);
-  line = f ∙ ap (λ kind. reported_line place line kind) (sym e) ∙ ap (λ place. reported_line place line fault.kind) b.place_is ∙ ap (λ line. reported_line b.spot.place line fault.kind) b.line_is;
+  span = f ∙ ap (λ kind. reported place at kind) (sym e) ∙ ap (λ place. reported place at fault.kind) b.place_is
+      ∙ ap (λ at. reported b.spot.place at fault.kind) b.at_is;
 }
 
 pub refused : (place : Region) (s : List ℕ) (f : Match) → Next place s f → (kind : TextFaultKind) → f.piece ≡ Refused kind → 0 < length s → Fails place s kind
@@ -131,8 +132,8 @@ fails_once place rest k l (inr (inr f)) (inl g) = empty_front rest g.0 g.1 f.1 g
 fails_once place rest k l (inr (inr f)) (inr (inl g)) = absurd (omega (arith, g.1, ap length f.1))
 fails_once place rest k l (inr (inr f)) (inr (inr g)) = f.0 ∙ sym g.0
 
-fault_is : (f g : TextFault) → f.kind ≡ g.kind → f.line ≡ g.line → f ≡ g
-fault_is f g e h = let a : TextFault = record { kind = f.kind; line = f.line } in ap (λ k. record { kind = k; line = f.line }) e ∙ ap (λ l. record { kind = g.kind; line = l }) h
+fault_is : (f g : TextFault) → f.kind ≡ g.kind → f.span ≡ g.span → f ≡ g
+fault_is f g e h = let a : TextFault = record { kind = f.kind; span = f.span } in ap (λ k. record { kind = k; span = f.span }) e ∙ ap (λ s. record { kind = g.kind; span = s }) h
 
 -- the first failure is the other
 one_stuck : (source : List ℕ) (f g : TextFault) (s : IsStuck source f) (t : IsStuck source g) → GoesOn s.pieces t.pieces s.spot s.rest t.spot t.rest → f ≡ g
@@ -142,7 +143,8 @@ one_stuck source f g s t o = by o.more o.cuts
     by [] h =
         let fails : Fails s.spot.place s.rest g.kind = subst (λ rest. Fails s.spot.place rest g.kind) (sym h.1) (subst (λ spot. Fails spot.place t.rest g.kind) (sym h.0) t.fails) in
         let kind = fails_once s.spot.place s.rest f.kind g.kind s.fails fails in
-        fault_is f g kind (s.line ∙ ap (λ kind. reported_line s.spot.place (spot_line s.spot) kind) kind ∙ ap (λ spot. reported_line spot.place (spot_line spot) g.kind) h.0 ∙ sym t.line)
+        fault_is f g kind (s.span ∙ ap (λ kind. reported s.spot.place (length s.spot.before) kind) kind
+        ∙ ap (λ spot. reported spot.place (length spot.before) g.kind) h.0 ∙ sym t.span)
     by (r ∷ rs) h = absurd (stuck_here s.spot.place s.rest f.kind s.fails r.0 r.1 h.0 h.1 h.2 h.3)
 
 pub faults_once : FaultsOnce

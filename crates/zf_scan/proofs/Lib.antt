@@ -11,7 +11,7 @@ pub mod Spelled
 pub mod LaidOut
 pub mod Scanned
 mod ScanTurns
-pub mod Quiet
+pub mod FirstLetters
 pub mod Laws
 mod Everywhere
 mod Fronts

@@ -9,7 +9,7 @@ pub use Rattle.std.specs.Cmp.Lexicographic.{bytes_decides}
 pub use Rattle.std.specs.List.{fold, list_all, starts_with}
 pub use Rattle.std.specs.Prelude.{if◌then◌else◌, ◌&&◌, ◌==◌, ◌||◌, codes, nat_eq, nat_le, not}
 pub use Rattle.std.specs.Str.{bytes_eq}
-pub use Rattle.zf_scan.specs.{amount, AreWithin, base_len, Before, begins, begins_box, BeginsBox, between, command_len, comment, digits, ends_box, EndsOnce, entered, escape, Fails, FaultsOnce, fixed, Follows, Match, found, has_no_name, HasFault, informal, InsideKind, is_base, is_directive, is_letter, is_number, is_one, is_run, is_two, IsBox, IsBoxAtMost, IsCommand, IsComment, IsCutInto, IsCutOn, IsCutOnce, IsCutOrFaults, IsCutUpTo, IsLaid, IsNotBoth, IsRead, IsStuck, IsUncut, IsWantOfMemory, kind_of, listed_in, long_len, look_up, name, newlines, next_of, number_max, number_piece, opening, or_else, OutsideKind, past, piece_of, plain, remark, reported_line, run_len, schema_opening, seen, spelling, SpellsInside, SpellsOutside, Spot, spot_line, Stands, StandsInside, StandsOutside, start, step_len, strokes_len, symbol_at, symbol_len, tail_len, token_at, tokens_from, tokens_of, match_of, turn, unknown, unplaced, value, word_len, symbol}
+pub use Rattle.zf_scan.specs.{amount, AreWithin, base_len, Before, begins, begins_box, BeginsBox, between, command_len, comment, digits, ends_box, EndsOnce, entered, escape, Fails, FaultsOnce, fixed, Follows, Match, found, from_to, has_no_name, HasFault, informal, InsideKind, is_base, is_directive, is_letter, is_number, is_one, is_run, is_two, IsBox, IsBoxAtMost, IsCommand, IsComment, IsCutInto, IsCutOn, IsCutOnce, IsCutOrFaults, IsCutUpTo, IsLaid, IsNotBoth, IsRead, IsStuck, IsUncut, IsWantOfMemory, kind_of, listed_in, long_len, look_up, name, next_of, nowhere, number_max, number_piece, opening, or_else, OutsideKind, past, piece_of, plain, remark, reported, run_len, schema_opening, seen, spelling, SpellsInside, SpellsOutside, span_at, Spot, Stands, StandsInside, StandsOutside, start, step_len, strokes_len, symbol_len, tail_len, token_at, tokens_from, tokens_of, match_of, turn, unknown, value, word_len, symbol}
 pub use Rattle.zf_scan.specs.Cuts.{Cuts}
 pub use Rattle.zf_scan.specs.Pieces.{closing}
 pub use Rattle.std.specs.Char.{is_ascii_digit}
@@ -29,4 +29,5 @@ pub use Rattle.zf_scan.specs.declared.scan.TheConstants.{SOURCE_MAX}
 pub use Rattle.zf_scan.specs.declared.token.Kind.{Kind}
 pub use Rattle.zf_scan.specs.declared.token.Kind.TheVariants.{BeginSchema, BeginZed, CloseBrace, EndBox, Name, OpenBrace, Separator}
 pub use Rattle.zf_scan.specs.declared.token.Token.{Token}
+pub use Rattle.zf_tree.specs.declared.span.Span.{Span}
 pub use Rattle.zf_scan.specs.declared.pieces.Region.TheVariants.{Outside, Zed, Schema}

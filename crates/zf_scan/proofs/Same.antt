@@ -180,8 +180,8 @@ schema_closer = record { unlisted = refl; letters = refl; long = omega arith }
 
 pub same : (place : Region) (x y : Piece) (p q a b : List ℕ) → Stands place x p a → Stands place y q b → p ++ a ≡ q ++ b → IsSame x y p q a b
 same places.Outside x y p q a b s t e = same_outside x y p q a b s t e
-same (places.Zed line) x y p q a b s t e = same_inside (codes "end{zed}") zed_closer x y p q a b s t e
-same (places.Schema line) x y p q a b s t e = same_inside (codes "end{schema}") schema_closer x y p q a b s t e
+same (places.Zed span) x y p q a b s t e = same_inside (codes "end{zed}") zed_closer x y p q a b s t e
+same (places.Schema span) x y p q a b s t e = same_inside (codes "end{schema}") schema_closer x y p q a b s t e
 
 -- ---- a piece is a text
 
@@ -199,5 +199,5 @@ outside_some Pieces.informal piece p h = omega (arith, h.0)
 
 pub stands_some : (place : Region) (x : Piece) (p a : List ℕ) → Stands place x p a → 0 < length p
 stands_some places.Outside x p a s = outside_some s.kind x p s.spells
-stands_some (places.Zed line) x p a s = spelled_some (codes "end{zed}") s.kind x p s.spells
-stands_some (places.Schema line) x p a s = spelled_some (codes "end{schema}") s.kind x p s.spells
+stands_some (places.Zed span) x p a s = spelled_some (codes "end{zed}") s.kind x p s.spells
+stands_some (places.Schema span) x p a s = spelled_some (codes "end{schema}") s.kind x p s.spells

@@ -8,21 +8,20 @@ use Rattle.zf_scan.specs.declared.scan.TheConstants.{SOURCE_MAX}
 use Rattle.zf_scan.specs.declared.token.Kind.{Kind}
 use Rattle.zf_scan.specs.declared.token.Kind.TheVariants.{BeginZed, BeginSchema, EndBox}
 use Rattle.zf_scan.specs.declared.token.Token.{Token}
-use Rattle.zf_scan.specs.Cuts.{Spot, spot_line, start, Cuts, tokens_from, IsCutInto}
+use Rattle.zf_scan.specs.Cuts.{Spot, start, Cuts, tokens_from, IsCutInto}
 
 -- pieces of a source up to a place, and their tokens
-pub record Before (source : List ℕ) (at line : ℕ) (place : Region) (tokens : List Token) : Type 0 where
+pub record Before (source : List ℕ) (at : ℕ) (place : Region) (tokens : List Token) : Type 0 where
   pub pieces : List (Piece × List ℕ)
   pub spot : Spot
   pub cuts : Cuts pieces start source spot (drop at source)
   pub tokens_are : (qs : List (Piece × List ℕ)) → tokens_from start (pieces ++ qs) ≡ tokens ++ tokens_from spot qs
   pub at_is : at ≡ length spot.before
-  pub line_is : line ≡ spot_line spot
   pub place_is : place ≡ spot.place
 
 -- a source is cut up to a place outside of all boxes, with these tokens
 pub record IsCutUpTo (source : List ℕ) (border : Border) (tokens : List Token) : Type 0 where
-  pub before : Before source border.start border.line Outside tokens
+  pub before : Before source border.start Outside tokens
   pub short : length source ≤ SOURCE_MAX
   pub within : border.start ≤ length source
 

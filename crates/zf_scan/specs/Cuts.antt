@@ -1,5 +1,5 @@
 -- When a source is cut, its tokens, and the fault of a source that is not cut.
-use Rattle.std.specs.Prelude.{◌≡◌, ℕ, ◌+◌, ◌≤◌, ◌<◌, ◌⊎◌, if◌then◌else◌, ◌==◌, List, [], ◌∷◌, ◌++◌, length, codes}
+use Rattle.std.specs.Prelude.{◌≡◌, ℕ, ◌+◌, ◌≤◌, ◌<◌, ◌⊎◌, List, [], ◌∷◌, ◌++◌, length, codes}
 use Rattle.zf_scan.specs.declared.fault.TextFault.{TextFault}
 use Rattle.zf_scan.specs.declared.fault.TextFaultKind.{TextFaultKind}
 use Rattle.zf_scan.specs.declared.fault.TextFaultKind.TheVariants.{BadByte, UnclosedBox, TooLong}
@@ -10,6 +10,7 @@ use Rattle.zf_scan.specs.declared.pieces.Region.TheVariants as places
 use Rattle.zf_scan.specs.declared.scan.TheConstants.{SOURCE_MAX}
 use Rattle.zf_scan.specs.declared.token.Kind.TheVariants.{BeginZed, BeginSchema, EndBox}
 use Rattle.zf_scan.specs.declared.token.Token.{Token}
+use Rattle.zf_tree.specs.declared.span.Span.{Span}
 use Rattle.zf_scan.specs.Pieces.{InsideKind, SpellsInside, OutsideKind, SpellsOutside, turn}
 
 -- inside a box that `end` closes, the piece that begins a text: none that begins there is longer
@@ -26,33 +27,34 @@ pub record StandsOutside (piece : Piece) (p after : List ℕ) : Type 0 where
 
 abbrev pub Stands : Region → Piece → List ℕ → List ℕ → Type 0
 Stands places.Outside piece p after = StandsOutside piece p after
-Stands (places.Zed line) piece p after = StandsInside (codes "\\end{zed}") piece p after
-Stands (places.Schema line) piece p after = StandsInside (codes "\\end{schema}") piece p after
-
-abbrev pub newlines : List ℕ → ℕ
-newlines [] = 0
-newlines (b ∷ bs) = (if b == 10 then 1 else 0) + newlines bs
+Stands (places.Zed span) piece p after = StandsInside (codes "\\end{zed}") piece p after
+Stands (places.Schema span) piece p after = StandsInside (codes "\\end{schema}") piece p after
 
 -- where a piece stands, with what is before it
 pub record Spot : Type 0 where
   pub place : Region
   pub before : List ℕ
 
-abbrev pub spot_line : Spot → ℕ
-spot_line spot = 1 + newlines spot.before
+-- the part of a source from one place to another
+abbrev pub from_to : (start stop : ℕ) → Span
+from_to start stop = record { start = start; stop = stop }
+
+-- the part that a piece is
+abbrev pub span_at : Spot → List ℕ → Span
+span_at spot p = from_to (length spot.before) (length spot.before + length p)
 
 abbrev pub start : Spot
 start = record { place = places.Outside; before = [] }
 
 -- the place after a piece
-abbrev pub entered : Region → ℕ → Piece → Region
-entered place line (Symbol BeginZed) = places.Zed line
-entered place line (Symbol (BeginSchema name)) = places.Schema line
-entered place line (Symbol EndBox) = places.Outside
-entered place line _ = place
+abbrev pub entered : Region → Span → Piece → Region
+entered place span (Symbol BeginZed) = places.Zed span
+entered place span (Symbol (BeginSchema name)) = places.Schema span
+entered place span (Symbol EndBox) = places.Outside
+entered place span _ = place
 
 abbrev pub past : Spot → Piece × List ℕ → Spot
-past spot p = record { place = entered spot.place (spot_line spot) p.0; before = spot.before ++ p.1 }
+past spot p = record { place = entered spot.place (span_at spot p.1) p.0; before = spot.before ++ p.1 }
 
 -- ---- cuts
 
@@ -66,7 +68,7 @@ Cuts [] spot source end rest = (spot ≡ end) × (source ≡ rest)
 Cuts (p ∷ ps) spot source end rest = (after : List ℕ) × (source ≡ p.1 ++ after) × Stands spot.place p.0 p.1 after × IsRead p.0 × Cuts ps (past spot p) after end rest
 
 abbrev pub tokens_of : Spot → Piece → List ℕ → List Token
-tokens_of spot (Symbol kind) p = record { kind = kind; start = length spot.before; stop = length spot.before + length p; line = spot_line spot } ∷ []
+tokens_of spot (Symbol kind) p = record { kind = kind; span = span_at spot p } ∷ []
 tokens_of spot _ p = []
 
 abbrev pub tokens_from : Spot → List (Piece × List ℕ) → List Token
@@ -84,15 +86,20 @@ pub record IsCutInto (source : List ℕ) (tokens : List Token) : Type 0 where
 
 -- ---- faults
 
--- the line of the box's `\begin`
-abbrev pub begun : Region → ℕ
-begun places.Outside = 0
-begun (places.Zed line) = line
-begun (places.Schema line) = line
+-- where nothing is
+abbrev pub nowhere : Span
+nowhere = from_to 0 0
 
-abbrev pub reported_line : Region → ℕ → TextFaultKind → ℕ
-reported_line place line UnclosedBox = begun place
-reported_line place line _ = line
+-- the `\begin` of the box
+abbrev pub begun : Region → Span
+begun places.Outside = nowhere
+begun (places.Zed span) = span
+begun (places.Schema span) = span
+
+-- a box that is not closed is reported where it begins, anything else at its place
+abbrev pub reported : Region → ℕ → TextFaultKind → Span
+reported place at UnclosedBox = begun place
+reported place at _ = from_to at at
 
 -- no piece fits: one that is refused stands there, or none, or the source ends in a box
 abbrev pub Fails : Region → List ℕ → TextFaultKind → Type 0
@@ -109,10 +116,10 @@ pub record IsStuck (source : List ℕ) (fault : TextFault) : Type 0 where
   pub rest : List ℕ
   pub cuts : Cuts pieces start source spot rest
   pub fails : Fails spot.place rest fault.kind
-  pub line : fault.line ≡ reported_line spot.place (spot_line spot) fault.kind
+  pub span : fault.span ≡ reported spot.place (length spot.before) fault.kind
 
 abbrev pub IsTooLong : List ℕ → TextFault → Type 0
-IsTooLong source fault = (SOURCE_MAX < length source) × (fault.kind ≡ TooLong) × (fault.line ≡ 0)
+IsTooLong source fault = (SOURCE_MAX < length source) × (fault.kind ≡ TooLong) × (fault.span ≡ nowhere)
 
 abbrev pub HasFault : List ℕ → TextFault → Type 0
 HasFault source fault = IsTooLong source fault ⊎ IsStuck source fault

@@ -4,7 +4,7 @@ use Rattle.zf_scan.specs.declared.placed.Placed.{Placed}
 use Rattle.zf_scan.specs.declared.token.Kind.{Kind}
 use Rattle.zf_scan.specs.declared.token.Kind.TheVariants as k
 use Rattle.zf_scan.specs.declared.token.Token.{Token}
-use Rattle.zf_scan.specs.Placing.{symbol_at, unplaced}
+use Rattle.zf_scan.specs.Placing.{token_at}
 
 abbrev pub spelling : Kind → List ℕ
 spelling (k.BeginSchema base) = codes "\\begin{schema}{" ++ base
@@ -23,5 +23,5 @@ AreWithin n (p ∷ ps) = (p.start ≤ p.stop) × (p.stop ≤ n) × AreWithin n p
 
 -- these symbols of the text are the tokens
 pub record IsLaid (text : List ℕ) (symbols : List Placed) (tokens : List Token) : Type 0 where
-  pub same : map (symbol_at text) symbols ≡ map unplaced tokens
+  pub same : map (token_at text) symbols ≡ tokens
   pub within : AreWithin (length text) symbols

@@ -3,7 +3,6 @@ use Rattle.std.specs.Prelude.{ℕ, ◌-◌, List, take, drop}
 use Rattle.zf_scan.specs.declared.placed.Placed.{Placed}
 use Rattle.zf_scan.specs.declared.token.Kind.{Kind}
 use Rattle.zf_scan.specs.declared.token.Token.{Token}
-use Rattle.zf_scan.specs.Separators.{Symbol, symbol}
 use Rattle.zf_scan.specs.Lexemes.{kind_of}
 
 -- the bytes of a text from one place to another
@@ -14,11 +13,4 @@ abbrev pub kind_at : List ℕ → Placed → Kind
 kind_at text p = kind_of p.next p.amount (between p.start p.stop text)
 
 abbrev pub token_at : List ℕ → Placed → Token
-token_at text p = record { kind = kind_at text p; start = p.start; stop = p.stop; line = p.line }
-
-abbrev pub symbol_at : List ℕ → Placed → Symbol
-symbol_at text p = symbol (kind_at text p) p.line
-
--- a token without its place
-abbrev pub unplaced : Token → Symbol
-unplaced t = symbol t.kind t.line
+token_at text p = record { kind = kind_at text p; span = p.span }

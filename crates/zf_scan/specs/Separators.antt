@@ -1,17 +1,17 @@
 -- The reduced list of a token list: a run of separators is one symbol, or none where a neighbour makes it needless (line breaks of ZRM 3.1).
-use Rattle.std.specs.Prelude.{ℕ, Bool, true, false, ◌||◌, if◌then◌else◌, List, [], ◌∷◌}
+use Rattle.std.specs.Prelude.{Bool, true, false, ◌||◌, if◌then◌else◌, List, [], ◌∷◌}
 use Rattle.zf_scan.specs.declared.token.Kind.{Kind}
 use Rattle.zf_scan.specs.declared.token.Kind.TheVariants as k
 use Rattle.zf_scan.specs.declared.token.Separator.TheVariants.{Semicolon}
 use Rattle.zf_scan.specs.declared.token.Token.{Token}
+use Rattle.zf_tree.specs.declared.span.Span.{Span}
 
--- what a token is to the grammar: its kind and its line
-pub record Symbol : Type 0 where
-  pub kind : Kind
-  pub line : ℕ
+-- what the grammar reads: tokens, where one separator stands for a run
+abbrev pub Symbol : Type 0
+Symbol = Token
 
-abbrev pub symbol : Kind → ℕ → Symbol
-symbol kind line = record { kind = kind; line = line }
+abbrev pub symbol : Kind → Span → Symbol
+symbol kind span = record { kind = kind; span = span }
 
 -- a kept separator, whichever of the three it was
 abbrev pub separator : Kind
@@ -22,7 +22,7 @@ canonical (k.Separator s) = separator
 canonical kind = kind
 
 abbrev pub symbol_of : Token → Symbol
-symbol_of t = symbol (canonical t.kind) t.line
+symbol_of t = symbol (canonical t.kind) t.span
 
 abbrev pub is_separator : Kind → Bool
 is_separator (k.Separator s) = true

@@ -134,10 +134,10 @@ outside_found (b ∷ bs) = if b == 92 then opening_found (b ∷ bs) else (if b =
 
 abbrev pub closing : Region → List ℕ
 closing Outside = []
-closing (Zed line) = codes "\\end{zed}"
-closing (Schema line) = codes "\\end{schema}"
+closing (Zed span) = codes "\\end{zed}"
+closing (Schema span) = codes "\\end{schema}"
 
 unfoldable pub found_at : Region → List ℕ → Match
 found_at Outside s = outside_found s
-found_at (Zed line) s = inside_found (codes "\\end{zed}") s
-found_at (Schema line) s = inside_found (codes "\\end{schema}") s
+found_at (Zed span) s = inside_found (codes "\\end{zed}") s
+found_at (Schema span) s = inside_found (codes "\\end{schema}") s

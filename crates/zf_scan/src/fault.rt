@@ -1,10 +1,12 @@
 //! Faults of a text.
 ghost use Rattle.std.specs.Prelude.{◌≡◌};
+ghost use Rattle.zf_scan.specs.{nowhere};
 ghost use Rattle.zf_scan.specs.declared.fault.TextFault.{TextFault};
 ghost use Rattle.zf_scan.specs.declared.fault.TextFaultKind.TheVariants.{NotInProfile, OutOfMemory};
 
 use std::alloc::{AllocError, AllocFailed};
 use thiserror::Error;
+use zf_tree::Span;
 
 /// Why a text is not read.
 #[derive(Clone, Copy, Debug, PartialEq, Eq, Error)]
@@ -29,44 +31,48 @@ pub enum TextFaultKind {
     OutOfMemory,
 }
 
-/// A fault, with its line.
+/// A fault, with its place.
 #[derive(Clone, Copy, Debug, PartialEq, Eq)]
 pub struct TextFault {
-    /// The line of the fault, from 1; 0 for `TooLong` and `OutOfMemory`.
-    pub line: u64,
+    /// The symbol at fault, the `\begin` of a box that is not closed, or before what is not read; nowhere for `TooLong` and
+    /// `OutOfMemory`.
+    pub span: Span,
     pub kind: TextFaultKind,
 }
 
+/// Where nothing is.
+pub(crate) const NOWHERE: Span = Span { start: 0, stop: 0 };
+
 impl TextFault {
-    /// A form that is not read; the line is that of its first symbol.
-    pub fn not_in_profile(line: u32) -> TextFault
-        ensures { result ≡ record { kind = NotInProfile; line = line } }
+    /// A form that is not read, at its first symbol.
+    pub fn not_in_profile(span: Span) -> TextFault
+        ensures { result ≡ record { kind = NotInProfile; span = span } }
     {
         TextFault {
             kind: TextFaultKind::NotInProfile,
-            line: u64::from(line),
+            span,
         }
     }
 }
 
 impl From<AllocError> for TextFault {
-    ghost from_gives = { λ _ fault. (fault.kind ≡ OutOfMemory) × (fault.line ≡ 0) };
+    ghost from_gives = { λ _ fault. (fault.kind ≡ OutOfMemory) × (fault.span ≡ nowhere) };
 
     fn from(_error: AllocError) -> TextFault {
         TextFault {
             kind: TextFaultKind::OutOfMemory,
-            line: 0,
+            span: NOWHERE,
         }
     }
 }
 
 impl<T: Drop> From<AllocFailed<T>> for TextFault {
-    ghost from_gives = { λ _ fault. (fault.kind ≡ OutOfMemory) × (fault.line ≡ 0) };
+    ghost from_gives = { λ _ fault. (fault.kind ≡ OutOfMemory) × (fault.span ≡ nowhere) };
 
     fn from(_error: AllocFailed<T>) -> TextFault {
         TextFault {
             kind: TextFaultKind::OutOfMemory,
-            line: 0,
+            span: NOWHERE,
         }
     }
 }

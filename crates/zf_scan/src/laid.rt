@@ -53,7 +53,7 @@ impl<'a> Laid<'a> {
         spell(&mut self.text, &token.kind)?;
         self.symbols.push(Placed {
             next: next_of(&token.kind),
-            line: token.line,
+            span: token.span,
             start,
             stop: self.text.len(),
             amount: amount(&token.kind),

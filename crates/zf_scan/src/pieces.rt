@@ -9,6 +9,7 @@ ghost use Rattle.zf_scan.specs.Steps as steps;
 use crate::fault::TextFaultKind;
 use crate::next::Next;
 use crate::token::Kind;
+use zf_tree::Span;
 
 /// What a piece is. The scanner keeps a `Lexeme` of it, and the text stays in the source.
 #[derive(Drop)]
@@ -48,12 +49,12 @@ impl Match {
     }
 }
 
-/// Where a piece stands: outside the boxes, or in a box with the line of its `\begin`.
+/// Where a piece stands: outside the boxes, or in a box with its `\begin`.
 #[derive(Clone, Copy)]
 pub enum Region {
     Outside,
-    Zed(u32),
-    Schema(u32),
+    Zed(Span),
+    Schema(Span),
 }
 
 /// The runs of bytes that pieces are made of.

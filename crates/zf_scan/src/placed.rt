@@ -9,13 +9,14 @@ use crate::next::Next;
 use crate::token::{Kind, Separator, Token};
 use std::alloc::{AllocError, Global};
 use zf_data::Text;
-use zf_tree::{back, front};
+use zf_tree::{Span, back, front};
 
-/// A symbol of a text. Its fields but `amount` are those of its token.
+/// A symbol, spelled in a text from `start` to `stop`.
 #[derive(Clone, Copy)]
 pub struct Placed {
     pub next: Next,
-    pub line: u32,
+    /// Its place in the source.
+    pub span: Span,
     pub start: usize,
     pub stop: usize,
     /// How long a name is without its strokes, or a number's value.
@@ -64,11 +65,11 @@ impl Placed {
 
     /// This symbol, a separator, as the reduced list has it.
     pub fn as_separator(self) -> Placed
-        ensures { result ≡ record { next = next.Separator Semicolon; line = self.line; start = self.start; stop = self.stop; amount = self.amount } }
+        ensures { result ≡ record { next = next.Separator Semicolon; span = self.span; start = self.start; stop = self.stop; amount = self.amount } }
     {
         Placed {
             next: Next::Separator(Separator::Semicolon),
-            line: self.line,
+            span: self.span,
             start: self.start,
             stop: self.stop,
             amount: self.amount,
@@ -133,9 +134,7 @@ impl Placed {
     {
         Ok(Token {
             kind: self.kind(alloc, text)?,
-            start: self.start,
-            stop: self.stop,
-            line: self.line,
+            span: self.span,
         })
     }
 }

@@ -1,5 +1,5 @@
 //! From bytes to tokens.
-ghost use Rattle.std.specs.Prelude.{◌≡◌, ◌≤◌, ◌<◌, ◌⊎◌, ◌++◌, [], ℕ, List, IsTrue, length, take, map, IfOk, IfErr, OnOk};
+ghost use Rattle.std.specs.Prelude.{◌≡◌, ◌≤◌, ◌<◌, ◌⊎◌, ◌++◌, [], ℕ, List, IsTrue, length, map, IfOk, IfErr, OnOk};
 ghost use Rattle.zf_scan.specs.{IsBorder, IsBoxAtMost, IsCutOn, IsCutUpTo, kind_of, token_at, match_of};
 ghost use Rattle.zf_scan.specs.Cuts as cuts;
 ghost use Rattle.zf_scan.specs.CutLaws as cuts_laws;
@@ -8,15 +8,16 @@ ghost use Rattle.zf_scan.specs.Steps as steps;
 ghost use Rattle.zf_scan.specs.declared.pieces.Piece.TheVariants.{Plain, Symbol};
 ghost use Rattle.zf_scan.specs.declared.token.Token.{Token};
 
-use crate::fault::{TextFault, TextFaultKind};
+use crate::fault::{NOWHERE, TextFault, TextFaultKind};
 use crate::inside::inside_at;
 use crate::next::Next;
 use crate::outside::outside_at;
-use crate::pieces::{Lexeme, Match, Region, after, front};
+use crate::pieces::{Lexeme, Match, Region, after};
 use crate::placed::Placed;
 use crate::token::Token;
 use std::alloc::{AllocError, Global};
 use zf_data::Items;
+use zf_tree::Span;
 
 /// The greatest length of a source.
 pub const SOURCE_MAX: usize = 1_048_576;
@@ -24,7 +25,6 @@ pub const SOURCE_MAX: usize = 1_048_576;
 /// A place outside of all boxes, up to which a source is cut.
 #[derive(Clone, Copy)]
 pub struct Border {
-    pub line: u32,
     pub start: usize,
 }
 
@@ -37,7 +37,7 @@ impl Border {
         if source.len() > SOURCE_MAX {
             return Err(fault_at(TextFaultKind::TooLong, Region::Outside, 0));
         }
-        Ok(Border { line: 1, start: 0 })
+        Ok(Border { start: 0 })
     }
 }
 
@@ -56,12 +56,10 @@ pub fn next_box(
 {
     symbols.clear();
     let mut place = Region::Outside;
-    let mut line = border.line;
     let mut start = border.start;
     while start < source.len() {
         let rest = after(source, start);
         if is_blank(place, rest) {
-            line += ends_line(rest);
             start += 1;
             continue;
         }
@@ -71,35 +69,34 @@ pub fn next_box(
             len,
         } = piece_at(place, rest);
         match lexeme {
-            Lexeme::Plain => line += newlines(front(rest, len)),
+            Lexeme::Plain => (),
             Lexeme::Symbol(next) => {
+                let stop = start + len;
+                let span = from_to(start, stop);
                 symbols.push(Placed {
                     next,
-                    line,
+                    span,
                     start,
-                    stop: start + len,
+                    stop,
                     amount,
                 })?;
                 if next.ends_box() {
-                    *border = Border {
-                        line,
-                        start: start + len,
-                    };
+                    *border = Border { start: stop };
                     return Ok(());
                 }
-                place = behind(place, line, next);
+                place = behind(place, span, next);
             }
             Lexeme::Refused(kind) => {
-                *border = Border { line, start };
-                return Err(fault_at(kind, place, line));
+                *border = Border { start };
+                return Err(fault_at(kind, place, start));
             }
         }
         start += len;
     }
-    *border = Border { line, start };
+    *border = Border { start };
     match place {
         Region::Outside => Ok(()),
-        _ => Err(fault_at(TextFaultKind::UnclosedBox, place, line)),
+        _ => Err(fault_at(TextFaultKind::UnclosedBox, place, start)),
     }
 }
 
@@ -163,17 +160,6 @@ fn is_blank(place: Region, rest: &[u8]) -> bool
     }
 }
 
-// How many lines end in the first byte.
-fn ends_line(rest: &[u8]) -> u32
-    ensures value { result ≡ cuts.newlines (take 1 rest.now) }
-    ensures few { result ≤ 1 }
-{
-    match rest {
-        [b'\n', ..] => 1,
-        _ => 0,
-    }
-}
-
 // The piece at the front of a text.
 #[tactic(auto, unfolding(crate::specs::Steps::found_at))]
 fn piece_at(place: Region, rest: &[u8]) -> Match
@@ -186,54 +172,49 @@ fn piece_at(place: Region, rest: &[u8]) -> Match
 }
 
 // Where the text after a symbol stands.
-fn behind(place: Region, line: u32, next: Next) -> Region
-    ensures { (amount : ℕ) (text : List ℕ) → result ≡ cuts.entered place line (Symbol (kind_of next amount text)) }
+fn behind(place: Region, span: Span, next: Next) -> Region
+    ensures { (amount : ℕ) (text : List ℕ) → result ≡ cuts.entered place span (Symbol (kind_of next amount text)) }
 {
     match next {
-        Next::BeginZed => Region::Zed(line),
-        Next::BeginSchema => Region::Schema(line),
+        Next::BeginZed => Region::Zed(span),
+        Next::BeginSchema => Region::Schema(span),
         Next::EndBox | Next::End => Region::Outside,
         _ => place,
     }
 }
 
-// A refusal at a line. A box that is not closed is reported by the line of its `\begin`.
-fn fault_at(kind: TextFaultKind, place: Region, line: u32) -> TextFault
-    ensures kind { result.kind ≡ kind }
-    ensures line { result.line ≡ cuts.reported_line place line kind }
+// The part of a source from one place to another.
+fn from_to(start: usize, stop: usize) -> Span
+    requires first { start ≤ SOURCE_MAX }
+    requires last { stop ≤ SOURCE_MAX }
+    ensures { result ≡ cuts.from_to start stop }
 {
-    let line = match kind {
-        TextFaultKind::UnclosedBox => begun(place),
-        _ => line,
-    };
-    TextFault {
-        kind,
-        line: u64::from(line),
+    Span {
+        start: start as u32,
+        stop: stop as u32,
     }
 }
 
-fn begun(place: Region) -> u32
+// A refusal before what stands at a place. A box that is not closed is reported by its `\begin`.
+fn fault_at(kind: TextFaultKind, place: Region, start: usize) -> TextFault
+    requires { start ≤ SOURCE_MAX }
+    ensures kind { result.kind ≡ kind }
+    ensures span { result.span ≡ cuts.reported place start kind }
+{
+    let span = match kind {
+        TextFaultKind::UnclosedBox => begun(place),
+        _ => from_to(start, start),
+    };
+    TextFault { kind, span }
+}
+
+fn begun(place: Region) -> Span
     ensures { result ≡ cuts.begun place }
 {
     match place {
-        Region::Outside => 0,
-        Region::Zed(line) | Region::Schema(line) => line,
+        Region::Outside => NOWHERE,
+        Region::Zed(span) | Region::Schema(span) => span,
     }
-}
-
-// How many lines end in a piece.
-fn newlines(bytes: &[u8]) -> u32
-    requires { length bytes.now ≤ SOURCE_MAX }
-    ensures value { result ≡ cuts.newlines bytes.now }
-    ensures few { result ≤ length bytes.now }
-{
-    let mut n = 0;
-    for b in bytes {
-        if *b == b'\n' {
-            n += 1;
-        }
-    }
-    n
 }
 
 /// A source is cut in one way, or it has one fault: laws of the definitions, and no code.

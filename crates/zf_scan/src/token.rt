@@ -1,6 +1,6 @@
 //! Tokens: the symbols of the markup, one value for each.
 use zf_data::Text;
-use zf_tree::{Arrow, Connective, Constant, Infix, Prefix, Quantifier, Relation};
+use zf_tree::{Arrow, Connective, Constant, Infix, Prefix, Quantifier, Relation, Span};
 
 /// A run of one or more of these parts paragraphs, declarations or predicates.
 #[derive(Clone, Copy)]
@@ -79,14 +79,9 @@ pub enum Kind {
     Xi,
 }
 
-/// A token, with its place in the source and its line.
+/// A token, with its place in the source.
 #[derive(Drop)]
 pub struct Token {
     pub kind: Kind,
-    /// The place of its first byte, from 0.
-    pub start: usize,
-    /// The place after its last byte.
-    pub stop: usize,
-    /// One more than the number of newline bytes before it.
-    pub line: u32,
+    pub span: Span,
 }

@@ -1,5 +1,5 @@
 -- What is made of schemas whose components have names of their own is such a schema.
-use Rattle.zf_schema.proofs.Prelude.{if◌then◌else◌, ◌++◌, ◌+◌, ◌∙◌, ◌∷◌, ◌≡◌, [], ap, Bool, false, List, map, None, Option, refl, Some, subst, sym, true, ℕ, append_cancel_right, none-some, same_Some, bytes_eq, spelling, both, DeclTree, either, include, schema_reference, schema_bracket, schema_text, SchemaTree, Tree, vars, Name, SchemaRef, is_same, swapped, tests_alike, Comp, DeclaredSet, Defined, plain, Schema, schema, first_named, later, ResolvedTree, conjuncts, Ty, resolved, AreOnce, comp, comp_named, decorated, either_comps, marked, empty_schema, prime, with_comp, with_comps, AddsAll, Constrains, Declares, DeclaresOne, inside, IsSchema, IsText, outside, Refers, TakesAll, HasCompsOnce, HaveCompsOnce, type_found, type_named, RefMark, Plain, Delta, Xi}
+use Rattle.zf_schema.proofs.Prelude.{if◌then◌else◌, ◌++◌, ◌+◌, ◌∙◌, ◌∷◌, ◌≡◌, [], ap, Bool, false, List, map, None, Option, refl, Some, subst, sym, true, ℕ, append_cancel_right, none-some, same_Some, bytes_eq, spelling, both, DeclTree, either, include, schema_reference, schema_bracket, schema_text, SchemaTree, Tree, vars, Name, SchemaRef, is_same, swapped, tests_alike, Comp, DeclaredSet, Defined, plain, Schema, schema, first_named, later, ResolvedTree, conjuncts, Ty, resolved, AreOnce, comp, comp_named, decorated, either_comps, marked, empty_schema, prime, with_comp, with_comps, AddsAll, Constrains, Declares, DeclaresOne, inside, IsSchema, IsText, outside, Refers, TakesAll, HasCompsOnce, HaveCompsOnce, type_found, type_named, RefMark, Plain, Delta, Xi, Span}
 use Rattle.std.proofs.lemmas.Slice.Eq.{bytes_eq-Decides}
 use Rattle.std.specs.List.{AllByRecursion}
 use Rattle.zf_calculus.proofs.Merging.{none_known}
@@ -53,7 +53,7 @@ stroked x y strokes =
 pub decorated_once : (strokes : List ℕ) (a : Schema) → AreOnce a.comps → AreOnce (decorated strokes a).comps
 decorated_once strokes a once = renamed_once (λ c. comp (c.name ++ strokes) c.type c.sets) a.comps (λ c d. stroked c.name d.name strokes) (λ c. refl) once
 
-pub marked_once : (mark : RefMark) (l : ℕ) (a : Schema) → AreOnce a.comps → AreOnce (marked mark l a).comps
+pub marked_once : (mark : RefMark) (l : Span) (a : Schema) → AreOnce a.comps → AreOnce (marked mark l a).comps
 marked_once Plain l a once = once
 marked_once Delta l a once = joined_once a.comps (decorated prime a).comps once
 marked_once Xi l a once = joined_once a.comps (decorated prime a).comps once
@@ -76,7 +76,7 @@ found_holds P x (d ∷ g) p all e = by (bytes_eq d.name x) (first_named (λ d. d
 pub reference_once : (g : List Defined) (r : SchemaRef) (b : Schema) → HaveCompsOnce g → Refers g r b → AreOnce b.comps
 reference_once g r b all p =
     let base = found_holds (λ d. HasCompsOnce d.definition) r.name.base g (p.0, record { name = p.1; definition = schema p.2 }) all p.3 in
-    let once = decorated_once r.name.strokes (marked r.mark r.name.line p.2) (marked_once r.mark r.name.line p.2 base) in
+    let once = decorated_once r.name.strokes (marked r.mark r.name.span p.2) (marked_once r.mark r.name.span p.2 base) in
     subst (λ v. AreOnce v.comps) (sym p.5.0) once
 
 pub all_added_once : (a : Schema) (ns : List Name) (t : Ty) (s : DeclaredSet) (b : Schema) → AreOnce a.comps → AddsAll a ns t s b → AreOnce b.comps
@@ -106,8 +106,8 @@ pub text_once : (g : List Defined) (ds : List DeclTree) (es : List Tree) (b : Sc
 text_once g ds es b p = subst AreOnce (sym (constrained_comps g p.0 es b p.2)) (declared_once g empty_schema ds p.0 tt p.1)
 
 pub schema_once : (g : List Defined) (x : SchemaTree) (c : Schema) → HaveCompsOnce g → IsSchema g x c → AreOnce c.comps
-schema_once g (schema_text ds es) c all p = text_once g ds es c p
-schema_once g (schema_reference r) c all p = reference_once g r c all p
-schema_once g (both x y) c all p = subst (λ v. AreOnce v.comps) (sym p.5.0) (joined_once p.0.comps p.1.comps (schema_once g x p.0 all p.2))
-schema_once g (either l x y) c all p = subst (λ v. AreOnce v.comps) (sym p.5.0) (disjoined_once p.0.comps p.1.comps (schema_once g x p.0 all p.2))
-schema_once g (schema_bracket x) c all p = schema_once g x c all p
+schema_once g (schema_text s ds es) c all p = text_once g ds es c p
+schema_once g (schema_reference s r) c all p = reference_once g r c all p
+schema_once g (both s x y) c all p = subst (λ v. AreOnce v.comps) (sym p.5.0) (joined_once p.0.comps p.1.comps (schema_once g x p.0 all p.2))
+schema_once g (either s x y) c all p = subst (λ v. AreOnce v.comps) (sym p.5.0) (disjoined_once p.0.comps p.1.comps (schema_once g x p.0 all p.2))
+schema_once g (schema_bracket s x) c all p = schema_once g x c all p

@@ -1,5 +1,5 @@
 -- A schema expression, and each of its parts, is one schema at most.
-use Rattle.zf_schema.proofs.Prelude.{◌∙◌, ◌∷◌, ◌≡◌, [], ap, List, Some, subst, sym, ℕ, same_Some, spelling, both, DeclTree, either, include, schema_reference, schema_bracket, schema_text, SchemaTree, Tree, vars, Name, SchemaRef, Comp, DeclaredSet, Defined, plain, Schema, schema, first_named, ResolvedTree, conjuncts, Ty, one_sort, same_set, resolved, set_sort, comp, conjoined, decorated, disjoined, marked, empty_schema, Adds, Includes, AddsAll, Constrains, ConstrainsOne, Declares, DeclaresOne, inside, IsSchema, IsText, outside, Refers, TakesAll}
+use Rattle.zf_schema.proofs.Prelude.{both_span, ◌∙◌, ◌∷◌, ◌≡◌, [], ap, List, Some, subst, sym, ℕ, same_Some, spelling, both, DeclTree, either, include, schema_reference, schema_bracket, schema_text, SchemaTree, Tree, vars, Name, SchemaRef, Comp, DeclaredSet, Defined, plain, Schema, schema, first_named, ResolvedTree, conjuncts, Ty, one_sort, same_set, resolved, set_sort, comp, conjoined, decorated, disjoined, marked, empty_schema, Adds, Includes, AddsAll, Constrains, ConstrainsOne, Declares, DeclaresOne, inside, IsSchema, IsText, outside, Refers, TakesAll}
 
 -- ---- the base of a reference
 
@@ -16,7 +16,7 @@ one_base g name i j x y a b p q =
 pub one_reference : (g : List Defined) (r : SchemaRef) (b c : Schema) → Refers g r b → Refers g r c → b ≡ c
 one_reference g r b c p q =
     let base = one_base g r.name.base p.0 q.0 p.1 q.1 p.2 q.2 p.3 q.3 in
-    p.5.0 ∙ ap (λ a. decorated r.name.strokes (marked r.mark r.name.line a)) base ∙ sym q.5.0
+    p.5.0 ∙ ap (λ a. decorated r.name.strokes (marked r.mark r.name.span a)) base ∙ sym q.5.0
 
 -- ---- declarations
 
@@ -70,14 +70,14 @@ one_text g ds es b c p q =
     all_constrained g q.0 es b c (subst (λ m. Constrains g m es b) mid p.2) q.2
 
 pub one_schema : (g : List Defined) (x : SchemaTree) (b c : Schema) → IsSchema g x b → IsSchema g x c → b ≡ c
-one_schema g (schema_text ds es) b c p q = one_text g ds es b c p q
-one_schema g (schema_reference r) b c p q = one_reference g r b c p q
-one_schema g (both x y) b c p q =
+one_schema g (schema_text s ds es) b c p q = one_text g ds es b c p q
+one_schema g (schema_reference s r) b c p q = one_reference g r b c p q
+one_schema g (both s x y) b c p q =
     let left = one_schema g x p.0 q.0 p.2 q.2 in
     let right = one_schema g y p.1 q.1 p.3 q.3 in
     p.5.0 ∙ ap (λ a. conjoined a p.1) left ∙ ap (λ a. conjoined q.0 a) right ∙ sym q.5.0
-one_schema g (either l x y) b c p q =
+one_schema g (either s x y) b c p q =
     let left = one_schema g x p.0 q.0 p.2 q.2 in
     let right = one_schema g y p.1 q.1 p.3 q.3 in
-    p.5.0 ∙ ap (λ a. disjoined l a p.1) left ∙ ap (λ a. disjoined l q.0 a) right ∙ sym q.5.0
-one_schema g (schema_bracket x) b c p q = one_schema g x b c p q
+    p.5.0 ∙ ap (λ a. disjoined (both_span x y) a p.1) left ∙ ap (λ a. disjoined (both_span x y) q.0 a) right ∙ sym q.5.0
+one_schema g (schema_bracket s x) b c p q = one_schema g x b c p q

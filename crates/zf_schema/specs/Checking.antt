@@ -1,6 +1,6 @@
 -- What a text defines, and the faults of its paragraphs and boxes.
 use Rattle.std.specs.Prelude.{◌≡◌, ◌⊎◌, ℕ, ◌+◌, List, [], ◌∷◌, ◌++◌, map, flat_map, None}
-use Rattle.zf_schema.specs.Prelude.{Name, BoxTree, DeclTree, definition, free, given, ParagraphTree, schema_box, spelling, Tree, zed, abbreviation, already_defined, constructor, Defined, Definition, Fault, first_named, free_type, given_set, Offence, ResolvedTree, Schema, schema, Ty, IsOf, Offends, resolved, typed}
+use Rattle.zf_schema.specs.Prelude.{Name, BoxTree, DeclTree, definition, free, given, ParagraphTree, schema_box, spelling, Tree, zed, abbreviation, already_defined, constructor, Defined, Definition, Fault, first_named, free_type, given_set, Offence, ResolvedTree, Schema, schema, Ty, IsOf, Offends, resolved, typed, Span}
 use Rattle.zf_tree.specs.Trees as text
 use Rattle.zf_tree.specs.declared.operator.Need.TheVariants as need
 pub use Rattle.zf_term.specs.{has_elements, next_number}
@@ -55,27 +55,27 @@ Defines g (a_box n ds ps) h = IsNew g n × ((a : Schema) × IsText g ds ps a × 
 -- ---- what is wrong with one that is not well typed
 
 -- the name is that of a global
-abbrev pub IsTaken : List Defined → Name → Offence → ℕ → Type 0
-IsTaken g n o m = (o ≡ already_defined (spelling n)) × (m ≡ n.line) × (IsNew g n → ⊥)
+abbrev pub IsTaken : List Defined → Name → Offence → Span → Type 0
+IsTaken g n o m = (o ≡ already_defined (spelling n)) × (m ≡ n.span) × (IsNew g n → ⊥)
 
-abbrev pub OffendsGiven : List Defined → List Name → Offence → ℕ → Type 0
+abbrev pub OffendsGiven : List Defined → List Name → Offence → Span → Type 0
 OffendsGiven g [] o m = ⊥
 OffendsGiven g (n ∷ ns) o m = IsTaken g n o m ⊎ OffendsGiven (with_global g n (given_set (next_number g))) ns o m
 
-abbrev pub OffendsConstructors : List Defined → (number : ℕ) → (of_type : List ℕ) → (place : ℕ) → List Name → Offence → ℕ → Type 0
+abbrev pub OffendsConstructors : List Defined → (number : ℕ) → (of_type : List ℕ) → (place : ℕ) → List Name → Offence → Span → Type 0
 OffendsConstructors g number of_type place [] o m = ⊥
 OffendsConstructors g number of_type place (n ∷ ns) o m =
     IsTaken g n o m ⊎ OffendsConstructors (with_global g n (constructor number of_type place)) number of_type (place + 1) ns o m
 
-abbrev pub OffendsParagraph : List Defined → ParagraphTree → Offence → ℕ → Type 0
+abbrev pub OffendsParagraph : List Defined → ParagraphTree → Offence → Span → Type 0
 OffendsParagraph g (given ns) o m = OffendsGiven g ns o m
 OffendsParagraph g (free n ns) o m =
     IsTaken g n o m ⊎ OffendsConstructors (with_global g n (free_type (next_number g) (map spelling ns))) (next_number g) (spelling n) 0 ns o m
 OffendsParagraph g (text.abbreviation n e) o m = IsTaken g n o m ⊎ Offends (outside g) need.Expression e o m
 OffendsParagraph g (definition n x) o m = IsTaken g n o m ⊎ OffendsSchema g x o m
 
--- the offence, at the line, is one of the paragraph or box after the globals g
-abbrev pub OffendsItem : List Defined → Item → Offence → ℕ → Type 0
+-- the offence, at the place, is one of the paragraph or box after the globals g
+abbrev pub OffendsItem : List Defined → Item → Offence → Span → Type 0
 OffendsItem g (a_paragraph p) o m = OffendsParagraph g p o m
 OffendsItem g (a_box n ds ps) o m = IsTaken g n o m ⊎ OffendsText g ds ps o m
 
@@ -85,7 +85,7 @@ OffendsItem g (a_box n ds ps) o m = IsTaken g n o m ⊎ OffendsText g ds ps o m
 abbrev pub ChecksOne : List Defined → Item → List Defined → List Fault → Type 0
 ChecksOne g item h faults =
     (Defines g item h × (faults ≡ []))
-    ⊎ (((other : List Defined) → Defines g item other → ⊥) × (h ≡ g) × ((f : Fault) × OffendsItem g item f.offence f.line × (faults ≡ f ∷ [])))
+    ⊎ (((other : List Defined) → Defines g item other → ⊥) × (h ≡ g) × ((f : Fault) × OffendsItem g item f.offence f.span × (faults ≡ f ∷ [])))
 
 -- what the items define after the globals g, and their faults, in order
 abbrev pub ChecksAll : List Defined → List Item → List Defined → List Fault → Type 0

@@ -1,6 +1,6 @@
 -- Which schema a schema expression or a box is, where it is well typed.
 use Rattle.std.specs.Prelude.{◌≡◌, ℕ, List, [], ◌∷◌, ◌++◌, Some}
-use Rattle.zf_schema.specs.Prelude.{Name, SchemaRef, both, DeclTree, either, include, schema_bracket, schema_reference, schema_text, SchemaTree, spelling, Tree, vars, conjuncts, DeclaredSet, Defined, first_named, plain, ResolvedTree, Schema, schema, Ty, IsOf, resolved, Scope, predicate, set_sort, Adds, Agree, comp, conjoined, decorated, disjoined, empty_schema, Includes, IsNext, MarkAgrees, marked, schema_with}
+use Rattle.zf_schema.specs.Prelude.{Name, SchemaRef, both, DeclTree, either, include, schema_bracket, schema_reference, schema_span, schema_text, SchemaTree, spelling, Tree, vars, conjuncts, DeclaredSet, Defined, first_named, from_to, plain, ResolvedTree, Schema, schema, Ty, IsOf, resolved, Scope, predicate, set_sort, Adds, Agree, comp, conjoined, decorated, disjoined, empty_schema, Includes, IsNext, MarkAgrees, marked, schema_with, Span}
 
 -- what is in scope in a declared set: the globals
 abbrev pub outside : List Defined → Scope
@@ -14,7 +14,7 @@ inside g a = record { globals = g; comps = a.comps; locals = [] }
 abbrev pub Refers : List Defined → SchemaRef → Schema → Type 0
 Refers g r b =
     (i : ℕ) × (x : List ℕ) × (a : Schema) × (first_named (λ d. d.name) r.name.base g ≡ Some (i, record { name = x; definition = schema a }))
-    × MarkAgrees r.mark a × IsNext (decorated r.name.strokes (marked r.mark r.name.line a)) b
+    × MarkAgrees r.mark a × IsNext (decorated r.name.strokes (marked r.mark r.name.span a)) b
 
 -- names that are declared to be in a set
 abbrev pub AddsAll : Schema → List Name → Ty → DeclaredSet → Schema → Type 0
@@ -45,9 +45,13 @@ Constrains g a (p ∷ ps) b = (mid : Schema) × ConstrainsOne g a p mid × Const
 abbrev pub IsText : List Defined → List DeclTree → List Tree → Schema → Type 0
 IsText g ds ps b = (mid : Schema) × Declares g empty_schema ds mid × Constrains g mid ps b
 
+-- from where the one expression begins to where the other ends
+abbrev pub both_span : SchemaTree → SchemaTree → Span
+both_span x y = from_to (schema_span x) (schema_span y)
+
 abbrev pub IsSchema : List Defined → SchemaTree → Schema → Type 0
-IsSchema g (schema_text ds ps) c = IsText g ds ps c
-IsSchema g (schema_reference r) c = Refers g r c
-IsSchema g (both x y) c = (a b : Schema) × IsSchema g x a × IsSchema g y b × Agree a.comps b.comps × IsNext (conjoined a b) c
-IsSchema g (either l x y) c = (a b : Schema) × IsSchema g x a × IsSchema g y b × Agree a.comps b.comps × IsNext (disjoined l a b) c
-IsSchema g (schema_bracket x) c = IsSchema g x c
+IsSchema g (schema_text s ds ps) c = IsText g ds ps c
+IsSchema g (schema_reference s r) c = Refers g r c
+IsSchema g (both s x y) c = (a b : Schema) × IsSchema g x a × IsSchema g y b × Agree a.comps b.comps × IsNext (conjoined a b) c
+IsSchema g (either s x y) c = (a b : Schema) × IsSchema g x a × IsSchema g y b × Agree a.comps b.comps × IsNext (disjoined (both_span x y) a b) c
+IsSchema g (schema_bracket s x) c = IsSchema g x c

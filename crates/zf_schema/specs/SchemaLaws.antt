@@ -1,6 +1,6 @@
 -- What holds of every schema expression, of every item and of every text.
 use Rattle.std.specs.Prelude.{◌≡◌, ℕ, List, [], ◌∷◌, ◌++◌, map, length, slice_get, Option, Some, None}
-use Rattle.zf_schema.specs.Prelude.{BoxTree, free, given, ParagraphTree, SchemaTree, abbreviation, chain, Comp, constructor, DeclaredSet, Defined, Definition, Fault, free_type, given_set, link, no_links, Offence, reference, Schema, schema, sets_of, sides, Ty, Agree, all_unchanged, AreOnce, comp, comp_named, conjoined, decorated, delta, disjoined, EachOnce, MarkAgrees, new_place, prime, sets_on, with_comps, xi}
+use Rattle.zf_schema.specs.Prelude.{BoxTree, free, given, ParagraphTree, SchemaTree, abbreviation, chain, Comp, constructor, DeclaredSet, Defined, Definition, Fault, free_type, given_set, link, no_links, Offence, reference, Schema, schema, sets_of, sides, Ty, Agree, all_unchanged, AreOnce, comp, comp_named, conjoined, decorated, delta, disjoined, EachOnce, MarkAgrees, new_place, prime, sets_on, with_comps, xi, Span}
 use Rattle.std.specs.List.{AllByRecursion}
 use Rattle.zf_tree.specs.declared.symbol.Relation.TheVariants.{Equal}
 use Rattle.zf_tree.specs.declared.tree.RefMark.TheVariants.{Xi}
@@ -16,7 +16,7 @@ OneSchema = (g : List Defined) (x : SchemaTree) (a b : Schema) → IsSchema g x 
 
 -- one that is a schema has no offence
 abbrev pub NoSchemaOffence : Type 0
-NoSchemaOffence = (g : List Defined) (x : SchemaTree) (a : Schema) (o : Offence) (m : ℕ) → IsSchema g x a → OffendsSchema g x o m → ⊥
+NoSchemaOffence = (g : List Defined) (x : SchemaTree) (a : Schema) (o : Offence) (m : Span) → IsSchema g x a → OffendsSchema g x o m → ⊥
 
 -- a paragraph or box makes one list of globals at most
 abbrev pub OneDefinition : Type 0
@@ -24,7 +24,7 @@ OneDefinition = (g : List Defined) (item : Item) (h i : List Defined) → Define
 
 -- one that is well typed has no offence
 abbrev pub NoItemOffence : Type 0
-NoItemOffence = (g : List Defined) (item : Item) (h : List Defined) (o : Offence) (m : ℕ) → Defines g item h → OffendsItem g item o m → ⊥
+NoItemOffence = (g : List Defined) (item : Item) (h : List Defined) (o : Offence) (m : Span) → Defines g item h → OffendsItem g item o m → ⊥
 
 -- a text defines one list of globals, and has one number of faults
 abbrev pub OneCheck : Type 0
@@ -52,7 +52,7 @@ abbrev pub StandsFirst : Schema → Schema → Type 0
 StandsFirst a b = (more : List (List ℕ × Ty)) × (signature b.comps ≡ signature a.comps ++ more)
 
 abbrev pub FirstKept : Type 0
-FirstKept = (l : ℕ) (a b : Schema) → StandsFirst a (conjoined a b) × StandsFirst a (delta a) × StandsFirst a (xi l a) × StandsFirst a (disjoined l a b)
+FirstKept = (l : Span) (a b : Schema) → StandsFirst a (conjoined a b) × StandsFirst a (delta a) × StandsFirst a (xi l a) × StandsFirst a (disjoined l a b)
 
 -- ---- conjunction, by name
 
@@ -101,23 +101,23 @@ StandsAt cs i c = (d : Comp) × (slice_get cs i ≡ Some d) × (d.name ≡ c.nam
 -- what names a component of the other schema by place goes on naming that component
 abbrev pub PlacesCarried : Type 0
 PlacesCarried =
-    (l : ℕ) (a b : Schema) (i : ℕ) (c : Comp) → AreOnce b.comps → Agree a.comps b.comps → slice_get b.comps i ≡ Some c
+    (l : Span) (a b : Schema) (i : ℕ) (c : Comp) → AreOnce b.comps → Agree a.comps b.comps → slice_get b.comps i ≡ Some c
     → StandsAt (conjoined a b).comps (new_place b.comps (with_comps a.comps b.comps) i) c
     × StandsAt (disjoined l a b).comps (new_place b.comps (with_comps a.comps b.comps) i) c
 
 -- ---- disjunction, by name
 
 abbrev pub TypesOfEither : Type 0
-TypesOfEither = (l : ℕ) (a b : Schema) (x : List ℕ) → type_named x (disjoined l a b).comps ≡ option_or (type_named x a.comps) (type_named x b.comps)
+TypesOfEither = (l : Span) (a b : Schema) (x : List ℕ) → type_named x (disjoined l a b).comps ≡ option_or (type_named x a.comps) (type_named x b.comps)
 
 -- it has the components that the conjunction has, of the same types
 abbrev pub CompsOfEither : Type 0
-CompsOfEither = (l : ℕ) (a b : Schema) → signature (disjoined l a b).comps ≡ signature (conjoined a b).comps
+CompsOfEither = (l : Span) (a b : Schema) → signature (disjoined l a b).comps ≡ signature (conjoined a b).comps
 
 -- a component has one declared set, whose sides are its declared sets in the one schema and in the other
 abbrev pub SetsOfEither : Type 0
 SetsOfEither =
-    (l : ℕ) (a b : Schema) (x : List ℕ) (t : Ty) → type_named x (disjoined l a b).comps ≡ Some t
+    (l : Span) (a b : Schema) (x : List ℕ) (t : Ty) → type_named x (disjoined l a b).comps ≡ Some t
     → sets_named x (disjoined l a b).comps ≡ sides (sets_of (sets_on (comp_named x a.comps) t)) (sets_of (sets_on (comp_named x b.comps) t)) ∷ []
 
 -- ---- `\Xi`
@@ -125,7 +125,7 @@ SetsOfEither =
 -- of the conjuncts that `\Xi S` adds to `\Delta S`, the one at the place of a component equates it with the primed one
 abbrev pub XiEquates : Type 0
 XiEquates =
-    (l : ℕ) (a : Schema) (i : ℕ) (c : Comp) → AreOnce a.comps → MarkAgrees Xi a → slice_get a.comps i ≡ Some c
+    (l : Span) (a : Schema) (i : ℕ) (c : Comp) → AreOnce a.comps → MarkAgrees Xi a → slice_get a.comps i ≡ Some c
     → (j : ℕ)
     × (slice_get (all_unchanged l (decorated prime a).comps (delta a).comps 0 a.comps) i ≡ Some (chain l (reference l (Component i)) (link Equal (reference l (Component j)) no_links)))
     × StandsAt (xi l a).comps i c

@@ -1,18 +1,18 @@
 //! The schemas that schema expressions are.
 ghost use Rattle.std.specs.Prelude.{◌≡◌, IfErr, IfOk, map};
-ghost use Rattle.zf_schema.specs.Prelude.{decl_of, globals_of, schema_of, IfFault, Agree, conjoined, disjoined, IsNext, OneClashes};
+ghost use Rattle.zf_schema.specs.Prelude.{decl_of, globals_of, schema_of, sides_span, IfFault, Agree, conjoined, disjoined, IsNext, OneClashes};
 ghost use Rattle.zf_tree.specs.TreeViews as tree;
 ghost use Rattle.zf_schema.specs.{CantConjoin, IsSchema, OffendsSchema, StopsEither};
 ghost use Rattle.zf_schema.specs.SchemaOffences as spec;
 
 use crate::reference::referred;
-use crate::stop::{either_line, refusal};
+use crate::stop::{either_span, refusal};
 use crate::text::growing_text;
 use bumpalo::Bump;
 use zf_calculus::{Growing, Spare, disjoin};
 use zf_sorts::Refusal;
-use zf_term::{Globals, Measured};
-use zf_tree::{Decl, Name, SchemaExp};
+use zf_term::{Globals, Measured, Sides};
+use zf_tree::{Decl, Name, SchemaExp, Span};
 
 /// The schema that the expression is.
 pub fn schema_of_expression<'a>(
@@ -37,97 +37,102 @@ fn growing_schema<'a>(
     ensures wrong { IfErr result (λ e. IfFault e (OffendsSchema (globals_of globals.now) (tree.schema_tree_of exp.now))) }
 {
     match exp {
-        SchemaExp::Text(decls, predicates) => growing_text(
+        SchemaExp::Text(_, decls, predicates) => growing_text(
             arena,
             globals,
             decls.as_slice(),
             predicates.as_slice(),
         ),
-        SchemaExp::Ref(reference) => referred(arena, globals, reference, Spare::none()),
-        SchemaExp::Both(left, right) => {
+        SchemaExp::Ref(_, reference) => referred(arena, globals, reference, Spare::none()),
+        SchemaExp::Both(_, left, right) => {
             let of_left = growing_schema(left.get(), arena, globals)?;
             let of_right = growing_schema(right.get(), arena, globals)?;
-            conjunction(arena, name_line(right.get()), of_left, of_right)
+            conjunction(arena, name_span(right.get()), of_left, of_right)
         }
-        SchemaExp::Or(line, left, right) => {
+        SchemaExp::Or(_, left, right) => {
             let of_left = growing_schema(left.get(), arena, globals)?;
             let of_right = growing_schema(right.get(), arena, globals)?;
-            disjunction(arena, *line, name_line(right.get()), &of_left, &of_right)
+            let sides = Sides {
+                left: left.get().span(),
+                right: right.get().span(),
+            };
+            disjunction(arena, sides, name_span(right.get()), &of_left, &of_right)
         }
-        SchemaExp::Bracket(inner) => growing_schema(inner.get(), arena, globals),
+        SchemaExp::Bracket(_, inner) => growing_schema(inner.get(), arena, globals),
     }
 }
 
-/// The conjunction of two schemas, where the first name of the right one stands at this line.
+/// The conjunction of two schemas, with the place of the first name of the right one.
 fn conjunction<'a>(
     arena: &'a Bump,
-    line: u32,
+    span: Span,
     left: Growing<'a>,
     right: Growing<'a>,
 ) -> Result<Growing<'a>, Refusal<'a>>
     ensures agree { IfOk result (λ g. Agree (schema_of left.entry).comps (schema_of right.entry).comps) }
     ensures ok { IfOk result (λ g. IsNext (conjoined (schema_of left.entry) (schema_of right.entry)) (schema_of g)) }
-    ensures wrong { IfErr result (λ e. IfFault e (CantConjoin line (schema_of left.entry) (schema_of right.entry))) }
+    ensures wrong { IfErr result (λ e. IfFault e (CantConjoin span (schema_of left.entry) (schema_of right.entry))) }
 {
     let mut whole = left;
     match whole.include(arena, right) {
         Ok(()) => Ok(whole),
-        Err(stop) => Err(refusal(arena, stop, line)),
+        Err(stop) => Err(refusal(arena, stop, span)),
     }
 }
 
-/// The disjunction of two schemas that begins at this line, where the first name of the right one stands at that.
+/// The disjunction of two schemas, with their places and that of the first name of the right one.
 fn disjunction<'a>(
     arena: &'a Bump,
-    line: u32,
-    name: u32,
+    sides: Sides,
+    name: Span,
     left: &Growing<'a>,
     right: &Growing<'a>,
 ) -> Result<Growing<'a>, Refusal<'a>>
     ensures agree { IfOk result (λ g. Agree (schema_of left.now).comps (schema_of right.now).comps) }
-    ensures ok { IfOk result (λ g. IsNext (disjoined line (schema_of left.now) (schema_of right.now)) (schema_of g)) }
-    ensures wrong { IfErr result (λ e. IfFault e (StopsEither (OneClashes (schema_of left.now).comps (schema_of right.now).comps) (Agree (schema_of left.now).comps (schema_of right.now).comps) (disjoined line (schema_of left.now) (schema_of right.now)) line name)) }
+    ensures ok { IfOk result (λ g. IsNext (disjoined (sides_span sides) (schema_of left.now) (schema_of right.now)) (schema_of g)) }
+    ensures wrong { IfErr result (λ e. IfFault e (StopsEither (OneClashes (schema_of left.now).comps (schema_of right.now).comps) (Agree (schema_of left.now).comps (schema_of right.now).comps) (disjoined (sides_span sides) (schema_of left.now) (schema_of right.now)) (sides_span sides) name)) }
 {
-    match disjoin(arena, line, left.flat(), right.flat()) {
+    match disjoin(arena, sides, left.flat(), right.flat()) {
         Ok(growing) => Ok(growing),
         Err(stop) => {
-            let line = either_line(&stop, line, name);
-            Err(refusal(arena, stop, line))
+            let span = either_span(&stop, sides.span(), name);
+            Err(refusal(arena, stop, span))
         }
     }
 }
 
-/// The line of the first name.
+/// Where the first name stands.
 #[tactic(auto, using(zf_tree::proofs::SchemaSeen::seen))]
-fn name_line(exp: &SchemaExp<'_>) -> u32
-    ensures { result ≡ spec.name_line (tree.schema_tree_of exp.now) }
+fn name_span(exp: &SchemaExp<'_>) -> Span
+    ensures { result ≡ spec.name_span (tree.schema_tree_of exp.now) }
 {
     match exp {
-        SchemaExp::Text(decls, _) => decls_line(decls.as_slice()),
-        SchemaExp::Ref(reference) => reference.name.line,
-        SchemaExp::Both(left, _) => name_line(left.get()),
-        SchemaExp::Or(_, left, _) => name_line(left.get()),
-        SchemaExp::Bracket(inner) => name_line(inner.get()),
+        SchemaExp::Text(span, decls, _) => decls_span(*span, decls.as_slice()),
+        SchemaExp::Ref(_, reference) => reference.name.span,
+        SchemaExp::Both(_, left, _) => name_span(left.get()),
+        SchemaExp::Or(_, left, _) => name_span(left.get()),
+        SchemaExp::Bracket(_, inner) => name_span(inner.get()),
     }
 }
 
-fn decls_line(decls: &[Decl<'_>]) -> u32
-    ensures { result ≡ spec.decls_line (map decl_of decls.now) }
+/// Where the first name of declarations stands; where there is none, the whole.
+fn decls_span(whole: Span, decls: &[Decl<'_>]) -> Span
+    ensures { result ≡ spec.decls_span whole (map decl_of decls.now) }
 {
     match decls {
-        [] => 0,
+        [] => whole,
         [first, ..] => match first {
-            Decl::Vars(names, _) => names_line(names.as_slice()),
-            Decl::Include(reference) => reference.name.line,
+            Decl::Vars(names, _) => names_span(whole, names.as_slice()),
+            Decl::Include(reference) => reference.name.span,
         },
     }
 }
 
-fn names_line(names: &[Name<'_>]) -> u32
-    ensures { result ≡ spec.names_line names.now }
+fn names_span(whole: Span, names: &[Name<'_>]) -> Span
+    ensures { result ≡ spec.names_span whole names.now }
 {
     match names {
-        [] => 0,
-        [name, ..] => name.line,
+        [] => whole,
+        [name, ..] => name.span,
     }
 }

@@ -27,7 +27,7 @@ pub fn define<'a>(
 ) -> Result<(), Refusal<'a>>
     requires { next.old ≡ next_number (globals_of globals.old) }
     ensures ok { OnOk result (DefinesParagraph (globals_of globals.old) (paragraph_of paragraph.now) (globals_of globals.new)) }
-    ensures fault { IfErr result (λ e. IfFault e (λ offence line. OffendsParagraph (globals_of globals.old) (paragraph_of paragraph.now) offence line)) }
+    ensures fault { IfErr result (λ e. IfFault e (λ offence span. OffendsParagraph (globals_of globals.old) (paragraph_of paragraph.now) offence span)) }
     ensures kept { OnErr result (globals_of globals.new ≡ globals_of globals.old) }
     ensures numbered { next.new ≡ next_number (globals_of globals.new) }
 {
@@ -63,7 +63,7 @@ pub fn define_box<'a>(
     predicates: &[Boxed<'a, Term<'a>>],
 ) -> Result<(), Refusal<'a>>
     ensures ok { OnOk result (Defines (globals_of globals.old) (a_box name.now (map decl_of decls.now) (map tree_of predicates.now)) (globals_of globals.new)) }
-    ensures fault { IfErr result (λ e. IfFault e (λ offence line. OffendsItem (globals_of globals.old) (a_box name.now (map decl_of decls.now) (map tree_of predicates.now)) offence line)) }
+    ensures fault { IfErr result (λ e. IfFault e (λ offence span. OffendsItem (globals_of globals.old) (a_box name.now (map decl_of decls.now) (map tree_of predicates.now)) offence span)) }
     ensures kept { OnErr result (globals_of globals.new ≡ globals_of globals.old) }
     ensures numbered { next_number (globals_of globals.new) ≡ next_number (globals_of globals.old) }
 {
@@ -83,7 +83,7 @@ fn add<'a>(
     requires number { next ≡ next_number (globals_of globals.old) }
     requires small { next < 2 ^ 63 }
     ensures ok { OnOk result (DefinesParagraph (globals_of globals.old) (paragraph_of paragraph.now) (globals_of globals.new)) }
-    ensures fault { IfErr result (λ e. IfFault e (λ offence line. OffendsParagraph (globals_of globals.old) (paragraph_of paragraph.now) offence line)) }
+    ensures fault { IfErr result (λ e. IfFault e (λ offence span. OffendsParagraph (globals_of globals.old) (paragraph_of paragraph.now) offence span)) }
     ensures begun { take (length (globals_of globals.old)) (globals_of globals.new) ≡ globals_of globals.old }
 {
     match paragraph {
@@ -103,7 +103,7 @@ fn add_given<'a>(
     requires number { first ≡ next_number (globals_of globals.old) }
     requires small { first < 2 ^ 63 }
     ensures ok { OnOk result (Gives (globals_of globals.old) names.now (globals_of globals.new)) }
-    ensures fault { IfErr result (λ e. IfFault e (λ offence line. OffendsGiven (globals_of globals.old) names.now offence line)) }
+    ensures fault { IfErr result (λ e. IfFault e (λ offence span. OffendsGiven (globals_of globals.old) names.now offence span)) }
     ensures begun { take (length (globals_of globals.old)) (globals_of globals.new) ≡ globals_of globals.old }
 {
     for (place, name) in names.iter().enumerate() {
@@ -121,7 +121,7 @@ fn add_free<'a>(
 ) -> Result<(), Refusal<'a>>
     requires { number ≡ next_number (globals_of globals.old) }
     ensures ok { OnOk result (DefinesParagraph (globals_of globals.old) (text.free name.now names.now) (globals_of globals.new)) }
-    ensures fault { IfErr result (λ e. IfFault e (λ offence line. OffendsParagraph (globals_of globals.old) (text.free name.now names.now) offence line)) }
+    ensures fault { IfErr result (λ e. IfFault e (λ offence span. OffendsParagraph (globals_of globals.old) (text.free name.now names.now) offence span)) }
     ensures begun { take (length (globals_of globals.old)) (globals_of globals.new) ≡ globals_of globals.old }
 {
     let constructors = all_spelled(arena, names)?;
@@ -137,7 +137,7 @@ fn add_constructors<'a>(
     names: &[Name<'a>],
 ) -> Result<(), Refusal<'a>>
     ensures ok { OnOk result (Constructs (globals_of globals.old) number (spelling of_type.now) 0 names.now (globals_of globals.new)) }
-    ensures fault { IfErr result (λ e. IfFault e (λ offence line. OffendsConstructors (globals_of globals.old) number (spelling of_type.now) 0 names.now offence line)) }
+    ensures fault { IfErr result (λ e. IfFault e (λ offence span. OffendsConstructors (globals_of globals.old) number (spelling of_type.now) 0 names.now offence span)) }
     ensures begun { take (length (globals_of globals.old)) (globals_of globals.new) ≡ globals_of globals.old }
 {
     let type_name = of_type.spelled();
@@ -155,7 +155,7 @@ fn add_abbreviation<'a>(
     term: &Term<'a>,
 ) -> Result<(), Refusal<'a>>
     ensures ok { OnOk result (DefinesParagraph (globals_of globals.old) (text.abbreviation name.now (tree_of term.now)) (globals_of globals.new)) }
-    ensures fault { IfErr result (λ e. IfFault e (λ offence line. OffendsParagraph (globals_of globals.old) (text.abbreviation name.now (tree_of term.now)) offence line)) }
+    ensures fault { IfErr result (λ e. IfFault e (λ offence span. OffendsParagraph (globals_of globals.old) (text.abbreviation name.now (tree_of term.now)) offence span)) }
     ensures begun { take (length (globals_of globals.old)) (globals_of globals.new) ≡ globals_of globals.old }
 {
     let spelled = new_name(arena, globals, name)?;
@@ -171,7 +171,7 @@ fn add_schema<'a>(
     exp: &SchemaExp<'a>,
 ) -> Result<(), Refusal<'a>>
     ensures ok { OnOk result (DefinesParagraph (globals_of globals.old) (text.definition name.now (text_views.schema_tree_of exp.now)) (globals_of globals.new)) }
-    ensures fault { IfErr result (λ e. IfFault e (λ offence line. OffendsParagraph (globals_of globals.old) (text.definition name.now (text_views.schema_tree_of exp.now)) offence line)) }
+    ensures fault { IfErr result (λ e. IfFault e (λ offence span. OffendsParagraph (globals_of globals.old) (text.definition name.now (text_views.schema_tree_of exp.now)) offence span)) }
     ensures begun { take (length (globals_of globals.old)) (globals_of globals.new) ≡ globals_of globals.old }
 {
     let spelled = new_name(arena, globals, name)?;
@@ -189,7 +189,7 @@ fn add_name<'a>(
 ) -> Result<(), Refusal<'a>>
     ensures new { OnOk result (IsNew (globals_of globals.old) name.now) }
     ensures ok { OnOk result (globals_of globals.new ≡ with_global (globals_of globals.old) name.now (definition_of entry.entry)) }
-    ensures fault { IfErr result (λ e. IfFault e (λ offence line. IsTaken (globals_of globals.old) name.now offence line)) }
+    ensures fault { IfErr result (λ e. IfFault e (λ offence span. IsTaken (globals_of globals.old) name.now offence span)) }
     ensures kept { OnErr result (globals_of globals.new ≡ globals_of globals.old) }
 {
     let spelled = new_name(arena, globals, name)?;
@@ -205,12 +205,12 @@ fn new_name<'a>(
 ) -> Result<Lent<'a>, Refusal<'a>>
     ensures ok { IfOk result (λ t. t ≡ spelling name.now) }
     ensures new { OnOk result (IsNew (globals_of globals.now) name.now) }
-    ensures fault { IfErr result (λ e. IfFault e (λ offence line. IsTaken (globals_of globals.now) name.now offence line)) }
+    ensures fault { IfErr result (λ e. IfFault e (λ offence span. IsTaken (globals_of globals.now) name.now offence span)) }
 {
     let spelled = name.spelled();
     if !globals.is_new(spelled.as_slice()) {
         let offence = Offence::AlreadyDefined(spelled);
-        return Err(refused(arena, offence, name.line));
+        return Err(refused(arena, offence, name.span));
     }
     Ok(spelled)
 }
@@ -232,7 +232,7 @@ fn abbreviation_of<'a>(
     term: &Term<'a>,
 ) -> Result<Entry<'a>, Refusal<'a>>
     ensures ok { IfOk result (λ e. (t : Ty) × IsOf (outside (globals_of globals.now)) (tree_of term.now) (typed t) × (definition_of e ≡ abbreviated (globals_of globals.now) t (resolved (outside (globals_of globals.now)) (tree_of term.now)))) }
-    ensures fault { IfErr result (λ e. IfFault e (λ offence line. Offends (outside (globals_of globals.now)) need.Expression (tree_of term.now) offence line)) }
+    ensures fault { IfErr result (λ e. IfFault e (λ offence span. Offends (outside (globals_of globals.now)) need.Expression (tree_of term.now) offence span)) }
 {
     let Judged { term, sort } = judge(
         term,

@@ -26,13 +26,13 @@ pub fn referred<'a>(
         Ok(schema) => schema,
         Err(offence) => {
             let like = global_like(globals, name.base(), true);
-            return Err(refused_name(arena, offence, name.line, like));
+            return Err(refused_name(arena, offence, name.span, like));
         }
     };
     let spare = spare.behind(schema.flat());
-    match marked(arena, reference.mark, name.line, schema, spare) {
+    match marked(arena, reference.mark, name.span, schema, spare) {
         Ok(growing) => Ok(decorate_own(arena, name.strokes(), growing)?),
-        Err(stop) => Err(refusal(arena, stop, name.line)),
+        Err(stop) => Err(refusal(arena, stop, name.span)),
     }
 }
 

@@ -6,26 +6,27 @@ ghost use Rattle.zf_schema.specs.{Refuses};
 use bumpalo::Bump;
 use zf_calculus::Stop;
 use zf_sorts::{Offence, Refusal, refused};
+use zf_tree::Span;
 
-/// The refusal at this line.
+/// The refusal at this place.
 #[inline(never)]
-pub(crate) fn refusal<'a>(arena: &'a Bump, stop: Stop<'a>, line: u32) -> Refusal<'a>
-    ensures { Refuses stop.entry line result }
+pub(crate) fn refusal<'a>(arena: &'a Bump, stop: Stop<'a>, span: Span) -> Refusal<'a>
+    ensures { Refuses stop.entry span result }
 {
     match stop {
-        Stop::Clash(clash) => refused(arena, Offence::Clash(clash), line),
-        Stop::TooLarge(limit) => refused(arena, Offence::TooLarge(limit), line),
+        Stop::Clash(clash) => refused(arena, Offence::Clash(clash), span),
+        Stop::TooLarge(limit) => refused(arena, Offence::TooLarge(limit), span),
         Stop::OutOfMemory => Refusal::OutOfMemory,
     }
 }
 
-/// The line of a disjunction that stops: of a clash that of the name.
-pub(crate) fn either_line(stop: &Stop<'_>, line: u32, name: u32) -> u32
-    ensures { result ≡ spec.either_line stop.now line name }
+/// The place of a disjunction that stops: of a clash that of the name.
+pub(crate) fn either_span(stop: &Stop<'_>, span: Span, name: Span) -> Span
+    ensures { result ≡ spec.either_span stop.now span name }
 {
     match stop {
         Stop::Clash(_) => name,
-        Stop::TooLarge(_) => line,
-        Stop::OutOfMemory => line,
+        Stop::TooLarge(_) => span,
+        Stop::OutOfMemory => span,
     }
 }

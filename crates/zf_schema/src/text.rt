@@ -141,7 +141,7 @@ fn include<'a>(
     let other = referred(arena, globals, reference, room_of(growing, spare))?;
     match growing.include(arena, other) {
         Ok(()) => Ok(()),
-        Err(stop) => Err(refusal(arena, stop, reference.name.line)),
+        Err(stop) => Err(refusal(arena, stop, reference.name.span)),
     }
 }
 
@@ -185,7 +185,7 @@ fn add<'a>(
     let component = declared(arena, name, ztype, set)?;
     match growing.add(component) {
         Ok(()) => Ok(()),
-        Err(stop) => Err(refusal(arena, stop, name.line)),
+        Err(stop) => Err(refusal(arena, stop, name.span)),
     }
 }
 
@@ -298,6 +298,6 @@ fn take<'a>(
 {
     match growing.take(Conjunct::lasting(conjunct)) {
         Ok(()) => Ok(()),
-        Err(stop) => Err(refusal(arena, stop, conjunct.line())),
+        Err(stop) => Err(refusal(arena, stop, conjunct.span())),
     }
 }

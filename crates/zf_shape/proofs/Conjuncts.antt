@@ -1,5 +1,5 @@
 -- The nodes and the height of each form of conjunct.
-use Rattle.zf_shape.proofs.Prelude.{◌+◌, ◌-◌, ◌<◌, ◌↔◌, ◌∙◌, ◌≡◌, ◌≤◌, [], ◌∷◌, ap, arith, Bool, false, IsTrue, length, List, MatchOption, max, None, Option, refl, Some, sym, true, true≢false, ℕ, Batch, conjunct_of, Conjunct, is_member, joined, one_holds, resolved_of, ResolvedTree, height, nodes, numbering, Resolved, of-Either, of-Member, of-Term, same_height, same_nodes, AreLow}
+use Rattle.zf_shape.proofs.Prelude.{◌+◌, ◌-◌, ◌<◌, ◌↔◌, ◌∙◌, ◌≡◌, ◌≤◌, [], ◌∷◌, ap, arith, Bool, false, IsTrue, length, List, MatchOption, max, None, Option, refl, Some, sym, true, true≢false, ℕ, Batch, conjunct_of, Conjunct, is_member, joined, one_holds, resolved_of, ResolvedTree, height, nodes, numbering, Resolved, of-Either, of-Member, of-Term, same_height, same_nodes, anywhere, AreLow, Sides, sides_span, Span}
 use Rattle.zf_term.specs.declared.conjunct.Conjunct.TheVariants as v
 use Rattle.zf_shape.proofs.Heights.{below_nodes, some_height}
 use Rattle.zf_shape.proofs.Joined.{all_in, as_high, low_joined}
@@ -14,16 +14,16 @@ height_member i t ps whole is =
     let seen = ap (λ c. height (conjunct_of c)) is ∙ ap height (of-Member i t ps) ∙ same_height (numbering ps) (is_member i (resolved_of t)) in
     omega (arith, seen, some_height (resolved_of t))
 
--- the line makes no difference
-height_of_joined : (l : ℕ) (ts : List ResolvedTree) → height (joined l ts) ≡ height (joined 0 ts)
+-- the place makes no difference
+height_of_joined : (l : Span) (ts : List ResolvedTree) → height (joined l ts) ≡ height (joined anywhere ts)
 height_of_joined l [] = refl
 height_of_joined l (t ∷ ts) = refl
 
-pub height_either : (l : ℕ) (left right : List Batch) (ps : Option (List ℕ)) (whole : Conjunct) → whole ≡ v.Either l left right ps
-    → height (conjunct_of whole) ≡ max (height (joined 0 (all_in left))) (height (joined 0 (all_in right))) + 1
-height_either l left right ps whole is =
-    let seen = ap (λ c. height (conjunct_of c)) is ∙ ap height (of-Either l left right ps) ∙ same_height (numbering ps) (one_holds l (all_in left) (all_in right)) in
-    omega (arith, seen, height_of_joined l (all_in left), height_of_joined l (all_in right))
+pub height_either : (s : Sides) (left right : List Batch) (ps : Option (List ℕ)) (whole : Conjunct) → whole ≡ v.Either s left right ps
+    → height (conjunct_of whole) ≡ max (height (joined anywhere (all_in left))) (height (joined anywhere (all_in right))) + 1
+height_either s left right ps whole is =
+    let seen = ap (λ c. height (conjunct_of c)) is ∙ ap height (of-Either s left right ps) ∙ same_height (numbering ps) (one_holds (sides_span s) (all_in left) (all_in right)) in
+    omega (arith, seen, height_of_joined (sides_span s) (all_in left), height_of_joined (sides_span s) (all_in right))
 
 pub same_height_told : (b : Bool) (x y n : ℕ) → x ≡ y → IsTrue b ↔ y ≤ n → IsTrue b ↔ x ≤ n
 same_height_told b x y n e told = (λ h. omega (arith, e, told.0 h), λ h. told.1 (omega (arith, e, h)))
@@ -42,9 +42,10 @@ second_told r b x y z m n e step first holds second =
 pub first_told : (r : Bool) (x y z m n : ℕ) → x ≡ max y z + 1 → (1 ≤ n) × (m ≡ n - 1) → IsTrue r ↔ y ≤ m → r ≡ false → IsTrue r ↔ x ≤ n
 first_told r x y z m n e step first fails = (λ h. absurd (true≢false (sym h ∙ fails)), λ h. first.1 (omega (arith, e, step.0, step.1, h)))
 
-pub joined_told : (b : Bool) (n m : ℕ) (ts : List ResolvedTree) → m ≡ length ts → 0 < m → IsTrue b ↔ AreLow n (m - 1) m ts → IsTrue b ↔ height (joined 0 ts) ≤ n
+pub joined_told : (b : Bool) (n m : ℕ) (ts : List ResolvedTree) → m ≡ length ts → 0 < m → IsTrue b ↔ AreLow n (m - 1) m ts
+    → IsTrue b ↔ height (joined anywhere ts) ≤ n
 joined_told b n m ts e some told =
-    let same = low_joined 0 n m ts e some in
+    let same = low_joined anywhere n m ts e some in
     (λ h. same.1 (told.0 h), λ h. told.1 (same.0 h))
 
 -- ---- nodes
@@ -57,15 +58,15 @@ nodes_member i t ps whole is =
     let seen = ap (λ c. nodes (conjunct_of c)) is ∙ ap nodes (of-Member i t ps) ∙ same_nodes (numbering ps) (is_member i (resolved_of t)) in
     omega (arith, seen)
 
-nodes_of_joined : (l : ℕ) (ts : List ResolvedTree) → nodes (joined l ts) ≡ nodes (joined 0 ts)
+nodes_of_joined : (l : Span) (ts : List ResolvedTree) → nodes (joined l ts) ≡ nodes (joined anywhere ts)
 nodes_of_joined l [] = refl
 nodes_of_joined l (t ∷ ts) = refl
 
-pub nodes_either : (l : ℕ) (left right : List Batch) (ps : Option (List ℕ)) (whole : Conjunct) → whole ≡ v.Either l left right ps
-    → nodes (conjunct_of whole) ≡ nodes (joined 0 (all_in left)) + nodes (joined 0 (all_in right)) + 1
-nodes_either l left right ps whole is =
-    let seen = ap (λ c. nodes (conjunct_of c)) is ∙ ap nodes (of-Either l left right ps) ∙ same_nodes (numbering ps) (one_holds l (all_in left) (all_in right)) in
-    omega (arith, seen, nodes_of_joined l (all_in left), nodes_of_joined l (all_in right))
+pub nodes_either : (s : Sides) (left right : List Batch) (ps : Option (List ℕ)) (whole : Conjunct) → whole ≡ v.Either s left right ps
+    → nodes (conjunct_of whole) ≡ nodes (joined anywhere (all_in left)) + nodes (joined anywhere (all_in right)) + 1
+nodes_either s left right ps whole is =
+    let seen = ap (λ c. nodes (conjunct_of c)) is ∙ ap nodes (of-Either s left right ps) ∙ same_nodes (numbering ps) (one_holds (sides_span s) (all_in left) (all_in right)) in
+    omega (arith, seen, nodes_of_joined (sides_span s) (all_in left), nodes_of_joined (sides_span s) (all_in right))
 
 -- what is left of a room after so many nodes
 abbrev pub IsLeft : Option ℕ → (room count : ℕ) → Type 0
@@ -89,19 +90,19 @@ same_left (Some n) x y room e h = omega (arith, e, h)
 
 -- ---- the sides, as they are got
 
-pub height_sides : (l : ℕ) (left right a b : List Batch) (ps : Option (List ℕ)) (whole : Conjunct) → whole ≡ v.Either l left right ps → a ≡ left → b ≡ right
-    → height (conjunct_of whole) ≡ max (height (joined 0 (all_in a))) (height (joined 0 (all_in b))) + 1
-height_sides l left right a b ps whole is e f =
-    height_either l left right ps whole is
-    ∙ ap (λ (bs : List Batch). max (height (joined 0 (all_in bs))) (height (joined 0 (all_in right))) + 1) (sym e)
-    ∙ ap (λ (bs : List Batch). max (height (joined 0 (all_in a))) (height (joined 0 (all_in bs))) + 1) (sym f)
+pub height_sides : (s : Sides) (left right a b : List Batch) (ps : Option (List ℕ)) (whole : Conjunct) → whole ≡ v.Either s left right ps → a ≡ left → b ≡ right
+    → height (conjunct_of whole) ≡ max (height (joined anywhere (all_in a))) (height (joined anywhere (all_in b))) + 1
+height_sides s left right a b ps whole is e f =
+    height_either s left right ps whole is
+    ∙ ap (λ (bs : List Batch). max (height (joined anywhere (all_in bs))) (height (joined anywhere (all_in right))) + 1) (sym e)
+    ∙ ap (λ (bs : List Batch). max (height (joined anywhere (all_in a))) (height (joined anywhere (all_in bs))) + 1) (sym f)
 
-pub nodes_sides : (l : ℕ) (left right a b : List Batch) (ps : Option (List ℕ)) (whole : Conjunct) → whole ≡ v.Either l left right ps → a ≡ left → b ≡ right
-    → nodes (conjunct_of whole) ≡ nodes (joined 0 (all_in a)) + nodes (joined 0 (all_in b)) + 1
-nodes_sides l left right a b ps whole is e f =
-    nodes_either l left right ps whole is
-    ∙ ap (λ (bs : List Batch). nodes (joined 0 (all_in bs)) + nodes (joined 0 (all_in right)) + 1) (sym e)
-    ∙ ap (λ (bs : List Batch). nodes (joined 0 (all_in a)) + nodes (joined 0 (all_in bs)) + 1) (sym f)
+pub nodes_sides : (s : Sides) (left right a b : List Batch) (ps : Option (List ℕ)) (whole : Conjunct) → whole ≡ v.Either s left right ps → a ≡ left → b ≡ right
+    → nodes (conjunct_of whole) ≡ nodes (joined anywhere (all_in a)) + nodes (joined anywhere (all_in b)) + 1
+nodes_sides s left right a b ps whole is e f =
+    nodes_either s left right ps whole is
+    ∙ ap (λ (bs : List Batch). nodes (joined anywhere (all_in bs)) + nodes (joined anywhere (all_in right)) + 1) (sym e)
+    ∙ ap (λ (bs : List Batch). nodes (joined anywhere (all_in a)) + nodes (joined anywhere (all_in bs)) + 1) (sym f)
 
-pub as_many_nodes : (ts : List ResolvedTree) → length ts ≤ nodes (joined 0 ts)
-as_many_nodes ts = omega (arith, as_high 0 ts, below_nodes (joined 0 ts))
+pub as_many_nodes : (ts : List ResolvedTree) → length ts ≤ nodes (joined anywhere ts)
+as_many_nodes ts = omega (arith, as_high anywhere ts, below_nodes (joined anywhere ts))

@@ -1,5 +1,5 @@
 -- The height of terms, and of each of several.
-use Rattle.zf_shape.proofs.Prelude.{◌+◌, ◌-◌, ◌∙◌, ◌≡◌, ◌≤◌, ap, arith, Bool, false, IsTrue, List, map, max, Option, sym, true, true≢false, ℕ, Quantifier, link-seen, of-Comprehension, of-Quantified, range-seen, absent, binary, bracket, comprehension, chain, constant, empty_set, link, links, listed, no_links, no_ranges, no_terms, number, part_of, present, quantified, range, range_of, Ranges, ranges, reference, resolved_link_of, resolved_of, ResolvedLinks, ResolvedPart, ResolvedTree, ResolvedTrees, term, terms, unary, all_nodes, height, link_nodes, nodes, part_height, part_nodes, range_nodes, tallest, tallest_link, tallest_range, Range, Resolved, ResolvedLink}
+use Rattle.zf_shape.proofs.Prelude.{◌+◌, ◌-◌, ◌∙◌, ◌≡◌, ◌≤◌, ap, arith, Bool, false, IsTrue, List, map, max, Option, sym, true, true≢false, ℕ, Quantifier, link-seen, of-Comprehension, of-Quantified, range-seen, absent, binary, bracket, comprehension, chain, constant, empty_set, link, links, listed, no_links, no_ranges, no_terms, number, part_of, present, quantified, range, range_of, Ranges, ranges, reference, resolved_link_of, resolved_of, ResolvedLinks, ResolvedPart, ResolvedTree, ResolvedTrees, term, terms, unary, all_nodes, height, link_nodes, nodes, part_height, part_nodes, range_nodes, tallest, tallest_link, tallest_range, Range, Resolved, ResolvedLink, Span}
 use Rattle.zf_term.specs.declared.resolved.Resolved.TheVariants as v
 use Rattle.zf_shape.proofs.FirstOf.{IsHighest, IsWithin, stay, StayWithin, within}
 
@@ -48,11 +48,11 @@ mutual
   below_part_nodes absent = omega arith
   below_part_nodes (present t) = below_nodes t
 
-pub of_comprehension : (l : ℕ) (rs : List Range) (p t : Option Resolved) → height (resolved_of (v.Comprehension l rs p t))
+pub of_comprehension : (l : Span) (rs : List Range) (p t : Option Resolved) → height (resolved_of (v.Comprehension l rs p t))
     ≡ max (max (tallest_range (ranges (map range_of rs))) (part_height (part_of p))) (part_height (part_of t)) + 1
 of_comprehension l rs p t = ap height (of-Comprehension l rs p t)
 
-pub of_quantified : (l : ℕ) (q : Quantifier) (rs : List Range) (p : Option Resolved) (t : Resolved)
+pub of_quantified : (l : Span) (q : Quantifier) (rs : List Range) (p : Option Resolved) (t : Resolved)
     → height (resolved_of (v.Quantified q l rs p t)) ≡ max (max (tallest_range (ranges (map range_of rs))) (part_height (part_of p)))
     (height (resolved_of t)) + 1
 of_quantified l q rs p t = ap height (of-Quantified l q rs p t)
@@ -100,11 +100,11 @@ last_decides x y z whole lower highest r s b is step first has_first second has_
     let two = second.0 has_second in
     (λ t. let three = third.0 t in omega (arith, is, step.0, step.1, one, two, three), λ h. third.1 (omega (arith, is, step.0, step.1, h)))
 
-pub is_comprehension : (l : ℕ) (rs : List Range) (p t : Option Resolved) (whole : Resolved) → whole ≡ v.Comprehension l rs p t
+pub is_comprehension : (l : Span) (rs : List Range) (p t : Option Resolved) (whole : Resolved) → whole ≡ v.Comprehension l rs p t
     → height (resolved_of whole) ≡ max (max (tallest_range (ranges (map range_of rs))) (part_height (part_of p))) (part_height (part_of t)) + 1
 is_comprehension l rs p t whole is = ap (λ w. height (resolved_of w)) is ∙ of_comprehension l rs p t
 
-pub is_quantified : (l : ℕ) (q : Quantifier) (rs : List Range) (p : Option Resolved) (t u whole : Resolved) → whole ≡ v.Quantified q l rs p t → u ≡ t
+pub is_quantified : (l : Span) (q : Quantifier) (rs : List Range) (p : Option Resolved) (t u whole : Resolved) → whole ≡ v.Quantified q l rs p t → u ≡ t
     → height (resolved_of whole) ≡ max (max (tallest_range (ranges (map range_of rs))) (part_height (part_of p))) (height (resolved_of u)) + 1
 is_quantified l q rs p t u whole is get = ap (λ w. height (resolved_of w)) is ∙ of_quantified l q rs p t
     ∙ ap (λ w. max (max (tallest_range (ranges (map range_of rs))) (part_height (part_of p))) (height (resolved_of w)) + 1) (sym get)

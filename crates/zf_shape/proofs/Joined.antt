@@ -1,5 +1,5 @@
 -- The nodes and the height of terms that are joined to the left.
-use Rattle.zf_shape.proofs.Prelude.{◌++◌, ◌+◌, ◌-◌, ◌<◌, ◌↔◌, ◌∙◌, ◌∷◌, ◌≡◌, ◌≤◌, [], ap, arith, length, length-append, List, map, min, refl, suc, sym, zero, ℕ, all_joined, all_of, batch_of, Batch, both_hold, conjunct_of, Conjunct, height, joined, moved, nodes, numbering, ResolvedTree, terms, all_nodes, take, get_or, add-one, append-nil, append_assoc, batch-seen, length-map, subst, same_height, same_nodes, AreLow}
+use Rattle.zf_shape.proofs.Prelude.{◌++◌, ◌+◌, ◌-◌, ◌<◌, ◌↔◌, ◌∙◌, ◌∷◌, ◌≡◌, ◌≤◌, [], ap, arith, length, length-append, List, map, min, refl, suc, sym, zero, ℕ, all_joined, all_of, batch_of, Batch, both_hold, conjunct_of, Conjunct, height, joined, moved, nodes, numbering, ResolvedTree, terms, all_nodes, take, get_or, add-one, append-nil, append_assoc, batch-seen, length-map, subst, same_height, same_nodes, AreLow, Span}
 use Rattle.zf_shape.proofs.FirstOf.{before, IsCounted, IsMore, more}
 use Rattle.zf_shape.proofs.Heights.{some_height}
 
@@ -10,7 +10,7 @@ nodes_behind t [] = omega arith
 nodes_behind t (u ∷ us) = omega (arith, nodes_behind (both_hold t u) us)
 
 -- there is one more between two terms
-pub joined_nodes : (l : ℕ) (ts : List ResolvedTree) → 0 < length ts → nodes (joined l ts) + 1 ≡ all_nodes (terms ts) + length ts
+pub joined_nodes : (l : Span) (ts : List ResolvedTree) → 0 < length ts → nodes (joined l ts) + 1 ≡ all_nodes (terms ts) + length ts
 joined_nodes l [] some = absurd (omega (arith, some))
 joined_nodes l (t ∷ ts) some = omega (arith, nodes_behind t ts)
 
@@ -25,7 +25,7 @@ joined_low n d a t (u ∷ us) e l =
       λ h. rest.1 (omega (arith, h.0, h.1.0, e, l), h.1.1),
     )
 
-pub low_joined : (l n m : ℕ) (ts : List ResolvedTree) → m ≡ length ts → 0 < m → (height (joined l ts) ≤ n) ↔ AreLow n (m - 1) m ts
+pub low_joined : (l : Span) (n m : ℕ) (ts : List ResolvedTree) → m ≡ length ts → 0 < m → (height (joined l ts) ≤ n) ↔ AreLow n (m - 1) m ts
 low_joined l n m [] e some = absurd (omega (arith, e, some))
 low_joined l n m (t ∷ ts) e some =
     let rest = joined_low n (m - 1) (m - 1) t ts (omega (arith, e)) (omega arith) in (
@@ -38,7 +38,7 @@ below_joined : (t : ResolvedTree) (ts : List ResolvedTree) → height t + length
 below_joined t [] = omega arith
 below_joined t (u ∷ us) = omega (arith, below_joined (both_hold t u) us)
 
-pub as_high : (l : ℕ) (ts : List ResolvedTree) → length ts ≤ height (joined l ts)
+pub as_high : (l : Span) (ts : List ResolvedTree) → length ts ≤ height (joined l ts)
 as_high l [] = omega arith
 as_high l (t ∷ ts) = omega (arith, below_joined t ts, some_height t)
 

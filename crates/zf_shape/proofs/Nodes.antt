@@ -1,5 +1,5 @@
 -- The nodes of terms, and of the first of several.
-use Rattle.zf_shape.proofs.Prelude.{◌+◌, ◌<◌, ◌∙◌, ◌≡◌, ◌≤◌, ap, arith, get_or, length, List, map, None, Option, Some, sym, take, ℕ, Quantifier, link-seen, of-Comprehension, of-Quantified, range-seen, links, part_of, range_of, ranges, resolved_link_of, resolved_of, ResolvedTree, terms, all_nodes, link_nodes, nodes, part_nodes, range_nodes, Range, Resolved, ResolvedLink, MatchOption}
+use Rattle.zf_shape.proofs.Prelude.{◌+◌, ◌<◌, ◌∙◌, ◌≡◌, ◌≤◌, ap, arith, get_or, length, List, map, None, Option, Some, sym, take, ℕ, Quantifier, link-seen, of-Comprehension, of-Quantified, range-seen, links, part_of, range_of, ranges, resolved_link_of, resolved_of, ResolvedTree, terms, all_nodes, link_nodes, nodes, part_nodes, range_nodes, Range, Resolved, ResolvedLink, MatchOption, Span}
 use Rattle.zf_shape.proofs.FirstOf.{before, IsCounted, IsMore, more}
 use Rattle.zf_shape.proofs.Heights.{below_nodes, some_height}
 use Rattle.zf_term.specs.declared.resolved.Resolved.TheVariants as v
@@ -37,11 +37,11 @@ links_more = more _ _ links_counted
 pub ranges_more : IsMore (λ (x : Range). nodes (resolved_of x.set)) (λ xs. range_nodes (ranges (map range_of xs)))
 ranges_more = more _ _ ranges_counted
 
-pub of_comprehension : (l : ℕ) (rs : List Range) (p t : Option Resolved) (whole : Resolved) → whole ≡ v.Comprehension l rs p t
+pub of_comprehension : (l : Span) (rs : List Range) (p t : Option Resolved) (whole : Resolved) → whole ≡ v.Comprehension l rs p t
     → nodes (resolved_of whole) ≡ range_nodes (ranges (map range_of rs)) + part_nodes (part_of p) + part_nodes (part_of t) + 1
 of_comprehension l rs p t whole is = ap (λ w. nodes (resolved_of w)) is ∙ ap nodes (of-Comprehension l rs p t)
 
-pub of_quantified : (l : ℕ) (q : Quantifier) (rs : List Range) (p : Option Resolved) (t u whole : Resolved) → whole ≡ v.Quantified q l rs p t → u ≡ t
+pub of_quantified : (l : Span) (q : Quantifier) (rs : List Range) (p : Option Resolved) (t u whole : Resolved) → whole ≡ v.Quantified q l rs p t → u ≡ t
     → nodes (resolved_of whole) ≡ range_nodes (ranges (map range_of rs)) + part_nodes (part_of p) + nodes (resolved_of u) + 1
 of_quantified l q rs p t u whole is get = ap (λ w. nodes (resolved_of w)) is ∙ ap nodes (of-Quantified l q rs p t)
     ∙ ap (λ w. range_nodes (ranges (map range_of rs)) + part_nodes (part_of p) + nodes (resolved_of w) + 1) (sym get)

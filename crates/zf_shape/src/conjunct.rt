@@ -1,7 +1,7 @@
 //! The nodes and the height of conjuncts.
 ghost use Rattle.std.specs.Prelude.{◌≡◌, ◌+◌, ◌<◌, ◌≤◌, ◌↔◌, IsTrue, MatchOption, length, map};
 ghost use Rattle.zf_data.specs.{all_of};
-ghost use Rattle.zf_shape.specs.{AreLow};
+ghost use Rattle.zf_shape.specs.{anywhere, AreLow};
 ghost use Rattle.zf_term.specs.{all_nodes, batch_of, conjunct_of, joined, terms};
 ghost use Rattle.zf_term.specs.Shapes as spec;
 
@@ -29,7 +29,7 @@ pub fn room_after<'a>(conjunct: &Conjunct<'a>, room: usize) -> Option<usize>
 /// The same of terms that are joined: between two of them there is a node more, and one where there are none.
 #[cycle(room)]
 fn room_after_joined<'a>(batches: &Items<'a, Batch<'a>>, room: usize) -> Option<usize>
-    ensures { MatchOption result (room < spec.nodes (joined 0 (all_of (map batch_of batches.now)))) (λ left. left + spec.nodes (joined 0 (all_of (map batch_of batches.now))) ≡ room) }
+    ensures { MatchOption result (room < spec.nodes (joined anywhere (all_of (map batch_of batches.now)))) (λ left. left + spec.nodes (joined anywhere (all_of (map batch_of batches.now))) ≡ room) }
 {
     let rest = room_after_count(batches, room)?;
     if rest == room {
@@ -99,7 +99,7 @@ pub fn is_within<'a>(conjunct: &Conjunct<'a>, highest: usize) -> bool
 /// The same of terms that are joined to the left: of n terms the one at place j stands n - max(j, 1) deeper.
 #[cycle(within)]
 fn is_joined_within<'a>(batches: &Items<'a, Batch<'a>>, highest: usize) -> bool
-    ensures { IsTrue result ↔ spec.height (joined 0 (all_of (map batch_of batches.now))) ≤ highest }
+    ensures { IsTrue result ↔ spec.height (joined anywhere (all_of (map batch_of batches.now))) ≤ highest }
 {
     let Some(beside) = room_after_count(batches, highest) else {
         return false;

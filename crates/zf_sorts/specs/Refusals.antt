@@ -1,5 +1,6 @@
 -- What a refusal says, and the program's faults as plain data.
-use Rattle.std.specs.Prelude.{◌≡◌, ℕ}
+use Rattle.std.specs.Prelude.{◌≡◌}
+use Rattle.zf_tree.specs.declared.span.Span.{Span}
 use Rattle.zf_term.specs.{already_defined, clash, Fault, local_twice, mismatch, misplaced, no_members, not_a_schema, not_declared, Offence, too_large, type_of, unfit}
 use Rattle.zf_sorts.specs.declared.fault.Offence as program
 use Rattle.zf_sorts.specs.declared.fault.Offence.TheVariants as variant
@@ -22,18 +23,18 @@ offence_of (variant.TooLarge l) = too_large l
 
 -- without its hint
 abbrev pub fault_of : TypeFault → Fault
-fault_of f = record { offence = offence_of f.offence; line = f.line }
+fault_of f = record { offence = offence_of f.offence; span = f.span }
 
 -- the fact holds of the fault, unless memory ran out
-abbrev pub IfFault : Refusal → (Offence → ℕ → Type 0) → Type 0
-IfFault (refusal.Fault f) P = P (offence_of f.offence) f.line
+abbrev pub IfFault : Refusal → (Offence → Span → Type 0) → Type 0
+IfFault (refusal.Fault f) P = P (offence_of f.offence) f.span
 IfFault refusal.OutOfMemory P = Unit {0}
 
 -- the fault is this one, unless memory ran out
-abbrev pub IsRefusal : Refusal → Offence → ℕ → Type 0
-IsRefusal r o m = IfFault r (λ p l. (p ≡ o) × (l ≡ m))
+abbrev pub IsRefusal : Refusal → Offence → Span → Type 0
+IsRefusal r o s = IfFault r (λ p at. (p ≡ o) × (at ≡ s))
 
 -- the fault is still the same, unless memory ran out
 abbrev pub IsStill : (old new : Refusal) → Type 0
-IsStill (refusal.Fault f) new = IsRefusal new (offence_of f.offence) f.line
+IsStill (refusal.Fault f) new = IsRefusal new (offence_of f.offence) f.span
 IsStill refusal.OutOfMemory new = new ≡ refusal.OutOfMemory

@@ -9,7 +9,7 @@ use crate::sort::Sort;
 use bumpalo::Bump;
 use std::alloc::AllocError;
 use zf_term::{ZType, set_type};
-use zf_tree::Rule;
+use zf_tree::{Rule, Span};
 
 /// The refusal of operands that are each what its place needs, and that the rule doesn't take together.
 #[inline(never)]
@@ -18,14 +18,14 @@ pub fn disagreeing<'a>(
     rule: Rule,
     left: &Sort<'a>,
     right: &Sort<'a>,
-    line: u32,
+    span: Span,
 ) -> Refusal<'a>
     requires left { Meets (left_need rule) (sort_of left.now) }
     requires right { Meets (right_need rule) (sort_of right.now) }
-    ensures { IfFault result (λ offence m. Disagreement rule (sort_of left.now) (sort_of right.now) offence × (m ≡ line)) }
+    ensures { IfFault result (λ offence at. Disagreement rule (sort_of left.now) (sort_of right.now) offence × (at ≡ span)) }
 {
     match disagreement(arena, rule, left, right) {
-        Ok(offence) => refused(arena, offence, line),
+        Ok(offence) => refused(arena, offence, span),
         Err(_) => Refusal::OutOfMemory,
     }
 }

@@ -9,7 +9,7 @@ use bumpalo::Bump;
 use std::alloc::{AllocError, AllocFailed};
 use zf_data::arena::{Lasting, Lent};
 use zf_term::{Clash, Limit, TypeFaultKind, ZType};
-use zf_tree::Need;
+use zf_tree::{Need, Span};
 
 /// What is wrong. Names are as spelled, with their strokes.
 #[derive(Drop)]
@@ -31,11 +31,11 @@ pub enum Offence<'a> {
     TooLarge(Limit),
 }
 
-/// A fault, with the line of the first token of the offending term or name.
+/// A fault, with the place of the offending term or name.
 #[derive(Drop)]
 pub struct TypeFault<'a> {
     pub offence: Lasting<'a, Offence<'a>>,
-    pub line: u64,
+    pub span: Span,
     /// What may help to find it.
     pub hint: Option<Lasting<'a, Hint<'a>>>,
 }
@@ -44,18 +44,9 @@ pub struct TypeFault<'a> {
 #[derive(Drop)]
 pub enum Hint<'a> {
     /// The term that the fault is about.
-    Term(QuotedTerm<'a>),
+    Term(Span),
     /// A name in scope that may be meant.
     Like(Lent<'a>),
-}
-
-/// A term of the text.
-#[derive(Drop)]
-pub struct QuotedTerm<'a> {
-    /// Its symbols as they are spelled, with a blank after each.
-    pub symbols: Lent<'a>,
-    /// The line of its first symbol.
-    pub line: u32,
 }
 
 /// Why there is no answer: a fault, or memory ran out.
@@ -99,7 +90,7 @@ impl<'a> TypeFault<'a> {
     {
         TypeFault {
             offence: self.offence.share(),
-            line: self.line,
+            span: self.span,
             hint: self.shared_hint(),
         }
     }
@@ -114,46 +105,45 @@ impl<'a> TypeFault<'a> {
     }
 }
 
-/// The refusal by what is wrong at this line.
+/// The refusal by what is wrong at this place.
 #[inline(never)]
-pub fn refused<'a>(arena: &'a Bump, offence: Offence<'a>, line: u32) -> Refusal<'a>
-    ensures { IsRefusal result (offence_of offence.entry) line }
+pub fn refused<'a>(arena: &'a Bump, offence: Offence<'a>, span: Span) -> Refusal<'a>
+    ensures { IsRefusal result (offence_of offence.entry) span }
 {
-    match fault(arena, offence, line, None) {
+    match fault(arena, offence, span, None) {
         Ok(fault) => Refusal::Fault(fault),
         Err(_) => Refusal::OutOfMemory,
     }
 }
 
-/// The fault by what is wrong at this line.
+/// The fault by what is wrong at this place.
 pub fn fault<'a>(
     arena: &'a Bump,
     offence: Offence<'a>,
-    line: u32,
+    span: Span,
     hint: Option<Lasting<'a, Hint<'a>>>,
 ) -> Result<Lasting<'a, TypeFault<'a>>, AllocError>
     ensures offence { IfOk result (λ f. offence_of f.offence ≡ offence_of offence.entry) }
-    ensures line { IfOk result (λ f. f.line ≡ line) }
+    ensures span { IfOk result (λ f. f.span ≡ span) }
 {
     let offence = Lasting::new(arena, offence)?;
-    let line = u64::from(line);
     Lasting::new(
         arena,
         TypeFault {
             offence,
-            line,
+            span,
             hint,
         },
     )
 }
 
-/// The refusal of a term of this sort at this line, where something else is needed.
+/// The refusal of a term of this sort at this place, where something else is needed.
 #[inline(never)]
-pub fn misplaced<'a>(arena: &'a Bump, need: Need, found: &Sort<'a>, line: u32) -> Refusal<'a>
-    ensures { IsRefusal result (misplaced need (sort_of found.now)) line }
+pub fn misplaced<'a>(arena: &'a Bump, need: Need, found: &Sort<'a>, span: Span) -> Refusal<'a>
+    ensures { IsRefusal result (misplaced need (sort_of found.now)) span }
 {
     match found.share() {
-        Ok(found) => refused(arena, Offence::Misplaced(need, found), line),
+        Ok(found) => refused(arena, Offence::Misplaced(need, found), span),
         Err(_) => Refusal::OutOfMemory,
     }
 }

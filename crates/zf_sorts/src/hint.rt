@@ -2,12 +2,11 @@
 ghost use Rattle.std.specs.Prelude.{◌≡◌, IfOk};
 ghost use Rattle.zf_sorts.specs.{IsRefusal, IsStill, offence_of};
 
-use crate::fault::{Hint, Offence, QuotedTerm, Refusal, TypeFault, fault};
+use crate::fault::{Hint, Offence, Refusal, TypeFault, fault};
 use bumpalo::Bump;
 use std::alloc::AllocError;
 use zf_data::arena::{Lasting, Lent};
-use zf_spelled::spelled;
-use zf_tree::{Need, Operator, Term};
+use zf_tree::{Need, Operator, Span, Term};
 
 impl<'a> Refusal<'a> {
     /// The same, which quotes the term where the fault is one of a term and has no hint: of all terms that it passes out of, the
@@ -20,10 +19,10 @@ impl<'a> Refusal<'a> {
         let Refusal::Fault(fault) = self else {
             return Refusal::OutOfMemory;
         };
-        if !lacks_term(fault.get()) && !is_of_function(arena, fault.get(), term) {
+        if !lacks_term(fault.get()) && !is_of_function(fault.get(), term) {
             return Refusal::Fault(fault);
         }
-        match quoted(arena, fault.get(), term) {
+        match quoted(arena, fault.get(), term.span()) {
             Ok(fault) => Refusal::Fault(fault),
             Err(_) => Refusal::OutOfMemory,
         }
@@ -47,65 +46,56 @@ fn is_of_term(offence: &Offence<'_>) -> bool {
 }
 
 /// Whether the term is an application of what the fault quotes, where a relation is needed.
-fn is_of_function<'a>(arena: &'a Bump, fault: &TypeFault<'a>, term: &Term<'a>) -> bool {
+fn is_of_function(fault: &TypeFault<'_>, term: &Term<'_>) -> bool {
     let Term::Binary(_, Operator::Application, function, _) = term else {
         return false;
     };
-    needs_relation(fault.offence.get()) && quotes(&fault.hint, arena, function.get())
+    needs_relation(fault.offence.get()) && quotes(&fault.hint, function.get().span())
 }
 
 fn needs_relation(offence: &Offence<'_>) -> bool {
     matches!(offence, Offence::Misplaced(Need::Relation, _))
 }
 
-/// Whether the hint quotes this term, or one that is written like it.
-fn quotes<'a>(hint: &Option<Lasting<'a, Hint<'a>>>, arena: &'a Bump, term: &Term<'a>) -> bool {
-    let Some(hint) = hint else {
-        return false;
-    };
-    match (hint.get(), spelled(arena, term)) {
-        (Hint::Term(quoted), Ok(symbols)) => quoted.symbols.as_slice() == symbols.as_slice(),
-        _ => false,
+/// Whether the hint quotes the term at this place.
+fn quotes(hint: &Option<Lasting<'_, Hint<'_>>>, span: Span) -> bool {
+    match hint {
+        Some(hint) => matches!(hint.get(), Hint::Term(quoted) if *quoted == span),
+        None => false,
     }
 }
 
-/// The fault with the term.
+/// The fault with the term at this place.
 fn quoted<'a>(
     arena: &'a Bump,
     fault: &TypeFault<'a>,
-    term: &Term<'a>,
+    term: Span,
 ) -> Result<Lasting<'a, TypeFault<'a>>, AllocError>
     ensures offence { IfOk result (λ f. offence_of f.offence ≡ offence_of fault.now.offence) }
-    ensures line { IfOk result (λ f. f.line ≡ fault.now.line) }
+    ensures span { IfOk result (λ f. f.span ≡ fault.now.span) }
 {
-    let hint = quotation(arena, term)?;
+    let hint = Lasting::new(arena, Hint::Term(term))?;
     Lasting::new(
         arena,
         TypeFault {
             offence: fault.offence.share(),
-            line: fault.line,
+            span: fault.span,
             hint: Some(hint),
         },
     )
 }
 
-fn quotation<'a>(arena: &'a Bump, term: &Term<'a>) -> Result<Lasting<'a, Hint<'a>>, AllocError> {
-    let symbols = spelled(arena, term)?;
-    let line = term.line();
-    Lasting::new(arena, Hint::Term(QuotedTerm { symbols, line }))
-}
-
-/// The refusal of a name by what is wrong at this line, with a name that is like it.
+/// The refusal of a name by what is wrong at this place, with a name that is like it.
 #[inline(never)]
 pub fn refused_name<'a>(
     arena: &'a Bump,
     offence: Offence<'a>,
-    line: u32,
+    span: Span,
     like: Option<&[u8]>,
 ) -> Refusal<'a>
-    ensures { IsRefusal result (offence_of offence.entry) line }
+    ensures { IsRefusal result (offence_of offence.entry) span }
 {
-    match with_likeness(arena, offence, line, like) {
+    match with_likeness(arena, offence, span, like) {
         Ok(fault) => Refusal::Fault(fault),
         Err(_) => Refusal::OutOfMemory,
     }
@@ -114,14 +104,14 @@ pub fn refused_name<'a>(
 fn with_likeness<'a>(
     arena: &'a Bump,
     offence: Offence<'a>,
-    line: u32,
+    span: Span,
     like: Option<&[u8]>,
 ) -> Result<Lasting<'a, TypeFault<'a>>, AllocError>
     ensures offence { IfOk result (λ f. offence_of f.offence ≡ offence_of offence.entry) }
-    ensures line { IfOk result (λ f. f.line ≡ line) }
+    ensures span { IfOk result (λ f. f.span ≡ span) }
 {
     let hint = likeness(arena, like)?;
-    fault(arena, offence, line, hint)
+    fault(arena, offence, span, hint)
 }
 
 fn likeness<'a>(

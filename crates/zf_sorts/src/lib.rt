@@ -8,7 +8,7 @@ mod rules;
 mod sort;
 
 pub use disagreement::disagreeing;
-pub use fault::{Hint, Offence, QuotedTerm, Refusal, TypeFault, misplaced, refused};
+pub use fault::{Hint, Offence, Refusal, TypeFault, misplaced, refused};
 pub use hint::refused_name;
 pub use rules::{apply, combine, constant_sort};
 pub use sort::Sort;

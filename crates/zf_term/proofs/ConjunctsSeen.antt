@@ -1,8 +1,9 @@
 -- What each form of conjunct is seen as.
-use Rattle.zf_term.proofs.Prelude.{◌∙◌, ◌≡◌, all_of, ap, batch_of, batch_step, conjunct_of, conjunct_step, is_member, List, map, moved, None, numbering, one_holds, Option, Resolved, resolved_of, ResolvedTree, sym, ℕ}
+use Rattle.zf_term.proofs.Prelude.{◌∙◌, ◌≡◌, all_of, ap, batch_of, batch_step, conjunct_of, conjunct_step, is_member, List, map, moved, None, numbering, one_holds, Option, Resolved, resolved_of, ResolvedTree, sides_span, sym, ℕ}
 use Rattle.zf_term.proofs.Places.{numbered_again, unmoved}
 use Rattle.zf_term.specs.declared.conjunct.Batch.{Batch}
 use Rattle.zf_term.specs.declared.conjunct.Conjunct.{Conjunct}
+use Rattle.zf_term.specs.declared.conjunct.Sides.{Sides}
 use Rattle.zf_term.specs.declared.conjunct.Conjunct.TheFolds.{fold-roll-Batch, fold-roll-Conjunct, map-Conjunct}
 use Rattle.zf_term.specs.declared.conjunct.Conjunct.TheOpen.{Conjunct-F}
 use Rattle.zf_term.specs.declared.conjunct.Conjunct.TheVariants as v
@@ -18,8 +19,8 @@ of-Term t ps = ap conjunct_of (sym (v.rolls-Term t ps)) ∙ rolled (Conjunct-F.T
 pub of-Member : (i : ℕ) (t : Resolved) (ps : Option (List ℕ)) → conjunct_of (v.Member i t ps) ≡ moved (numbering ps) (is_member i (resolved_of t))
 of-Member i t ps = ap conjunct_of (sym (v.rolls-Member i t ps)) ∙ rolled (Conjunct-F.Member i t ps)
 
-pub of-Either : (l : ℕ) (left right : List Batch) (ps : Option (List ℕ))
-    → conjunct_of (v.Either l left right ps) ≡ moved (numbering ps) (one_holds l (all_of (map batch_of left)) (all_of (map batch_of right)))
+pub of-Either : (l : Sides) (left right : List Batch) (ps : Option (List ℕ))
+    → conjunct_of (v.Either l left right ps) ≡ moved (numbering ps) (one_holds (sides_span l) (all_of (map batch_of left)) (all_of (map batch_of right)))
 of-Either l left right ps = ap conjunct_of (sym (v.rolls-Either l left right ps)) ∙ rolled (Conjunct-F.Either l left right ps)
 
 pub ruleset seen = (of-Term, of-Member, of-Either)
@@ -44,8 +45,8 @@ own_term t = of-Term t None ∙ unmoved (resolved_of t)
 pub own_member : (i : ℕ) (t : Resolved) → conjunct_of (v.Member i t None) ≡ is_member i (resolved_of t)
 own_member i t = of-Member i t None ∙ unmoved (is_member i (resolved_of t))
 
-pub own_either : (l : ℕ) (left right : List Batch) → conjunct_of (v.Either l left right None) ≡ one_holds l (all_of (map batch_of left)) (all_of (map batch_of right))
-own_either l left right = of-Either l left right None ∙ unmoved (one_holds l (all_of (map batch_of left)) (all_of (map batch_of right)))
+pub own_either : (l : Sides) (left right : List Batch) → conjunct_of (v.Either l left right None) ≡ one_holds (sides_span l) (all_of (map batch_of left)) (all_of (map batch_of right))
+own_either l left right = of-Either l left right None ∙ unmoved (one_holds (sides_span l) (all_of (map batch_of left)) (all_of (map batch_of right)))
 
 pub ruleset own = (own_term, own_member, own_either)
 
@@ -65,11 +66,11 @@ moved_member own ps g n t u whole is same e =
     ∙ ap (λ (s : Resolved). moved (numbering ps) (is_member n (resolved_of s))) same
     ∙ numbered_again own ps g (conjunct_of whole) (is_member n (resolved_of t)) (ap conjunct_of is ∙ of-Member n t own) e
 
-abbrev sides : ℕ → List Batch → List Batch → ResolvedTree
-sides l bs ds = one_holds l (all_of (map batch_of bs)) (all_of (map batch_of ds))
+abbrev sides : Sides → List Batch → List Batch → ResolvedTree
+sides l bs ds = one_holds (sides_span l) (all_of (map batch_of bs)) (all_of (map batch_of ds))
 
 pub moved_either :
-    (own ps : Option (List ℕ)) (g : ℕ → ℕ) (l : ℕ) (left right bs ds : List Batch) (whole : Conjunct)
+    (own ps : Option (List ℕ)) (g : ℕ → ℕ) (l : Sides) (left right bs ds : List Batch) (whole : Conjunct)
     → whole ≡ v.Either l left right own → bs ≡ left → ds ≡ right → numbering ps ≡ (λ (i : ℕ). g (numbering own i))
     → conjunct_of (v.Either l bs ds ps) ≡ moved g (conjunct_of whole)
 moved_either own ps g l left right bs ds whole is one other e =

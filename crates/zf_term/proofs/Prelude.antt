@@ -11,7 +11,7 @@ pub use Rattle.zf_reference.specs.declared.reference.Reference.{Reference}
 pub use Rattle.zf_reference.specs.declared.reference.Reference.TheVariants.{Component, Global, Local}
 pub use Rattle.zf_tree.specs.declared.symbol.Relation.{Relation}
 pub use Rattle.zf_data.specs.{all_of}
-pub use Rattle.zf_term.specs.{absent, all_moved, all_onto, basic, batch_step, binary, bracket, comprehension, carrier, chain, comp_of, conjunct_step, constant, DeclaredSet, Defined, definition_of, domain_step, empty_set, entry_of, first_named, globals_of, have_numbers, int, is_member, later, later_parts_text, link, links, links_moved, links_onto, listed, moved, no_links, no_ranges, no_terms, no_types, nodes_of_all, number, numbering, one_holds, onto, pair_type, part_moved, part_of, part_onto, parts_text, plain, power, present, product, quantified, range, range_step, Ranges, ranges, ranges_moved, ranges_onto, reference, resolved_link_step, resolved_step, ResolvedLinks, ResolvedPart, ResolvedTree, sets_of, sides, term, terms, Ty, type, type_nodes, type_step, type_text, types, Tys, unary}
+pub use Rattle.zf_term.specs.{absent, all_moved, all_onto, basic, batch_step, binary, bracket, comprehension, carrier, chain, comp_of, conjunct_step, constant, DeclaredSet, Defined, definition_of, domain_step, empty_set, entry_of, first_named, globals_of, have_numbers, int, is_member, later, later_parts_text, link, links, links_moved, links_onto, listed, moved, no_links, no_ranges, no_terms, no_types, nodes_of_all, number, numbering, one_holds, onto, pair_type, part_moved, part_of, part_onto, parts_text, plain, power, present, product, quantified, range, range_step, Ranges, ranges, ranges_moved, ranges_onto, reference, resolved_link_step, resolved_step, ResolvedLinks, ResolvedPart, ResolvedTree, sets_of, sides, sides_span, term, terms, Ty, type, type_nodes, type_step, type_text, types, Tys, unary}
 unfoldable pub use Rattle.zf_term.specs.{batch_of, conjunct_of, range_of, resolved_link_of, resolved_of, set_of, type_of}
 pub use Rattle.std.specs.Option.{option_or}
 pub use Rattle.zf_term.specs.ResolvedTrees.{ResolvedTrees}

@@ -1,6 +1,6 @@
 -- What a term keeps when its components are numbered anew, and that it can be done at once.
 use Rattle.zf_term.proofs.Prelude.{◌+◌, ◌≡◌, ap, refl, ℕ, Component, Global, Local, absent, binary, bracket, comprehension, chain, constant, empty_set, link, listed, no_links, no_ranges, no_terms, number, present, quantified, range, Ranges, reference, ResolvedLinks, ResolvedPart, ResolvedTree, ResolvedTrees, term, unary}
-use Rattle.zf_term.specs.{all_moved, all_nodes, height, link_nodes, links_moved, moved, nodes, part_height, part_moved, part_nodes, range_nodes, ranges_moved, tallest, tallest_link, tallest_range, term_line}
+use Rattle.zf_term.specs.{all_moved, all_nodes, height, link_nodes, links_moved, moved, nodes, part_height, part_moved, part_nodes, range_nodes, ranges_moved, tallest, tallest_link, tallest_range, term_span}
 
 -- ---- one after the other
 
@@ -36,20 +36,20 @@ mutual
   part_at_once f g absent = refl
   part_at_once f g (present t) = ap present (at_once f g t)
 
--- ---- line, nodes and height
+-- ---- span, nodes and height
 
-pub same_line : (f : ℕ → ℕ) (t : ResolvedTree) → term_line (moved f t) ≡ term_line t
-same_line f (reference l r) = refl
-same_line f (number l v) = refl
-same_line f (constant l c) = refl
-same_line f (empty_set l t) = refl
-same_line f (bracket l t) = refl
-same_line f (listed l form ts) = refl
-same_line f (comprehension l rs p t) = refl
-same_line f (unary l op t) = refl
-same_line f (binary l op a b) = refl
-same_line f (chain l t ks) = refl
-same_line f (quantified l q rs p t) = refl
+pub same_span : (f : ℕ → ℕ) (t : ResolvedTree) → term_span (moved f t) ≡ term_span t
+same_span f (reference l r) = refl
+same_span f (number l v) = refl
+same_span f (constant l c) = refl
+same_span f (empty_set l t) = refl
+same_span f (bracket l t) = refl
+same_span f (listed l form ts) = refl
+same_span f (comprehension l rs p t) = refl
+same_span f (unary l op t) = refl
+same_span f (binary l op a b) = refl
+same_span f (chain l t ks) = refl
+same_span f (quantified l q rs p t) = refl
 
 mutual
   pub same_nodes : (f : ℕ → ℕ) (t : ResolvedTree) → nodes (moved f t) ≡ nodes t
@@ -111,4 +111,4 @@ mutual
   part_same_height f absent = refl
   part_same_height f (present t) = same_height f t
 
-pub ruleset kept = (same_line, same_nodes, same_height)
+pub ruleset kept = (same_span, same_nodes, same_height)

@@ -1,4 +1,5 @@
 -- Faults of types, as plain data: what each is about, and what kind of fault that is.
+use Rattle.zf_tree.specs.declared.span.Span.{Span}
 use Rattle.std.specs.Prelude.{ℕ, List}
 use Rattle.zf_tree.specs.declared.operator.Need.{Need}
 use Rattle.zf_tree.specs.declared.operator.Need.TheVariants as need
@@ -30,10 +31,10 @@ pub data Offence : Type 0 where
   clash : (name : List ℕ) → (left right : Ty) → Offence
   too_large : Limit → Offence
 
--- with the line of the first token of the term or name that offends
+-- with the span of the term or name that offends
 pub record Fault : Type 0 where
   pub offence : Offence
-  pub line : ℕ
+  pub span : Span
 
 -- of an expression where this is needed
 abbrev pub lack : Need → TypeFaultKind

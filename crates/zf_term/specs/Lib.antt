@@ -28,9 +28,9 @@ pub use Rattle.zf_term.specs.Faults.{a_schema, already_defined, clash, Fault, ki
 pub use Rattle.zf_term.specs.ResolvedTrees.{absent, binary, bracket, comprehension, chain, constant, empty_set, link, listed, no_links, no_ranges, no_terms, number, present, quantified, range, Ranges, reference, ResolvedLinks, ResolvedPart, ResolvedTree, term, unary}
 unfoldable pub use Rattle.zf_term.specs.ResolvedViews.{range_of, resolved_link_of, resolved_of}
 pub use Rattle.zf_term.specs.ResolvedViews.{links, part_of, range_step, ranges, resolved_link_step, resolved_step, terms}
-pub use Rattle.zf_term.specs.Shapes.{all_moved, conjuncts, height, is_and, is_conjunction, links_moved, moved, nodes, part_moved, ranges_moved, term_line}
+pub use Rattle.zf_term.specs.Shapes.{all_moved, conjuncts, height, is_and, is_conjunction, links_moved, moved, nodes, part_moved, ranges_moved, term_span}
 pub use Rattle.zf_term.specs.ShapeViews.{all_nodes, link_nodes, numbering, part_height, part_nodes, range_nodes, tallest, tallest_link, tallest_range}
-pub use Rattle.zf_term.specs.Schemas.{all_joined, both_hold, carrier, Comp, DeclaredSet, DeclaredSets, is_member, joined, no_sets, one_holds, plain, Schema, set, sets_of, sides}
+pub use Rattle.zf_term.specs.Schemas.{all_joined, both_hold, carrier, Comp, DeclaredSet, DeclaredSets, from_to, is_member, joined, no_sets, one_holds, plain, Schema, set, sets_of, sides, sides_span}
 unfoldable pub use Rattle.zf_term.specs.SchemaViews.{batch_of, conjunct_of, set_of}
 pub use Rattle.zf_term.specs.SchemaViews.{batch_step, comp_of, conjunct_step, domain_step, schema_of}
 pub use Rattle.zf_term.specs.SetShapes.{set_count, set_nodes}

@@ -1,4 +1,5 @@
--- Resolved terms as plain data: each has the line of its first token, and each name says what it stands for.
+-- Resolved terms as plain data: each has the span from its first token to its last, and each name says what it stands for.
+use Rattle.zf_tree.specs.declared.span.Span.{Span}
 use Rattle.std.specs.Prelude.{ℕ}
 use Rattle.zf_tree.specs.declared.symbol.Constant.{Constant}
 use Rattle.zf_tree.specs.declared.symbol.Quantifier.{Quantifier}
@@ -10,17 +11,17 @@ use Rattle.zf_reference.specs.declared.reference.Reference.{Reference}
 
 mutual
   pub data ResolvedTree : Type 0 where
-    reference : (line : ℕ) → Reference → ResolvedTree
-    number : (line value : ℕ) → ResolvedTree
-    constant : (line : ℕ) → Constant → ResolvedTree
-    empty_set : (line : ℕ) → ResolvedTree → ResolvedTree
-    bracket : (line : ℕ) → ResolvedTree → ResolvedTree
-    listed : (line : ℕ) → Listed → ResolvedTrees → ResolvedTree
-    comprehension : (line : ℕ) → Ranges → ResolvedPart → ResolvedPart → ResolvedTree
-    unary : (line : ℕ) → Unary → ResolvedTree → ResolvedTree
-    binary : (line : ℕ) → Operator → ResolvedTree → ResolvedTree → ResolvedTree
-    chain : (line : ℕ) → ResolvedTree → ResolvedLinks → ResolvedTree
-    quantified : (line : ℕ) → Quantifier → Ranges → ResolvedPart → ResolvedTree → ResolvedTree
+    reference : Span → Reference → ResolvedTree
+    number : Span → ℕ → ResolvedTree
+    constant : Span → Constant → ResolvedTree
+    empty_set : Span → ResolvedTree → ResolvedTree
+    bracket : Span → ResolvedTree → ResolvedTree
+    listed : Span → Listed → ResolvedTrees → ResolvedTree
+    comprehension : Span → Ranges → ResolvedPart → ResolvedPart → ResolvedTree
+    unary : Span → Unary → ResolvedTree → ResolvedTree
+    binary : Span → Operator → ResolvedTree → ResolvedTree → ResolvedTree
+    chain : Span → ResolvedTree → ResolvedLinks → ResolvedTree
+    quantified : Span → Quantifier → Ranges → ResolvedPart → ResolvedTree → ResolvedTree
 
   pub data ResolvedTrees : Type 0 where
     no_terms : ResolvedTrees

@@ -14,7 +14,7 @@ use Rattle.zf_term.specs.ResolvedViews.{resolved_of}
 use Rattle.zf_term.specs.Shapes.{moved}
 use Rattle.zf_term.specs.ShapeViews.{numbering}
 use Rattle.zf_term.specs.TypeViews.{type_of}
-use Rattle.zf_term.specs.Schemas.{DeclaredSet, Comp, Schema, sets_of, is_member, one_holds, plain, carrier, sides}
+use Rattle.zf_term.specs.Schemas.{DeclaredSet, Comp, Schema, sets_of, is_member, one_holds, plain, carrier, sides, sides_span}
 
 abbrev pub domain_step : Domain-F DeclaredSet → DeclaredSet
 domain_step (Domain-F.Plain t) = plain (resolved_of t)
@@ -30,7 +30,7 @@ comp_of c = record { name = c.name; type = type_of c.ztype; sets = map set_of c.
 abbrev pub conjunct_step : Conjunct-F ResolvedTree (List ResolvedTree) → ResolvedTree
 conjunct_step (Conjunct-F.Term t places) = moved (numbering places) (resolved_of t)
 conjunct_step (Conjunct-F.Member i t places) = moved (numbering places) (is_member i (resolved_of t))
-conjunct_step (Conjunct-F.Either l left right places) = moved (numbering places) (one_holds l (all_of left) (all_of right))
+conjunct_step (Conjunct-F.Either s left right places) = moved (numbering places) (one_holds (sides_span s) (all_of left) (all_of right))
 
 abbrev pub batch_step : Batch-F ResolvedTree (List ResolvedTree) → List ResolvedTree
 batch_step b = map (moved (numbering b.places)) b.conjuncts

@@ -1,4 +1,5 @@
 -- The shape of resolved terms: their nodes, their height, their conjuncts, and their components numbered anew.
+use Rattle.zf_tree.specs.declared.span.Span.{Span}
 use Rattle.std.specs.Prelude.{ℕ, ◌+◌, max, Bool, true, false, if◌then◌else◌, List, [], ◌∷◌, ◌++◌}
 use Rattle.zf_tree.specs.declared.symbol.Connective.TheVariants.{And}
 use Rattle.zf_tree.specs.declared.operator.Operator.{Operator}
@@ -6,19 +7,19 @@ use Rattle.zf_tree.specs.declared.operator.Operator.TheVariants as operator
 use Rattle.zf_reference.specs.{renumbered}
 use Rattle.zf_term.specs.ResolvedTrees.{ResolvedTree, reference, number, constant, empty_set, bracket, listed, comprehension, unary, binary, chain, quantified, ResolvedTrees, no_terms, term, ResolvedLinks, no_links, link, Ranges, no_ranges, range, ResolvedPart, absent, present}
 
--- the line of the first token
-abbrev pub term_line : ResolvedTree → ℕ
-term_line (reference l r) = l
-term_line (number l v) = l
-term_line (constant l c) = l
-term_line (empty_set l t) = l
-term_line (bracket l t) = l
-term_line (listed l form ts) = l
-term_line (comprehension l rs p t) = l
-term_line (unary l op t) = l
-term_line (binary l op a b) = l
-term_line (chain l t ks) = l
-term_line (quantified l q rs p t) = l
+-- from the first token to the last
+abbrev pub term_span : ResolvedTree → Span
+term_span (reference l r) = l
+term_span (number l v) = l
+term_span (constant l c) = l
+term_span (empty_set l t) = l
+term_span (bracket l t) = l
+term_span (listed l form ts) = l
+term_span (comprehension l rs p t) = l
+term_span (unary l op t) = l
+term_span (binary l op a b) = l
+term_span (chain l t ks) = l
+term_span (quantified l q rs p t) = l
 
 -- ---- nodes and height
 

@@ -1,7 +1,7 @@
 //! Conjuncts of schemas.
 ghost use Rattle.std.specs.Prelude.{◌≡◌, ℕ, IfOk, map};
 ghost use Rattle.zf_data.specs.{all_of};
-ghost use Rattle.zf_term.specs.{batch_of, conjunct_of, is_member, one_holds, resolved_of};
+ghost use Rattle.zf_term.specs.{batch_of, conjunct_of, is_member, one_holds, resolved_of, sides_span};
 ghost use Rattle.zf_term.specs.Shapes as spec;
 ghost use Rattle.zf_term.specs.ShapeViews as spec_views;
 ghost use Rattle.zf_reference.specs.NumberingViews as numbers;
@@ -11,9 +11,26 @@ use bumpalo::Bump;
 use std::alloc::AllocError;
 use zf_data::arena::{Items, Lasting, Piece, Share, Shared};
 use zf_reference::place_in;
+use zf_tree::Span;
 
 /// The places of the components of a schema in another one, where they are others.
 pub type Places<'a> = Option<Lasting<'a, Items<'a, usize>>>;
+
+/// Where the two sides of a disjunction of schemas stand.
+#[derive(Clone, Copy)]
+pub struct Sides {
+    pub left: Span,
+    pub right: Span,
+}
+
+impl Sides {
+    /// From where the left side begins to where the right one ends.
+    pub fn span(self) -> Span
+        ensures { result ≡ sides_span self }
+    {
+        self.left.to(self.right)
+    }
+}
 
 /// A conjunct of a schema: a predicate of which nothing is copied for the schemas that take in the schema, and the places of its components
 /// in this one.
@@ -23,8 +40,8 @@ pub enum Conjunct<'a> {
     Term(Lasting<'a, Resolved<'a>>, Places<'a>),
     /// That the component at the place is a member of the set.
     Member(usize, Lasting<'a, Resolved<'a>>, Places<'a>),
-    /// A disjunction of two schemas, with its line: that all conjuncts of the left side hold, or all of the right.
-    Either(u32, Batches<'a>, Batches<'a>, Places<'a>),
+    /// A disjunction of two schemas: that all conjuncts of the left side hold, or all of the right.
+    Either(Sides, Batches<'a>, Batches<'a>, Places<'a>),
 }
 
 /// Conjuncts of another schema, which are shared, and the places of their components in this one.
@@ -65,10 +82,10 @@ impl<'a> Conjunct<'a> {
 
     /// That all conjuncts of the left side hold, or all of the right.
     #[tactic(auto, using(crate::proofs::ConjunctsSeen::own))]
-    pub fn either(line: u32, left: Batches<'a>, right: Batches<'a>) -> Conjunct<'a>
-        ensures { conjunct_of result ≡ one_holds line (all_of (map batch_of left.entry)) (all_of (map batch_of right.entry)) }
+    pub fn either(sides: Sides, left: Batches<'a>, right: Batches<'a>) -> Conjunct<'a>
+        ensures { conjunct_of result ≡ one_holds (sides_span sides) (all_of (map batch_of left.entry)) (all_of (map batch_of right.entry)) }
     {
-        Conjunct::Either(line, left, right, None)
+        Conjunct::Either(sides, left, right, None)
     }
 
     /// The same conjunct, of which nothing is copied.
@@ -80,10 +97,10 @@ impl<'a> Conjunct<'a> {
             Conjunct::Member(place, set, places) => {
                 Ok(Conjunct::Member(*place, set.share(), shared(places)))
             }
-            Conjunct::Either(line, left, right, places) => {
+            Conjunct::Either(sides, left, right, places) => {
                 let left = left.share()?;
                 let right = right.share()?;
-                Ok(Conjunct::Either(*line, left, right, shared(places)))
+                Ok(Conjunct::Either(*sides, left, right, shared(places)))
             }
         }
     }
@@ -100,23 +117,23 @@ impl<'a> Conjunct<'a> {
             Conjunct::Member(place, set, own) => {
                 Ok(Conjunct::Member(*place, set.share(), composed(arena, own, places)?))
             }
-            Conjunct::Either(line, left, right, own) => {
+            Conjunct::Either(sides, left, right, own) => {
                 let left = left.share()?;
                 let right = right.share()?;
-                Ok(Conjunct::Either(*line, left, right, composed(arena, own, places)?))
+                Ok(Conjunct::Either(*sides, left, right, composed(arena, own, places)?))
             }
         }
     }
 
-    /// The line of the first token.
+    /// From the first token to the last; of a declared set, where that stands.
     #[tactic(auto, using(crate::proofs::ConjunctsSeen::seen, crate::proofs::Renumbered::kept))]
-    pub fn line(&self) -> u32
-        ensures { result ≡ spec.term_line (conjunct_of self.now) }
+    pub fn span(&self) -> Span
+        ensures { result ≡ spec.term_span (conjunct_of self.now) }
     {
         match self {
-            Conjunct::Term(term, _) => term.get().line(),
-            Conjunct::Member(_, set, _) => set.get().line(),
-            Conjunct::Either(line, _, _, _) => *line,
+            Conjunct::Term(term, _) => term.get().span(),
+            Conjunct::Member(_, set, _) => set.get().span(),
+            Conjunct::Either(sides, _, _, _) => sides.span(),
         }
     }
 }

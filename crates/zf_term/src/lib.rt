@@ -15,7 +15,7 @@ mod spelling;
 pub mod type_text;
 mod ztype;
 
-pub use conjunct::{Batch, Batches, Conjunct, Places};
+pub use conjunct::{Batch, Batches, Conjunct, Places, Sides};
 pub use extent::{Extent, Infinite};
 pub use fault::{Clash, Limit, TypeFaultKind};
 pub use globals::{Entry, Globals};

@@ -5,7 +5,7 @@ ghost use Rattle.zf_term.specs.Shapes as spec;
 
 use zf_data::arena::{Boxed, Items};
 use zf_reference::Reference;
-use zf_tree::{Constant, Listed, Operator, Quantifier, Relation, Unary};
+use zf_tree::{Constant, Listed, Operator, Quantifier, Relation, Span, Unary};
 
 /// A part of a term that may be left out, in a box of its own: most terms have none, and stay small.
 pub type Part<'a> = Boxed<'a, Option<Boxed<'a, Resolved<'a>>>>;
@@ -16,25 +16,31 @@ pub type Terms<'a> = Boxed<'a, Items<'a, Resolved<'a>>>;
 /// The further operands of a chain.
 pub type Links<'a> = Boxed<'a, Items<'a, ResolvedLink<'a>>>;
 
-/// A term, with the line of its first token.
+/// A term, with the span from its first token to its last.
 #[cycle(resolved)]
 #[derive(Drop)]
 pub enum Resolved<'a> {
-    Name(u32, Reference),
-    Number(u32, u64),
-    Constant(u32, Constant),
+    Name(Span, Reference),
+    Number(Span, u64),
+    Constant(Span, Constant),
     /// `\emptyset[E]`
-    EmptySet(u32, Boxed<'a, Resolved<'a>>),
-    Bracket(u32, Boxed<'a, Resolved<'a>>),
-    Listed(u32, Listed, Terms<'a>),
+    EmptySet(Span, Boxed<'a, Resolved<'a>>),
+    Bracket(Span, Boxed<'a, Resolved<'a>>),
+    Listed(Span, Listed, Terms<'a>),
     /// A comprehension: the ranges of its variables, the filter, and the term.
-    Comprehension(u32, Boxed<'a, Items<'a, Range<'a>>>, Part<'a>, Part<'a>),
-    Unary(u32, Unary, Boxed<'a, Resolved<'a>>),
-    Binary(u32, Operator, Boxed<'a, Resolved<'a>>, Boxed<'a, Resolved<'a>>),
+    Comprehension(Span, Boxed<'a, Items<'a, Range<'a>>>, Part<'a>, Part<'a>),
+    Unary(Span, Unary, Boxed<'a, Resolved<'a>>),
+    Binary(Span, Operator, Boxed<'a, Resolved<'a>>, Boxed<'a, Resolved<'a>>),
     /// A chain of relations: the first operand, and the further ones.
-    Chain(u32, Boxed<'a, Resolved<'a>>, Links<'a>),
+    Chain(Span, Boxed<'a, Resolved<'a>>, Links<'a>),
     /// The ranges of the variables, the constraint, and the body.
-    Quantified(Quantifier, u32, Boxed<'a, Items<'a, Range<'a>>>, Part<'a>, Boxed<'a, Resolved<'a>>),
+    Quantified(
+        Quantifier,
+        Span,
+        Boxed<'a, Items<'a, Range<'a>>>,
+        Part<'a>,
+        Boxed<'a, Resolved<'a>>,
+    ),
 }
 
 /// A further part of a chain.
@@ -54,23 +60,23 @@ pub struct Range<'a> {
 }
 
 impl<'a> Resolved<'a> {
-    /// The line of the first token.
+    /// From the first token to the last.
     #[tactic(auto, using(crate::proofs::ResolvedSeen::seen))]
-    pub fn line(&self) -> u32
-        ensures { result ≡ spec.term_line (resolved_of self.now) }
+    pub fn span(&self) -> Span
+        ensures { result ≡ spec.term_span (resolved_of self.now) }
     {
         match self {
-            Resolved::Name(line, _) => *line,
-            Resolved::Number(line, _) => *line,
-            Resolved::Constant(line, _) => *line,
-            Resolved::EmptySet(line, _) => *line,
-            Resolved::Bracket(line, _) => *line,
-            Resolved::Listed(line, _, _) => *line,
-            Resolved::Comprehension(line, _, _, _) => *line,
-            Resolved::Unary(line, _, _) => *line,
-            Resolved::Binary(line, _, _, _) => *line,
-            Resolved::Chain(line, _, _) => *line,
-            Resolved::Quantified(_, line, _, _, _) => *line,
+            Resolved::Name(span, _) => *span,
+            Resolved::Number(span, _) => *span,
+            Resolved::Constant(span, _) => *span,
+            Resolved::EmptySet(span, _) => *span,
+            Resolved::Bracket(span, _) => *span,
+            Resolved::Listed(span, _, _) => *span,
+            Resolved::Comprehension(span, _, _, _) => *span,
+            Resolved::Unary(span, _, _) => *span,
+            Resolved::Binary(span, _, _, _) => *span,
+            Resolved::Chain(span, _, _) => *span,
+            Resolved::Quantified(_, span, _, _, _) => *span,
         }
     }
 }

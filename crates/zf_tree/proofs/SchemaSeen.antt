@@ -1,7 +1,8 @@
 -- What each form of schema expression is seen as.
-use Rattle.std.proofs.Common.{◌≡◌, ℕ, List, map, sym, ap, ◌∙◌}
+use Rattle.std.proofs.Common.{◌≡◌, List, map, sym, ap, ◌∙◌}
 use Rattle.zf_tree.specs.declared.tree.Decl.{Decl}
 use Rattle.zf_tree.specs.declared.tree.Term.{Term}
+use Rattle.zf_tree.specs.declared.span.Span.{Span}
 use Rattle.zf_tree.specs.declared.tree.SchemaRef.{SchemaRef}
 use Rattle.zf_tree.specs.declared.tree.SchemaExp.{SchemaExp}
 use Rattle.zf_tree.specs.declared.tree.SchemaExp.TheOpen.{SchemaExp-F}
@@ -14,19 +15,19 @@ rolled : (x : SchemaExp-F SchemaExp) → schema_tree_of (roll-SchemaExp x) ≡ s
 unfolding schema_tree_of
 rolled x = fold-roll-SchemaExp SchemaTree schema_step x
 
-pub of-Text : (ds : List Decl) (ps : List Term) → schema_tree_of (v.Text ds ps) ≡ schema_text (map decl_of ds) (map tree_of ps)
-of-Text ds ps = ap schema_tree_of (sym (v.rolls-Text ds ps)) ∙ rolled (SchemaExp-F.Text ds ps)
+pub of-Text : (l : Span) (ds : List Decl) (ps : List Term) → schema_tree_of (v.Text l ds ps) ≡ schema_text l (map decl_of ds) (map tree_of ps)
+of-Text l ds ps = ap schema_tree_of (sym (v.rolls-Text l ds ps)) ∙ rolled (SchemaExp-F.Text l ds ps)
 
-pub of-Ref : (r : SchemaRef) → schema_tree_of (v.Ref r) ≡ schema_reference r
-of-Ref r = ap schema_tree_of (sym (v.rolls-Ref r)) ∙ rolled (SchemaExp-F.Ref r)
+pub of-Ref : (l : Span) (r : SchemaRef) → schema_tree_of (v.Ref l r) ≡ schema_reference l r
+of-Ref l r = ap schema_tree_of (sym (v.rolls-Ref l r)) ∙ rolled (SchemaExp-F.Ref l r)
 
-pub of-Both : (a b : SchemaExp) → schema_tree_of (v.Both a b) ≡ both (schema_tree_of a) (schema_tree_of b)
-of-Both a b = ap schema_tree_of (sym (v.rolls-Both a b)) ∙ rolled (SchemaExp-F.Both a b)
+pub of-Both : (l : Span) (a b : SchemaExp) → schema_tree_of (v.Both l a b) ≡ both l (schema_tree_of a) (schema_tree_of b)
+of-Both l a b = ap schema_tree_of (sym (v.rolls-Both l a b)) ∙ rolled (SchemaExp-F.Both l a b)
 
-pub of-Or : (l : ℕ) (a b : SchemaExp) → schema_tree_of (v.Or l a b) ≡ either l (schema_tree_of a) (schema_tree_of b)
+pub of-Or : (l : Span) (a b : SchemaExp) → schema_tree_of (v.Or l a b) ≡ either l (schema_tree_of a) (schema_tree_of b)
 of-Or l a b = ap schema_tree_of (sym (v.rolls-Or l a b)) ∙ rolled (SchemaExp-F.Or l a b)
 
-pub of-Bracket : (a : SchemaExp) → schema_tree_of (v.Bracket a) ≡ schema_bracket (schema_tree_of a)
-of-Bracket a = ap schema_tree_of (sym (v.rolls-Bracket a)) ∙ rolled (SchemaExp-F.Bracket a)
+pub of-Bracket : (l : Span) (a : SchemaExp) → schema_tree_of (v.Bracket l a) ≡ schema_bracket l (schema_tree_of a)
+of-Bracket l a = ap schema_tree_of (sym (v.rolls-Bracket l a)) ∙ rolled (SchemaExp-F.Bracket l a)
 
 pub ruleset seen = (of-Text, of-Ref, of-Both, of-Or, of-Bracket)

@@ -5,6 +5,7 @@ use Rattle.zf_tree.specs.declared.symbol.Quantifier.{Quantifier}
 use Rattle.zf_tree.specs.declared.symbol.Relation.{Relation}
 use Rattle.zf_tree.specs.{binary, bracket, comprehension, chain, constant, decl_step, empty_set, Ident, link_of, link_step, links, listed, name_at, named, new_decl, new_link, numeral, part_of, quantified, Tree, tree_of, tree_step, trees, unary, var_decl_of, var_decls}
 use Rattle.zf_tree.specs.declared.tree.Name.{Name}
+use Rattle.zf_tree.specs.declared.span.Span.{Span}
 use Rattle.zf_tree.specs.declared.operator.Listed.{Listed}
 use Rattle.zf_tree.specs.declared.operator.Operator.{Operator}
 use Rattle.zf_tree.specs.declared.operator.Unary.{Unary}
@@ -20,40 +21,40 @@ rolled : (x : Term-F Term Link VarDecl) → tree_of (roll-Term x) ≡ tree_step 
 unfolding tree_of link_of var_decl_of
 rolled x = fold-roll-Term Tree (Relation × Tree) (List Name × Tree) tree_step link_step decl_step x
 
-pub of-Name : (l : ℕ) (i : Ident) → tree_of (v.Name l i) ≡ named (name_at l i)
+pub of-Name : (l : Span) (i : Ident) → tree_of (v.Name l i) ≡ named (name_at l i)
 of-Name l i = ap tree_of (sym (v.rolls-Name l i)) ∙ rolled (Term-F.Name l i)
 
-pub of-Number : (l n : ℕ) → tree_of (v.Number l n) ≡ numeral l n
+pub of-Number : (l : Span) (n : ℕ) → tree_of (v.Number l n) ≡ numeral l n
 of-Number l n = ap tree_of (sym (v.rolls-Number l n)) ∙ rolled (Term-F.Number l n)
 
-pub of-Constant : (l : ℕ) (c : Constant) → tree_of (v.Constant l c) ≡ constant l c
+pub of-Constant : (l : Span) (c : Constant) → tree_of (v.Constant l c) ≡ constant l c
 of-Constant l c = ap tree_of (sym (v.rolls-Constant l c)) ∙ rolled (Term-F.Constant l c)
 
-pub of-EmptySet : (l : ℕ) (t : Term) → tree_of (v.EmptySet l t) ≡ empty_set l (tree_of t)
+pub of-EmptySet : (l : Span) (t : Term) → tree_of (v.EmptySet l t) ≡ empty_set l (tree_of t)
 of-EmptySet l t = ap tree_of (sym (v.rolls-EmptySet l t)) ∙ rolled (Term-F.EmptySet l t)
 
-pub of-Bracket : (l : ℕ) (t : Term) → tree_of (v.Bracket l t) ≡ bracket l (tree_of t)
+pub of-Bracket : (l : Span) (t : Term) → tree_of (v.Bracket l t) ≡ bracket l (tree_of t)
 of-Bracket l t = ap tree_of (sym (v.rolls-Bracket l t)) ∙ rolled (Term-F.Bracket l t)
 
-pub of-Listed : (l : ℕ) (form : Listed) (ts : List Term) → tree_of (v.Listed l form ts) ≡ listed l form (trees (map tree_of ts))
+pub of-Listed : (l : Span) (form : Listed) (ts : List Term) → tree_of (v.Listed l form ts) ≡ listed l form (trees (map tree_of ts))
 of-Listed l form ts = ap tree_of (sym (v.rolls-Listed l form ts)) ∙ rolled (Term-F.Listed l form ts)
 
-pub of-Comprehension : (l : ℕ) (ds : List VarDecl) (p t : Option Term) → tree_of (v.Comprehension l ds p t) ≡ comprehension l (var_decls (map var_decl_of ds)) (part_of p) (part_of t)
+pub of-Comprehension : (l : Span) (ds : List VarDecl) (p t : Option Term) → tree_of (v.Comprehension l ds p t) ≡ comprehension l (var_decls (map var_decl_of ds)) (part_of p) (part_of t)
 of-Comprehension l ds None None = ap tree_of (sym (v.rolls-Comprehension l ds None None)) ∙ rolled (Term-F.Comprehension l ds None None)
 of-Comprehension l ds None (Some t) = ap tree_of (sym (v.rolls-Comprehension l ds None (Some t))) ∙ rolled (Term-F.Comprehension l ds None (Some t))
 of-Comprehension l ds (Some p) None = ap tree_of (sym (v.rolls-Comprehension l ds (Some p) None)) ∙ rolled (Term-F.Comprehension l ds (Some p) None)
 of-Comprehension l ds (Some p) (Some t) = ap tree_of (sym (v.rolls-Comprehension l ds (Some p) (Some t))) ∙ rolled (Term-F.Comprehension l ds (Some p) (Some t))
 
-pub of-Unary : (l : ℕ) (op : Unary) (t : Term) → tree_of (v.Unary l op t) ≡ unary l op (tree_of t)
+pub of-Unary : (l : Span) (op : Unary) (t : Term) → tree_of (v.Unary l op t) ≡ unary l op (tree_of t)
 of-Unary l op t = ap tree_of (sym (v.rolls-Unary l op t)) ∙ rolled (Term-F.Unary l op t)
 
-pub of-Binary : (l : ℕ) (op : Operator) (a b : Term) → tree_of (v.Binary l op a b) ≡ binary l op (tree_of a) (tree_of b)
+pub of-Binary : (l : Span) (op : Operator) (a b : Term) → tree_of (v.Binary l op a b) ≡ binary l op (tree_of a) (tree_of b)
 of-Binary l op a b = ap tree_of (sym (v.rolls-Binary l op a b)) ∙ rolled (Term-F.Binary l op a b)
 
-pub of-Chain : (l : ℕ) (t : Term) (ks : List Link) → tree_of (v.Chain l t ks) ≡ chain l (tree_of t) (links (map link_of ks))
+pub of-Chain : (l : Span) (t : Term) (ks : List Link) → tree_of (v.Chain l t ks) ≡ chain l (tree_of t) (links (map link_of ks))
 of-Chain l t ks = ap tree_of (sym (v.rolls-Chain l t ks)) ∙ rolled (Term-F.Chain l t ks)
 
-pub of-Quantified : (l : ℕ) (q : Quantifier) (ds : List VarDecl) (p : Option Term) (t : Term)
+pub of-Quantified : (l : Span) (q : Quantifier) (ds : List VarDecl) (p : Option Term) (t : Term)
     → tree_of (v.Quantified q l ds p t) ≡ quantified l q (var_decls (map var_decl_of ds)) (part_of p) (tree_of t)
 of-Quantified l q ds None t = ap tree_of (sym (v.rolls-Quantified q l ds None t)) ∙ rolled (Term-F.Quantified q l ds None t)
 of-Quantified l q ds (Some p) t = ap tree_of (sym (v.rolls-Quantified q l ds (Some p) t)) ∙ rolled (Term-F.Quantified q l ds (Some p) t)

@@ -1,6 +1,7 @@
--- Identifiers: names without their lines, as the program keeps them.
+-- Identifiers: names without their places, as the program keeps them.
 use Rattle.std.specs.Prelude.{ℕ, Bool, true, false, List, [], ◌∷◌}
 use Rattle.zf_tree.specs.Names.{Name}
+use Rattle.zf_tree.specs.declared.span.Span.{Span}
 
 pub record Ident : Type 0 where
   pub base : List ℕ
@@ -9,8 +10,8 @@ pub record Ident : Type 0 where
 abbrev pub ident_of : Name → Ident
 ident_of n = record { base = n.base; strokes = n.strokes }
 
-abbrev pub name_at : (line : ℕ) → Ident → Name
-name_at line i = record { base = i.base; strokes = i.strokes; line = line }
+abbrev pub name_at : Span → Ident → Name
+name_at s i = record { base = i.base; strokes = i.strokes; span = s }
 
 -- it has no strokes
 abbrev pub is_bare : List ℕ → Bool

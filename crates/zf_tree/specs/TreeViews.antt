@@ -38,17 +38,17 @@ perhaps (Some t) = present t
 
 -- one level, with a tree in the place of each term in it
 abbrev pub tree_step : Term-F Tree (Relation × Tree) (List Name × Tree) → Tree
-tree_step (Term-F.Name l i) = named (name_at l i)
-tree_step (Term-F.Number l v) = numeral l v
-tree_step (Term-F.Constant l c) = constant l c
-tree_step (Term-F.EmptySet l t) = empty_set l t
-tree_step (Term-F.Bracket l t) = bracket l t
-tree_step (Term-F.Listed l form ts) = listed l form (trees ts)
-tree_step (Term-F.Comprehension l ds p t) = comprehension l (var_decls ds) (perhaps p) (perhaps t)
-tree_step (Term-F.Unary l op t) = unary l op t
-tree_step (Term-F.Binary l op a b) = binary l op a b
-tree_step (Term-F.Chain l t ks) = chain l t (links ks)
-tree_step (Term-F.Quantified q l ds p t) = quantified l q (var_decls ds) (perhaps p) t
+tree_step (Term-F.Name s i) = named (name_at s i)
+tree_step (Term-F.Number s v) = numeral s v
+tree_step (Term-F.Constant s c) = constant s c
+tree_step (Term-F.EmptySet s t) = empty_set s t
+tree_step (Term-F.Bracket s t) = bracket s t
+tree_step (Term-F.Listed s form ts) = listed s form (trees ts)
+tree_step (Term-F.Comprehension s ds p t) = comprehension s (var_decls ds) (perhaps p) (perhaps t)
+tree_step (Term-F.Unary s op t) = unary s op t
+tree_step (Term-F.Binary s op a b) = binary s op a b
+tree_step (Term-F.Chain s t ks) = chain s t (links ks)
+tree_step (Term-F.Quantified q s ds p t) = quantified s q (var_decls ds) (perhaps p) t
 
 abbrev pub link_step : Link-F Tree (Relation × Tree) (List Name × Tree) → Relation × Tree
 link_step k = (k.relation, k.right)
@@ -82,11 +82,11 @@ decl_of (decl.Vars names set) = vars names (tree_of set)
 decl_of (decl.Include r) = include r
 
 abbrev pub schema_step : SchemaExp-F SchemaTree → SchemaTree
-schema_step (SchemaExp-F.Text ds ps) = schema_text (map decl_of ds) (map tree_of ps)
-schema_step (SchemaExp-F.Ref r) = schema_reference r
-schema_step (SchemaExp-F.Both a b) = both a b
-schema_step (SchemaExp-F.Or l a b) = either l a b
-schema_step (SchemaExp-F.Bracket a) = schema_bracket a
+schema_step (SchemaExp-F.Text s ds ps) = schema_text s (map decl_of ds) (map tree_of ps)
+schema_step (SchemaExp-F.Ref s r) = schema_reference s r
+schema_step (SchemaExp-F.Both s a b) = both s a b
+schema_step (SchemaExp-F.Or s a b) = either s a b
+schema_step (SchemaExp-F.Bracket s a) = schema_bracket s a
 
 unfoldable pub schema_tree_of : SchemaExp → SchemaTree
 schema_tree_of = fold-SchemaExp SchemaTree schema_step

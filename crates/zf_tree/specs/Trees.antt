@@ -8,22 +8,23 @@ use Rattle.zf_tree.specs.declared.operator.Listed.{Listed}
 use Rattle.zf_tree.specs.declared.operator.Operator.{Operator}
 use Rattle.zf_tree.specs.declared.operator.Unary.{Unary}
 use Rattle.zf_tree.specs.declared.tree.SchemaRef.{SchemaRef}
+use Rattle.zf_tree.specs.declared.span.Span.{Span}
 
--- ---- terms, each with the line of its first token
+-- ---- terms, each with the span from its first token to its last
 
 mutual
   pub data Tree : Type 0 where
     named : Name → Tree
-    numeral : (line value : ℕ) → Tree
-    constant : (line : ℕ) → Constant → Tree
-    empty_set : (line : ℕ) → Tree → Tree
-    bracket : (line : ℕ) → Tree → Tree
-    listed : (line : ℕ) → Listed → Trees → Tree
-    comprehension : (line : ℕ) → VarDecls → Perhaps → Perhaps → Tree
-    unary : (line : ℕ) → Unary → Tree → Tree
-    binary : (line : ℕ) → Operator → Tree → Tree → Tree
-    chain : (line : ℕ) → Tree → Links → Tree
-    quantified : (line : ℕ) → Quantifier → VarDecls → Perhaps → Tree → Tree
+    numeral : Span → ℕ → Tree
+    constant : Span → Constant → Tree
+    empty_set : Span → Tree → Tree
+    bracket : Span → Tree → Tree
+    listed : Span → Listed → Trees → Tree
+    comprehension : Span → VarDecls → Perhaps → Perhaps → Tree
+    unary : Span → Unary → Tree → Tree
+    binary : Span → Operator → Tree → Tree → Tree
+    chain : Span → Tree → Links → Tree
+    quantified : Span → Quantifier → VarDecls → Perhaps → Tree → Tree
 
   -- operands of one node
   pub data Trees : Type 0 where
@@ -45,19 +46,19 @@ mutual
     absent : Perhaps
     present : Tree → Perhaps
 
--- the line of the first symbol
-abbrev pub line_of : Tree → ℕ
-line_of (named n) = n.line
-line_of (numeral l v) = l
-line_of (constant l c) = l
-line_of (empty_set l t) = l
-line_of (bracket l t) = l
-line_of (listed l form ts) = l
-line_of (comprehension l ds p t) = l
-line_of (unary l op t) = l
-line_of (binary l op a b) = l
-line_of (chain l t ks) = l
-line_of (quantified l q ds p t) = l
+-- from the first token to the last
+abbrev pub span_of : Tree → Span
+span_of (named n) = n.span
+span_of (numeral s v) = s
+span_of (constant s c) = s
+span_of (empty_set s t) = s
+span_of (bracket s t) = s
+span_of (listed s form ts) = s
+span_of (comprehension s ds p t) = s
+span_of (unary s op t) = s
+span_of (binary s op a b) = s
+span_of (chain s t ks) = s
+span_of (quantified s q ds p t) = s
 
 -- ---- declarations, schema expressions, paragraphs and boxes
 
@@ -66,11 +67,18 @@ pub data DeclTree : Type 0 where
   include : SchemaRef → DeclTree
 
 pub data SchemaTree : Type 0 where
-  schema_text : List DeclTree → List Tree → SchemaTree
-  schema_reference : SchemaRef → SchemaTree
-  both : SchemaTree → SchemaTree → SchemaTree
-  either : (line : ℕ) → SchemaTree → SchemaTree → SchemaTree
-  schema_bracket : SchemaTree → SchemaTree
+  schema_text : Span → List DeclTree → List Tree → SchemaTree
+  schema_reference : Span → SchemaRef → SchemaTree
+  both : Span → SchemaTree → SchemaTree → SchemaTree
+  either : Span → SchemaTree → SchemaTree → SchemaTree
+  schema_bracket : Span → SchemaTree → SchemaTree
+
+abbrev pub schema_span : SchemaTree → Span
+schema_span (schema_text s ds ps) = s
+schema_span (schema_reference s r) = s
+schema_span (both s a b) = s
+schema_span (either s a b) = s
+schema_span (schema_bracket s a) = s
 
 pub data ParagraphTree : Type 0 where
   given : List Name → ParagraphTree

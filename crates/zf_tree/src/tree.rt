@@ -1,22 +1,23 @@
 //! The trees of a text.
 ghost use Rattle.std.specs.Prelude.{◌≡◌, ◌++◌};
 ghost use Rattle.zf_tree.specs.NameViews as spec;
-ghost use Rattle.zf_tree.specs.{ident_of, line_of, name_at, tree_of};
+ghost use Rattle.zf_tree.specs.{ident_of, name_at, schema_span, schema_tree_of, span_of, tree_of};
 
 use crate::ends::{back, front};
 use crate::operator::{Listed, Operator, Unary};
+use crate::span::Span;
 use crate::symbol::{Constant, Quantifier, Relation};
 use std::marker::Model;
 use zf_data::arena::{Boxed, Items, Lent};
 
-/// A name, and the line where it stands.
+/// A name, and where it stands.
 #[derive(Drop)]
 pub struct Name<'a> {
     /// The name with its strokes.
     pub spelled: Lent<'a>,
     /// How many of its bytes come before the strokes.
     pub bare: usize,
-    pub line: u32,
+    pub span: Span,
 }
 
 impl<'a> Model for Name<'a> {
@@ -25,7 +26,7 @@ impl<'a> Model for Name<'a> {
 
     ghost Value = { names.Name };
 
-    ghost view = { λ n. record { base = take n.bare n.spelled; strokes = drop n.bare n.spelled; line = n.line } };
+    ghost view = { λ n. record { base = take n.bare n.spelled; strokes = drop n.bare n.spelled; span = n.span } };
 }
 
 impl<'a> Name<'a> {
@@ -36,7 +37,7 @@ impl<'a> Name<'a> {
         self.spelled.share()
     }
 
-    /// The name without its line.
+    /// The name without its place.
     pub fn ident(&self) -> Ident<'a>
         ensures { result ≡ ident_of self.now }
     {
@@ -71,7 +72,7 @@ impl<'a> Name<'a> {
     }
 }
 
-/// A name without its line, as a term has it.
+/// A name without its place, as a term has it.
 #[derive(Drop)]
 pub struct Ident<'a> {
     /// The name with its strokes.
@@ -90,14 +91,14 @@ impl<'a> Model for Ident<'a> {
 }
 
 impl<'a> Ident<'a> {
-    /// The name, which stands at the line.
-    pub fn at(&self, line: u32) -> Name<'a>
-        ensures { result ≡ name_at line self.now }
+    /// The name, which stands there.
+    pub fn at(&self, span: Span) -> Name<'a>
+        ensures { result ≡ name_at span self.now }
     {
         Name {
             spelled: self.spelled.share(),
             bare: self.bare,
-            line,
+            span,
         }
     }
 }
@@ -108,45 +109,45 @@ pub type Part<'a> = Boxed<'a, Option<Boxed<'a, Term<'a>>>>;
 /// The operands of one node. A list stands in a box wherever a term has one, so that every term is small.
 pub type Terms<'a> = Boxed<'a, Items<'a, Boxed<'a, Term<'a>>>>;
 
-/// A term, with the line of its first token. Expressions and predicates share it.
+/// A term, with the span from its first token to its last. Expressions and predicates share it.
 #[cycle(terms)]
 #[derive(Drop)]
 pub enum Term<'a> {
-    Name(u32, Ident<'a>),
-    Number(u32, u64),
-    Constant(u32, Constant),
+    Name(Span, Ident<'a>),
+    Number(Span, u64),
+    Constant(Span, Constant),
     /// `\emptyset[E]`
-    EmptySet(u32, Boxed<'a, Term<'a>>),
-    Bracket(u32, Boxed<'a, Term<'a>>),
-    Listed(u32, Listed, Terms<'a>),
+    EmptySet(Span, Boxed<'a, Term<'a>>),
+    Bracket(Span, Boxed<'a, Term<'a>>),
+    Listed(Span, Listed, Terms<'a>),
     /// A comprehension: the declarations, the filter, and the term.
-    Comprehension(u32, Boxed<'a, Items<'a, VarDecl<'a>>>, Part<'a>, Part<'a>),
-    Unary(u32, Unary, Boxed<'a, Term<'a>>),
-    Binary(u32, Operator, Boxed<'a, Term<'a>>, Boxed<'a, Term<'a>>),
+    Comprehension(Span, Boxed<'a, Items<'a, VarDecl<'a>>>, Part<'a>, Part<'a>),
+    Unary(Span, Unary, Boxed<'a, Term<'a>>),
+    Binary(Span, Operator, Boxed<'a, Term<'a>>, Boxed<'a, Term<'a>>),
     /// A chain of relations: the first operand, and the links.
-    Chain(u32, Boxed<'a, Term<'a>>, Boxed<'a, Items<'a, Link<'a>>>),
+    Chain(Span, Boxed<'a, Term<'a>>, Boxed<'a, Items<'a, Link<'a>>>),
     /// The declarations, the constraint, and the body.
-    Quantified(Quantifier, u32, Boxed<'a, Items<'a, VarDecl<'a>>>, Part<'a>, Boxed<'a, Term<'a>>),
+    Quantified(Quantifier, Span, Boxed<'a, Items<'a, VarDecl<'a>>>, Part<'a>, Boxed<'a, Term<'a>>),
 }
 
 impl<'a> Term<'a> {
-    /// The line of the first symbol.
+    /// From the first token to the last.
     #[tactic(auto, using(crate::proofs::TermSeen::seen))]
-    pub fn line(&self) -> u32
-        ensures { result ≡ line_of (tree_of self.now) }
+    pub fn span(&self) -> Span
+        ensures { result ≡ span_of (tree_of self.now) }
     {
         match self {
-            Term::Name(line, _) => *line,
-            Term::Number(line, _) => *line,
-            Term::Constant(line, _) => *line,
-            Term::EmptySet(line, _) => *line,
-            Term::Bracket(line, _) => *line,
-            Term::Listed(line, _, _) => *line,
-            Term::Comprehension(line, _, _, _) => *line,
-            Term::Unary(line, _, _) => *line,
-            Term::Binary(line, _, _, _) => *line,
-            Term::Chain(line, _, _) => *line,
-            Term::Quantified(_, line, _, _, _) => *line,
+            Term::Name(span, _) => *span,
+            Term::Number(span, _) => *span,
+            Term::Constant(span, _) => *span,
+            Term::EmptySet(span, _) => *span,
+            Term::Bracket(span, _) => *span,
+            Term::Listed(span, _, _) => *span,
+            Term::Comprehension(span, _, _, _) => *span,
+            Term::Unary(span, _, _) => *span,
+            Term::Binary(span, _, _, _) => *span,
+            Term::Chain(span, _, _) => *span,
+            Term::Quantified(_, span, _, _, _) => *span,
         }
     }
 }
@@ -190,17 +191,33 @@ pub enum Decl<'a> {
     Include(SchemaRef<'a>),
 }
 
-/// A schema expression (ZRM 5.2).
+/// A schema expression (ZRM 5.2), with the span from its first token to its last.
 #[derive(Drop)]
 pub enum SchemaExp<'a> {
     /// `[ Decl; .. | Term; .. ]`
-    Text(Items<'a, Decl<'a>>, Items<'a, Boxed<'a, Term<'a>>>),
-    Ref(SchemaRef<'a>),
+    Text(Span, Items<'a, Decl<'a>>, Items<'a, Boxed<'a, Term<'a>>>),
+    Ref(Span, SchemaRef<'a>),
     /// `A \land B`
-    Both(Boxed<'a, SchemaExp<'a>>, Boxed<'a, SchemaExp<'a>>),
-    /// `A \lor B`, with the line of its first token
-    Or(u32, Boxed<'a, SchemaExp<'a>>, Boxed<'a, SchemaExp<'a>>),
-    Bracket(Boxed<'a, SchemaExp<'a>>),
+    Both(Span, Boxed<'a, SchemaExp<'a>>, Boxed<'a, SchemaExp<'a>>),
+    /// `A \lor B`
+    Or(Span, Boxed<'a, SchemaExp<'a>>, Boxed<'a, SchemaExp<'a>>),
+    Bracket(Span, Boxed<'a, SchemaExp<'a>>),
+}
+
+impl<'a> SchemaExp<'a> {
+    /// From the first token to the last.
+    #[tactic(auto, using(crate::proofs::SchemaSeen::seen))]
+    pub fn span(&self) -> Span
+        ensures { result ≡ schema_span (schema_tree_of self.now) }
+    {
+        match self {
+            SchemaExp::Text(span, _, _) => *span,
+            SchemaExp::Ref(span, _) => *span,
+            SchemaExp::Both(span, _, _) => *span,
+            SchemaExp::Or(span, _, _) => *span,
+            SchemaExp::Bracket(span, _) => *span,
+        }
+    }
 }
 
 /// A paragraph of a `zed` box (ZRM 3.2).

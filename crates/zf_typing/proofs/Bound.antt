@@ -1,5 +1,5 @@
 -- Bound variables: names that are declared apart, and scopes with variables in them.
-use Rattle.zf_typing.proofs.Prelude.{if◌then◌else◌, ◌++◌, ◌∙◌, ◌∷◌, ◌≡◌, [], ap, Bool, Err, false, inl, inr, length, List, map, None, Ok, Option, refl, Some, sym, take, true, true≢false, ℕ, ⊎_elim, take-append_seam, length-map, map-append, take-map, bytes_eq-Decides, bytes_eq, spelling, Name, comp_of, globals_of, later, Offence, AreNew, AreRepeated, IsBound, IsRepeated, Repeats, last_named, Scope, Var, variable_of, with_variables, scope_of, AreApart, IsApart, Variable, option_or, ◌⊎◌, Result, OnErr, OnOk}
+use Rattle.zf_typing.proofs.Prelude.{if◌then◌else◌, ◌++◌, ◌∙◌, ◌∷◌, ◌≡◌, [], ap, Bool, Err, false, inl, inr, length, List, map, None, Ok, Option, refl, Some, sym, take, true, true≢false, ℕ, ⊎_elim, take-append_seam, length-map, map-append, take-map, bytes_eq-Decides, bytes_eq, spelling, Name, comp_of, globals_of, later, Offence, AreNew, AreRepeated, IsBound, IsRepeated, Repeats, last_named, Scope, Var, variable_of, with_variables, scope_of, AreApart, IsApart, Variable, option_or, ◌⊎◌, Result, OnErr, OnOk, Span}
 use Rattle.zf_typing.specs.declared.scope.Scope as program
 
 -- ---- the variable of a name
@@ -54,7 +54,7 @@ fewer vs v (o ∷ ns) h = ((λ b. h.0 (bound_more vs v (spelling o) b)), h.1, fe
 pub one_new : (vs : List Var) (v : Var) (n : Name) (ns : List Name) → v.name ≡ spelling n → (IsBound (spelling n) vs → ⊥) → AreNew (vs ++ v ∷ []) ns → AreNew vs (n ∷ ns)
 one_new vs v n ns e free h = (free, apart_from vs v n ns e h, fewer vs v ns h)
 
-pub one_repeated : (vs : List Var) (v : Var) (n : Name) (ns : List Name) (k : Offence) (m : ℕ) → v.name ≡ spelling n → AreRepeated (vs ++ v ∷ []) ns k m → IsRepeated n ns k m ⊎ AreRepeated vs ns k m
+pub one_repeated : (vs : List Var) (v : Var) (n : Name) (ns : List Name) (k : Offence) (m : Span) → v.name ≡ spelling n → AreRepeated (vs ++ v ∷ []) ns k m → IsRepeated n ns k m ⊎ AreRepeated vs ns k m
 one_repeated vs v n [] k m e h = absurd h
 one_repeated vs v n (o ∷ ns) k m e (inl b) =
     ⊎_elim (λ f. inr (inl (f, b.1, b.2))) (λ same. inl (inl (sym e ∙ same, b.1, b.2))) (bound_among vs v (spelling o) b.0)
@@ -65,7 +65,7 @@ pub all_apart : (ns : List Name) → AreNew [] ns → AreApart ns
 all_apart [] h = tt
 all_apart (n ∷ ns) h = (h.1, all_apart ns h.2)
 
-pub some_repeated : (ns : List Name) (k : Offence) (m : ℕ) → AreRepeated [] ns k m → Repeats ns k m
+pub some_repeated : (ns : List Name) (k : Offence) (m : Span) → AreRepeated [] ns k m → Repeats ns k m
 some_repeated [] k m h = h
 some_repeated (n ∷ ns) k m (inl b) = absurd b.0
 some_repeated (n ∷ ns) k m (inr (inl r)) = inl r

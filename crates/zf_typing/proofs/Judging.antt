@@ -1,5 +1,5 @@
 -- From the answers about the parts of a term to the answer about the term.
-use Rattle.zf_typing.proofs.Prelude.{◌∙◌, ◌≡◌, ap, Err, inr, Ok, refl, subst, sym, true≢false, ℕ, IfErr, IfOk, IsErr, IsErrAnd, Result, need_of, binary, bracket, comprehension, chain, constant, empty_set, listed, named, numeral, quantified, Tree, tree_of, unary, Need, Unary, Domain, Finset, Power, Range, Size, Term, pair_type, power, Offence, IsJudged, Judges, Misplaced, Offends, IfFault, IsRefusal, IsStill, offence_of, a_schema, Meets, number_sort, predicate, set_sort, Sort, UnaryTakes, Scope, Refusal, Fault, OutOfMemory, Judged, Operator}
+use Rattle.zf_typing.proofs.Prelude.{◌∙◌, ◌≡◌, ap, Err, inr, Ok, refl, subst, sym, true≢false, IfErr, IfOk, IsErr, IsErrAnd, Result, need_of, binary, bracket, comprehension, chain, constant, empty_set, listed, named, numeral, quantified, Tree, tree_of, unary, Need, Unary, Domain, Finset, Power, Range, Size, Term, pair_type, power, Offence, IsJudged, Judges, Misplaced, Offends, IfFault, IsRefusal, IsStill, offence_of, a_schema, Meets, number_sort, predicate, set_sort, Sort, UnaryTakes, Scope, Refusal, Fault, OutOfMemory, Judged, Operator, Span}
 use Rattle.zf_tree.specs.declared.operator.Sign.TheVariants as sign
 use Rattle.zf_tree.specs.declared.tree.Term.TheVariants as form
 use Rattle.zf_tree.proofs.TermSeen as seen
@@ -8,29 +8,29 @@ use Rattle.zf_tree.specs.declared.operator.Unary.TheVariants.{Sign, Inverse, Not
 
 -- ---- faults
 
--- what follows of each kind and line follows of the fault
-pub if_fault : (r : Refusal) (P Q : Offence → ℕ → Type 0) → ((k : Offence) (m : ℕ) → P k m → Q k m) → IfFault r P → IfFault r Q
-if_fault (Fault f) P Q step h = step (offence_of f.offence) f.line h
+-- what follows of each kind and place follows of the fault
+pub if_fault : (r : Refusal) (P Q : Offence → Span → Type 0) → ((k : Offence) (m : Span) → P k m → Q k m) → IfFault r P → IfFault r Q
+if_fault (Fault f) P Q step h = step (offence_of f.offence) f.span h
 if_fault OutOfMemory P Q step h = tt
 
 -- what holds of the offence that a refusal tells holds of its fault
-pub told : (r : Refusal) (o : Offence) (m : ℕ) (P : Offence → ℕ → Type 0) → IsRefusal r o m → P o m → IfFault r P
-told (Fault f) o m P h p = subst (λ q. P q f.line) (sym h.0) (subst (λ l. P o l) (sym h.1) p)
+pub told : (r : Refusal) (o : Offence) (m : Span) (P : Offence → Span → Type 0) → IsRefusal r o m → P o m → IfFault r P
+told (Fault f) o m P h p = subst (λ q. P q f.span) (sym h.0) (subst (λ l. P o l) (sym h.1) p)
 told OutOfMemory o m P h p = tt
 
 -- what holds of a fault holds of it with a hint
-pub still : (old new : Refusal) (P : Offence → ℕ → Type 0) → IsStill old new → IfFault old P → IfFault new P
-still (Fault f) new P same h = told new (offence_of f.offence) f.line P same h
+pub still : (old new : Refusal) (P : Offence → Span → Type 0) → IsStill old new → IfFault old P → IfFault new P
+still (Fault f) new P same h = told new (offence_of f.offence) f.span P same h
 still OutOfMemory new P same h = subst (λ r. IfFault r P) (sym same) tt
 
 -- a fault is passed on as it is
 abbrev pub Passes : {T : Type 0} → Result T Refusal → Refusal → Type 0
 Passes r x = IsErr r × IsErrAnd r (λ y. y ≡ x)
 
--- what follows of each kind and line of a fault follows of it when it is passed on
+-- what follows of each kind and place of a fault follows of it when it is passed on
 pub fault_from :
-    {T : Type 0} (x : Refusal) (P Q : Offence → ℕ → Type 0) (r : Result T Refusal)
-    → ((k : Offence) (m : ℕ) → P k m → Q k m) → IfFault x P → Passes r x → IfErr r (λ y. IfFault y Q)
+    {T : Type 0} (x : Refusal) (P Q : Offence → Span → Type 0) (r : Result T Refusal)
+    → ((k : Offence) (m : Span) → P k m → Q k m) → IfFault x P → Passes r x → IfErr r (λ y. IfFault y Q)
 fault_from x P Q (Ok j) step h p = absurd (true≢false (sym p.0))
 fault_from x P Q (Err y) step h p = subst (λ z. IfFault z Q) (sym p.1) (if_fault x P Q step h)
 
@@ -57,8 +57,8 @@ pub still_judged : (s : Scope) (n : Need) (e : Tree) (old new : Refusal) → IsS
 still_judged s n e old new same h = judges_err s n e new (still old new (λ k m. Offends s n e k m) same (fault_of s n e old h))
 
 pub from_offence :
-    (s : Scope) (n : Need) (e : Tree) (x : Refusal) (P : Offence → ℕ → Type 0) (r : Result Judged Refusal)
-    → ((k : Offence) (m : ℕ) → P k m → Offends s n e k m) → IfFault x P → Passes r x → Judges s n e r
+    (s : Scope) (n : Need) (e : Tree) (x : Refusal) (P : Offence → Span → Type 0) (r : Result Judged Refusal)
+    → ((k : Offence) (m : Span) → P k m → Offends s n e k m) → IfFault x P → Passes r x → Judges s n e r
 from_offence s n e x P (Ok j) step h p = absurd (true≢false (sym p.0))
 from_offence s n e x P (Err y) step h p =
     subst (λ z. Judges s n e (Err z)) (sym p.1) (judges_err s n e x (if_fault x P (λ k m. Offends s n e k m) step h))
@@ -67,7 +67,8 @@ pub from_memory : (s : Scope) (n : Need) (e : Tree) (r : Result Judged Refusal) 
 from_memory s n e r p g = from_offence s n e OutOfMemory (λ k m. Offends s n e k m) r (λ k m o. o) tt (p, g)
 
 -- what a symbol between two terms is seen as
-pub of_binary : (t : Term) (l : ℕ) (op : Operator) (a b x y : Term) → t ≡ form.Binary l op a b → x ≡ a → y ≡ b → tree_of t ≡ binary l op (tree_of x) (tree_of y)
+pub of_binary : (t : Term) (l : Span) (op : Operator) (a b x y : Term) → t ≡ form.Binary l op a b → x ≡ a → y ≡ b
+    → tree_of t ≡ binary l op (tree_of x) (tree_of y)
 of_binary t l op a b x y is left right =
     ap tree_of is ∙ seen.of-Binary l op a b ∙ ap (λ z. binary l op (tree_of z) (tree_of b)) (sym left) ∙ ap (λ z. binary l op (tree_of x) (tree_of z)) (sym right)
 
@@ -83,19 +84,19 @@ judged_in s n e j scope need is h = judged_of s n (tree_of e) j (judged_as s _ n
 pub from_part :
     (s : Scope) {t : Scope} (n : Need) {m : Need} (e : Term) {f : Term} (d : Need) (whole : Tree) (x : Refusal) (r : Result Judged Refusal)
     → t ≡ s → m ≡ n → f ≡ e → Judges t m (tree_of f) (Err x)
-    → ((k : Offence) (l : ℕ) → Offends s n (tree_of e) k l → Offends s d whole k l) → Passes r x → Judges s d whole r
+    → ((k : Offence) (l : Span) → Offends s n (tree_of e) k l → Offends s d whole k l) → Passes r x → Judges s d whole r
 from_part s n e d whole x r scope need is h step p =
     from_offence s d whole x (λ k l. Offends s n (tree_of e) k l) r step (fault_of s n (tree_of e) x (judged_as s _ n _ e _ (Err x) scope need is h)) p
 
 -- or is what is reported of several
 pub part_wrong :
-    {T : Type 0} (s : Scope) {t : Scope} (n : Need) {m : Need} (e : Term) {f : Term} (P : Offence → ℕ → Type 0) (x : Refusal) (r : Result T Refusal)
+    {T : Type 0} (s : Scope) {t : Scope} (n : Need) {m : Need} (e : Term) {f : Term} (P : Offence → Span → Type 0) (x : Refusal) (r : Result T Refusal)
     → t ≡ s → m ≡ n → f ≡ e → Judges t m (tree_of f) (Err x)
-    → ((k : Offence) (l : ℕ) → Offends s n (tree_of e) k l → P k l) → Passes r x → IfErr r (λ y. IfFault y P)
+    → ((k : Offence) (l : Span) → Offends s n (tree_of e) k l → P k l) → Passes r x → IfErr r (λ y. IfFault y P)
 part_wrong s n e P x r scope need is h step p =
     fault_from x (λ k l. Offends s n (tree_of e) k l) P r step (fault_of s n (tree_of e) x (judged_as s _ n _ e _ (Err x) scope need is h)) p
 
-pub misplaced : (s : Scope) (n : Need) (e : Tree) (k : Offence) (m : ℕ) → Misplaced s n e k m → Offends s n e k m
+pub misplaced : (s : Scope) (n : Need) (e : Tree) (k : Offence) (m : Span) → Misplaced s n e k m → Offends s n e k m
 misplaced s n (named x) k m h = inr h
 misplaced s n (numeral l v) k m h = h
 misplaced s n (constant l c) k m h = h

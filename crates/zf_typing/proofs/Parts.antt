@@ -1,5 +1,5 @@
 -- What stands within declarations, from what its parts are.
-use Rattle.zf_typing.proofs.Prelude.{◌∙◌, ◌≡◌, ap, Err, length, List, map, None, Ok, Option, refl, Some, subst, sym, true≢false, ℕ, IfOk, Result, absent, comprehension, Perhaps, present, quantified, Tree, VarDecls, Need, type_of, ZType, IsPart, Judges, JudgesPart, PartOffends, IfFault, resolved, resolved_part, resolved_ranges, Scope, Var, with_variables, PartIsPredicate, Declare, IsOf, row_type, Refusal, Judged}
+use Rattle.zf_typing.proofs.Prelude.{◌∙◌, ◌≡◌, ap, Err, length, List, map, None, Ok, Option, refl, Some, subst, sym, true≢false, ℕ, IfOk, Result, absent, comprehension, Perhaps, present, quantified, Tree, VarDecls, Need, type_of, ZType, IsPart, Judges, JudgesPart, PartOffends, IfFault, resolved, resolved_part, resolved_ranges, Scope, Var, with_variables, PartIsPredicate, Declare, IsOf, row_type, Refusal, Judged, Span}
 use Rattle.zf_tree.specs.declared.symbol.Quantifier.{Quantifier}
 use Rattle.zf_tree.specs.declared.operator.Need.TheVariants as need
 use Rattle.zf_term.specs.declared.resolved.Range.{Range}
@@ -62,7 +62,7 @@ row_here (Ok u) t s vs n h e row = row s vs h e
 row_here (Err x) t s vs n h e row = tt
 
 module _ (s : Scope) (ds : VarDecls) (vs : List Var) (declares : Declare s ds vs) (rs : List Range) (sets : kept_views.ranges (map kept_views.range_of rs) ≡ resolved_ranges s ds) where
-  pub quantified_kept : (l : ℕ) (q : Quantifier) (p : Perhaps) (e : Tree) (o : Option Resolved) (t : Resolved)
+  pub quantified_kept : (l : Span) (q : Quantifier) (p : Perhaps) (e : Tree) (o : Option Resolved) (t : Resolved)
       → kept_views.part_of o ≡ resolved_part (with_variables s vs) p → kept_views.resolved_of t ≡ resolved (with_variables s vs) e
       → kept_views.resolved_of (v.Quantified q l rs o t) ≡ resolved s (quantified l q ds p e)
   quantified_kept l q p e o t condition body =
@@ -70,7 +70,7 @@ module _ (s : Scope) (ds : VarDecls) (vs : List Var) (declares : Declare s ds vs
       let two = body ∙ sym (resolved_within s ds vs e declares) in
       seen.of-Quantified l q rs o t ∙ (cc)
 
-  pub comprehension_kept : (l : ℕ) (p e : Perhaps) (o t : Option Resolved) → kept_views.part_of o ≡ resolved_part (with_variables s vs) p
+  pub comprehension_kept : (l : Span) (p e : Perhaps) (o t : Option Resolved) → kept_views.part_of o ≡ resolved_part (with_variables s vs) p
       → kept_views.part_of t ≡ resolved_part (with_variables s vs) e → kept_views.resolved_of (v.Comprehension l rs o t) ≡ resolved s (comprehension l ds p e)
   comprehension_kept l p e o t condition term =
       let one = condition ∙ sym (part_within s ds vs p declares) in

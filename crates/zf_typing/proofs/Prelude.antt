@@ -10,7 +10,7 @@ pub use Rattle.std.specs.Prelude.{IfErr, IfOk, IsErr, IsErrAnd, Result, slice_ge
 pub use Rattle.std.specs.Str.{bytes_eq}
 pub use Rattle.std.specs.Vec.Iter.{into_iter_items}
 pub use Rattle.zf_reference.specs.declared.reference.Reference.TheVariants.{Component, Global, Local}
-pub use Rattle.zf_tree.specs.{absent, binary, bracket, comprehension, chain, constant, empty_set, left_need, line_of, link, link_of, Links, links, listed, named, need_of, no_decls, no_links, no_trees, numeral, part_of, Perhaps, prefix_need, present, quantified, relation_rule, right_need, rule_of, sign_need, spelling, Tree, tree, tree_of, trees, unary, var_decl, var_decl_of, var_decls, VarDecls}
+pub use Rattle.zf_tree.specs.{absent, binary, bracket, comprehension, chain, constant, empty_set, left_need, span_of, link, link_of, Links, links, listed, named, need_of, no_decls, no_links, no_trees, numeral, part_of, Perhaps, prefix_need, present, quantified, relation_rule, right_need, rule_of, sign_need, spelling, Tree, tree, tree_of, trees, unary, var_decl, var_decl_of, var_decls, VarDecls}
 pub use Rattle.zf_tree.specs.Trees.{Trees}
 pub use Rattle.zf_tree.specs.declared.operator.Listed.{Listed}
 pub use Rattle.zf_tree.specs.declared.operator.Listed.TheVariants.{Display, Product, Tuple}
@@ -39,3 +39,4 @@ pub use Rattle.zf_typing.specs.declared.index.Chained.{Chained}
 pub use Rattle.zf_typing.specs.declared.judge.Judged.{Judged}
 pub use Rattle.zf_typing.specs.declared.variable.Variable.{Variable}
 pub use Rattle.zf_tree.specs.declared.operator.Operator.{Operator}
+pub use Rattle.zf_tree.specs.declared.span.Span.{Span}

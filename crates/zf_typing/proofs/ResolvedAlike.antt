@@ -81,7 +81,7 @@ alike_within s r vs us alike same = (
 
 mutual
   pub resolved_alike : (s r : Scope) (e : Tree) → Alike s r → resolved s e ≡ resolved r e
-  resolved_alike s r (text.named n) alike = ap (reference n.line) (same_referent s r (spelling n) alike)
+  resolved_alike s r (text.named n) alike = ap (reference n.span) (same_referent s r (spelling n) alike)
   resolved_alike s r (text.numeral l v) alike = refl
   resolved_alike s r (text.constant l c) alike = refl
   resolved_alike s r (text.empty_set l e) alike = ap (empty_set l) (resolved_alike s r e alike)

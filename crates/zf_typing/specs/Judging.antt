@@ -1,6 +1,6 @@
 -- What the parts of the checker of terms answer, for private contracts alone.
 use Rattle.std.specs.Prelude.{Bool, false, ◌≡◌, ◌⊎◌, ℕ, List, [], ◌∷◌, Option, Some, None, Result, IfOk, IfErr}
-use Rattle.zf_typing.specs.Prelude.{Name, absent, binary, bracket, line_of, Perhaps, present, spelling, Tree, VarDecls, Need, is_and, local_twice, mismatch, no_members, no_types, Offence, resolved_of, Ty, type, Tys, IfFault, Meets, sort_of, typed}
+use Rattle.zf_typing.specs.Prelude.{Name, absent, binary, bracket, span_of, Perhaps, present, spelling, Tree, VarDecls, Need, is_and, local_twice, mismatch, no_members, no_types, Offence, resolved_of, Ty, type, Tys, IfFault, Meets, sort_of, typed, Span}
 use Rattle.zf_tree.specs.declared.tree.Term.{Term}
 use Rattle.zf_tree.specs.declared.tree.Term.TheVariants as form
 use Rattle.zf_tree.specs.declared.tree.Link.{Link}
@@ -33,27 +33,27 @@ is_conjunction _ = false
 -- ---- terms of one form
 
 abbrev pub IsBinary : Term → Type 0
-IsBinary t = (l : ℕ) × (op : Operator) × (a b : Term) × (t ≡ form.Binary l op a b)
+IsBinary t = (l : Span) × (op : Operator) × (a b : Term) × (t ≡ form.Binary l op a b)
 
 abbrev pub IsChain : Term → Type 0
-IsChain t = (l : ℕ) × (a : Term) × (ks : List Link) × (t ≡ form.Chain l a ks)
+IsChain t = (l : Span) × (a : Term) × (ks : List Link) × (t ≡ form.Chain l a ks)
 
 abbrev pub IsQuantified : Term → Type 0
-IsQuantified t = (l : ℕ) × (q : Quantifier) × (ds : List VarDecl) × (p : Option Term) × (e : Term) × (t ≡ form.Quantified q l ds p e)
+IsQuantified t = (l : Span) × (q : Quantifier) × (ds : List VarDecl) × (p : Option Term) × (e : Term) × (t ≡ form.Quantified q l ds p e)
 
 abbrev pub IsComprehension : Term → Type 0
-IsComprehension t = (l : ℕ) × (ds : List VarDecl) × (p e : Option Term) × (t ≡ form.Comprehension l ds p e)
+IsComprehension t = (l : Span) × (ds : List VarDecl) × (p e : Option Term) × (t ≡ form.Comprehension l ds p e)
 
 -- ---- members of tuples, displays and products
 
--- a term has another type than this: the offence, and its line
-abbrev pub IsOther : Ty → List Tree → Tys → Offence → ℕ → Type 0
+-- a term has another type than this: the offence, and its place
+abbrev pub IsOther : Ty → List Tree → Tys → Offence → Span → Type 0
 IsOther u [] us o m = ⊥
 IsOther u (e ∷ es) no_types o m = ⊥
-IsOther u (e ∷ es) (type v vs) o m = ((u ≡ v → ⊥) × (o ≡ mismatch (typed u) (typed v)) × (m ≡ line_of e)) ⊎ IsOther u es vs o m
+IsOther u (e ∷ es) (type v vs) o m = ((u ≡ v → ⊥) × (o ≡ mismatch (typed u) (typed v)) × (m ≡ span_of e)) ⊎ IsOther u es vs o m
 
--- another type than the first one; where there is none, the line is that of the whole
-abbrev pub DiffersAt : (line : ℕ) → List Tree → Tys → Offence → ℕ → Type 0
+-- another type than the first one; where there is none, the place is that of the whole
+abbrev pub DiffersAt : Span → List Tree → Tys → Offence → Span → Type 0
 DiffersAt l [] us o m = (us ≡ no_types) × (o ≡ no_members) × (m ≡ l)
 DiffersAt l (e ∷ es) no_types o m = ⊥
 DiffersAt l (e ∷ es) (type u us) o m = IsOther u es us o m
@@ -83,12 +83,12 @@ AreNew vs [] = Unit {0}
 AreNew vs (n ∷ ns) = (IsBound (spelling n) vs → ⊥) × IsApart n ns × AreNew vs ns
 
 -- one of the names is declared again, among them or as a variable
-abbrev pub AreRepeated : List Var → List Name → Offence → ℕ → Type 0
+abbrev pub AreRepeated : List Var → List Name → Offence → Span → Type 0
 AreRepeated vs [] o m = ⊥
-AreRepeated vs (n ∷ ns) o m = (IsBound (spelling n) vs × (o ≡ local_twice (spelling n)) × (m ≡ n.line)) ⊎ (IsRepeated n ns o m ⊎ AreRepeated vs ns o m)
+AreRepeated vs (n ∷ ns) o m = (IsBound (spelling n) vs × (o ≡ local_twice (spelling n)) × (m ≡ n.span)) ⊎ (IsRepeated n ns o m ⊎ AreRepeated vs ns o m)
 
 -- no variables are bound by declarations with this offence
-abbrev pub DeclarationsOffend : Scope → VarDecls → Offence → ℕ → Type 0
+abbrev pub DeclarationsOffend : Scope → VarDecls → Offence → Span → Type 0
 DeclarationsOffend s ds o m = Repeats (declared ds) o m ⊎ SetsOffend s ds o m
 
 -- the type of a variable

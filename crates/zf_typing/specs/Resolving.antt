@@ -18,7 +18,7 @@ bound s ds = with_variables s (variables (declared ds) int)
 
 abbrev mutual
   pub resolved : Scope → Tree → ResolvedTree
-  resolved s (text.named n) = reference n.line (referent (meaning s (spelling n)))
+  resolved s (text.named n) = reference n.span (referent (meaning s (spelling n)))
   resolved s (text.numeral l v) = number l v
   resolved s (text.constant l c) = constant l c
   resolved s (text.empty_set l e) = empty_set l (resolved s e)

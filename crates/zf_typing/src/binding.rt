@@ -7,6 +7,7 @@ ghost use Rattle.zf_typing.specs.{AreNew, AreRepeated, scope_of, Var, var_type, 
 ghost use Rattle.zf_typing.specs.Scopes as spec;
 ghost use Rattle.zf_typing.specs.Typing as typing;
 ghost use Rattle.zf_term.specs.Faults as faults;
+ghost use Rattle.zf_tree.specs.declared.span.Span.{Span};
 
 use crate::locals::Locals;
 use crate::scope::{Scope, is_bound};
@@ -28,8 +29,8 @@ pub(crate) fn declare_names<'a>(
     requires { Meets needs.Set (sort_of set.now) }
     ensures ok { OnOk result ((u : Ty) × (sort_of set.now ≡ set_sort u) × (map variable_of variables.new ≡ map variable_of variables.old ++ typing.variables names.now u)) }
     ensures apart { OnOk result ((ns : List program.Name) → AreNew (map variable_of variables.new) ns → AreNew (map variable_of variables.old) (names.now ++ ns)) }
-    ensures later { OnOk result ((ns : List program.Name) (offence : faults.Offence) (line : ℕ) → AreRepeated (map variable_of variables.new) ns offence line → AreRepeated (map variable_of variables.old) (names.now ++ ns) offence line) }
-    ensures repeated { IfErr result (λ e. IfFault e (λ offence line. (ns : List program.Name) → AreRepeated (map variable_of variables.old) (names.now ++ ns) offence line)) }
+    ensures later { OnOk result ((ns : List program.Name) (offence : faults.Offence) (span : Span) → AreRepeated (map variable_of variables.new) ns offence span → AreRepeated (map variable_of variables.old) (names.now ++ ns) offence span) }
+    ensures repeated { IfErr result (λ e. IfFault e (λ offence span. (ns : List program.Name) → AreRepeated (map variable_of variables.old) (names.now ++ ns) offence span)) }
 {
     let Some(members) = set.member() else {
         unreachable!();
@@ -37,7 +38,7 @@ pub(crate) fn declare_names<'a>(
     for name in names {
         let variable = variable(name, members)?;
         if is_bound(variables, variable.name.as_slice()) {
-            return Err(refused(arena, Offence::LocalTwice(name.spelled()), name.line));
+            return Err(refused(arena, Offence::LocalTwice(name.spelled()), name.span));
         }
         variables.push(variable)?;
     }

@@ -49,7 +49,7 @@ pub fn push_conjuncts<'a>(
 ) -> Result<(), Refusal<'a>>
     ensures is { OnOk result (IsOf (scope_of scope.old) (tree_of term.now) predicate) }
     ensures ok { OnOk result (map resolved_of conjuncts.new ≡ map resolved_of conjuncts.old ++ spec.conjuncts (resolved (scope_of scope.old) (tree_of term.now))) }
-    ensures wrong { IfErr result (λ e. IfFault e (λ offence line. Offends (scope_of scope.old) needs.Predicate (tree_of term.now) offence line)) }
+    ensures wrong { IfErr result (λ e. IfFault e (λ offence span. Offends (scope_of scope.old) needs.Predicate (tree_of term.now) offence span)) }
     ensures scope { scope_of scope.new ≡ scope_of scope.old }
 {
     match term {
@@ -89,7 +89,7 @@ fn push_whole<'a>(
 ) -> Result<(), Refusal<'a>>
     ensures is { OnOk result (IsOf (scope_of scope.old) (tree_of term.now) predicate) }
     ensures ok { OnOk result (map resolved_of conjuncts.new ≡ map resolved_of conjuncts.old ++ resolved (scope_of scope.old) (tree_of term.now) ∷ []) }
-    ensures wrong { IfErr result (λ e. IfFault e (λ offence line. Offends (scope_of scope.old) needs.Predicate (tree_of term.now) offence line)) }
+    ensures wrong { IfErr result (λ e. IfFault e (λ offence span. Offends (scope_of scope.old) needs.Predicate (tree_of term.now) offence span)) }
     ensures scope { scope_of scope.new ≡ scope_of scope.old }
 {
     let judged = judge(term, arena, Need::Predicate, scope)?;

@@ -20,7 +20,7 @@ use operands::{binary, unary};
 use zf_data::arena::Boxed;
 use zf_sorts::{Offence, Refusal, Sort, constant_sort, misplaced, refused, refused_name};
 use zf_term::{Limit, Resolved, ZType};
-use zf_tree::{Constant, Name, Need, Term};
+use zf_tree::{Constant, Name, Need, Span, Term};
 
 /// A term in which each name says what it stands for, and what the term is.
 #[derive(Drop)]
@@ -29,11 +29,11 @@ pub struct Judged<'a> {
     pub sort: Sort<'a>,
 }
 
-/// What the place of a term needs, and the line of its first token.
+/// What the place of a term needs, and where it is.
 #[derive(Clone, Copy)]
 struct Place {
     need: Need,
-    line: u32,
+    span: Span,
 }
 
 /// What the term is where this is needed, and the term with what its names stand for.
@@ -46,7 +46,7 @@ pub fn judge<'a>(
     ensures sort { IfOk result (λ j. IsOf (scope_of scope.old) (tree_of term.now) (sort_of j.sort)) }
     ensures met { IfOk result (λ j. Meets need (sort_of j.sort)) }
     ensures term { IfOk result (λ j. resolved_of j.term ≡ resolved (scope_of scope.old) (tree_of term.now)) }
-    ensures wrong { IfErr result (λ e. IfFault e (λ offence line. Offends (scope_of scope.old) need (tree_of term.now) offence line)) }
+    ensures wrong { IfErr result (λ e. IfFault e (λ offence span. Offends (scope_of scope.old) need (tree_of term.now) offence span)) }
     ensures scope { scope_of scope.new ≡ scope_of scope.old }
 {
     judge_term(term, arena, need, scope)
@@ -96,31 +96,31 @@ fn judge_form<'a>(
     ensures scope { scope_of scope.new ≡ scope_of scope.old }
 {
     match term {
-        Term::Name(line, name) => named(arena, need, &name.at(*line), scope),
-        Term::Number(line, value) => {
-            let line = *line;
-            number(arena, Place { need, line }, *value)
+        Term::Name(span, name) => named(arena, need, &name.at(*span), scope),
+        Term::Number(span, value) => {
+            let span = *span;
+            number(arena, Place { need, span }, *value)
         }
-        Term::Constant(line, constant) => {
-            let line = *line;
-            constant_term(arena, Place { need, line }, *constant)
+        Term::Constant(span, constant) => {
+            let span = *span;
+            constant_term(arena, Place { need, span }, *constant)
         }
-        Term::EmptySet(line, of) => {
-            let line = *line;
-            empty_set(of.get(), arena, Place { need, line }, scope)
+        Term::EmptySet(span, of) => {
+            let span = *span;
+            empty_set(of.get(), arena, Place { need, span }, scope)
         }
-        Term::Bracket(line, inner) => {
-            let line = *line;
-            bracket(inner.get(), arena, Place { need, line }, scope)
+        Term::Bracket(span, inner) => {
+            let span = *span;
+            bracket(inner.get(), arena, Place { need, span }, scope)
         }
-        Term::Listed(line, form, terms) => {
-            let line = *line;
-            listed(terms.as_slice(), arena, Place { need, line }, *form, scope)
+        Term::Listed(span, form, terms) => {
+            let span = *span;
+            listed(terms.as_slice(), arena, Place { need, span }, *form, scope)
         }
         Term::Comprehension(_, _, _, _) => comprehension(term, arena, need, scope),
-        Term::Unary(line, op, operand) => {
-            let line = *line;
-            unary(operand.get(), arena, Place { need, line }, *op, scope)
+        Term::Unary(span, op, operand) => {
+            let span = *span;
+            unary(operand.get(), arena, Place { need, span }, *op, scope)
         }
         Term::Binary(_, _, _, _) => binary(term, arena, need, scope),
         Term::Chain(_, _, _) => chain(term, arena, need, scope),
@@ -138,36 +138,36 @@ fn named<'a>(
 ) -> Result<Judged<'a>, Refusal<'a>>
     ensures { Judges (scope_of scope.now) need (named name.now) result }
 {
-    let line = name.line;
+    let span = name.span;
     let Some((reference, sort)) = scope.meaning(arena, name)? else {
         return Err(not_declared(arena, name, scope));
     };
     placed(
         arena,
-        Place { need, line },
+        Place { need, span },
         sort,
-        Resolved::Name(line, reference),
+        Resolved::Name(span, reference),
     )
 }
 
 #[inline(never)]
 fn not_declared<'a>(arena: &'a Bump, name: &Name<'a>, scope: &Scope<'a, '_>) -> Refusal<'a>
-    ensures { IsRefusal result (not_declared (spelling name.now)) name.now.line }
+    ensures { IsRefusal result (not_declared (spelling name.now)) name.now.span }
 {
     let spelled = name.spelled();
     let like = name_like(scope, spelled.as_slice());
-    refused_name(arena, Offence::NotDeclared(name.spelled()), name.line, like)
+    refused_name(arena, Offence::NotDeclared(name.spelled()), name.span, like)
 }
 
 #[inline(never)]
 fn number<'a>(arena: &'a Bump, place: Place, value: u64) -> Result<Judged<'a>, Refusal<'a>>
-    ensures { (s : spec.Scope) → Judges s place.need (numeral place.line value) result }
+    ensures { (s : spec.Scope) → Judges s place.need (numeral place.span value) result }
 {
     placed(
         arena,
         place,
         Sort::Typed(ZType::Int),
-        Resolved::Number(place.line, value),
+        Resolved::Number(place.span, value),
     )
 }
 
@@ -178,10 +178,10 @@ fn constant_term<'a>(
     place: Place,
     constant: Constant,
 ) -> Result<Judged<'a>, Refusal<'a>>
-    ensures { (s : spec.Scope) → Judges s place.need (tree.constant place.line constant) result }
+    ensures { (s : spec.Scope) → Judges s place.need (tree.constant place.span constant) result }
 {
     let sort = constant_sort(arena, constant)?;
-    placed(arena, place, sort, Resolved::Constant(place.line, constant))
+    placed(arena, place, sort, Resolved::Constant(place.span, constant))
 }
 
 #[cycle(judging)]
@@ -193,11 +193,11 @@ fn empty_set<'a>(
     place: Place,
     scope: &mut Scope<'a, '_>,
 ) -> Result<Judged<'a>, Refusal<'a>>
-    ensures judged { Judges (scope_of scope.old) place.need (tree.empty_set place.line (tree_of of.now)) result }
+    ensures judged { Judges (scope_of scope.old) place.need (tree.empty_set place.span (tree_of of.now)) result }
     ensures scope { scope_of scope.new ≡ scope_of scope.old }
 {
     let Judged { term, sort } = judge_term(of, arena, Need::Set, scope)?;
-    let term = Resolved::EmptySet(place.line, Boxed::new(arena, term)?);
+    let term = Resolved::EmptySet(place.span, Boxed::new(arena, term)?);
     placed(arena, place, sort, term)
 }
 
@@ -210,11 +210,11 @@ fn bracket<'a>(
     place: Place,
     scope: &mut Scope<'a, '_>,
 ) -> Result<Judged<'a>, Refusal<'a>>
-    ensures judged { Judges (scope_of scope.old) place.need (tree.bracket place.line (tree_of inner.now)) result }
+    ensures judged { Judges (scope_of scope.old) place.need (tree.bracket place.span (tree_of inner.now)) result }
     ensures scope { scope_of scope.new ≡ scope_of scope.old }
 {
     let Judged { term, sort } = judge_term(inner, arena, place.need, scope)?;
-    let term = Resolved::Bracket(place.line, Boxed::new(arena, term)?);
+    let term = Resolved::Bracket(place.span, Boxed::new(arena, term)?);
     Ok(Judged { term, sort })
 }
 
@@ -226,10 +226,10 @@ fn placed<'a>(
     sort: Sort<'a>,
     term: Resolved<'a>,
 ) -> Result<Judged<'a>, Refusal<'a>>
-    ensures { (s : spec.Scope) (e : Tree) → IsOf s e (sort_of sort.entry) → resolved_of term.entry ≡ resolved s e → place.line ≡ tree.line_of e → Judges s place.need e result }
+    ensures { (s : spec.Scope) (e : Tree) → IsOf s e (sort_of sort.entry) → resolved_of term.entry ≡ resolved s e → place.span ≡ tree.span_of e → Judges s place.need e result }
 {
     if !sort.meets(place.need) {
-        return Err(misplaced(arena, place.need, &sort, place.line));
+        return Err(misplaced(arena, place.need, &sort, place.span));
     }
     Ok(Judged { term, sort })
 }
@@ -242,10 +242,10 @@ fn made<'a>(
     sort: Sort<'a>,
     term: Resolved<'a>,
 ) -> Result<Judged<'a>, Refusal<'a>>
-    ensures { (s : spec.Scope) (e : Tree) → (IsSmallSort (sort_of sort.entry) → IsOf s e (sort_of sort.entry)) → ((IsSmallSort (sort_of sort.entry) → ⊥) → Offends s place.need e (too_large Limit.TypeNodes) place.line) → resolved_of term.entry ≡ resolved s e → place.line ≡ tree.line_of e → Judges s place.need e result }
+    ensures { (s : spec.Scope) (e : Tree) → (IsSmallSort (sort_of sort.entry) → IsOf s e (sort_of sort.entry)) → ((IsSmallSort (sort_of sort.entry) → ⊥) → Offends s place.need e (too_large Limit.TypeNodes) place.span) → resolved_of term.entry ≡ resolved s e → place.span ≡ tree.span_of e → Judges s place.need e result }
 {
     if !sort.is_small() {
-        return Err(refused(arena, Offence::TooLarge(Limit::TypeNodes), place.line));
+        return Err(refused(arena, Offence::TooLarge(Limit::TypeNodes), place.span));
     }
     placed(arena, place, sort, term)
 }

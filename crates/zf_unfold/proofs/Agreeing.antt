@@ -1,10 +1,10 @@
 -- A term with other names means in one context what it means in another, if each name does.
-use Rattle.zf_unfold.proofs.Prelude.{◌++◌, ◌+◌, ◌≡◌, List, subst, sym, ℕ, Reference, Value, absent, binary, bracket, comprehension, chain, constant, empty_set, link, listed, no_links, no_ranges, no_terms, number, present, quantified, range, Ranges, reference, ResolvedLinks, ResolvedPart, ResolvedTree, ResolvedTrees, term, unary, Environment, at, AreSame, AreSameLinks, AreSameRanges, IsSame, IsSamePart, renamed, all_renamed, links_renamed, ranges_renamed, part_renamed, append_assoc}
+use Rattle.zf_unfold.proofs.Prelude.{◌++◌, ◌+◌, ◌≡◌, List, subst, sym, ℕ, Reference, Value, absent, binary, bracket, comprehension, chain, constant, empty_set, link, listed, no_links, no_ranges, no_terms, number, present, quantified, range, Ranges, reference, ResolvedLinks, ResolvedPart, ResolvedTree, ResolvedTrees, term, unary, Environment, at, AreSame, AreSameLinks, AreSameRanges, IsSame, IsSamePart, renamed, all_renamed, links_renamed, ranges_renamed, part_renamed, append_assoc, Span}
 use Rattle.zf_lift.proofs.Forms as forms
 
 -- whatever is bound, each name means what its other name means after these values
 pub record Agrees (f : Reference → Reference) (g e : Environment) (row front : List Value) : Type 0 where
-  pub names : (locals : List Value) (l : ℕ) (r : Reference) → IsSame (at g row locals) (reference l (f r)) (at e row (front ++ locals)) (reference l r)
+  pub names : (locals : List Value) (l : Span) (r : Reference) → IsSame (at g row locals) (reference l (f r)) (at e row (front ++ locals)) (reference l r)
   pub numbers : g.numbers ≡ e.numbers
 
 module _ (f : Reference → Reference) (g e : Environment) (row front : List Value) (h : Agrees f g e row front) where

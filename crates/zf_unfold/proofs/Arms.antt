@@ -1,5 +1,5 @@
 -- What is made of a predicate's parts says what the predicate says, as the program's terms.
-use Rattle.zf_unfold.proofs.Prelude.{◌+◌, ◌<◌, ◌∙◌, ◌∷◌, ◌≡◌, ◌≤◌, ap, arith, List, map, None, Option, refl, subst, suc, sym, zero, ℕ, binary, part_of, quantified, range, Ranges, range_of, ranges, resolved_of, ResolvedTree, unary, Environment, IsBase, IsUnfolded, named, renamed, Connective, Not, ForAll, of-Binary, of-Bracket, of-Quantified, of-Unary, range-seen, Range, Resolved, fewer}
+use Rattle.zf_unfold.proofs.Prelude.{◌+◌, ◌<◌, ◌∙◌, ◌∷◌, ◌≡◌, ◌≤◌, ap, arith, List, map, None, Option, refl, subst, suc, sym, zero, ℕ, binary, part_of, quantified, range, Ranges, range_of, ranges, resolved_of, ResolvedTree, unary, Environment, IsBase, IsUnfolded, named, renamed, Connective, Not, ForAll, of-Binary, of-Bracket, of-Quantified, of-Unary, range-seen, Range, Resolved, fewer, Span}
 use Rattle.zf_tree.specs.declared.operator.Operator.{Operator}
 use Rattle.zf_tree.specs.declared.operator.Unary.{Unary}
 use Rattle.zf_tree.specs.declared.symbol.Connective as connective
@@ -17,18 +17,18 @@ boxed f e inner got part box p q h = across f e (resolved_of part) (resolved_of 
 pub plain : (n : ℕ) (e f : Environment) (part whole : Resolved) → resolved_of part ≡ renamed (named n None) (resolved_of whole) → IsBase n e f → IsUnfolded f e (resolved_of part) (resolved_of whole)
 plain n e f part whole is b = across f e _ _ _ _ is refl (unfold_outside n e f (resolved_of whole) b)
 
-pub bare : (f e : Environment) (l : ℕ) (inner got part whole : Resolved) → whole ≡ v.Bracket l inner → got ≡ inner
+pub bare : (f e : Environment) (l : Span) (inner got part whole : Resolved) → whole ≡ v.Bracket l inner → got ≡ inner
     → IsUnfolded f e (resolved_of part) (resolved_of got) → IsUnfolded f e (resolved_of part) (resolved_of whole)
 bare f e l inner got part whole is p h =
     across f e _ _ _ _ refl (ap resolved_of is ∙ of-Bracket l inner) (unfold_bracket f e l (resolved_of part) (resolved_of inner) (boxed f e inner got part part p refl h))
 
-pub opposed : (f e : Environment) (l : ℕ) (op : Unary) (inner got part box whole : Resolved) → whole ≡ v.Unary l op inner → op ≡ Not → got ≡ inner → box ≡ part
+pub opposed : (f e : Environment) (l : Span) (op : Unary) (inner got part box whole : Resolved) → whole ≡ v.Unary l op inner → op ≡ Not → got ≡ inner → box ≡ part
     → IsUnfolded f e (resolved_of part) (resolved_of got) → IsUnfolded f e (resolved_of (v.Unary l Not box)) (resolved_of whole)
 opposed f e l op inner got part box whole is same p q h =
     across f e _ _ _ _ (of-Unary l Not box) (ap resolved_of is ∙ of-Unary l op inner ∙ ap (λ o. unary l o (resolved_of inner)) same)
     (unfold_not f e l (resolved_of box) (resolved_of inner) (boxed f e inner got part box p q h))
 
-pub joined : (f e : Environment) (l : ℕ) (op : Operator) (k : connective.Connective) (left got_left part_left box_left right got_right part_right box_right whole : Resolved)
+pub joined : (f e : Environment) (l : Span) (op : Operator) (k : connective.Connective) (left got_left part_left box_left right got_right part_right box_right whole : Resolved)
     → whole ≡ v.Binary l op left right → op ≡ Connective k → got_left ≡ left → box_left ≡ part_left → got_right ≡ right → box_right ≡ part_right
     → IsUnfolded f e (resolved_of part_left) (resolved_of got_left) → IsUnfolded f e (resolved_of part_right) (resolved_of got_right)
     → IsUnfolded f e (resolved_of (v.Binary l (Connective k) box_left box_right)) (resolved_of whole)
@@ -50,7 +50,7 @@ left_some (suc (suc n)) m t rs h k = let is : m ≡ suc n = omega (arith, k) in 
 
 -- ---- universal quantifiers
 
-pub universal_seen : (l : ℕ) (q : Quantifier) (rs : List Range) (first : Range) (rest : List Range) (p : Option Resolved) (body got whole : Resolved) → whole ≡ v.Quantified q l rs p body
+pub universal_seen : (l : Span) (q : Quantifier) (rs : List Range) (first : Range) (rest : List Range) (p : Option Resolved) (body got whole : Resolved) → whole ≡ v.Quantified q l rs p body
     → q ≡ ForAll → rs ≡ first ∷ rest → got ≡ body
     → resolved_of whole ≡ quantified l ForAll (range first.variables (resolved_of first.set) (ranges (map range_of rest))) (part_of p) (resolved_of got)
 universal_seen l q rs first rest p body got whole is same list seen =

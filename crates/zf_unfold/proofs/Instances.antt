@@ -1,5 +1,5 @@
 -- What a universal quantifier says of a member is what its instance says.
-use Rattle.zf_unfold.proofs.Prelude.{◌↔◌, Reference, ◌∙◌, ◌∷◌, ◌≡◌, ◌≤◌, [], ap, inr, List, None, refl, Some, subst, suc, sym, zero, ℕ, ⊎_elim, slice_get, Truth, Value, absent, no_ranges, present, quantified, range, Ranges, ResolvedPart, ResolvedTree, Context, Environment, within, HasOutcome, HaveRanges, IsConstraint, IsTruth, one_out, one_undefined, repeated, Several, values, IsForAll, IsQuantified, IsTold, at, AreSameRanges, IsSame, IsSamePart, IsBase, named, part_renamed, ranges_renamed, renamed, ForAll, Is, True, False, Out, AreFrom, IsDisjunction, opposite, implied, instance, others, over}
+use Rattle.zf_unfold.proofs.Prelude.{◌↔◌, Reference, ◌∙◌, ◌∷◌, ◌≡◌, ◌≤◌, [], ap, inr, List, None, refl, Some, subst, suc, sym, zero, ℕ, ⊎_elim, slice_get, Truth, Value, absent, no_ranges, present, quantified, range, Ranges, ResolvedPart, ResolvedTree, Context, Environment, within, HasOutcome, HaveRanges, IsConstraint, IsTruth, one_out, one_undefined, repeated, Several, values, IsForAll, IsQuantified, IsTold, at, AreSameRanges, IsSame, IsSamePart, IsBase, named, part_renamed, ranges_renamed, renamed, ForAll, Is, True, False, Out, AreFrom, IsDisjunction, opposite, implied, instance, others, over, Span}
 use Rattle.zf_meaning.proofs.Unique.{one_outcome}
 use Rattle.zf_lift.proofs.Mapped as mapped
 use Rattle.zf_unfold.proofs.Agreeing.{part_same, ranges_same, same_renamed}
@@ -22,7 +22,7 @@ without_back R True h = ⊎_elim (λ e. absurd (cc)) (λ r. r) h
 without_back R False h = h.1
 without_back R Out h = ⊎_elim (λ e. let f = e.0 in absurd (cc)) (λ r. r.1) h
 
-implied_same : (c : Context) (l : ℕ) (p : ResolvedPart) (t : ResolvedTree) (u : Truth)
+implied_same : (c : Context) (l : Span) (p : ResolvedPart) (t : ResolvedTree) (u : Truth)
     → IsTruth c (implied l p t) u ↔ IsTold ForAll (λ a. IsConstraint c p a) (λ b. IsTruth c t b) u
 implied_same c l absent t u = (without_there (λ b. IsTruth c t b) u, without_back (λ b. IsTruth c t b) u)
 implied_same c l (present p) t u = (λ h. h, λ h. h)
@@ -57,7 +57,7 @@ one_ranges c (range n t rs) s r h k =
     let y : k.1 ≡ h.1 = one_ranges c rs h.1 k.1 h.3 k.3 in
     k.4 ∙ ap (λ o. repeated n o k.1) x ∙ ap (λ q. repeated n h.0 q) y ∙ sym h.4
 
-over_same : (g : Environment) (row : List Value) (l : ℕ) (rs : Ranges) (p : ResolvedPart) (t : ResolvedTree) (s : Several) → HaveRanges (at g row []) rs s → (u : Truth)
+over_same : (g : Environment) (row : List Value) (l : Span) (rs : Ranges) (p : ResolvedPart) (t : ResolvedTree) (s : Several) → HaveRanges (at g row []) rs s → (u : Truth)
     → IsTruth (at g row []) (over l rs p t) u ↔ IsQuantified ForAll s (Told (at g row []) p t) u
 over_same g row l no_ranges p t s h u =
     let P = Told (at g row []) p t in
@@ -112,7 +112,7 @@ module _ (n : ℕ) (e g : Environment) (b : IsBase n e g) (row : List Value) whe
         (λ a. ((part_inside vs).constraint a).1) (λ a. ((body_inside vs).truth a).1) w h
 
     -- the instance says what the quantifier says of the member
-    pub instance_same : (l k : ℕ) (s : Value) (x : ResolvedTree) (rs : Ranges) (r : Several) → HasOutcome (at e row []) x (Is s) → HaveRanges (at e row []) rs r → (u : Truth)
+    pub instance_same : (l : Span) (k : ℕ) (s : Value) (x : ResolvedTree) (rs : Ranges) (r : Several) → HasOutcome (at e row []) x (Is s) → HaveRanges (at e row []) rs r → (u : Truth)
         → IsTruth (at g row []) (instance n m l (range (suc k) x rs) p t) u ↔ says_behind (Told (at e row []) p t) k s r v u
     instance_same l k s x rs r h i u =
         let q = repeated k (Is s) r in

@@ -1,5 +1,5 @@
 -- A term with other names needs no more components, nor does what a quantifier says of its members.
-use Rattle.zf_unfold.proofs.Prelude.{◌≤◌, arith, max, None, Option, Some, suc, zero, ℕ, Reference, Component, Global, Local, absent, binary, bracket, comprehension, chain, constant, empty_set, link, listed, no_links, no_ranges, no_terms, number, present, quantified, range, Ranges, reference, ResolvedLinks, ResolvedPart, ResolvedTree, ResolvedTrees, term, unary, all_need, links_need, need, part_need, place, ranges_need, named, renamed, all_renamed, links_renamed, ranges_renamed, part_renamed, ForAll, implied, inside, instance, instances, others, over}
+use Rattle.zf_unfold.proofs.Prelude.{◌≤◌, arith, max, None, Option, Some, suc, zero, ℕ, Reference, Component, Global, Local, absent, binary, bracket, comprehension, chain, constant, empty_set, link, listed, no_links, no_ranges, no_terms, number, present, quantified, range, Ranges, reference, ResolvedLinks, ResolvedPart, ResolvedTree, ResolvedTrees, term, unary, all_need, links_need, need, part_need, place, ranges_need, named, renamed, all_renamed, links_renamed, ranges_renamed, part_renamed, ForAll, implied, inside, instance, instances, others, over, Span}
 
 module _ (f : Reference → Reference) (h : (r : Reference) → place (f r) ≤ place r) where
   mutual
@@ -49,15 +49,15 @@ fewer_ranges (range zero t rs) = omega arith
 fewer_ranges (range (suc zero) t rs) = omega arith
 fewer_ranges (range (suc (suc n)) t rs) = omega arith
 
-need_implied : (l : ℕ) (p : ResolvedPart) (t : ResolvedTree) → need (implied l p t) ≤ max (part_need p) (need t)
+need_implied : (l : Span) (p : ResolvedPart) (t : ResolvedTree) → need (implied l p t) ≤ max (part_need p) (need t)
 need_implied l absent t = omega arith
 need_implied l (present p) t = omega arith
 
-need_over : (l : ℕ) (rs : Ranges) (p : ResolvedPart) (t : ResolvedTree) → need (over l rs p t) ≤ need (quantified l ForAll rs p t)
+need_over : (l : Span) (rs : Ranges) (p : ResolvedPart) (t : ResolvedTree) → need (over l rs p t) ≤ need (quantified l ForAll rs p t)
 need_over l no_ranges p t = omega (arith, need_implied l p t)
 need_over l (range n s rs) p t = omega arith
 
-need_instance : (n m l : ℕ) (rs : Ranges) (p : ResolvedPart) (t : ResolvedTree) → need (instance n m l rs p t) ≤ need (quantified l ForAll rs p t)
+need_instance : (n m : ℕ) (l : Span) (rs : Ranges) (p : ResolvedPart) (t : ResolvedTree) → need (instance n m l rs p t) ≤ need (quantified l ForAll rs p t)
 need_instance n m l rs p t =
     let f = named n (Some m) in
     let outer = ranges_renamed (named n None) rs in
@@ -70,6 +70,6 @@ need_instance n m l rs p t =
       need_renamed f (no_further n (Some m)) t,
     )
 
-pub need_instances : (n m more l : ℕ) (rs : Ranges) (p : ResolvedPart) (t : ResolvedTree) → need (instances n m more l rs p t) ≤ need (quantified l ForAll rs p t)
+pub need_instances : (n m more : ℕ) (l : Span) (rs : Ranges) (p : ResolvedPart) (t : ResolvedTree) → need (instances n m more l rs p t) ≤ need (quantified l ForAll rs p t)
 need_instances n m zero l rs p t = need_instance n m l rs p t
 need_instances n m (suc more) l rs p t = omega (arith, need_instance n m l rs p t, need_instances n (suc m) more l rs p t)

@@ -29,3 +29,4 @@ pub use Rattle.zf_lift.specs.declared.lifted.Lifted.{Lifted}
 pub use Rattle.zf_lift.proofs.Longer.{itself, further}
 pub use Rattle.zf_lift.proofs.Each.{each_also, whole, each_done}
 pub use Rattle.zf_tree.specs.declared.symbol.Connective.TheVariants.{And, Implies}
+pub use Rattle.zf_tree.specs.declared.span.Span.{Span}

@@ -27,7 +27,7 @@ pub members_made : {E : Type 0} (r : Result Resolved E) (n first more : ℕ) (e 
     → g ≡ longer f (map Is xs) → more + 1 ≡ length xs → IfOk r (λ t. resolved_of t ≡ instances_of n first more u) → IfOk r (λ t. IsUnfolded g e (resolved_of t) (resolved_of whole))
 members_made r n first more e f g s xs u whole is there b set at all added size h =
     let size : length (members s) ≡ suc more = let same = ap length all in omega (arith, same, size) in
-    let made = unfold_members n u.line more e f g s (resolved_of u.first.now.set) (ranges (map range_of u.others.now)) (part_of u.constraint.now) (resolved_of u.body.now)
+    let made = unfold_members n u.span more e f g s (resolved_of u.first.now.set) (ranges (map range_of u.others.now)) (part_of u.constraint.now) (resolved_of u.body.now)
     b set (added ∙ ap (λ (vs : List Value). longer f (map Is vs)) all) size u.first.now.variables there in
     let here = subst (λ (i : ℕ). IsUnfolded g e (instances_of n i more u) (universal_of u)) (sym at) made in
     IfOk-weaker r (λ t. resolved_of t ≡ instances_of n first more u) (λ t. IsUnfolded g e (resolved_of t) (resolved_of whole))

@@ -1,5 +1,5 @@
 -- What steps of writing out come to.
-use Rattle.zf_unfold.proofs.Prelude.{◌++◌, ◌+◌, ◌<◌, ◌∙◌, ◌∷◌, ◌≡◌, ◌≤◌, [], add-one, ap, arith, get_or, length, List, map, refl, Some, subst, suc, sym, take, zero, ℕ, slice_get, Reference, Global, Outcome, Value, quantified, range, Ranges, reference, resolved_of, ResolvedPart, ResolvedTree, Environment, longer, outcome_or, in_row, HasOutcome, AreEach, AreLifted, IsLifted, IsLonger, AreNamed, IsBase, IsSetNamed, IsUnfolded, append_assoc, length-append, of-Name, Resolved, ForAll, Is, Undefined, each_also, whole, members, instances}
+use Rattle.zf_unfold.proofs.Prelude.{◌++◌, ◌+◌, ◌<◌, ◌∙◌, ◌∷◌, ◌≡◌, ◌≤◌, [], add-one, ap, arith, get_or, length, List, map, refl, Some, subst, suc, sym, take, zero, ℕ, slice_get, Reference, Global, Outcome, Value, quantified, range, Ranges, reference, resolved_of, ResolvedPart, ResolvedTree, Environment, longer, outcome_or, in_row, HasOutcome, AreEach, AreLifted, IsLifted, IsLonger, AreNamed, IsBase, IsSetNamed, IsUnfolded, append_assoc, length-append, of-Name, Resolved, ForAll, Is, Undefined, each_also, whole, members, instances, Span}
 use Rattle.zf_term.specs.declared.resolved.Resolved.TheVariants as v
 use Rattle.zf_lift.proofs.Longer as longer_ones
 use Rattle.zf_unfold.proofs.Names.{base_later}
@@ -7,7 +7,7 @@ use Rattle.zf_unfold.proofs.WrittenOut.{is_unfolded, unfold_quantified}
 
 -- ---- declared sets
 
-pub set_seen : (n l i : ℕ) (r : Reference) (f : Environment) (s : Value) (whole : Resolved) → whole ≡ v.Name l r → r ≡ Global i → i < n
+pub set_seen : (n : ℕ) (l : Span) (i : ℕ) (r : Reference) (f : Environment) (s : Value) (whole : Resolved) → whole ≡ v.Name l r → r ≡ Global i → i < n
     → HasOutcome (in_row f []) (resolved_of whole) (Is s) → IsSetNamed n f (resolved_of whole) s
 unfolding IsSetNamed
 set_seen n l i r f s whole is global before h e b row =
@@ -37,7 +37,7 @@ named_added os (w ∷ vs) = (
 more_names : (e f : Environment) → IsLonger e f → length e.outcomes ≤ length f.outcomes
 more_names e f h = let all = ap (λ (x : Environment). length x.outcomes) h.1 in omega (arith, all, length-append e.outcomes h.0)
 
-module _ (n l more : ℕ) (e f g : Environment) (s : Value) (x : ResolvedTree) (rs : Ranges) (p : ResolvedPart) (t : ResolvedTree) where
+module _ (n : ℕ) (l : Span) (more : ℕ) (e f g : Environment) (s : Value) (x : ResolvedTree) (rs : Ranges) (p : ResolvedPart) (t : ResolvedTree) where
   by_members : IsBase n e f → IsSetNamed n f x s → IsLonger f g → (xs : List Value) → members s ≡ xs → AreNamed g.outcomes (length f.outcomes) xs → length xs ≡ suc more → (k : ℕ)
       → IsUnfolded g e (instances n (length f.outcomes) more l (range (suc k) x rs) p t) (quantified l ForAll (range (suc k) x rs) p t)
   unfolding IsSetNamed

@@ -1,5 +1,5 @@
 -- What a universal quantifier says of members, as the program's terms.
-use Rattle.zf_unfold.proofs.Prelude.{◌++◌, ◌+◌, ◌<◌, ◌∙◌, ◌∷◌, ◌≡◌, ◌≤◌, [], add-one, ap, arith, length, List, map, Option, refl, Some, subst, suc, sym, zero, ℕ, binary, part_of, part_renamed, quantified, range, Ranges, range_of, ranges, ranges_renamed, range_renamed, Reference, renamed, resolved_of, ResolvedPart, ResolvedTree, ◌==◌, false, Connective, And, Implies, ForAll, of-Binary, of-Quantified, range-seen, Range, Resolved, fewer, implied, instance, instances, over}
+use Rattle.zf_unfold.proofs.Prelude.{◌++◌, ◌+◌, ◌<◌, ◌∙◌, ◌∷◌, ◌≡◌, ◌≤◌, [], add-one, ap, arith, length, List, map, Option, refl, Some, subst, suc, sym, zero, ℕ, binary, part_of, part_renamed, quantified, range, Ranges, range_of, ranges, ranges_renamed, range_renamed, Reference, renamed, resolved_of, ResolvedPart, ResolvedTree, ◌==◌, false, Connective, And, Implies, ForAll, of-Binary, of-Quantified, range-seen, Range, Resolved, fewer, implied, instance, instances, over, Span}
 use Rattle.zf_term.specs.declared.resolved.Resolved.TheVariants as v
 use Rattle.zf_unfold.proofs.Arms.{left_none, left_some}
 use Rattle.zf_resolved.proofs.Renamings.{all-ranges}
@@ -25,7 +25,7 @@ others_some f n t rest all made r many count set one is =
 
 -- ---- what it says of a member
 
-pub implied_seen : (f : Reference → Reference) (l : ℕ) (p : Option Resolved) (q got left_part left body right_part right : Resolved) → p ≡ Some q → got ≡ q
+pub implied_seen : (f : Reference → Reference) (l : Span) (p : Option Resolved) (q got left_part left body right_part right : Resolved) → p ≡ Some q → got ≡ q
     → resolved_of left_part ≡ renamed f (resolved_of got) → left ≡ left_part → resolved_of right_part ≡ renamed f (resolved_of body) → right ≡ right_part
     → resolved_of (v.Binary l (Connective Implies) left right) ≡ implied l (part_renamed f (part_of p)) (renamed f (resolved_of body))
 implied_seen f l p q got a' a body b' b is same a_is a_box b_is b_box =
@@ -38,7 +38,7 @@ pub some_there : (rs : List Range) → (length rs == 0) ≡ false → rs ≡ [] 
 some_there [] e none = cc
 some_there (r ∷ rs) e none = cc
 
-pub instance_seen : (l : ℕ) (rs : Ranges) (p : ResolvedPart) (t : ResolvedTree) (variables boxed : List Range) (part : Option Resolved) (made body : Resolved) → (variables ≡ [] → ⊥)
+pub instance_seen : (l : Span) (rs : Ranges) (p : ResolvedPart) (t : ResolvedTree) (variables boxed : List Range) (part : Option Resolved) (made body : Resolved) → (variables ≡ [] → ⊥)
     → ranges (map range_of variables) ≡ rs → boxed ≡ variables → part_of part ≡ p → resolved_of made ≡ t → body ≡ made
     → resolved_of (v.Quantified ForAll l boxed part body) ≡ over l rs p t
 instance_seen l rs p t [] boxed part made body some is same part_is made_is box = absurd (some refl)
@@ -50,7 +50,7 @@ instance_seen l rs p t (d ∷ ds) boxed part made body some is same part_is made
     ∙ ap (λ (x : Ranges). over l x p t) is
 
 -- of this member and of the others
-pub instances_seen : (n m more others l : ℕ) (rs : Ranges) (p : ResolvedPart) (t : ResolvedTree) (left_part left right_part right : Resolved) → others + 1 ≡ more
+pub instances_seen : (n m more others : ℕ) (l : Span) (rs : Ranges) (p : ResolvedPart) (t : ResolvedTree) (left_part left right_part right : Resolved) → others + 1 ≡ more
     → resolved_of left_part ≡ instance n m l rs p t → left ≡ left_part → resolved_of right_part ≡ instances n (m + 1) others l rs p t → right ≡ right_part
     → resolved_of (v.Binary l (Connective And) left right) ≡ instances n m more l rs p t
 instances_seen n m zero others l rs p t a' a b' b is a_is a_box b_is b_box = absurd (omega (arith, is))

@@ -1,5 +1,5 @@
 -- What is written out says what the predicate says, form by form.
-use Rattle.zf_unfold.proofs.Prelude.{◌↔◌, ◌∷◌, ◌≡◌, ◌≤◌, [], arith, inl, length, List, None, refl, subst, suc, sym, ℕ, Truth, Value, binary, bracket, quantified, range, Ranges, ResolvedPart, ResolvedTree, unary, Environment, in_row, HasOutcome, HaveRanges, IsTruth, repeated, Several, IsQuantified, IsLifted, IsLonger, at, IsBase, IsUnfolded, named, renamed, Connective, Not, And, ForAll, Is, IsMember, members, opposite, AreNamed, instance, instances}
+use Rattle.zf_unfold.proofs.Prelude.{◌↔◌, ◌∷◌, ◌≡◌, ◌≤◌, [], arith, inl, length, List, None, refl, subst, suc, sym, ℕ, Truth, Value, binary, bracket, quantified, range, Ranges, ResolvedPart, ResolvedTree, unary, Environment, in_row, HasOutcome, HaveRanges, IsTruth, repeated, Several, IsQuantified, IsLifted, IsLonger, at, IsBase, IsUnfolded, named, renamed, Connective, Not, And, ForAll, Is, IsMember, members, opposite, AreNamed, instance, instances, Span}
 use Rattle.zf_tree.specs.declared.symbol.Connective as connective
 use Rattle.zf_lift.proofs.Longer as longer_ones
 use Rattle.zf_lift.proofs.Mapped as mapped
@@ -17,7 +17,7 @@ named_later f g m (v ∷ vs) h k = (outcome_later f g m (Is v) h k.0, named_late
 
 -- ---- quantifiers
 
-module _ (n : ℕ) (e g : Environment) (b : IsBase n e g) (row : List Value) (l k : ℕ) (s : Value) (x : ResolvedTree) (rs : Ranges) (p : ResolvedPart) (t : ResolvedTree) where
+module _ (n : ℕ) (e g : Environment) (b : IsBase n e g) (row : List Value) (l : Span) (k : ℕ) (s : Value) (x : ResolvedTree) (rs : Ranges) (p : ResolvedPart) (t : ResolvedTree) where
   abbrev ds : Ranges
   ds = range (suc k) x rs
 
@@ -61,7 +61,7 @@ module _ (n : ℕ) (e g : Environment) (b : IsBase n e g) (row : List Value) (l 
       let some = (some_truth (at e row []) (quantified l ForAll ds p t)).1 in
       quantified_same some.1.1 h some.1.3 v vs are m y z u
 
-pub unfold_quantified : (n : ℕ) (e f : Environment) (l k : ℕ) (s : Value) (x : ResolvedTree) (rs : Ranges) (p : ResolvedPart) (t : ResolvedTree)
+pub unfold_quantified : (n : ℕ) (e f : Environment) (l : Span) (k : ℕ) (s : Value) (x : ResolvedTree) (rs : Ranges) (p : ResolvedPart) (t : ResolvedTree)
     → IsBase n e f → ((row : List Value) → HasOutcome (at e row []) x (Is s)) → (v : Value) (vs : List Value) → members s ≡ v ∷ vs → (m : ℕ) → n ≤ m → AreNamed f.outcomes m (v ∷ vs)
     → IsUnfolded f e (instances n m (length vs) l (range (suc k) x rs) p t) (quantified l ForAll (range (suc k) x rs) p t)
 unfolding IsUnfolded
@@ -91,15 +91,15 @@ unfold_outside n e f t b = record {
   same = λ g i row a. (same_renamed (named n None) g e row [] (agree_outside n e g (base_later n e f g b i) row) [] t).truth a;
 }
 
-pub unfold_bracket : (f e : Environment) (l : ℕ) (t u : ResolvedTree) → IsUnfolded f e t u → IsUnfolded f e t (bracket l u)
+pub unfold_bracket : (f e : Environment) (l : Span) (t u : ResolvedTree) → IsUnfolded f e t u → IsUnfolded f e t (bracket l u)
 unfolding IsUnfolded
 unfold_bracket f e l t u h = record { needs = h.needs; same = h.same }
 
-pub unfold_not : (f e : Environment) (l : ℕ) (t u : ResolvedTree) → IsUnfolded f e t u → IsUnfolded f e (unary l Not t) (unary l Not u)
+pub unfold_not : (f e : Environment) (l : Span) (t u : ResolvedTree) → IsUnfolded f e t u → IsUnfolded f e (unary l Not t) (unary l Not u)
 unfolding IsUnfolded
 unfold_not f e l t u h = record { needs = h.needs; same = λ g i row a. h.same g i row (opposite a) }
 
-pub unfold_connected : (f e : Environment) (l : ℕ) (k : connective.Connective) (t u v w : ResolvedTree) → IsUnfolded f e t v → IsUnfolded f e u w
+pub unfold_connected : (f e : Environment) (l : Span) (k : connective.Connective) (t u v w : ResolvedTree) → IsUnfolded f e t v → IsUnfolded f e u w
     → IsUnfolded f e (binary l (Connective k) t u) (binary l (Connective k) v w)
 unfolding IsUnfolded
 unfold_connected f e l k t u v w h j = record {

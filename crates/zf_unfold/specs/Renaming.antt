@@ -1,5 +1,6 @@
 -- Terms in which the outermost bound variable has the name of a global. No public clause rests on this.
 use Rattle.std.specs.Prelude.{ℕ, zero, suc, min, Option, Some, None}
+use Rattle.zf_tree.specs.declared.span.Span.{Span}
 use Rattle.zf_reference.specs.declared.reference.Reference.{Reference}
 use Rattle.zf_reference.specs.declared.reference.Reference.TheVariants.{Component, Local, Global}
 use Rattle.zf_tree.specs.declared.operator.Operator.TheVariants.{Connective}
@@ -38,20 +39,20 @@ abbrev pub others : Ranges → Ranges
 others no_ranges = no_ranges
 others (range n t rs) = fewer n t rs
 
-abbrev pub implied : ℕ → ResolvedPart → ResolvedTree → ResolvedTree
+abbrev pub implied : Span → ResolvedPart → ResolvedTree → ResolvedTree
 implied l absent t = t
 implied l (present p) t = binary l (Connective Implies) p t
 
 -- over ranges, if there are any
-abbrev pub over : ℕ → Ranges → ResolvedPart → ResolvedTree → ResolvedTree
+abbrev pub over : Span → Ranges → ResolvedPart → ResolvedTree → ResolvedTree
 over l no_ranges p t = implied l p t
 over l (range n s rs) p t = quantified l ForAll (range n s rs) p t
 
 -- where the first variable has the name of the global m
-abbrev pub instance : (n m l : ℕ) → Ranges → ResolvedPart → ResolvedTree → ResolvedTree
+abbrev pub instance : (n m : ℕ) → Span → Ranges → ResolvedPart → ResolvedTree → ResolvedTree
 instance n m l rs p t = over l (others (ranges_renamed (named n None) rs)) (part_renamed (named n (Some m)) p) (renamed (named n (Some m)) t)
 
 -- of this member and so many more
-abbrev pub instances : (n m more l : ℕ) → Ranges → ResolvedPart → ResolvedTree → ResolvedTree
+abbrev pub instances : (n m more : ℕ) → Span → Ranges → ResolvedPart → ResolvedTree → ResolvedTree
 instances n m zero l rs p t = instance n m l rs p t
 instances n m (suc more) l rs p t = binary l (Connective And) (instance n m l rs p t) (instances n (suc m) more l rs p t)

@@ -16,12 +16,12 @@ abbrev pub ranges_of : Universal → Ranges
 ranges_of u = range u.first.now.variables (resolved_of u.first.now.set) (ranges (map range_of u.others.now))
 
 abbrev pub instance_of : (n m : ℕ) → Universal → ResolvedTree
-instance_of n m u = instance n m u.line (ranges_of u) (part_of u.constraint.now) (resolved_of u.body.now)
+instance_of n m u = instance n m u.span (ranges_of u) (part_of u.constraint.now) (resolved_of u.body.now)
 
 -- of a member, and of so many more
 abbrev pub instances_of : (n m more : ℕ) → Universal → ResolvedTree
-instances_of n m more u = instances n m more u.line (ranges_of u) (part_of u.constraint.now) (resolved_of u.body.now)
+instances_of n m more u = instances n m more u.span (ranges_of u) (part_of u.constraint.now) (resolved_of u.body.now)
 
 -- the quantifier itself
 abbrev pub universal_of : Universal → ResolvedTree
-universal_of u = quantified u.line ForAll (ranges_of u) (part_of u.constraint.now) (resolved_of u.body.now)
+universal_of u = quantified u.span ForAll (ranges_of u) (part_of u.constraint.now) (resolved_of u.body.now)

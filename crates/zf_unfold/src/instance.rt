@@ -10,12 +10,12 @@ use std::alloc::AllocError;
 use zf_data::arena::{Boxed, Items};
 use zf_resolved::{renamed, renamed_part, renamed_range};
 use zf_term::{Part, Range, Resolved};
-use zf_tree::{Connective, Operator, Quantifier};
+use zf_tree::{Connective, Operator, Quantifier, Span};
 
 /// A universal quantifier: its first range and the others, the constraint and the body.
 #[derive(Clone, Copy)]
 pub(crate) struct Universal<'t, 'a> {
-    pub(crate) line: u32,
+    pub(crate) span: Span,
     pub(crate) first: &'t Range<'a>,
     pub(crate) others: &'t [Range<'a>],
     pub(crate) constraint: &'t Part<'a>,
@@ -40,7 +40,7 @@ pub(crate) fn instances<'a>(
     let others = instances(of, arena, count, member + 1, fewer)?;
     let left = Boxed::new(arena, part)?;
     let right = Boxed::new(arena, others)?;
-    Ok(Resolved::Binary(of.line, Operator::Connective(Connective::And), left, right))
+    Ok(Resolved::Binary(of.span, Operator::Connective(Connective::And), left, right))
 }
 
 /// What it says where its first variable has this name.
@@ -63,7 +63,7 @@ fn instance<'a>(
     let variables = Boxed::new(arena, variables)?;
     let constraint = renamed_part(of.constraint, arena, &renaming)?;
     let body = Boxed::new(arena, renamed(of.body, arena, &renaming)?)?;
-    Ok(Resolved::Quantified(Quantifier::ForAll, of.line, variables, constraint, body))
+    Ok(Resolved::Quantified(Quantifier::ForAll, of.span, variables, constraint, body))
 }
 
 /// That the constraint implies the body.
@@ -72,7 +72,7 @@ fn implied<'a>(
     arena: &'a Bump,
     renaming: Renaming,
 ) -> Result<Resolved<'a>, AllocError>
-    ensures { IfOk result (λ t. resolved_of t ≡ spec.implied of.now.line (spec.part_renamed (views.named_by renaming) (part_of of.now.constraint.now)) (spec.renamed (views.named_by renaming) (resolved_of of.now.body.now))) }
+    ensures { IfOk result (λ t. resolved_of t ≡ spec.implied of.now.span (spec.part_renamed (views.named_by renaming) (part_of of.now.constraint.now)) (spec.renamed (views.named_by renaming) (resolved_of of.now.body.now))) }
 {
     let body = renamed(of.body, arena, &renaming)?;
     match of.constraint.get() {
@@ -81,7 +81,7 @@ fn implied<'a>(
             let left = Boxed::new(arena, renamed(constraint.get(), arena, &renaming)?)?;
             let right = Boxed::new(arena, body)?;
             Ok(Resolved::Binary(
-                of.line,
+                of.span,
                 Operator::Connective(Connective::Implies),
                 left,
                 right,

@@ -14,7 +14,7 @@ pub(crate) fn universal<'t, 'a>(term: &'t Resolved<'a>) -> Option<Universal<'t, 
     ensures is { IfSome result (λ u. resolved_of term.now ≡ views.universal_of u) }
     ensures variables { IfSome result (λ u. 0 < u.first.now.variables) }
 {
-    let Resolved::Quantified(quantifier, line, variables, constraint, body) = term else {
+    let Resolved::Quantified(quantifier, span, variables, constraint, body) = term else {
         return None;
     };
     if !is_universal(*quantifier) {
@@ -27,7 +27,7 @@ pub(crate) fn universal<'t, 'a>(term: &'t Resolved<'a>) -> Option<Universal<'t, 
         return None;
     }
     Some(Universal {
-        line: *line,
+        span: *span,
         first,
         others,
         constraint,

@@ -156,20 +156,20 @@ fn once<'g, 'a>(
 {
     match term {
         Resolved::Bracket(_, inner) => once(alloc, inner.get(), arena, count, own),
-        Resolved::Unary(line, op, of) => match op {
+        Resolved::Unary(span, op, of) => match op {
             Unary::Not => {
                 let of = once(alloc, of.get(), arena, count, own)?;
-                Ok(Resolved::Unary(*line, Unary::Not, Boxed::new(arena, of)?))
+                Ok(Resolved::Unary(*span, Unary::Not, Boxed::new(arena, of)?))
             }
             _ => outside(term, arena, count),
         },
-        Resolved::Binary(line, op, left, right) => match op {
+        Resolved::Binary(span, op, left, right) => match op {
             Operator::Connective(connective) => {
                 let left = once(alloc, left.get(), arena, count, own)?;
                 let right = once(alloc, right.get(), arena, count, own)?;
                 let left = Boxed::new(arena, left)?;
                 let right = Boxed::new(arena, right)?;
-                Ok(Resolved::Binary(*line, Operator::Connective(*connective), left, right))
+                Ok(Resolved::Binary(*span, Operator::Connective(*connective), left, right))
             }
             _ => outside(term, arena, count),
         },

@@ -1,5 +1,5 @@
 -- What expressions whose names are held come to, whatever the values of the other components.
-use Rattle.zf_why.proofs.Prelude.{◌∙◌, ◌∷◌, ◌≡◌, [], ap, arith, Bool, Err, false, get_or, length, List, map, None, Ok, Option, refl, Result, Some, subst, suc, sym, true, zero, ℕ, slice_get, Environment, ResolvedTree, Value, ◌≢◌, cond, IfOk, unwrap_or, Reference, link-seen, binary, bracket, comprehension, chain, constant, empty_set, link, links, listed, no_links, number, onto, quantified, reference, references, resolved_link_of, resolved_of, unary, ResolvedLink, HasOutcome, in_row, are_held, AreOperands, AreOperandsOf, AreOutcomes, AreOutcomesIn, filled, HasHeld, HasHeldOutcome, is_held, is_value, only_link, operands_of, with_first}
+use Rattle.zf_why.proofs.Prelude.{◌∙◌, ◌∷◌, ◌≡◌, [], ap, arith, Bool, Err, false, get_or, length, List, map, None, Ok, Option, refl, Result, Some, subst, suc, sym, true, zero, ℕ, slice_get, Environment, ResolvedTree, Value, ◌≢◌, cond, IfOk, unwrap_or, Reference, link-seen, binary, bracket, comprehension, chain, constant, empty_set, link, links, listed, no_links, number, onto, quantified, reference, references, resolved_link_of, resolved_of, unary, ResolvedLink, HasOutcome, in_row, are_held, AreOperandsOf, AreOutcomes, AreOutcomesIn, filled, HasHeld, HasHeldOutcome, is_held, is_value, of_two, relation_of}
 use Rattle.zf_reference.specs.declared.reference.Reference.TheVariants.{Component, Local, Global}
 use Rattle.zf_tree.specs.declared.symbol.Relation.{Relation}
 use Rattle.zf_value.specs.declared.value.Outcome.{Outcome}
@@ -47,12 +47,12 @@ module _ (e : Environment) (held : List (Option Value)) (other : Value) where
   everywhere rs t o is here row has = subst (λ X. X) (same_outcome (in_row e (filled other held)) row rs t (agree held (filled other held) row (has_held other held) has (onto rs t) is) o) here
 
   -- the operands of a predicate whose names are held
-  pub of_held : (p : ResolvedTree) (o : Option Operands) → are_held held (references p) ≡ true → AreOutcomesIn (in_row e (filled other held)) (operands_of p) o
-      → AreOutcomes e held true (operands_of p) o
+  pub of_held : (p : ResolvedTree) (o : Option Operands) → are_held held (references p) ≡ true → AreOutcomesIn (in_row e (filled other held)) (relation_of p) o
+      → AreOutcomes e held true (relation_of p) o
   of_held (bracket l t) o is h = of_held t o is h
   of_held (chain l t no_links) o is h = h
   of_held (chain l t (link r u no_links)) None is h = h
-  of_held (chain l t (link r u no_links)) (Some o) is h = (everywhere [] t o.left (held_before held (references t) u is) h.0, everywhere (references t) u o.right is h.1)
+  of_held (chain l t (link r u no_links)) (Some o) is h = (everywhere [] t o.left (held_before held (references t) u is) h.0, (h.1.0, everywhere (references t) u h.1.0 is h.1.1, h.1.2))
   of_held (chain l t (link r u (link q w ks))) o is h = h
   of_held (reference l r) o is h = h
   of_held (number l n) o is h = h
@@ -65,29 +65,25 @@ module _ (e : Environment) (held : List (Option Value)) (other : Value) where
   of_held (quantified l q rs c t) o is h = h
 
   pub held_told : {E : Type 0} (p : ResolvedTree) (r : Result (Option Operands) E) → are_held held (references p) ≡ true
-      → IfOk r (AreOutcomesIn (in_row e (filled other held)) (operands_of p)) → IfOk r (AreOperandsOf e held p)
-  held_told p (Ok o) is h = subst (λ (b : Bool). AreOutcomes e held b (operands_of p) o) (sym is) (of_held p o is h)
+      → IfOk r (AreOutcomesIn (in_row e (filled other held)) (relation_of p)) → IfOk r (AreOperandsOf e held p)
+  held_told p (Ok o) is h = subst (λ (b : Bool). AreOutcomes e held b (relation_of p) o) (sym is) (of_held p o is h)
   held_told p (Err x) is h = tt
 
 -- nothing is reported where a name is not held
 pub other_told : (e : Environment) (held : List (Option Value)) (p : ResolvedTree) → are_held held (references p) ≡ false → AreOperandsOf e held p None
-other_told e held p is = subst (λ (b : Bool). AreOutcomes e held b (operands_of p) None) (sym is) refl
-
--- ---- where details are asked for
-
-pub with_details : {E : Type 0} (e : Environment) (held : List (Option Value)) (details : Bool) (p q : ResolvedTree) (r : Result (Option Operands) E)
-    → details ≡ true → q ≡ p → IfOk r (AreOperandsOf e held q) → IfOk r (AreOperands e held details p)
-with_details e held details p q r is same h = subst (λ (b : Bool). IfOk r (AreOperands e held b p)) (sym is) (subst (λ (t : ResolvedTree). IfOk r (AreOperandsOf e held t)) same h)
+other_told e held p is = subst (λ (b : Bool). AreOutcomes e held b (relation_of p) None) (sym is) refl
 
 -- ---- chains
 
 -- with no further operand, or more than one, a chain is no relation of two
-pub no_pair : (t : ResolvedTree) (xs : List ResolvedLink) → length xs ≢ 1 → with_first t (only_link (links (map resolved_link_of xs))) ≡ None
-no_pair t [] other = refl
-no_pair t (x ∷ []) other = absurd (other refl)
-no_pair t (x ∷ y ∷ ys) other = refl
+pub not_two : (t : ResolvedTree) (xs : List ResolvedLink) → length xs ≢ 1 → of_two t (links (map resolved_link_of xs)) ≡ None
+not_two t [] other = refl
+not_two t (x ∷ []) other = absurd (other refl)
+not_two t (x ∷ y ∷ ys) other = refl
 
-pub the_pair : (t : ResolvedTree) (xs : List ResolvedLink) (x : ResolvedLink) → length xs ≡ 1 → Some (t, resolved_of (get_or xs 0 x).right) ≡ with_first t (only_link (links (map resolved_link_of xs)))
-the_pair t [] x one = absurd (omega (arith, one))
-the_pair t (y ∷ []) x one = ap (λ (p : Relation × ResolvedTree). Some (t, p.1)) (sym (link-seen y))
-the_pair t (y ∷ z ∷ zs) x one = absurd (omega (arith, one))
+pub two : (t : ResolvedTree) (xs : List ResolvedLink) (x : ResolvedLink) → length xs ≡ 1 → x ≡ get_or xs 0 x
+    → Some (record { left = t; relation = x.relation; right = resolved_of x.right }) ≡ of_two t (links (map resolved_link_of xs))
+two t [] x one at = absurd (omega (arith, one))
+two t (y ∷ []) x one at =
+    ap (λ (z : ResolvedLink). of_two t (links ((z.relation, resolved_of z.right) ∷ []))) at ∙ ap (λ (k : Relation × ResolvedTree). of_two t (links (k ∷ []))) (sym (link-seen y))
+two t (y ∷ z ∷ zs) x one at = absurd (omega (arith, one))

@@ -6,6 +6,8 @@ pub mod Decided
 pub mod Beginning
 pub mod Explained
 pub mod Disjoined
+pub mod Splitting
+pub mod Showing
 pub mod Gathered
 pub mod Tellings
 pub mod NamesHeld

@@ -12,6 +12,10 @@ all_at P [] i x at h = absurd (cc)
 all_at P (y ∷ ys) zero x at h = let same : y ≡ x = cc in subst P same h.0
 all_at P (y ∷ ys) (suc i) x at h = all_at P ys i x at h.1
 
+pub all_append : {A : Type 0} (P : A → Type 0) (xs ys : List A) → AllByRecursion P xs → AllByRecursion P ys → AllByRecursion P (xs ++ ys)
+all_append P [] ys h k = k
+all_append P (x ∷ xs) ys h k = (h.0, all_append P xs ys h.1 k)
+
 -- one more is taken, and then all are
 pub one_more : {A : Type 0} (xs old : List A) (i : ℕ) (x y : A) → x ≡ get_or xs i x → y ≡ x → i < length xs → old ≡ take i xs → old ++ y ∷ [] ≡ take (i + 1) xs
 one_more xs old i x y at same l is = ap (λ zs. zs ++ y ∷ []) is ∙ ap (λ z. take i xs ++ z ∷ []) (same ∙ at) ∙ sym (take_more xs i x l)

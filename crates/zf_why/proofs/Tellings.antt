@@ -1,11 +1,8 @@
 -- What is reported of chosen conjuncts, one after another.
-use Rattle.zf_why.proofs.Prelude.{◌++◌, ◌+◌, ◌≤◌, ◌∙◌, ◌∷◌, ◌≡◌, [], add-one, ap, append-nil, append_assoc, Bool, drop, false, inl, inr, length, List, map, None, Option, refl, Some, subst, suc, sym, true, zero, ℕ, AllByRecursion, slice_get, slice_set, Comp, conjunct_of, ResolvedTree, Value, Environment, CanAsk, CanBegin, IsAllowed, RuleOut, chosen_of, IsChosen, AreAlone, drop_all, Batch, Conjunct, seen_chosen, Told}
-use Rattle.zf_term.specs.declared.conjunct.Conjunct.TheVariants as conjunct
-use Rattle.zf_term.specs.declared.resolved.Resolved.{Resolved}
-use Rattle.zf_why.specs.{AreSidesOf, AreTellings, disjunction_at, has_sides, HasSides, is_disjunction, is_one, IsTelling}
-use Rattle.zf_why.specs.declared.told.Sides.{Sides}
+use Rattle.zf_why.proofs.Prelude.{◌++◌, ◌+◌, ◌≤◌, ◌∙◌, ◌∷◌, ◌≡◌, [], add-one, ap, append-nil, append_assoc, Bool, drop, false, inl, inr, length, List, map, Option, refl, Some, subst, suc, sym, true, zero, ℕ, AllByRecursion, slice_get, slice_set, Comp, conjunct_of, ResolvedTree, Value, Environment, CanAsk, CanBegin, IsAllowed, RuleOut, chosen_of, IsChosen, AreAlone, drop_all, Conjunct, seen_chosen, Told}
+use Rattle.zf_why.specs.{AreTellings, IsTelling, Split, split_at, split_in, split_of}
 use Rattle.zf_why.proofs.Beginning.{each_begins}
-use Rattle.zf_why.proofs.Lists.{all_at}
+use Rattle.zf_why.proofs.Lists.{all_append, all_at}
 
 -- ---- one after another
 
@@ -63,10 +60,6 @@ module _ {A : Type 0} (P : A → Type 0) where
   put_back (q ∷ ps) (true ∷ m) (suc i) p at chosen h = (h.0, put_back ps m i p at chosen h.1)
   put_back (q ∷ ps) (false ∷ m) (suc i) p at chosen h = put_back ps m i p at chosen h
 
-  pub one_behind : (xs : List A) (p : A) → AllByRecursion P xs → P p → AllByRecursion P (xs ++ p ∷ [])
-  one_behind [] p hs h = (h, tt)
-  one_behind (x ∷ xs) p hs h = (hs.0, one_behind xs p hs.1 h)
-
 module _ (e : Environment) (cs : List Comp) (held : List (Option Value)) (ps : List ResolvedTree) where
   -- what rules out everything together does so with one of them last
   pub ruled_out_beside : (m : List Bool) (i : ℕ) (p : ResolvedTree) → slice_get ps i ≡ Some p → IsChosen m i → RuleOut e cs held (chosen_of ps m)
@@ -76,7 +69,7 @@ module _ (e : Environment) (cs : List Comp) (held : List (Option Value)) (ps : L
   pub begins_beside : (m : List Bool) (i : ℕ) (p : ResolvedTree) → slice_get ps i ≡ Some p → CanBegin e cs ps → CanBegin e cs (chosen_of ps m ++ p ∷ [])
   begins_beside m i p at h = record {
     ranges = h.ranges;
-    predicates = one_behind (CanAsk e (length cs)) (chosen_of ps m) p (each_begins e cs [] ps m h).predicates (all_at (CanAsk e (length cs)) ps i p at h.predicates);
+    predicates = all_append (CanAsk e (length cs)) (chosen_of ps m) (p ∷ []) (each_begins e cs [] ps m h).predicates (all_at (CanAsk e (length cs)) ps i p at h.predicates, tt);
   }
 
 -- the others that are chosen, as predicates
@@ -93,35 +86,10 @@ module _ (e : Environment) (cs : List Comp) (held : List (Option Value)) where
     | inr (left, some) ↦ absurd (let z : Some true ≡ Some false = sym chosen ∙ left in cc)
   ]
 
-  -- whether the conjunct at a place is a disjunction
+  -- the conjunct at a place is split as it is
   pub told_at :
       (details : Bool) (xs : List Conjunct) (i : ℕ) (x : Conjunct) (given others : List ResolvedTree) (told : Told) → slice_get xs i ≡ Some x → others ≡ given
-      → IsTelling e cs held details others (is_disjunction x) (conjunct_of x) told → IsTelling e cs held details given (disjunction_at xs i) (conjunct_of x) told
+      → IsTelling e cs held details others (split_of x) (conjunct_of x) told → IsTelling e cs held details given (split_at xs i) (conjunct_of x) told
   told_at details xs i x given others told at same is =
-      subst (λ (b : Bool). IsTelling e cs held details given b (conjunct_of x) told) (sym (ap is_one at))
-      (subst (λ (qs : List ResolvedTree). IsTelling e cs held details qs (is_disjunction x) (conjunct_of x) told) same is)
-
--- ---- which conjuncts are disjunctions
-
-of_term : (t : Resolved) (ps : Option (List ℕ)) → is_disjunction (conjunct.Term t ps) ≡ false
-unfolding is_disjunction
-of_term t ps = ap has_sides (conjunct.outs-Term t ps)
-
-of_member : (i : ℕ) (t : Resolved) (ps : Option (List ℕ)) → is_disjunction (conjunct.Member i t ps) ≡ false
-unfolding is_disjunction
-of_member i t ps = ap has_sides (conjunct.outs-Member i t ps)
-
-of_either : (l : ℕ) (left right : List Batch) (ps : Option (List ℕ)) → is_disjunction (conjunct.Either l left right ps) ≡ true
-unfolding is_disjunction
-of_either l left right ps = ap has_sides (conjunct.outs-Either l left right ps)
-
-module _ (e : Environment) (cs : List Comp) (held : List (Option Value)) (given : List ResolvedTree) (p : ResolvedTree) (whole : Conjunct) where
-  pub term_told : (t : Resolved) (ps : Option (List ℕ)) → whole ≡ conjunct.Term t ps → AreSidesOf e cs held given p (is_disjunction whole) None
-  term_told t ps is = subst (λ (b : Bool). AreSidesOf e cs held given p b None) (sym (ap is_disjunction is ∙ of_term t ps)) tt
-
-  pub member_told : (i : ℕ) (t : Resolved) (ps : Option (List ℕ)) → whole ≡ conjunct.Member i t ps → AreSidesOf e cs held given p (is_disjunction whole) None
-  member_told i t ps is = subst (λ (b : Bool). AreSidesOf e cs held given p b None) (sym (ap is_disjunction is ∙ of_member i t ps)) tt
-
-  pub either_told : (l : ℕ) (left right : List Batch) (ps : Option (List ℕ)) (sides : Sides) → whole ≡ conjunct.Either l left right ps
-      → HasSides e cs held given p sides → AreSidesOf e cs held given p (is_disjunction whole) (Some sides)
-  either_told l left right ps sides is h = subst (λ (b : Bool). AreSidesOf e cs held given p b (Some sides)) (sym (ap is_disjunction is ∙ of_either l left right ps)) h
+      subst (λ (z : Split). IsTelling e cs held details given z (conjunct_of x) told) (sym (ap split_in at))
+      (subst (λ (qs : List ResolvedTree). IsTelling e cs held details qs (split_of x) (conjunct_of x) told) same is)

@@ -2,7 +2,7 @@
 ghost use Rattle.std.specs.Prelude.{◌++◌, [], IfOk, length, map};
 ghost use Rattle.zf_why.specs.Prelude.{comp_of, conjunct_of, schema_of, IsFinite, environment_of, property, IsNoneOut, HasChosen, OneOf};
 ghost use Rattle.zf_walk.specs.{AreDueWithin};
-ghost use Rattle.zf_why.specs.{AreAlone, AreEmpty, CanBegin, disjunction_at, Explains, IsCore, RuleOut};
+ghost use Rattle.zf_why.specs.{AreAlone, AreEmpty, CanBegin, split_at, Explains, IsCore, RuleOut};
 
 use crate::beside::Beside;
 use crate::cause::Cause;
@@ -27,7 +27,7 @@ pub fn why<'s, 'g, 'a>(
     requires due { AreDueWithin (property (environment_of env.now) (schema_of flat.now).conjuncts) (length (schema_of flat.now).comps) }
     requires none_out { IsNoneOut (environment_of env.now) (schema_of flat.now).comps }
     requires none { RuleOut (environment_of env.now) (schema_of flat.now).comps question.now.held.now (schema_of flat.now).conjuncts }
-    ensures { IfOk result (Explains (environment_of env.now) (schema_of flat.now) question.now.held.now question.now.details (disjunction_at flat.now.conjuncts)) }
+    ensures { IfOk result (Explains (environment_of env.now) (schema_of flat.now) question.now.held.now question.now.details (split_at flat.now.conjuncts)) }
 {
     let setting = Setting {
         alloc,

@@ -6,14 +6,16 @@ mod cause;
 mod explaining;
 mod held_row;
 mod operands;
+mod part;
 mod question;
 mod setting;
-mod side;
+mod sides;
 mod telling;
 mod told;
 mod unheld;
 
 pub use cause::Cause;
 pub use explaining::why;
+pub use part::Part;
 pub use question::Question;
-pub use told::{Operands, Sides, Told};
+pub use told::{Operand, Operands, Side, Told};

@@ -1,16 +1,17 @@
-//! The outcomes of the operands of a relation.
-ghost use Rattle.std.specs.Prelude.{IfOk, Some, map};
+//! What the operands of a relation come to.
+ghost use Rattle.std.specs.Prelude.{◌≡◌, IfOk, Some, map};
 ghost use Rattle.zf_why.specs.Prelude.{links, resolved_link_of, resolved_of, environment_of, in_row};
 ghost use Rattle.zf_why.specs.{AreOperandsOf, AreOutcomesIn};
 ghost use Rattle.zf_why.specs.Operands as spec;
 
 use crate::held_row::HeldRow;
-use crate::told::Operands;
+use crate::told::{Operand, Operands};
 use crate::unheld::names_held;
 use std::alloc::AllocError;
 use zf_meaning::{Env, Row, value_of};
 use zf_term::{Resolved, ResolvedLink};
-use zf_value::{Form, Value};
+use zf_tree::{Relation, Span};
+use zf_value::{Form, Outcome, Value};
 
 /// Of a relation that names held components alone what both operands come to.
 pub fn operands_told<'a>(
@@ -39,7 +40,7 @@ fn relation_in<'a, R: Row>(
     row: &R,
     env: &Env<'_, 'a>,
 ) -> Result<Option<Operands>, AllocError>
-    ensures { IfOk result (AreOutcomesIn (in_row (environment_of env.now) (R.values row.now)) (spec.operands_of (resolved_of term.now))) }
+    ensures { IfOk result (AreOutcomesIn (in_row (environment_of env.now) (R.values row.now)) (spec.relation_of (resolved_of term.now))) }
 {
     match term {
         Resolved::Bracket(_, inner) => relation_in(inner.get(), row, env),
@@ -63,24 +64,45 @@ fn chain_in<'a, R: Row>(
     row: &R,
     env: &Env<'_, 'a>,
 ) -> Result<Option<Operands>, AllocError>
-    ensures { IfOk result (AreOutcomesIn (in_row (environment_of env.now) (R.values row.now)) (spec.with_first (resolved_of first.now) (spec.only_link (links (map resolved_link_of further.now))))) }
+    ensures { IfOk result (AreOutcomesIn (in_row (environment_of env.now) (R.values row.now)) (spec.of_two (resolved_of first.now) (links (map resolved_link_of further.now)))) }
 {
     if further.len() != 1 {
         return Ok(None);
     }
-    both_in(first, &further[0].right, row, env)
+    both_in(first, &further[0], row, env)
 }
 
 /// What two operands come to.
 fn both_in<'a, R: Row>(
-    left: &Resolved<'a>,
-    right: &Resolved<'a>,
+    first: &Resolved<'a>,
+    link: &ResolvedLink<'a>,
     row: &R,
     env: &Env<'_, 'a>,
 ) -> Result<Option<Operands>, AllocError>
-    ensures { IfOk result (AreOutcomesIn (in_row (environment_of env.now) (R.values row.now)) (Some (resolved_of left.now, resolved_of right.now))) }
+    ensures { IfOk result (AreOutcomesIn (in_row (environment_of env.now) (R.values row.now)) (Some (record { left = resolved_of first.now; relation = link.now.relation; right = resolved_of link.now.right }))) }
 {
-    let left = value_of(left, &*row, &*env)?;
-    let right = value_of(right, &*row, &*env)?;
+    let left = value_of(first, &*row, &*env)?;
+    let outcome = value_of(&link.right, &*row, &*env)?;
+    let right = operand_as(is_tested(link.relation), link.right.span(), outcome);
     Ok(Some(Operands { left, right }))
+}
+
+/// What it comes to; where that is out of bounds, and it is only tested, its place.
+fn operand_as(tested: bool, span: Span, outcome: Outcome) -> Operand
+    ensures { result ≡ spec.operand_as tested span outcome }
+{
+    match outcome {
+        Outcome::Out if tested => Operand::Stands(span),
+        outcome => Operand::Comes(outcome),
+    }
+}
+
+/// Whether a relation only tests its right operand: for a member, or for a subset.
+fn is_tested(relation: Relation) -> bool
+    ensures { result ≡ spec.is_tested relation }
+{
+    matches!(
+        relation,
+        Relation::Member | Relation::NotMember | Relation::Subset | Relation::ProperSubset
+    )
 }

@@ -1,6 +1,8 @@
 //! Lists of parts of a term, and parts that may be left out.
-ghost use Rattle.std.specs.Prelude.{◌≡◌, ◌+◌, ◌≤◌, max, IfOk};
+ghost use Rattle.std.specs.Prelude.{◌≡◌, ◌+◌, ◌≤◌, map, max, IfOk};
+ghost use Rattle.zf_grammar.specs.Prelude.{link_of, links as tree_links, tree_of, trees};
 ghost use Rattle.zf_grammar.specs.Nests.{Nests};
+ghost use Rattle.zf_grammar.specs.Spelling as spelling;
 ghost use Rattle.zf_grammar.specs.TermReading as spec;
 ghost use Rattle.zf_grammar.specs.{Gives, read_term};
 
@@ -12,7 +14,7 @@ use bumpalo::Bump;
 use zf_data::arena::{Boxed, Items};
 use zf_levels::{EXPRESSION, member_place};
 use zf_scan::{Mark, Next};
-use zf_tree::{Link, Listed, Part, Term, VarDecl};
+use zf_tree::{Link, Listed, Part, Span, Term, VarDecl};
 
 /// What stands between two terms of a list.
 fn parted_by(form: Listed) -> Mark
@@ -21,6 +23,26 @@ fn parted_by(form: Listed) -> Mark
     match form {
         Listed::Tuple | Listed::Display => Mark::Comma,
         Listed::Product => Mark::Cross,
+    }
+}
+
+/// The last of the terms, or, without any, this part.
+fn last_tree(begin: Span, terms: &[Boxed<'_, Term<'_>>]) -> Span
+    ensures { result ≡ spelling.last_tree begin (trees (map tree_of terms.now)) }
+{
+    match terms {
+        [] => begin,
+        [.., last] => last.get().span(),
+    }
+}
+
+/// The last operand of the links, or, without any, this part.
+pub(super) fn last_link(begin: Span, links: &[Link<'_>]) -> Span
+    ensures { result ≡ spelling.last_link begin (tree_links (map link_of links.now)) }
+{
+    match links {
+        [] => begin,
+        [.., last] => last.right.get().span(),
     }
 }
 
@@ -63,19 +85,24 @@ impl<'a, F: Fn(&'a Bump, &mut Cursor<'a, '_>, u32, u8) -> TermRead<'a>> Grammar<
     pub(super) fn listed(
         &self,
         tokens: &mut Cursor<'a, '_>,
-        line: u32,
+        begin: Span,
         form: Listed,
         first: TallTerm<'a>,
     ) -> TermRead<'a>
         requires nests { Nests self.now.below (F.pre self.now.read) (F.post self.now.read) }
         requires first_low { first.height ≤ self.now.below + 1 }
-        ensures value { Gives (spec.listed (read_term self.now.below) line form first.entry tokens.old) result tokens.new }
+        ensures value { Gives (spec.listed (read_term self.now.below) begin form first.entry tokens.old) result tokens.new }
         ensures low { IfOk result (λ x. x.height ≤ max first.entry.height self.now.below + 1) }
     {
         let all = self.further(tokens, parted_by(form), member_place(form), first)?;
-        tokens.close(form)?;
+        let last = last_tree(begin, all.part.as_slice());
+        let end = tokens.close(form, last)?;
         let terms = Boxed::new(self.arena, all.part)?;
-        boxed(self.arena, Term::Listed(line, form, terms), all.height + 1)
+        boxed(
+            self.arena,
+            Term::Listed(begin.to(end), form, terms),
+            all.height + 1,
+        )
     }
 
     /// The links of a chain.

@@ -1,6 +1,6 @@
 //! What binds variables: quantified predicates and comprehensions.
 ghost use Rattle.std.specs.Prelude.{◌≡◌, ◌≤◌, ℕ, List, Option, IfOk, length, drop};
-ghost use Rattle.zf_meaning.specs.Prelude.{All, is_some, Quantifier, part_of, resolved_of, AreFrom, found_outcome, IsOver, IsTold};
+ghost use Rattle.zf_meaning.specs.Prelude.{All, is_some, Quantifier, part_of, resolved_of, AreFrom, found_outcome, IsOver, IsTold, Span};
 ghost use Rattle.zf_term.specs.declared.resolved.Range as range;
 ghost use Rattle.zf_term.specs.declared.resolved.Resolved as resolved;
 ghost use Rattle.zf_term.specs.declared.resolved.Resolved.TheVariants as form;
@@ -8,7 +8,9 @@ ghost use Rattle.zf_value.specs.declared.plain.Value as value;
 ghost use Rattle.zf_meaning.specs.{AddsRow, AddsValue, AreNeutralIf, ArePassed, ArePassedIf, Builds, Context, HasOutcome, IsBound, IsComprehension, IsBuiltOver, IsConstraint, IsPiece, IsQuantified, IsTruth, NeedsFront, row_value, scope_of, seen, spread, within};
 
 use super::chains::is_false;
-use super::early::{Piece, Span, front_of, neutral, passing_after, passing_by, pieces_of, span_of};
+use super::early::{
+    Frame, Piece, frame_of, front_of, neutral, passing_after, passing_by, pieces_of,
+};
 use super::ranges::{Spread, declared_sets, lists_of};
 use super::{empty_set, outcome, truth};
 use crate::env::Env;
@@ -53,7 +55,7 @@ fn over_rows<'v, 'a, R: Row>(
     env: &'v Env<'_, 'a>,
 ) -> Result<Truth, AllocError>
     requires { IsQuantified term.now }
-    ensures { (q : Quantifier) (l : ℕ) (rs : List range.Range) (p : Option resolved.Resolved) (e : resolved.Resolved) → term.now ≡ form.Quantified q l rs p e
+    ensures { (q : Quantifier) (l : Span) (rs : List range.Range) (p : Option resolved.Resolved) (e : resolved.Resolved) → term.now ≡ form.Quantified q l rs p e
         → IfOk result (IsOver q (λ vs. AreFrom vs (spread sets.now)) (λ vs w. IsTold q (λ a. IsConstraint (within (scope_of env.now (R.values row.now) locals.now) vs) (part_of p) a) (λ b. IsTruth (within (scope_of env.now (R.values row.now) locals.now) vs) (resolved_of e) b) w)) }
 {
     let Resolved::Quantified(quantifier, _, _, constraint, body) = term else {
@@ -64,12 +66,21 @@ fn over_rows<'v, 'a, R: Row>(
     let Some(mut rows) = Rows::first(alloc, locals, lists_of(alloc, sets)?)? else {
         return Ok(tally.truth(*quantifier));
     };
-    let span = span_of(locals, &rows);
-    let front = front_of(constraint, body.get(), span, &rows);
-    let pieces = pieces_of(alloc, term, span, front, &rows)?;
+    let frame = frame_of(locals, &rows);
+    let front = front_of(constraint, body.get(), frame, &rows);
+    let pieces = pieces_of(alloc, term, frame, front, &rows)?;
     let mut anew = 0;
     'walk: loop {
-        let met = met_at(term, span, front, &pieces, anew, &*row, rows.bound(), &*env)?;
+        let met = met_at(
+            term,
+            frame,
+            front,
+            &pieces,
+            anew,
+            &*row,
+            rows.bound(),
+            &*env,
+        )?;
         tally = tally.with(met.truth);
         if tally.is_settled(*quantifier) {
             return Ok(tally.truth(*quantifier));
@@ -92,7 +103,7 @@ pub(crate) struct Met<'v> {
 #[cycle(meaning)]
 fn met_at<'v, 'a, R: Row>(
     term: &Resolved<'a>,
-    span: Span,
+    frame: Frame,
     front: usize,
     pieces: &[Piece<'_, 'a>],
     anew: usize,
@@ -101,18 +112,18 @@ fn met_at<'v, 'a, R: Row>(
     env: &'v Env<'_, 'a>,
 ) -> Result<Met<'v>, AllocError>
     requires form { IsQuantified term.now }
-    requires front { (q : Quantifier) (l : ℕ) (rs : List range.Range) (p : Option resolved.Resolved) (e : resolved.Resolved) → term.now ≡ form.Quantified q l rs p e → NeedsFront span front (part_of p) (resolved_of e) }
-    requires pieces { All (IsPiece term.now span) pieces.now }
-    ensures told { (c : Context) (vs : List value.Value) → IsBound span (scope_of env.now (R.values row.now) bound.now) c vs
-        → (q : Quantifier) (l : ℕ) (rs : List range.Range) (p : Option resolved.Resolved) (e : resolved.Resolved) → term.now ≡ form.Quantified q l rs p e
+    requires front { (q : Quantifier) (l : Span) (rs : List range.Range) (p : Option resolved.Resolved) (e : resolved.Resolved) → term.now ≡ form.Quantified q l rs p e → NeedsFront frame front (part_of p) (resolved_of e) }
+    requires pieces { All (IsPiece term.now frame) pieces.now }
+    ensures told { (c : Context) (vs : List value.Value) → IsBound frame (scope_of env.now (R.values row.now) bound.now) c vs
+        → (q : Quantifier) (l : Span) (rs : List range.Range) (p : Option resolved.Resolved) (e : resolved.Resolved) → term.now ≡ form.Quantified q l rs p e
         → IfOk result (λ m. IsTold q (λ a. IsConstraint (within c vs) (part_of p) a) (λ b. IsTruth (within c vs) (resolved_of e) b) m.truth) }
-    ensures passed { (c : Context) (vs : List value.Value) → IsBound span (scope_of env.now (R.values row.now) bound.now) c vs
+    ensures passed { (c : Context) (vs : List value.Value) → IsBound frame (scope_of env.now (R.values row.now) bound.now) c vs
         → IfOk result (λ m. ArePassed (resolved_of term.now) c vs m.passing) }
 {
     let Resolved::Quantified(quantifier, _, _, _, _) = term else {
         unreachable!();
     };
-    if let Some(passing) = refuted(term, span, pieces, anew, row, bound, env)? {
+    if let Some(passing) = refuted(term, frame, pieces, anew, row, bound, env)? {
         return Ok(Met {
             truth: neutral(*quantifier),
             passing,
@@ -121,7 +132,7 @@ fn met_at<'v, 'a, R: Row>(
     let truth = told_at(term, row, bound, env)?;
     Ok(Met {
         truth,
-        passing: passing_after(*quantifier, truth, span, front),
+        passing: passing_after(*quantifier, truth, frame, front),
     })
 }
 
@@ -129,20 +140,20 @@ fn met_at<'v, 'a, R: Row>(
 #[cycle(meaning)]
 fn refuted<'v, 'a, R: Row>(
     term: &Resolved<'a>,
-    span: Span,
+    frame: Frame,
     pieces: &[Piece<'_, 'a>],
     anew: usize,
     row: &'v R,
     bound: &[&'v Value],
     env: &'v Env<'_, 'a>,
 ) -> Result<Option<Passing<'v>>, AllocError>
-    requires { All (IsPiece term.now span) pieces.now }
-    ensures { (c : Context) (vs : List value.Value) → IsBound span (scope_of env.now (R.values row.now) bound.now) c vs
+    requires { All (IsPiece term.now frame) pieces.now }
+    ensures { (c : Context) (vs : List value.Value) → IsBound frame (scope_of env.now (R.values row.now) bound.now) c vs
         → IfOk result (AreNeutralIf (resolved_of term.now) c vs) }
 {
     for piece in pieces {
         if piece.front >= anew {
-            if let Some(passing) = passing_at(term, span, piece, row, bound, env)? {
+            if let Some(passing) = passing_at(term, frame, piece, row, bound, env)? {
                 return Ok(Some(passing));
             }
         }
@@ -154,19 +165,19 @@ fn refuted<'v, 'a, R: Row>(
 #[cycle(meaning)]
 fn passing_at<'v, 'a, R: Row>(
     term: &Resolved<'a>,
-    span: Span,
+    frame: Frame,
     piece: &Piece<'_, 'a>,
     row: &'v R,
     bound: &[&'v Value],
     env: &'v Env<'_, 'a>,
 ) -> Result<Option<Passing<'v>>, AllocError>
-    requires { IsPiece term.now span piece.now }
-    ensures { (c : Context) (vs : List value.Value) → IsBound span (scope_of env.now (R.values row.now) bound.now) c vs
+    requires { IsPiece term.now frame piece.now }
+    ensures { (c : Context) (vs : List value.Value) → IsBound frame (scope_of env.now (R.values row.now) bound.now) c vs
         → IfOk result (AreNeutralIf (resolved_of term.now) c vs) }
 {
     if let Some(wanted) = &piece.wanted {
         let found = outcome(wanted.term, row, bound, env)?;
-        return Ok(passing_by(found, wanted.local, span.outside, bound));
+        return Ok(passing_by(found, wanted.local, frame.outside, bound));
     }
     let told = truth(piece.term, row, bound, env)?;
     if is_false(told) {
@@ -185,7 +196,7 @@ fn told_at<'v, 'a, R: Row>(
     env: &'v Env<'_, 'a>,
 ) -> Result<Truth, AllocError>
     requires { IsQuantified term.now }
-    ensures { (q : Quantifier) (l : ℕ) (rs : List range.Range) (p : Option resolved.Resolved) (e : resolved.Resolved) → term.now ≡ form.Quantified q l rs p e
+    ensures { (q : Quantifier) (l : Span) (rs : List range.Range) (p : Option resolved.Resolved) (e : resolved.Resolved) → term.now ≡ form.Quantified q l rs p e
         → IfOk result (IsTold q (λ a. IsConstraint (scope_of env.now (R.values row.now) bound.now) (part_of p) a) (λ b. IsTruth (scope_of env.now (R.values row.now) bound.now) (resolved_of e) b)) }
 {
     let Resolved::Quantified(quantifier, _, _, constraint, body) = term else {
@@ -249,7 +260,7 @@ fn built_over<'v, 'a, R: Row>(
     env: &'v Env<'_, 'a>,
 ) -> Result<Outcome, AllocError>
     requires { IsComprehension term.now }
-    ensures { (l : ℕ) (rs : List range.Range) (p e : Option resolved.Resolved) → term.now ≡ form.Comprehension l rs p e
+    ensures { (l : Span) (rs : List range.Range) (p e : Option resolved.Resolved) → term.now ≡ form.Comprehension l rs p e
         → IfOk result (IsBuiltOver (λ vs. AreFrom vs (spread sets.now)) (λ vs u. IsConstraint (within (scope_of env.now (R.values row.now) locals.now) vs) (part_of p) u) (λ vs x. Builds (within (scope_of env.now (R.values row.now) locals.now) vs) vs (part_of e) x)) }
 {
     let alloc = env.allocator();
@@ -257,13 +268,13 @@ fn built_over<'v, 'a, R: Row>(
     let Some(mut rows) = Rows::first(alloc, locals, lists_of(alloc, sets)?)? else {
         return set::display(alloc, built);
     };
-    let span = span_of(locals, &rows);
-    let pieces = pieces_of(alloc, term, span, span.whole, &rows)?;
+    let frame = frame_of(locals, &rows);
+    let pieces = pieces_of(alloc, term, frame, frame.whole, &rows)?;
     let mut anew = 0;
     'walk: loop {
         let Some(passing) = built_at(
             term,
-            span,
+            frame,
             &pieces,
             anew,
             &mut built,
@@ -288,7 +299,7 @@ fn built_over<'v, 'a, R: Row>(
 #[cycle(meaning)]
 fn built_at<'v, 'a, R: Row>(
     term: &Resolved<'a>,
-    span: Span,
+    frame: Frame,
     pieces: &[Piece<'_, 'a>],
     anew: usize,
     built: &mut Vec<Value>,
@@ -297,19 +308,19 @@ fn built_at<'v, 'a, R: Row>(
     env: &'v Env<'_, 'a>,
 ) -> Result<Option<Passing<'v>>, AllocError>
     requires form { IsComprehension term.now }
-    requires pieces { All (IsPiece term.now span) pieces.now }
-    requires outside { span.outside ≤ length bound.now }
-    ensures is { (c : Context) (vs : List value.Value) → IsBound span (scope_of env.now (R.values row.now) bound.now) c vs → drop span.outside (seen bound.now) ≡ vs
-        → (l : ℕ) (rs : List range.Range) (p e : Option resolved.Resolved) → term.now ≡ form.Comprehension l rs p e
+    requires pieces { All (IsPiece term.now frame) pieces.now }
+    requires outside { frame.outside ≤ length bound.now }
+    ensures is { (c : Context) (vs : List value.Value) → IsBound frame (scope_of env.now (R.values row.now) bound.now) c vs → drop frame.outside (seen bound.now) ≡ vs
+        → (l : Span) (rs : List range.Range) (p e : Option resolved.Resolved) → term.now ≡ form.Comprehension l rs p e
         → IfOk result (λ passing. AddsRow (λ u. IsConstraint (within c vs) (part_of p) u) (λ x. Builds (within c vs) vs (part_of e) x) built.old.items built.new.items (is_some passing)) }
-    ensures passed { (c : Context) (vs : List value.Value) → IsBound span (scope_of env.now (R.values row.now) bound.now) c vs
+    ensures passed { (c : Context) (vs : List value.Value) → IsBound frame (scope_of env.now (R.values row.now) bound.now) c vs
         → IfOk result (ArePassedIf (resolved_of term.now) c vs) }
 {
-    if let Some(passing) = refuted(term, span, pieces, anew, row, bound, env)? {
+    if let Some(passing) = refuted(term, frame, pieces, anew, row, bound, env)? {
         return Ok(Some(passing));
     }
-    if add_row(term, built, span.outside, row, bound, env)? {
-        Ok(Some(Passing::Front(span.whole)))
+    if add_row(term, built, frame.outside, row, bound, env)? {
+        Ok(Some(Passing::Front(frame.whole)))
     } else {
         Ok(None)
     }
@@ -327,7 +338,7 @@ fn add_row<'v, 'a, R: Row>(
 ) -> Result<bool, AllocError>
     requires form { IsComprehension term.now }
     requires outside { outside ≤ length bound.now }
-    ensures { (l : ℕ) (rs : List range.Range) (p e : Option resolved.Resolved) → term.now ≡ form.Comprehension l rs p e
+    ensures { (l : Span) (rs : List range.Range) (p e : Option resolved.Resolved) → term.now ≡ form.Comprehension l rs p e
         → IfOk result (AddsRow (λ u. IsConstraint (scope_of env.now (R.values row.now) bound.now) (part_of p) u) (λ x. Builds (scope_of env.now (R.values row.now) bound.now) (drop outside (seen bound.now)) (part_of e) x) built.old.items built.new.items) }
 {
     let Resolved::Comprehension(_, _, filter, member) = term else {

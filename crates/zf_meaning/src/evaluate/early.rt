@@ -37,17 +37,17 @@ pub(crate) struct Wanted<'t, 'a> {
 
 /// How many variables are bound outside a binder, and how many with its own.
 #[derive(Clone, Copy)]
-pub(crate) struct Span {
+pub(crate) struct Frame {
     pub outside: usize,
     pub whole: usize,
 }
 
 /// How many variables are bound at a row, after those outside.
-pub(super) fn span_of(outside: &[&Value], rows: &Rows<'_>) -> Span
+pub(super) fn frame_of(outside: &[&Value], rows: &Rows<'_>) -> Frame
     ensures outside { result.outside ≡ length outside.now }
     ensures whole { result.whole ≡ length rows.now.bound.items }
 {
-    Span {
+    Frame {
         outside: outside.len(),
         whole: rows.bound().len(),
     }
@@ -58,16 +58,16 @@ pub(super) fn span_of(outside: &[&Value], rows: &Rows<'_>) -> Span
 pub(super) fn front_of(
     constraint: &Part<'_>,
     body: &Resolved<'_>,
-    span: Span,
+    frame: Frame,
     rows: &Rows<'_>,
 ) -> usize
-    ensures { NeedsFront span result (part_of constraint.now) (resolved_of body.now) }
+    ensures { NeedsFront frame result (part_of constraint.now) (resolved_of body.now) }
 {
     if !rows.are_many() && !is_quantified(body) {
-        return span.whole;
+        return frame.whole;
     }
-    let last = last_of_both(constraint, body, span.whole);
-    last.saturating_sub(span.outside)
+    let last = last_of_both(constraint, body, frame.whole);
+    last.saturating_sub(frame.outside)
 }
 
 fn is_quantified(term: &Resolved<'_>) -> bool {
@@ -78,44 +78,44 @@ fn is_quantified(term: &Resolved<'_>) -> bool {
 pub(super) fn pieces_of<'t, 'a>(
     alloc: Global,
     term: &'t Resolved<'a>,
-    span: Span,
+    frame: Frame,
     front: usize,
     rows: &Rows<'_>,
 ) -> Result<Vec<Piece<'t, 'a>>, AllocError>
-    ensures { IfOk result (λ pieces. All (IsPiece term.now span) pieces.items) }
+    ensures { IfOk result (λ pieces. All (IsPiece term.now frame) pieces.items) }
 {
     let mut pieces = Vec::new(alloc);
     if front == 0 || !rows.are_many() {
         return Ok(pieces);
     }
-    add_parts(term, span, &mut pieces)?;
+    add_parts(term, frame, &mut pieces)?;
     Ok(pieces)
 }
 
 /// Adds the parts of a binder.
 fn add_parts<'t, 'a>(
     term: &'t Resolved<'a>,
-    span: Span,
+    frame: Frame,
     pieces: &mut Vec<Piece<'t, 'a>>,
 ) -> Result<(), AllocError>
-    ensures { All (IsPiece term.now span) pieces.old.items → OnOk result (All (IsPiece term.now span) pieces.new.items) }
+    ensures { All (IsPiece term.now frame) pieces.old.items → OnOk result (All (IsPiece term.now frame) pieces.new.items) }
 {
-    add_part(filter_of(term), span, pieces)?;
-    add_part(constraint_of(term), span, pieces)?;
-    add_part(body_of(term), span, pieces)
+    add_part(filter_of(term), frame, pieces)?;
+    add_part(constraint_of(term), frame, pieces)?;
+    add_part(body_of(term), frame, pieces)
 }
 
 /// Adds the conjuncts of a part of a binder, if it is there.
 fn add_part<'t, 'a>(
     part: Option<&'t Resolved<'a>>,
-    span: Span,
+    frame: Frame,
     pieces: &mut Vec<Piece<'t, 'a>>,
 ) -> Result<(), AllocError>
-    ensures { (whole : resolved.Resolved) → IfSome part.entry (λ x. IsPart whole x.now) → All (IsPiece whole span) pieces.old.items → OnOk result (All (IsPiece whole span) pieces.new.items) }
+    ensures { (whole : resolved.Resolved) → IfSome part.entry (λ x. IsPart whole x.now) → All (IsPiece whole frame) pieces.old.items → OnOk result (All (IsPiece whole frame) pieces.new.items) }
 {
     match part {
         None => Ok(()),
-        Some(term) => add_conjuncts(term, span, pieces),
+        Some(term) => add_conjuncts(term, frame, pieces),
     }
 }
 
@@ -165,19 +165,19 @@ fn body_of<'t, 'a>(term: &'t Resolved<'a>) -> Option<&'t Resolved<'a>>
 /// Adds the conjuncts of a predicate.
 fn add_conjuncts<'t, 'a>(
     term: &'t Resolved<'a>,
-    span: Span,
+    frame: Frame,
     pieces: &mut Vec<Piece<'t, 'a>>,
 ) -> Result<(), AllocError>
-    ensures { (whole : resolved.Resolved) → IsPart whole term.now → All (IsPiece whole span) pieces.old.items → OnOk result (All (IsPiece whole span) pieces.new.items) }
+    ensures { (whole : resolved.Resolved) → IsPart whole term.now → All (IsPiece whole frame) pieces.old.items → OnOk result (All (IsPiece whole frame) pieces.new.items) }
 {
     if let Some(inner) = in_bracket(term) {
-        return add_conjuncts(inner, span, pieces);
+        return add_conjuncts(inner, frame, pieces);
     }
     match sides_of(term) {
-        None => add(term, span, pieces),
+        None => add(term, frame, pieces),
         Some((left, right)) => {
-            add_conjuncts(left, span, pieces)?;
-            add_conjuncts(right, span, pieces)
+            add_conjuncts(left, frame, pieces)?;
+            add_conjuncts(right, frame, pieces)
         }
     }
 }
@@ -219,17 +219,17 @@ fn is_and(operator: Operator) -> bool
 /// Adds a predicate, if it does not need the last variable, or tells which value that has to have.
 fn add<'t, 'a>(
     term: &'t Resolved<'a>,
-    span: Span,
+    frame: Frame,
     pieces: &mut Vec<Piece<'t, 'a>>,
 ) -> Result<(), AllocError>
-    ensures { (whole : resolved.Resolved) → IsPart whole term.now → All (IsPiece whole span) pieces.old.items → OnOk result (All (IsPiece whole span) pieces.new.items) }
+    ensures { (whole : resolved.Resolved) → IsPart whole term.now → All (IsPiece whole frame) pieces.old.items → OnOk result (All (IsPiece whole frame) pieces.new.items) }
 {
-    let last = last_local(term, span.whole);
-    let wanted = wanted_by(term, span);
-    if last >= span.whole && wanted.is_none() {
+    let last = last_local(term, frame.whole);
+    let wanted = wanted_by(term, frame);
+    if last >= frame.whole && wanted.is_none() {
         return Ok(());
     }
-    let front = last.saturating_sub(span.outside);
+    let front = last.saturating_sub(frame.outside);
     pieces.push(Piece {
         term,
         front,
@@ -239,14 +239,14 @@ fn add<'t, 'a>(
 }
 
 /// What an equation needs a variable of the binder to be, if its other side names earlier ones alone.
-fn wanted_by<'t, 'a>(term: &'t Resolved<'a>, span: Span) -> Option<Wanted<'t, 'a>>
-    ensures { IfSome result (IsWanted term.now span) }
+fn wanted_by<'t, 'a>(term: &'t Resolved<'a>, frame: Frame) -> Option<Wanted<'t, 'a>>
+    ensures { IfSome result (IsWanted term.now frame) }
 {
     let Some((left, right)) = equated(term) else {
         return None;
     };
-    match wanted_of(left, right, span) {
-        None => wanted_of(right, left, span),
+    match wanted_of(left, right, frame) {
+        None => wanted_of(right, left, frame),
         Some(wanted) => Some(wanted),
     }
 }
@@ -255,19 +255,19 @@ fn wanted_by<'t, 'a>(term: &'t Resolved<'a>, span: Span) -> Option<Wanted<'t, 'a
 fn wanted_of<'t, 'a>(
     variable: &Resolved<'a>,
     term: &'t Resolved<'a>,
-    span: Span,
+    frame: Frame,
 ) -> Option<Wanted<'t, 'a>>
     ensures variable { IfSome result (λ w. IsVariable w.local (resolved_of variable.now)) }
     ensures term { IfSome result (λ w. w.term.now ≡ term.now) }
-    ensures earlier { IfSome result (IsEarlier span) }
+    ensures earlier { IfSome result (IsEarlier frame) }
 {
     let Some(local) = local_of(variable) else {
         return None;
     };
-    if local < span.outside {
+    if local < frame.outside {
         return None;
     }
-    if last_local(term, span.whole) > local {
+    if last_local(term, frame.whole) > local {
         return None;
     }
     Some(Wanted { term, local })
@@ -360,15 +360,15 @@ fn is_bound(bound: &[&Value], place: usize, value: &Value) -> bool
 pub(super) fn passing_after<'v>(
     quantifier: Quantifier,
     truth: Truth,
-    span: Span,
+    frame: Frame,
     front: usize,
 ) -> Passing<'v>
-    ensures { (result ≡ passing.Front span.whole) ⊎ ((truth ≡ spec.neutral quantifier) × (result ≡ passing.Front front)) }
+    ensures { (result ≡ passing.Front frame.whole) ⊎ ((truth ≡ spec.neutral quantifier) × (result ≡ passing.Front front)) }
 {
     if truth == neutral(quantifier) {
         Passing::Front(front)
     } else {
-        Passing::Front(span.whole)
+        Passing::Front(frame.whole)
     }
 }
 

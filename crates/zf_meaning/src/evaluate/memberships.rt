@@ -1,6 +1,6 @@
 //! Sets on the right of a membership, which need not be built.
 ghost use Rattle.std.specs.Prelude.{◌≡◌, ◌⊎◌, ℕ, IfOk, IfSome, IsTrue, map};
-ghost use Rattle.zf_meaning.specs.Prelude.{Is, Describes, found_outcome, resolved_of};
+ghost use Rattle.zf_meaning.specs.Prelude.{Is, Describes, found_outcome, resolved_of, Span};
 ghost use Rattle.zf_tree.specs.declared.symbol.Infix.TheVariants as infixes;
 ghost use Rattle.zf_tree.specs.declared.symbol.Prefix.TheVariants as prefixes;
 ghost use Rattle.zf_tree.specs.declared.operator.Sign.TheVariants as sign;
@@ -67,7 +67,7 @@ fn of_one<'v, 'a, R: Row>(
     locals: &[&'v Value],
     env: &'v Env<'_, 'a>,
 ) -> Result<Described<'v>, AllocError>
-    ensures { (line : ℕ) → IfOk result (Describes (HasOutcome (scope_of env.now (R.values row.now) locals.now) (tree.unary line op (resolved_of of.now)))) }
+    ensures { (span : Span) → IfOk result (Describes (HasOutcome (scope_of env.now (R.values row.now) locals.now) (tree.unary span op (resolved_of of.now)))) }
 {
     let operand = outcome(of, row, locals, env)?;
     let alloc = env.allocator();
@@ -144,7 +144,7 @@ fn many<'v, 'a, R: Row>(
     locals: &[&'v Value],
     env: &'v Env<'_, 'a>,
 ) -> Result<Described<'v>, AllocError>
-    ensures { (line : ℕ) → IfOk result (Describes (HasOutcome (scope_of env.now (R.values row.now) locals.now) (tree.listed line form (tree_views.terms (map resolved_of terms.now))))) }
+    ensures { (span : Span) → IfOk result (Describes (HasOutcome (scope_of env.now (R.values row.now) locals.now) (tree.listed span form (tree_views.terms (map resolved_of terms.now))))) }
 {
     let gathered = gather(terms, row, locals, env)?;
     match form {

@@ -1,6 +1,6 @@
 //! Comparisons of numbers, decided without values round the numbers.
 ghost use Rattle.std.specs.Prelude.{◌≡◌, ℕ, pos, IfSome, IsTrue, false, map, slice_get};
-ghost use Rattle.zf_meaning.specs.Prelude.{Application, is_membership, resolved_link_of, resolved_of, Is, Int, IsNumber, InfixOutcome};
+ghost use Rattle.zf_meaning.specs.Prelude.{Application, is_membership, resolved_link_of, resolved_of, Is, Int, IsNumber, InfixOutcome, Span};
 ghost use Rattle.zf_term.specs.ResolvedTrees as tree;
 ghost use Rattle.zf_term.specs.ResolvedViews as tree_views;
 ghost use Rattle.zf_meaning.specs.Environments as spec;
@@ -37,7 +37,7 @@ fn compared<'v, 'a, R: Row>(
     row: &'v R,
     env: &'v Env<'_, 'a>,
 ) -> Option<Truth>
-    ensures { (line : ℕ) → IfSome result (IsTruth (in_row (environment_of env.now) (R.values row.now)) (tree.chain line (resolved_of first.now) (tree_views.links (map resolved_link_of links.now)))) }
+    ensures { (span : Span) → IfSome result (IsTruth (in_row (environment_of env.now) (R.values row.now)) (tree.chain span (resolved_of first.now) (tree_views.links (map resolved_link_of links.now)))) }
 {
     let [link] = links else {
         return None;
@@ -150,7 +150,7 @@ fn number_applied<'v, 'a, R: Row>(
     row: &'v R,
     env: &'v Env<'_, 'a>,
 ) -> Option<i64>
-    ensures { (line : ℕ) → IfSome result (λ n. HasOutcome (in_row (environment_of env.now) (R.values row.now)) (tree.binary line Application (resolved_of left.now) (resolved_of right.now)) (Is (Int n))) }
+    ensures { (span : Span) → IfSome result (λ n. HasOutcome (in_row (environment_of env.now) (R.values row.now)) (tree.binary span Application (resolved_of left.now) (resolved_of right.now)) (Is (Int n))) }
 {
     let f = value_of_name(left, row, env)?;
     let x = value_of_name(right, row, env)?;

@@ -1,6 +1,6 @@
 //! Symbols with their operands.
 ghost use Rattle.std.specs.Prelude.{ℕ, IfOk, map};
-ghost use Rattle.zf_meaning.specs.Prelude.{resolved_of, found_outcome, several_of};
+ghost use Rattle.zf_meaning.specs.Prelude.{resolved_of, found_outcome, several_of, Span};
 ghost use Rattle.zf_term.specs.ResolvedTrees as tree;
 ghost use Rattle.zf_term.specs.ResolvedViews as tree_views;
 ghost use Rattle.zf_meaning.specs.{HasOutcome, HaveOutcomes, IsBinary, IsTruth, scope_of};
@@ -25,7 +25,7 @@ pub(super) fn unary<'v, 'a, R: Row>(
     locals: &[&'v Value],
     env: &'v Env<'_, 'a>,
 ) -> Result<Found<'v>, AllocError>
-    ensures { (line : ℕ) → IfOk result (λ o. HasOutcome (scope_of env.now (R.values row.now) locals.now) (tree.unary line op (resolved_of of.now)) (found_outcome o)) }
+    ensures { (span : Span) → IfOk result (λ o. HasOutcome (scope_of env.now (R.values row.now) locals.now) (tree.unary span op (resolved_of of.now)) (found_outcome o)) }
 {
     let operand = outcome(of, row, locals, env)?;
     Ok(Found::own(on_one(env.allocator(), op, &operand)?))
@@ -63,7 +63,7 @@ pub(super) fn listed<'v, 'a, R: Row>(
     locals: &[&'v Value],
     env: &'v Env<'_, 'a>,
 ) -> Result<Found<'v>, AllocError>
-    ensures { (line : ℕ) → IfOk result (λ o. HasOutcome (scope_of env.now (R.values row.now) locals.now) (tree.listed line form (tree_views.terms (map resolved_of terms.now))) (found_outcome o)) }
+    ensures { (span : Span) → IfOk result (λ o. HasOutcome (scope_of env.now (R.values row.now) locals.now) (tree.listed span form (tree_views.terms (map resolved_of terms.now))) (found_outcome o)) }
 {
     let gathered = gather(terms, row, locals, env)?;
     Ok(Found::own(on_several(env.allocator(), form, gathered)?))
@@ -98,7 +98,7 @@ pub(super) fn not<'v, 'a, R: Row>(
     locals: &[&'v Value],
     env: &'v Env<'_, 'a>,
 ) -> Result<Truth, AllocError>
-    ensures { (line : ℕ) → IfOk result (IsTruth (scope_of env.now (R.values row.now) locals.now) (tree.unary line op (resolved_of of.now))) }
+    ensures { (span : Span) → IfOk result (IsTruth (scope_of env.now (R.values row.now) locals.now) (tree.unary span op (resolved_of of.now))) }
 {
     match op {
         Unary::Not => Ok(opposite(truth(of, row, locals, env)?)),

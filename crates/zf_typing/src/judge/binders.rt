@@ -40,10 +40,10 @@ pub(super) fn quantified<'a>(
     ensures judged { Judges (scope_of scope.old) need (tree_of term.now) result }
     ensures scope { scope_of scope.new ≡ scope_of scope.old }
 {
-    let Term::Quantified(quantifier, line, decls, constraint, body) = term else {
+    let Term::Quantified(quantifier, span, decls, constraint, body) = term else {
         unreachable!();
     };
-    let line = *line;
+    let span = *span;
     let outside = depth(scope);
     let ranges = declare(decls.as_slice(), arena, scope)?;
     let constraint = judge_part(constraint, arena, Need::Predicate, scope);
@@ -51,7 +51,7 @@ pub(super) fn quantified<'a>(
     unbind(scope, outside);
     with_body(
         arena,
-        Place { need, line },
+        Place { need, span },
         *quantifier,
         ranges,
         constraint,
@@ -72,17 +72,17 @@ pub(super) fn comprehension<'a>(
     ensures judged { Judges (scope_of scope.old) need (tree_of term.now) result }
     ensures scope { scope_of scope.new ≡ scope_of scope.old }
 {
-    let Term::Comprehension(line, decls, filter, member) = term else {
+    let Term::Comprehension(span, decls, filter, member) = term else {
         unreachable!();
     };
-    let line = *line;
+    let span = *span;
     let outside = depth(scope);
     let ranges = declare(decls.as_slice(), arena, scope)?;
     let filter = judge_part(filter, arena, Need::Predicate, scope);
     let member = judge_part(member, arena, Need::Expression, scope);
     let row = row(arena, scope, outside);
     unbind(scope, outside);
-    built(arena, Place { need, line }, ranges, filter, member, row)
+    built(arena, Place { need, span }, ranges, filter, member, row)
 }
 
 /// Brings the variables that are declared into scope. What is kept of them are their ranges.
@@ -94,7 +94,7 @@ fn declare<'a>(
 ) -> Result<Items<'a, Range<'a>>, Refusal<'a>>
     ensures ok { OnOk result ((vs : List Var) × Binds (scope_of scope.old) (tree_views.var_decls (map var_decl_of decls.now)) vs × (scope_of scope.new ≡ with_variables (scope_of scope.old) vs)) }
     ensures ranges { IfOk result (λ rs. kept.ranges (map range_of rs) ≡ resolved_ranges (scope_of scope.old) (tree_views.var_decls (map var_decl_of decls.now))) }
-    ensures wrong { IfErr result (λ e. IfFault e (λ offence line. DeclarationsOffend (scope_of scope.old) (tree_views.var_decls (map var_decl_of decls.now)) offence line)) }
+    ensures wrong { IfErr result (λ e. IfFault e (λ offence span. DeclarationsOffend (scope_of scope.old) (tree_views.var_decls (map var_decl_of decls.now)) offence span)) }
     ensures scope { OnErr result (scope_of scope.new ≡ scope_of scope.old) }
 {
     let Declared { variables, ranges } = judge_sets(decls, arena, scope)?;
@@ -111,7 +111,7 @@ fn judge_sets<'a>(
 ) -> Result<Declared<'a>, Refusal<'a>>
     ensures ok { IfOk result (λ d. Binds (scope_of scope.old) (tree_views.var_decls (map var_decl_of decls.now)) (map variable_of d.variables)) }
     ensures ranges { IfOk result (λ d. kept.ranges (map range_of d.ranges) ≡ resolved_ranges (scope_of scope.old) (tree_views.var_decls (map var_decl_of decls.now))) }
-    ensures wrong { IfErr result (λ e. IfFault e (λ offence line. DeclarationsOffend (scope_of scope.old) (tree_views.var_decls (map var_decl_of decls.now)) offence line)) }
+    ensures wrong { IfErr result (λ e. IfFault e (λ offence span. DeclarationsOffend (scope_of scope.old) (tree_views.var_decls (map var_decl_of decls.now)) offence span)) }
     ensures scope { scope_of scope.new ≡ scope_of scope.old }
 {
     let mut variables = Locals::new(scope.locals.allocator());
@@ -156,7 +156,7 @@ fn with_body<'a>(
     constraint: Result<Option<Judged<'a>>, Refusal<'a>>,
     body: Result<Judged<'a>, Refusal<'a>>,
 ) -> Result<Judged<'a>, Refusal<'a>>
-    ensures { (s : spec.Scope) (ds : tree.VarDecls) (vs : List Var) (p : tree.Perhaps) (e : Tree) → Binds s ds vs → kept.ranges (map range_of ranges.entry) ≡ resolved_ranges s ds → JudgesPart (with_variables s vs) needs.Predicate p constraint.entry → Judges (with_variables s vs) needs.Predicate e body.entry → Judges s place.need (tree.quantified place.line quantifier ds p e) result }
+    ensures { (s : spec.Scope) (ds : tree.VarDecls) (vs : List Var) (p : tree.Perhaps) (e : Tree) → Binds s ds vs → kept.ranges (map range_of ranges.entry) ≡ resolved_ranges s ds → JudgesPart (with_variables s vs) needs.Predicate p constraint.entry → Judges (with_variables s vs) needs.Predicate e body.entry → Judges s place.need (tree.quantified place.span quantifier ds p e) result }
 {
     let constraint = constraint?;
     let body = body?;
@@ -167,7 +167,7 @@ fn with_body<'a>(
         arena,
         place,
         Sort::Predicate,
-        Resolved::Quantified(quantifier, place.line, ranges, condition, predicate),
+        Resolved::Quantified(quantifier, place.span, ranges, condition, predicate),
     )
 }
 
@@ -182,7 +182,7 @@ fn built<'a>(
     member: Result<Option<Judged<'a>>, Refusal<'a>>,
     row: Result<ZType<'a>, AllocError>,
 ) -> Result<Judged<'a>, Refusal<'a>>
-    ensures { (s : spec.Scope) (ds : tree.VarDecls) (vs : List Var) (p e : tree.Perhaps) → Binds s ds vs → kept.ranges (map range_of ranges.entry) ≡ resolved_ranges s ds → JudgesPart (with_variables s vs) needs.Predicate p filter.entry → JudgesPart (with_variables s vs) needs.Expression e member.entry → IfOk row.entry (λ t. type_of t ≡ row_type vs) → Judges s place.need (tree.comprehension place.line ds p e) result }
+    ensures { (s : spec.Scope) (ds : tree.VarDecls) (vs : List Var) (p e : tree.Perhaps) → Binds s ds vs → kept.ranges (map range_of ranges.entry) ≡ resolved_ranges s ds → JudgesPart (with_variables s vs) needs.Predicate p filter.entry → JudgesPart (with_variables s vs) needs.Expression e member.entry → IfOk row.entry (λ t. type_of t ≡ row_type vs) → Judges s place.need (tree.comprehension place.span ds p e) result }
 {
     let filter = filter?;
     let member = member?;
@@ -196,7 +196,7 @@ fn built<'a>(
         arena,
         place,
         Sort::Typed(set),
-        Resolved::Comprehension(place.line, ranges, condition, term),
+        Resolved::Comprehension(place.span, ranges, condition, term),
     )
 }
 

@@ -14,13 +14,13 @@ use bumpalo::Bump;
 use zf_data::arena::{Boxed, Items};
 use zf_sorts::{Refusal, Sort, combine, disagreeing, misplaced};
 use zf_term::{Resolved, ResolvedLink};
-use zf_tree::{Link, Need, Rule, Term, relation_rule};
+use zf_tree::{Link, Need, Rule, Span, Term, relation_rule};
 
-/// The operand to the left of a link: what it is, and its line.
+/// The operand to the left of a link: what it is, and where it stands.
 #[derive(Drop)]
 struct Operand<'a> {
     sort: Sort<'a>,
-    line: u32,
+    span: Span,
 }
 
 /// A chain of relations.
@@ -37,23 +37,23 @@ pub(super) fn chain<'a>(
     ensures judged { Judges (scope_of scope.old) need (tree_of term.now) result }
     ensures scope { scope_of scope.new ≡ scope_of scope.old }
 {
-    let Term::Chain(line, first, links) = term else {
+    let Term::Chain(span, first, links) = term else {
         unreachable!();
     };
-    let line = *line;
+    let span = *span;
     let Judged { term, sort } = judge_term(first.get(), arena, Need::Expression, scope)?;
     let left = Operand {
         sort,
-        line: first.get().line(),
+        span: first.get().span(),
     };
     let links = judge_links(links.as_slice(), arena, left, first.get(), scope)?;
     let first = Boxed::new(arena, term)?;
     let further = Boxed::new(arena, links)?;
     placed(
         arena,
-        Place { need, line },
+        Place { need, span },
         Sort::Predicate,
-        Resolved::Chain(line, first, further),
+        Resolved::Chain(span, first, further),
     )
 }
 
@@ -67,7 +67,7 @@ fn judge_links<'a>(
 ) -> Result<Items<'a, ResolvedLink<'a>>, Refusal<'a>>
     ensures ok { OnOk result (LinksAreTyped (scope_of scope.old) (sort_of first.entry.sort) (tree_views.links (map link_of links.now))) }
     ensures resolved { IfOk result (λ ks. kept.links (map resolved_link_of ks) ≡ resolved_links (scope_of scope.old) (tree_views.links (map link_of links.now))) }
-    ensures wrong { (a : Tree) → IsOf (scope_of scope.old) a (sort_of first.entry.sort) → first.entry.line ≡ tree.line_of a → IfErr result (λ e. IfFault e (λ offence line. LinksOffend (scope_of scope.old) a (tree_views.links (map link_of links.now)) offence line)) }
+    ensures wrong { (a : Tree) → IsOf (scope_of scope.old) a (sort_of first.entry.sort) → first.entry.span ≡ tree.span_of a → IfErr result (λ e. IfFault e (λ offence span. LinksOffend (scope_of scope.old) a (tree_views.links (map link_of links.now)) offence span)) }
     ensures scope { scope_of scope.new ≡ scope_of scope.old }
 {
     let mut left = first;
@@ -77,13 +77,13 @@ fn judge_links<'a>(
         let rule = relation_rule(link.relation);
         check_left(arena, &left, operand, rule.left_need())?;
         let Judged { term, sort } = judge_boxed(&link.right, arena, rule.right_need(), scope)?;
-        let line = link.right.get().line();
-        relate(arena, rule, &left.sort, &sort, line)?;
+        let span = link.right.get().span();
+        relate(arena, rule, &left.sort, &sort, span)?;
         resolved.push(ResolvedLink {
             relation: link.relation,
             right: term,
         })?;
-        left = Operand { sort, line };
+        left = Operand { sort, span };
         operand = link.right.get();
     }
     Ok(resolved)
@@ -97,31 +97,31 @@ fn check_left<'a>(
     need: Need,
 ) -> Result<(), Refusal<'a>>
     ensures ok { OnOk result (Meets need (sort_of left.now.sort)) }
-    ensures wrong { IfErr result (λ e. IfFault e (λ offence line. (Meets need (sort_of left.now.sort) → ⊥) × (offence ≡ fault.misplaced need (sort_of left.now.sort)) × (line ≡ left.now.line))) }
+    ensures wrong { IfErr result (λ e. IfFault e (λ offence span. (Meets need (sort_of left.now.sort) → ⊥) × (offence ≡ fault.misplaced need (sort_of left.now.sort)) × (span ≡ left.now.span))) }
 {
     if left.sort.meets(need) {
         return Ok(());
     }
-    let refusal = misplaced(arena, need, &left.sort, left.line);
+    let refusal = misplaced(arena, need, &left.sort, left.span);
     Err(refusal.quoting(arena, term))
 }
 
-/// The rule takes both operands; the line is that of the right one.
+/// The rule takes both operands; the span is that of the right one.
 #[tactic(auto, unfolding(zf_sorts::specs::RuleViews::IsMade))]
 fn relate<'a>(
     arena: &'a Bump,
     rule: Rule,
     left: &Sort<'a>,
     right: &Sort<'a>,
-    line: u32,
+    span: Span,
 ) -> Result<(), Refusal<'a>>
     requires left { Meets (left_need rule) (sort_of left.now) }
     requires right { Meets (right_need rule) (sort_of right.now) }
     ensures ok { OnOk result ((z : rules.Sort) × Takes rule (sort_of left.now) (sort_of right.now) z) }
-    ensures wrong { IfErr result (λ e. IfFault e (λ offence m. ((z : rules.Sort) → Takes rule (sort_of left.now) (sort_of right.now) z → ⊥) × Disagreement rule (sort_of left.now) (sort_of right.now) offence × (m ≡ line))) }
+    ensures wrong { IfErr result (λ e. IfFault e (λ offence m. ((z : rules.Sort) → Takes rule (sort_of left.now) (sort_of right.now) z → ⊥) × Disagreement rule (sort_of left.now) (sort_of right.now) offence × (m ≡ span))) }
 {
     match combine(arena, rule, left, right)? {
         Some(_) => Ok(()),
-        None => Err(disagreeing(arena, rule, left, right, line)),
+        None => Err(disagreeing(arena, rule, left, right, span)),
     }
 }

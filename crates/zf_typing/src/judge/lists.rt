@@ -15,7 +15,7 @@ use std::alloc::AllocError;
 use zf_data::arena::{Boxed, Items};
 use zf_sorts::{Offence, Refusal, Sort, refused};
 use zf_term::{Resolved, ZType, product_type, set_type};
-use zf_tree::{Listed, Need, Term};
+use zf_tree::{Listed, Need, Span, Term};
 
 /// The members of one term, and the types that they are given by: of a set that of its members.
 #[derive(Drop)]
@@ -34,7 +34,7 @@ pub(super) fn listed<'a>(
     form: Listed,
     scope: &mut Scope<'a, '_>,
 ) -> Result<Judged<'a>, Refusal<'a>>
-    ensures judged { Judges (scope_of scope.old) place.need (tree.listed place.line form (trees (map tree_of terms.now))) result }
+    ensures judged { Judges (scope_of scope.old) place.need (tree.listed place.span form (trees (map tree_of terms.now))) result }
     ensures scope { scope_of scope.new ≡ scope_of scope.old }
 {
     let members = judge_all(terms, arena, form, scope)?;
@@ -50,7 +50,7 @@ fn judge_all<'a>(
 ) -> Result<Members<'a>, Refusal<'a>>
     ensures ok { IfOk result (λ ms. AreMembers form (scope_of scope.old) (trees (map tree_of terms.now)) (tys.types (map type_of ms.types))) }
     ensures resolved { IfOk result (λ ms. kept.terms (map resolved_of ms.resolved) ≡ resolved_all (scope_of scope.old) (trees (map tree_of terms.now))) }
-    ensures wrong { IfErr result (λ e. IfFault e (λ offence line. OneOffends (scope_of scope.old) (typing.member_need form) (trees (map tree_of terms.now)) offence line)) }
+    ensures wrong { IfErr result (λ e. IfFault e (λ offence span. OneOffends (scope_of scope.old) (typing.member_need form) (trees (map tree_of terms.now)) offence span)) }
     ensures scope { scope_of scope.new ≡ scope_of scope.old }
 {
     let mut resolved = Items::with_room(arena, terms.len())?;
@@ -108,10 +108,10 @@ fn with_members<'a>(
     members: Members<'a>,
 ) -> Result<Judged<'a>, Refusal<'a>>
     requires { length terms.now ≡ length members.types }
-    ensures { (s : spec.Scope) → AreMembers form s (trees (map tree_of terms.now)) (tys.types (map type_of members.entry.types)) → kept.terms (map resolved_of members.entry.resolved) ≡ resolved_all s (trees (map tree_of terms.now)) → Judges s place.need (tree.listed place.line form (trees (map tree_of terms.now))) result }
+    ensures { (s : spec.Scope) → AreMembers form s (trees (map tree_of terms.now)) (tys.types (map type_of members.entry.types)) → kept.terms (map resolved_of members.entry.resolved) ≡ resolved_all s (trees (map tree_of terms.now)) → Judges s place.need (tree.listed place.span form (trees (map tree_of terms.now))) result }
 {
-    let ztype = made_of(arena, form, place.line, terms, members.types)?;
-    let term = Resolved::Listed(place.line, form, Boxed::new(arena, members.resolved)?);
+    let ztype = made_of(arena, form, place.span, terms, members.types)?;
+    let term = Resolved::Listed(place.span, form, Boxed::new(arena, members.resolved)?);
     made(arena, place, Sort::Typed(ztype), term)
 }
 
@@ -120,18 +120,18 @@ fn with_members<'a>(
 fn made_of<'a>(
     arena: &'a Bump,
     form: Listed,
-    line: u32,
+    span: Span,
     terms: &[Boxed<'a, Term<'a>>],
     types: Items<'a, ZType<'a>>,
 ) -> Result<ZType<'a>, Refusal<'a>>
     requires { length terms.now ≡ length types }
     ensures ok { IfOk result (λ t. Makes form (tys.types (map type_of types.entry)) (type_of t)) }
-    ensures wrong { IfErr result (λ e. IfFault e (λ offence m. (form ≡ Listed.Display) × DiffersAt line (map tree_of terms.now) (tys.types (map type_of types.entry)) offence m)) }
+    ensures wrong { IfErr result (λ e. IfFault e (λ offence m. (form ≡ Listed.Display) × DiffersAt span (map tree_of terms.now) (tys.types (map type_of types.entry)) offence m)) }
 {
     match form {
         Listed::Tuple => Ok(product_type(arena, types)?),
         Listed::Product => Ok(set_type(arena, product_type(arena, types)?)?),
-        Listed::Display => set_of(arena, line, terms, types.as_slice()),
+        Listed::Display => set_of(arena, span, terms, types.as_slice()),
     }
 }
 
@@ -139,24 +139,24 @@ fn made_of<'a>(
 #[tactic(auto, using(zf_term::proofs::TypesSeen::seen))]
 fn set_of<'a>(
     arena: &'a Bump,
-    line: u32,
+    span: Span,
     terms: &[Boxed<'a, Term<'a>>],
     types: &[ZType<'a>],
 ) -> Result<ZType<'a>, Refusal<'a>>
     requires { length terms.now ≡ length types.now }
     ensures ok { IfOk result (λ t. Makes Listed.Display (tys.types (map type_of types.now)) (type_of t)) }
-    ensures wrong { IfErr result (λ e. IfFault e (λ offence m. DiffersAt line (map tree_of terms.now) (tys.types (map type_of types.now)) offence m)) }
+    ensures wrong { IfErr result (λ e. IfFault e (λ offence m. DiffersAt span (map tree_of terms.now) (tys.types (map type_of types.now)) offence m)) }
 {
     let Some(first) = types.first() else {
-        return Err(refused(arena, Offence::NoMembers, line));
+        return Err(refused(arena, Offence::NoMembers, span));
     };
     for place in 1..types.len() {
         let other = &types[place];
         if !first.same(other) {
-            let line = terms[place].get().line();
+            let span = terms[place].get().span();
             let first = Sort::Typed(first.share()?);
             let other = Sort::Typed(other.share()?);
-            return Err(refused(arena, Offence::Mismatch(first, other), line));
+            return Err(refused(arena, Offence::Mismatch(first, other), span));
         }
     }
     Ok(set_type(arena, first.share()?)?)

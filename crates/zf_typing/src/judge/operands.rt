@@ -1,6 +1,6 @@
 //! Symbols that stand before a term or between two, and their rules.
 ghost use Rattle.std.specs.Prelude.{◌≡◌};
-ghost use Rattle.zf_typing.specs.Prelude.{left_need, line_of, need_of, right_need, rule_of, Tree, tree_of, Meets, sort_of};
+ghost use Rattle.zf_typing.specs.Prelude.{left_need, span_of, need_of, right_need, rule_of, Tree, tree_of, Meets, sort_of};
 ghost use Rattle.zf_tree.specs.Trees as tree;
 ghost use Rattle.zf_typing.specs.{IsBinary, IsJudged, Judges, scope_of};
 ghost use Rattle.zf_typing.specs.Scopes as spec;
@@ -11,7 +11,7 @@ use bumpalo::Bump;
 use zf_data::arena::Boxed;
 use zf_sorts::{Refusal, apply, combine, disagreeing};
 use zf_term::Resolved;
-use zf_tree::{Need, Operator, Term, Unary};
+use zf_tree::{Need, Operator, Span, Term, Unary};
 
 #[cycle(judging)]
 #[inline(never)]
@@ -22,7 +22,7 @@ pub(super) fn unary<'a>(
     op: Unary,
     scope: &mut Scope<'a, '_>,
 ) -> Result<Judged<'a>, Refusal<'a>>
-    ensures judged { Judges (scope_of scope.old) place.need (tree.unary place.line op (tree_of operand.now)) result }
+    ensures judged { Judges (scope_of scope.old) place.need (tree.unary place.span op (tree_of operand.now)) result }
     ensures scope { scope_of scope.new ≡ scope_of scope.old }
 {
     let operand = judge_term(operand, arena, op.need(), scope)?;
@@ -38,12 +38,12 @@ fn with_operand<'a>(
     operand: Judged<'a>,
 ) -> Result<Judged<'a>, Refusal<'a>>
     requires { Meets (need_of op) (sort_of operand.sort) }
-    ensures { (s : spec.Scope) (e : Tree) → IsJudged s (need_of op) e operand.entry → Judges s place.need (tree.unary place.line op e) result }
+    ensures { (s : spec.Scope) (e : Tree) → IsJudged s (need_of op) e operand.entry → Judges s place.need (tree.unary place.span op e) result }
 {
     let Some(sort) = apply(arena, op, &operand.sort)? else {
         unreachable!();
     };
-    let term = Resolved::Unary(place.line, op, Boxed::new(arena, operand.term)?);
+    let term = Resolved::Unary(place.span, op, Boxed::new(arena, operand.term)?);
     made(arena, place, sort, term)
 }
 
@@ -60,10 +60,10 @@ pub(super) fn binary<'a>(
     ensures judged { Judges (scope_of scope.old) need (tree_of term.now) result }
     ensures scope { scope_of scope.new ≡ scope_of scope.old }
 {
-    let Term::Binary(line, op, left, right) = term else {
+    let Term::Binary(span, op, left, right) = term else {
         unreachable!();
     };
-    let line = *line;
+    let span = *span;
     let rule = op.rule();
     let left = left.get();
     let right = right.get();
@@ -71,15 +71,15 @@ pub(super) fn binary<'a>(
     let of_right = judge_term(right, arena, rule.right_need(), scope)?;
     with_operands(
         arena,
-        Place { need, line },
+        Place { need, span },
         *op,
         of_left,
         of_right,
-        right.line(),
+        right.span(),
     )
 }
 
-/// The rule of a symbol that stands between two terms, of which the right one stands at the line.
+/// The rule of a symbol that stands between two terms, with the span of the right one.
 #[tactic(auto, using(crate::proofs::Judging::from_memory))]
 fn with_operands<'a>(
     arena: &'a Bump,
@@ -87,15 +87,15 @@ fn with_operands<'a>(
     op: Operator,
     left: Judged<'a>,
     right: Judged<'a>,
-    line: u32,
+    span: Span,
 ) -> Result<Judged<'a>, Refusal<'a>>
     requires left { Meets (left_need (rule_of op)) (sort_of left.sort) }
     requires right { Meets (right_need (rule_of op)) (sort_of right.sort) }
-    ensures { (s : spec.Scope) (a b : Tree) → IsJudged s (left_need (rule_of op)) a left.entry → IsJudged s (right_need (rule_of op)) b right.entry → line ≡ line_of b → Judges s place.need (tree.binary place.line op a b) result }
+    ensures { (s : spec.Scope) (a b : Tree) → IsJudged s (left_need (rule_of op)) a left.entry → IsJudged s (right_need (rule_of op)) b right.entry → span ≡ span_of b → Judges s place.need (tree.binary place.span op a b) result }
 {
     let rule = op.rule();
     let Some(sort) = combine(arena, rule, &left.sort, &right.sort)? else {
-        return Err(disagreeing(arena, rule, &left.sort, &right.sort, line));
+        return Err(disagreeing(arena, rule, &left.sort, &right.sort, span));
     };
     let left = Boxed::new(arena, left.term)?;
     let right = Boxed::new(arena, right.term)?;
@@ -103,6 +103,6 @@ fn with_operands<'a>(
         arena,
         place,
         sort,
-        Resolved::Binary(place.line, op, left, right),
+        Resolved::Binary(place.span, op, left, right),
     )
 }

@@ -1,18 +1,16 @@
 use Rattle.zf_command.specs.declared.job.Job.TheVariants.{Check, Reach, Show, Why}
-use Rattle.zf_engine.proofs.Parts.{checked_told, writes_err, writes_ok}
+use Rattle.zf_engine.proofs.Writing.{writes_err, writes_ok}
 use Rattle.zf_engine.proofs.answer.answer.Goals as goal
 
 pub returns-in-Check-clause-answered : goal.returns-in-Check-clause-answered
 returns-in-Check-clause-answered g c =
     let i = c.in-Check in
-    writes_ok (Check i.types i.details i.format) c.args.job.now _ _ _ _ _ _ i.is c.as_bytes-file.ensures.value
-    (checked_told i.types i.details i.format _ _ _ _ _ _ c.checked-stop.ensures c.tell.ensures.told)
+    writes_ok (Check i.types i.details i.format) c.args.job.now _ _ _ _ _ _ i.is c.as_bytes-file.ensures.value c.check_reported.ensures.checks
 
 pub returns-in-Check-clause-stopped : goal.returns-in-Check-clause-stopped
 returns-in-Check-clause-stopped g c =
     let i = c.in-Check in
-    writes_err (Check i.types i.details i.format) c.args.job.now _ _ _ _ _ _ i.is c.as_bytes-file.ensures.value
-    (checked_told i.types i.details i.format _ _ _ _ _ _ c.checked-stop.ensures c.tell.ensures.told)
+    writes_err (Check i.types i.details i.format) c.args.job.now _ _ _ _ _ _ i.is c.as_bytes-file.ensures.value c.check_reported.ensures.checks
 
 pub returns-in-Show-clause-answered : goal.returns-in-Show-clause-answered
 returns-in-Show-clause-answered g c =

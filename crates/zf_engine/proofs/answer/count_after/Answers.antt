@@ -1,6 +1,6 @@
 use Rattle.zf_engine.proofs.Prelude.{sym, true, option_copied, portion, counted_goal, counting_at_start, environment_in, schema_in}
 use Rattle.zf_engine.proofs.NamedRows.{named_length}
-use Rattle.zf_engine.proofs.Parts.{shown}
+use Rattle.zf_engine.proofs.Writing.{shown}
 use Rattle.zf_engine.proofs.Refusing.{all_shown, out_answers}
 use Rattle.zf_engine.proofs.Subjects.{can_be_searched, searched_all, worded}
 use Rattle.zf_engine.proofs.answer.count_after.Goals as goal
@@ -29,6 +29,6 @@ pub refuse-requires-clause-answers : goal.refuse-requires-clause-answers
 refuse-requires-clause-answers g c =
     let s = c.args.subject.now in
     let is = c.requires.subject in
-    out_answers c.args.inquiry.request.now c.args.inquiry.report.file.now c.args.inquiry.report.source.now (environment_in s).globals (schema_in s) (environment_in s) is.asked
+    out_answers c.args.inquiry.request.now c.args.inquiry.report.source.now (environment_in s).globals (schema_in s) (environment_in s) is.asked
     (schema_in s).comps (option_copied c.args.after) s.held.now (all_shown c.args.inquiry.request.now (environment_in s) (schema_in s).comps c.requires.all)
     c.requires.named is.held c.in-Err.stop c.in-Err.ensures.stop

@@ -1,4 +1,4 @@
-use Rattle.zf_engine.proofs.Parts.{text_written, why_told_so}
+use Rattle.zf_engine.proofs.Writing.{text_written, why_told_so}
 use Rattle.zf_command.specs.declared.job.Job.TheVariants.{Why}
 use Rattle.zf_engine.proofs.answer.explain_source.Goals as goal
 

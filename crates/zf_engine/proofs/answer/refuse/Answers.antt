@@ -1,4 +1,4 @@
-use Rattle.zf_engine.proofs.Parts.{told}
+use Rattle.zf_engine.proofs.Writing.{told}
 use Rattle.zf_engine.proofs.answer.refuse.Goals as goal
 
 pub returns-clause-shows : goal.returns-clause-shows

@@ -1,5 +1,5 @@
 use Rattle.zf_engine.proofs.Prelude.{arith, comp_of, length-map, None, subst, option_copied, portion, planted_goal, at_start, IsNamedRow, environment_in, schema_in}
-use Rattle.zf_engine.proofs.Parts.{parts_shown}
+use Rattle.zf_engine.proofs.Writing.{parts_shown}
 use Rattle.zf_engine.proofs.Refusing.{out_answers, some_shown}
 use Rattle.zf_engine.proofs.Subjects.{can_be_searched, chosen_by, part_worded, searched_some}
 use Rattle.zf_engine.proofs.answer.show_chosen.Goals as goal
@@ -62,5 +62,5 @@ refuse-requires-clause-answers g c =
     let e = environment_in s in
     let comps = (schema_in s).comps in
     let by = chosen_by comps r.only c.args.chosen.now c.requires.chosen in
-    out_answers r c.args.inquiry.report.file.now c.args.inquiry.report.source.now e.globals (schema_in s) e is.asked _ (option_copied c.args.after) s.held.now
+    out_answers r c.args.inquiry.report.source.now e.globals (schema_in s) e is.asked _ (option_copied c.args.after) s.held.now
     (some_shown r e comps by.0 _ by.1 by.2) (subst (λ cs. IsNamedRow e cs r.after (option_copied c.args.after)) by.3 c.requires.named) is.held c.in-Err.stop c.in-Err.ensures.stop

@@ -1,5 +1,5 @@
 use Rattle.zf_engine.proofs.Prelude.{◌∙◌, ap, refl, subst, sym, schema_of, environment_of, spellings, AreHeld}
-use Rattle.zf_engine.proofs.Parts.{stopped}
+use Rattle.zf_engine.proofs.Writing.{stopped}
 use Rattle.zf_engine.proofs.Refusing.{misnamed_answers, clear_of, names_of}
 use Rattle.zf_engine.proofs.answer.show_schema.Goals as goal
 
@@ -21,4 +21,4 @@ refuse-requires-clause-answers g c =
     let a = schema_of c.args.schema.now in
     let e = environment_of c.args.env.now in
     let clear = clear_of r source a e c.requires.asked c.deref-2.result.now (c.deref-2.ensures.value ∙ c.in_ok-elements.ensures ∙ ap spellings c.globals.ensures) in
-    misnamed_answers r c.args.inquiry.report.file.now source e.globals a e c.requires.asked c.in-Err.stop (c.in-Err.ensures.stop clear (names_of r source a e c.requires.asked))
+    misnamed_answers r source e.globals a e c.requires.asked c.in-Err.stop (c.in-Err.ensures.stop clear (names_of r source a e c.requires.asked))

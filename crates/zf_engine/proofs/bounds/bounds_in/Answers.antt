@@ -10,7 +10,7 @@ returns-in_err-chosen-clause-stop c =
     let comps = (schema_of c.args.flat.now).comps in
     let r = c.args.inquiry.request.now in
     weaker_err _ (λ s. IfAnswered s (TellsNoParts comps r.only)) (λ s. AreClear c.args.elements.now e.sizes → HaveClearNames comps → IfAnswered s (TellsMisnamed e comps r))
-    (λ stop told clear names. weaker stop (λ text status t. inl t) told) (search rules)
+    (λ stop told clear names. weaker stop (λ told status t. inl t) told) (search rules)
 
 pub returns-in_err-after-clause-stop : goal.returns-in_err-after-clause-stop
 returns-in_err-after-clause-stop c =
@@ -20,7 +20,11 @@ returns-in_err-after-clause-stop c =
     let lines = (schema_of c.shown-lines.result.now).comps in
     weaker_err _ (λ s. AreClear c.args.elements.now e.sizes → IfAnswered s (TellsNoRow e lines r.after)) (λ s. AreClear c.args.elements.now e.sizes
     → HaveClearNames comps → IfAnswered s (TellsMisnamed e comps r))
-    (λ stop told clear names. weaker stop (λ text status t. inr (lines, (are_shown_as comps r.only _ lines c.in_ok-chosen.ensures.chosen c.shown-lines.ensures), inl t)) (told clear)) (search rules)
+    (λ stop told clear names. weaker stop (λ told status t. inr (
+      lines,
+      (are_shown_as comps r.only _ lines c.in_ok-chosen.ensures.chosen c.shown-lines.ensures),
+      inl t,
+    )) (told clear)) (search rules)
 
 pub returns-in_err-held-clause-stop : goal.returns-in_err-held-clause-stop
 returns-in_err-held-clause-stop c =
@@ -31,7 +35,7 @@ returns-in_err-held-clause-stop c =
     weaker_err _ (λ s. AreClear c.args.elements.now e.sizes → HaveClearNames comps
     → IfAnswered s (TellsNoValues e comps r.held)) (λ s. AreClear c.args.elements.now e.sizes → HaveClearNames comps
     → IfAnswered s (TellsMisnamed e comps r))
-    (λ stop told clear names. weaker stop (λ text status t. inr (
+    (λ stop told clear names. weaker stop (λ told status t. inr (
       lines,
       (are_shown_as comps r.only _ lines c.in_ok-chosen.ensures.chosen
           c.shown-lines.ensures),

@@ -5,4 +5,4 @@ use Rattle.zf_engine.proofs.check.check_source.Goals as goal
 pub returns-in-Err-clause-stop : goal.returns-in-Err-clause-stop
 returns-in-Err-clause-stop c =
     let r = c.args.report in
-    unread_answers r.details r.file.now r.source.now c.in-Err.unread.fault (cited_of c.in-Err.unread.about) c.refusal.result c.in-Err.ensures c.refusal.ensures
+    unread_answers r.details r.source.now c.in-Err.unread.fault (cited_of c.in-Err.unread.about) c.refusal.result c.in-Err.ensures c.refusal.ensures

@@ -1,12 +1,12 @@
-use Rattle.zf_engine.proofs.Prelude.{◌==◌, ◌∙◌, ap, inl, inr, length, map, refl, rules, subst, fault_of, globals_of, AreLines, Checks, IfAnswered, IsUnfit, UnreadAnswer}
+use Rattle.zf_engine.proofs.Prelude.{◌==◌, ◌∙◌, ap, inl, inr, length, map, refl, rules, subst, fault_of, globals_of, AreFaultMessages, Checks, IfAnswered, IsUnfit, UnreadAnswer}
 use Rattle.zf_engine.proofs.Refusing.{some_mapped, some_of, none_of, weaker, weaker_err}
 use Rattle.zf_engine.proofs.check.load.Goals as goal
 
 pub returns-in_err-checked-clause-stop : goal.returns-in_err-checked-clause-stop
 returns-in_err-checked-clause-stop c =
     let r = c.args.report in
-    weaker_err _ (λ s. IfAnswered s (UnreadAnswer r.details r.file.now r.source.now)) (λ s. IfAnswered s (IsUnfit r.details r.file.now r.source.now))
-    (λ stop told. weaker stop (λ text status unread. inl unread) told) (search rules)
+    weaker_err _ (λ s. IfAnswered s (UnreadAnswer r.details r.source.now)) (λ s. IfAnswered s (IsUnfit r.details r.source.now))
+    (λ stop told. weaker stop (λ told status unread. inl unread) told) (search rules)
 
 pub returns-then-not-is_empty-clause-stop : goal.returns-then-not-is_empty-clause-stop
 returns-then-not-is_empty-clause-stop c =
@@ -16,7 +16,8 @@ returns-then-not-is_empty-clause-stop c =
       faults = map fault_of faults;
       checks = c.in_ok-checked.ensures.checks;
       some = some_mapped fault_of faults (some_of faults c.is_empty.result c.if-not-is_empty.true (c.is_empty.ensures ∙ ap (λ xs. length xs == 0) c.as_slice.ensures));
-      told = subst (λ fs. AreLines c.args.report.details c.args.report.file.now (map fault_of fs) c.in_ok-lines.lines.items) c.as_slice-then-not-is_empty.ensures c.in_ok-lines.ensures;
+      messages = subst (λ fs. AreFaultMessages c.args.report.details c.args.report.source.now (map fault_of fs) c.in_ok-messages.messages)
+          c.as_slice-then-not-is_empty.ensures c.in_ok-messages.ensures;
       bad = refl;
     })
 

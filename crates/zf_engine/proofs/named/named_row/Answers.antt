@@ -1,12 +1,12 @@
-use Rattle.zf_engine.proofs.Prelude.{refl, subst, sym, environment_of, schema_of, BadRequest, Answered, IfAnswered, TellsNoRow, AreClear}
-use Rattle.zf_engine.proofs.Refusing.{no_row_told}
+use Rattle.zf_engine.proofs.Prelude.{◌∙◌, ◌∷◌, [], ap, subst, sym, environment_of, schema_of, IfAnswered, TellsNoRow, AreClear}
+use Rattle.zf_engine.proofs.Refusing.{no_row_told, weaker}
 use Rattle.zf_engine.proofs.named.named_row.Goals as goal
 
-pub returns-in_ok-line-in-Err-NotABinding-clause-stop : goal.returns-in_ok-line-in-Err-NotABinding-clause-stop
-returns-in_ok-line-in-Err-NotABinding-clause-stop c =
+pub returns-in_ok-message-in-Err-NotABinding-clause-stop : goal.returns-in_ok-message-in-Err-NotABinding-clause-stop
+returns-in_ok-message-in-Err-NotABinding-clause-stop c =
     let e = environment_of c.args.env.now in
     let comps = (schema_of c.args.flat.now).comps in
-    let stop = Answered c.in_ok-line-in-Err-NotABinding.line BadRequest in
+    let stop = c.told.result in
     subst (λ o. AreClear c.args.elements.now e.sizes → IfAnswered stop (TellsNoRow e comps o)) (sym c.in-Some.is)
     (no_row_told _ _ _ _ _ stop c.in-Err-NotABinding.place c.requires c.as_bytes.ensures (rw c.in-Err-NotABinding.field-0-is at c.in-Err-NotABinding.ensures.refused)
-    (c.in_ok-line-in-Err-NotABinding.ensures, refl))
+    (weaker stop (λ told status is. (is.0 ∙ ap (λ m. m ∷ []) c.in_ok-message-in-Err-NotABinding.ensures, is.1)) c.told.ensures))

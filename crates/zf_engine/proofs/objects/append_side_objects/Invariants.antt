@@ -1,5 +1,8 @@
-use Rattle.zf_engine.proofs.Prelude.{◌++◌, ◌≡◌, map, drop, goes_on, side_objects, source_object}
+use Rattle.zf_engine.proofs.Prelude.{◌++◌, ◌≡◌, map, drop, goes_on, schema_in, side_object}
+use Rattle.zf_print.specs.{parted}
 use Rattle.zf_engine.proofs.objects.append_side_objects.Given as goal
 
 abbrev pub invariant-loop-place : goal.invariant-loop-place
-invariant-loop-place l = l.text.items ++ goes_on l.place (map (source_object l.source) (drop l.place l.lines)) ≡ l.fn.text.items ++ side_objects l.source l.lines
+invariant-loop-place l =
+    l.text.items ++ goes_on l.place (map (side_object l.source (schema_in l.subject).comps) (drop l.place l.sides))
+    ≡ l.fn.text.items ++ parted (map (side_object l.source (schema_in l.subject).comps) l.sides)

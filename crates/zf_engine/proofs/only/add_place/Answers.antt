@@ -6,14 +6,17 @@ use Rattle.zf_engine.proofs.only.add_place.Goals as goal
 pub returns-in_default-clause-stop : goal.returns-in_default-clause-stop
 returns-in_default-clause-stop c =
     let same = trim_ascii_end_is _ _ c.trim_ascii_end-trimmed.ensures.value ∙ ap without_end (trim_ascii_start_is _ _ c.trim_ascii_start.ensures.value) in
-    weaker c.not_components.result (λ text status t. (inl (no_component (map comp_of c.args.components.now) c.args.name.now _ same c.in_default.ensures), t)) c.not_components.ensures
+    weaker c.not_components.result (λ told status t. (
+      inl (no_component (map comp_of c.args.components.now) c.args.name.now _ same c.in_default.ensures),
+      t,
+    )) c.not_components.ensures
 
 pub returns-then-contains-clause-stop : goal.returns-then-contains-clause-stop
 returns-then-contains-clause-stop c =
     let same = trim_ascii_end_is _ _ c.trim_ascii_end-trimmed.ensures.value ∙ ap without_end (trim_ascii_start_is _ _ c.trim_ascii_start.ensures.value) in
     let place = c.in-Some.place in
     let among = is_among c.args.places.now.items place (sym (rw c.deref.ensures.value at c.contains.ensures.value) ∙ c.if-contains.true) in
-    weaker c.not_components-then-contains.result (λ text status t. (
+    weaker c.not_components-then-contains.result (λ told status t. (
       inr (
         place,
         component_at (map comp_of c.args.components.now) c.args.name.now _ same place _ c.in-Some.ensures,

@@ -28,9 +28,9 @@ returns-in_err-check_declared-clause-stop c =
     let e = environment_of c.args.env.now in
     let p = schemas_of c.args.schemas.now in
     weaker_err _ (λ s. IfAnswered s (TellsOut e (schema_of c.named-item.result.schema.now).comps)) (λ s. IfAnswered s (HasOut e p))
-    (λ stop told. weaker stop (λ text status t. failed (StaysIn e) (TellsLeaving e) (all_of p) _ _ _
+    (λ stop told. weaker stop (λ told status t. failed (StaysIn e) (TellsLeaving e) (all_of p) _ _ _
     (mapped_ahead named_of c.deref-named-items.result.now c.loop-named.named-index c.named-item.result c.named-item.is c.loop-named-test.true)
-    c.loop-named.invariant.0 (text, status) t) told) (search rules)
+    c.loop-named.invariant.0 (told, status) t) told) (search rules)
 
 pub returns-clause-ok : goal.returns-clause-ok
 returns-clause-ok c =

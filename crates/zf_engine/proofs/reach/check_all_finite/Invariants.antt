@@ -6,4 +6,5 @@ use Rattle.zf_engine.proofs.reach.check_all_finite.Given as goal
 abbrev pub invariant-loop-named : goal.invariant-loop-named
 invariant-loop-named l =
     let e = environment_of l.env in
-    IsAhead (Ends e) (TellsEndless l.task.exploration.now l.task.report.file.now e) (all_of (schemas_of l.schemas)) (map named_of (drop l.named-index l.named-items))
+    IsAhead (Ends e) (TellsEndless l.task.exploration.now l.task.report.source.now e) (all_of (schemas_of l.schemas))
+    (map named_of (drop l.named-index l.named-items))

@@ -1,4 +1,4 @@
-use Rattle.zf_engine.proofs.Prelude.{◌+◌, ◌∷◌, [], List, map, rules, subst, sym, take, ℕ, globals_of, IfAnswered, Status, TellsNoSchema, AllZip, map-append, take_all, ahead_at, at_first, failed, passed, FirstFails, named_of, IsSchemaOf, IsOfSchema}
+use Rattle.zf_engine.proofs.Prelude.{◌+◌, ◌∷◌, [], List, map, Message, rules, subst, sym, take, globals_of, IfAnswered, Status, TellsNoSchema, AllZip, map-append, take_all, ahead_at, at_first, failed, passed, FirstFails, named_of, IsSchemaOf, IsOfSchema}
 use Rattle.zf_engine.proofs.Reaching.{zip_more}
 use Rattle.zf_engine.proofs.Refusing.{weaker, weaker_err}
 use Rattle.zf_engine.proofs.reach.operations_in.Goals as goal
@@ -7,7 +7,7 @@ pub loop-name-init : goal.loop-name-init
 loop-name-init c =
     let g = globals_of c.args.globals.now in (
       subst (λ xs. AllZip (IsSchemaOf g) [] (map named_of xs)) (sym c.in_ok-operations.ensures.items) tt,
-      at_first (IsOfSchema g) (λ (b : List ℕ × Status). TellsNoSchema c.args.task.exploration.now.details g b.0 b.1) c.args.names.now,
+      at_first (IsOfSchema g) (λ (b : List Message × Status). TellsNoSchema c.args.task.exploration.now.details g b.0 b.1) c.args.names.now,
     )
 
 pub loop-name-preserved : goal.loop-name-preserved
@@ -20,7 +20,7 @@ loop-name-preserved c =
       subst (λ ys. AllZip (IsSchemaOf g) (take (i + 1) names) (map named_of ys)) (sym c.in_ok-push.ensures.items)
           (subst (λ ns. AllZip (IsSchemaOf g) (take (i + 1) names) ns) (sym (map-append named_of others (one ∷ [])))
           (zip_more (IsSchemaOf g) names (map named_of others) i c.name-item.result (named_of one) c.name-item.is c.loop-name-test.true c.loop-name.invariant.0 c.in_ok-named_in.ensures.named)),
-      passed (IsOfSchema g) (λ (b : List ℕ × Status). TellsNoSchema c.args.task.exploration.now.details g b.0 b.1) names _ _ _
+      passed (IsOfSchema g) (λ (b : List Message × Status). TellsNoSchema c.args.task.exploration.now.details g b.0 b.1) names _ _ _
           (ahead_at names i c.name-item.result c.name-item.is c.loop-name-test.true) c.loop-name.invariant.1
           (_, c.in_ok-named_in.ensures.named.1),
     )
@@ -30,11 +30,11 @@ returns-in_err-named_in-clause-stop c =
     let g = globals_of c.args.globals.now in
     let details = c.args.task.exploration.now.details in
     let names = c.args.names.now in
-    weaker_err _ (λ s. IfAnswered s (λ text status. TellsNoSchema details g text status c.name-item.result))
-    (λ s. IfAnswered s (λ text status. FirstFails (IsOfSchema g) (TellsNoSchema details g text status) names))
-    (λ stop told. weaker stop (λ text status t.
-    failed (IsOfSchema g) (λ (b : List ℕ × Status). TellsNoSchema details g b.0 b.1) names _ _ _
-    (ahead_at names c.loop-name.name-index c.name-item.result c.name-item.is c.loop-name-test.true) c.loop-name.invariant.1 (text, status) t) told)
+    weaker_err _ (λ s. IfAnswered s (λ told status. TellsNoSchema details g told status c.name-item.result))
+    (λ s. IfAnswered s (λ told status. FirstFails (IsOfSchema g) (TellsNoSchema details g told status) names))
+    (λ stop told. weaker stop (λ told status t.
+    failed (IsOfSchema g) (λ (b : List Message × Status). TellsNoSchema details g b.0 b.1) names _ _ _
+    (ahead_at names c.loop-name.name-index c.name-item.result c.name-item.is c.loop-name-test.true) c.loop-name.invariant.1 (told, status) t) told)
     (search rules)
 
 pub returns-clause-named : goal.returns-clause-named

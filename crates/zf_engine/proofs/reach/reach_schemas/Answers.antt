@@ -1,6 +1,6 @@
 use Rattle.zf_engine.proofs.Prelude.{◌∙◌, [], ap, inl, refl, environment_of, Appends-nil, spellings, Reach, schemas_of}
 use Rattle.zf_engine.proofs.Explored.{can_search, explored_early, explored_whole, sought_early, sought_whole}
-use Rattle.zf_engine.proofs.Parts.{stops_err}
+use Rattle.zf_engine.proofs.Writing.{stops_err}
 use Rattle.zf_engine.proofs.reach.reach_schemas.Goals as goal
 
 pub explore_schemas-requires-clause-searchable : goal.explore_schemas-requires-clause-searchable

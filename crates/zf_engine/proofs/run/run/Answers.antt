@@ -1,5 +1,5 @@
 use Rattle.zf_lines.proofs.Fronts.{always_on_err}
-use Rattle.zf_engine.proofs.Parts.{answers_kept, stops_reading, stops_whole}
+use Rattle.zf_engine.proofs.Writing.{answers_kept, stops_reading, stops_whole}
 use Rattle.zf_engine.proofs.run.run.Goals as goal
 
 pub returns-in_err-status-clause-stopped : goal.returns-in_err-status-clause-stopped

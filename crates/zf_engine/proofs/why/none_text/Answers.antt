@@ -1,9 +1,10 @@
-use Rattle.zf_engine.proofs.Prelude.{◌++◌, ◌∙◌, ap, no_binding_line}
+use Rattle.zf_engine.proofs.WhyAnswers.{of_schema, why_none}
 use Rattle.zf_engine.proofs.why.none_text.Goals as goal
 
+pub cause_lines-requires : goal.cause_lines-requires
+cause_lines-requires c = of_schema _ _ _ _ _ _ c.in_ok-cause.ensures
+
 pub returns : goal.returns
-returns c = (
-  c.in_ok-cause.cause,
-  c.in_ok-cause.ensures,
-  c.in_ok-extend_from_slice.ensures.items ∙ ap (λ l. c.in_ok-text.text.items ++ l) c.no_binding_line.ensures ∙ ap (λ t. t ++ no_binding_line c.args.subject.now.style.now.format) c.in_ok-text.ensures,
-)
+returns c =
+    why_none c.args.subject.now c.args.report.details c.args.report.file.now c.args.report.source.now c.cause_lines.result c.in_ok-cause.cause
+    c.in_ok-cause.ensures c.cause_lines.ensures

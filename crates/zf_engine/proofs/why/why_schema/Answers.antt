@@ -7,15 +7,14 @@ use Rattle.zf_engine.proofs.why.why_schema.Goals as goal
 pub returns-in_err-held-clause-stop : goal.returns-in_err-held-clause-stop
 returns-in_err-held-clause-stop c =
     let r = c.args.inquiry.request.now in
-    let file = c.args.inquiry.report.file.now in
     let source = c.args.inquiry.report.source.now in
     let a = schema_of c.args.schema.now in
     let e = environment_of c.args.env.now in
     let elements = c.deref-2.result.now in
     let clear = clear_of r source a e c.requires.asked elements (c.deref-2.ensures.value ∙ c.in_ok-elements.ensures ∙ ap spellings c.globals.ensures) in
     let names = names_of r source a e c.requires.asked in
-    weaker_err _ (λ s. AreClear elements e.sizes → HaveClearNames a.comps → IfAnswered s (TellsNoValues e a.comps r.held)) (AnswersRequest r file source)
-    (λ stop told. no_values_answers r file source e.globals a e c.requires.asked a.comps None (all_shown r e a.comps c.requires.plain.1)
+    weaker_err _ (λ s. AreClear elements e.sizes → HaveClearNames a.comps → IfAnswered s (TellsNoValues e a.comps r.held)) (AnswersRequest r source)
+    (λ stop told. no_values_answers r source e.globals a e c.requires.asked a.comps None (all_shown r e a.comps c.requires.plain.1)
     (none_named r e a c.requires.plain) stop (told clear names)) (search rules)
 
 pub why_held-requires : goal.why_held-requires
@@ -42,5 +41,5 @@ pub returns-clause-stop : goal.returns-clause-stop
 returns-clause-stop c =
     let a = schema_of c.args.schema.now in
     let e = environment_of c.args.env.now in
-    weaker_err _ (λ s. IfAnswered s (TellsOut e a.comps)) (AnswersRequest c.args.inquiry.request.now c.args.inquiry.report.file.now c.args.inquiry.report.source.now)
+    weaker_err _ (λ s. IfAnswered s (TellsOut e a.comps)) (AnswersRequest c.args.inquiry.request.now c.args.inquiry.report.source.now)
     (why_out c.args.inquiry.request.now c.args.inquiry.report.file.now c.args.inquiry.report.source.now a e c.deref-3.result.now c.requires.plain c.requires.asked (held_of c)) c.why_held.ensures.stop

@@ -16,11 +16,11 @@ loop-place-preserved c =
     let same : c.args.range.now ≡ c.range.inside.values.items = (cc) in
     let at = subst (λ (xs : List Value). x ≡ get_or xs place x) (sym same) c.index.ensures in (
       stays_on c.args.gathered.now.items old new c.loop-place.invariant.0 stay,
-      ruled_next c.args.relation c.args.span c.args.range.now place x old new at stay c.loop-place.invariant.1 c.in_ok-gather_if_possible.ensures.kept,
+      ruled_next c.args.relation c.args.interval c.args.range.now place x old new at stay c.loop-place.invariant.1 c.in_ok-gather_if_possible.ensures.kept,
     )
 
 pub returns : goal.returns
 returns c =
     let same : c.args.range.now ≡ c.range.inside.values.items = (cc) in
     let last : length c.args.range.now ≤ c.loop-place.place = omega (arith, c.loop-place-test.false, c.len-place-end.ensures, c.range.inside.values.ok.0, ap length same) in
-    record { stay = c.loop-place.invariant.0; ruled_out = λ u. ruled_all c.args.relation c.args.span c.args.range.now c.loop-place.place c.loop-place.gathered.items last c.loop-place.invariant.1 }
+    record { stay = c.loop-place.invariant.0; ruled_out = λ u. ruled_all c.args.relation c.args.interval c.args.range.now c.loop-place.place c.loop-place.gathered.items last c.loop-place.invariant.1 }

@@ -5,8 +5,8 @@ pub returns : goal.returns
 returns c = λ no.
     let f : FitsSigned w32 c.in-Some.n = search rules in
     let same = to_z-of_z w32 c.in-Some.n f in
-    let lo : FitsSigned w32 c.args.span.low = search rules in
-    let hi : FitsSigned w32 c.args.span.high = search rules in
+    let lo : FitsSigned w32 c.args.interval.low = search rules in
+    let hi : FitsSigned w32 c.args.interval.high = search rules in
     let fl : FitsSigned w64 c.at.result = search rules in
     let fh : FitsSigned w64 c.at-2.result = search rules in (
       cast_signed w32 (cast_unsigned w32 c.in-Some.n),

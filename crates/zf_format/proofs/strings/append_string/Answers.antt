@@ -1,6 +1,6 @@
 use Rattle.zf_format.proofs.Prelude.{◌++◌, ◌∙◌, ◌∷◌, [], ap, arith, flat_map, string_byte}
 unfoldable use Rattle.zf_format.specs.{string_text}
-use Rattle.zf_format.proofs.Reading.{none_more, told_utf8}
+use Rattle.zf_format.proofs.Bytes.{none_more, told_utf8}
 use Rattle.zf_format.proofs.strings.append_string.Goals as goal
 
 pub returns : goal.returns

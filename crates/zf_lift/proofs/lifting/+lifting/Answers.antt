@@ -10,16 +10,16 @@ use Rattle.zf_lift.proofs.lifting.+lifting.Goals as goal
 pub rebuilt-returns-in_ok-is_fixed-in-Name-clause-same : goal.rebuilt-returns-in_ok-is_fixed-in-Name-clause-same
 rebuilt-returns-in_ok-is_fixed-in-Name-clause-same t c =
     let i = c.in-Name in let x = c.in_ok-is_fixed-in-Name in
-    λ h. arms.name _ _ _ _ i.line i.reference c.args.term.now i.is x.ensures.known h (λ k. x.ensures.closed (c.are_both-own.ensures k).1 i.line)
+    λ h. arms.name _ _ _ _ i.span i.reference c.args.term.now i.is x.ensures.known h (λ k. x.ensures.closed (c.are_both-own.ensures k).1 i.span)
 
 pub rebuilt-returns-in-Number-clause-same : goal.rebuilt-returns-in-Number-clause-same
-rebuilt-returns-in-Number-clause-same t c = let i = c.in-Number in λ h. arms.number _ _ _ _ i.line i.value c.args.term.now i.is
+rebuilt-returns-in-Number-clause-same t c = let i = c.in-Number in λ h. arms.number _ _ _ _ i.span i.value c.args.term.now i.is
 
 pub rebuilt-returns-in-Constant-clause-same : goal.rebuilt-returns-in-Constant-clause-same
-rebuilt-returns-in-Constant-clause-same t c = let i = c.in-Constant in λ h. arms.constant _ _ _ _ i.line i.constant c.args.term.now i.is h
+rebuilt-returns-in-Constant-clause-same t c = let i = c.in-Constant in λ h. arms.constant _ _ _ _ i.span i.constant c.args.term.now i.is h
 
 pub rebuilt-returns-in_ok-new-in-EmptySet-clause-same : goal.rebuilt-returns-in_ok-new-in-EmptySet-clause-same
-rebuilt-returns-in_ok-new-in-EmptySet-clause-same t c = let i = c.in-EmptySet in λ h. arms.empty_set _ _ _ _ i.line i.of _ _ c.in_ok-new-in-EmptySet.field-0
+rebuilt-returns-in_ok-new-in-EmptySet-clause-same t c = let i = c.in-EmptySet in λ h. arms.empty_set _ _ _ _ i.span i.of _ _ c.in_ok-new-in-EmptySet.field-0
     c.args.term.now i.is c.get.ensures c.in_ok-copy-in-EmptySet.ensures c.in_ok-new-in-EmptySet.ensures
 
 -- ---- forms with operands
@@ -31,22 +31,22 @@ rebuilt-returns-in-Bracket-clause-same t c =
 
 pub rebuilt-returns-in_ok-items-in-Listed-clause-same : goal.rebuilt-returns-in_ok-items-in-Listed-clause-same
 rebuilt-returns-in_ok-items-in-Listed-clause-same t c =
-    let i = c.in-Listed in let x = c.in_ok-items-in-Listed in λ h. arms.many _ _ _ _ i.line i.form i.items x.items c.args.term.now i.is (x.ensures.same h)
+    let i = c.in-Listed in let x = c.in_ok-items-in-Listed in λ h. arms.many _ _ _ _ i.span i.form i.items x.items c.args.term.now i.is (x.ensures.same h)
 
 pub rebuilt-returns-in_ok-of-in-Unary-clause-same : goal.rebuilt-returns-in_ok-of-in-Unary-clause-same
 rebuilt-returns-in_ok-of-in-Unary-clause-same t c =
-    let i = c.in-Unary in let x = c.in_ok-of-in-Unary in λ h. arms.signed _ _ _ _ i.line i.operator i.of x.of c.args.term.now i.is (x.ensures.same h)
+    let i = c.in-Unary in let x = c.in_ok-of-in-Unary in λ h. arms.signed _ _ _ _ i.span i.operator i.of x.of c.args.term.now i.is (x.ensures.same h)
 
 pub rebuilt-returns-in_ok-right-in-Binary-clause-same : goal.rebuilt-returns-in_ok-right-in-Binary-clause-same
 rebuilt-returns-in_ok-right-in-Binary-clause-same t c =
     let i = c.in-Binary in let x = c.in_ok-left-in-Binary in let y = c.in_ok-right-in-Binary in
-    λ h. arms.combined _ _ _ _ i.line i.operator i.left x.left i.right y.right c.args.term.now i.is
+    λ h. arms.combined _ _ _ _ i.span i.operator i.left x.left i.right y.right c.args.term.now i.is
     (lift_later _ _ _ _ _ _ _ _ y.ensures.grows (x.ensures.same h)) (y.ensures.same (further _ _ _ h x.ensures.grows.0))
 
 pub rebuilt-returns-in_ok-further-in-Chain-clause-same : goal.rebuilt-returns-in_ok-further-in-Chain-clause-same
 rebuilt-returns-in_ok-further-in-Chain-clause-same t c =
     let i = c.in-Chain in let x = c.in_ok-first-in-Chain in let y = c.in_ok-further-in-Chain in
-    λ h. arms.chained _ _ _ _ i.line i.first x.first i.further y.further c.args.term.now i.is
+    λ h. arms.chained _ _ _ _ i.span i.first x.first i.further y.further c.args.term.now i.is
     (lift_later _ _ _ _ _ _ _ _ y.ensures.grows (x.ensures.same h)) (y.ensures.same (further _ _ _ h x.ensures.grows.0))
 
 -- ---- forms that bind
@@ -55,7 +55,7 @@ pub rebuilt-returns-in_ok-term-in-Comprehension-clause-same : goal.rebuilt-retur
 rebuilt-returns-in_ok-term-in-Comprehension-clause-same t c =
     let i = c.in-Comprehension in let x = c.in_ok-variables-in-Comprehension in let y = c.in_ok-filter-in-Comprehension in let z = c.in_ok-term-in-Comprehension in
     λ h. let first = further _ _ _ h x.ensures.grows.0 in
-    arms.built _ _ _ _ _ i.line x.variables i.variables c.as_slice.result.now y.filter i.filter z.term i.term c.args.term.now i.is
+    arms.built _ _ _ _ _ i.span x.variables i.variables c.as_slice.result.now y.filter i.filter z.term i.term c.args.term.now i.is
     c.as_slice.ensures c.in_ok-inside-in-Comprehension.ensures
     (ranges_later _ _ _ _ _ _ _ _ (still_later _ _ _ _ _ _ y.ensures.grows z.ensures.grows) (x.ensures.same h))
     (part_later _ _ _ _ _ _ _ _ z.ensures.grows (y.ensures.same first))
@@ -65,7 +65,7 @@ pub rebuilt-returns-in_ok-body-in-Quantified-clause-same : goal.rebuilt-returns-
 rebuilt-returns-in_ok-body-in-Quantified-clause-same t c =
     let i = c.in-Quantified in let x = c.in_ok-variables-in-Quantified in let y = c.in_ok-constraint-in-Quantified in let z = c.in_ok-body-in-Quantified in
     λ h. let first = further _ _ _ h x.ensures.grows.0 in
-    arms.bound _ _ _ _ _ i.line i.quantifier x.variables i.variables c.as_slice-in-Quantified.result.now y.constraint i.constraint i.body z.body
+    arms.bound _ _ _ _ _ i.span i.quantifier x.variables i.variables c.as_slice-in-Quantified.result.now y.constraint i.constraint i.body z.body
     c.args.term.now i.is c.as_slice-in-Quantified.ensures c.in_ok-inside-in-Quantified.ensures
     (ranges_later _ _ _ _ _ _ _ _ (still_later _ _ _ _ _ _ y.ensures.grows z.ensures.grows) (x.ensures.same h))
     (part_later _ _ _ _ _ _ _ _ z.ensures.grows (y.ensures.same first))

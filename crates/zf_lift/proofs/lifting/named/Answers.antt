@@ -12,6 +12,6 @@ returns-clause-same c = λ d longer closed lift.
     let part = resolved_of c.args.part in
     let counted = c.count-place.ensures in
     let has = subst (λ o. IfSome o (IsNamed b e f part t)) c.in-Some.is c.worked_out.ensures in
-    subst (λ u. IsLift b g e d u t) (sym (of-Name c.line.result (Global c.count-place.result)))
-    (subst (λ n. IsLift b g e d (reference c.line.result (Global n)) t) (sym counted)
-    (named_lift b e f g d c.line.result part t c.in-Some.outcome longer has.1 c.in_ok-add.ensures has.0 closed lift has.2))
+    subst (λ u. IsLift b g e d u t) (sym (of-Name c.span.result (Global c.count-place.result)))
+    (subst (λ n. IsLift b g e d (reference c.span.result (Global n)) t) (sym counted)
+    (named_lift b e f g d c.span.result part t c.in-Some.outcome longer has.1 c.in_ok-add.ensures has.0 closed lift has.2))

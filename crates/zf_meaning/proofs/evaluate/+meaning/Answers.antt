@@ -1,4 +1,4 @@
-use Rattle.zf_meaning.proofs.Prelude.{◌+◌, ◌<◌, ◌∙◌, ◌∷◌, ◌≡◌, ◌≤◌, [], ap, arith, drop, false, inl, length, List, map, Option, refl, rules, subst, sym, true, ℕ, IfOk-weaker, All, IfOk, IfSome, out_told, AreFrom, IsEmptySet, IsDisplay, of-Chain, of-Constant, of-Listed, of-Unary, part_of, resolved_of, Quantifier, Range, Resolved, size-Resolved, Describes, AreNeutral, AreNeutralIf, IsPart, IsPiece, IsWanted, neutral, NeedsFront, within, found_outcome, several_by, several_of, Builds, HasOutcome, IsBuilt, IsBuiltOver, IsConstraint, IsLink, IsTruth, row_value, seen, declared_of, spread, row_of, scope_of, is_settled, truth_by, IsConnected, IsOver, IsQuantified, IsTold, Arrows, Nothing, plain-describes}
+use Rattle.zf_meaning.proofs.Prelude.{◌+◌, ◌<◌, ◌∙◌, ◌∷◌, ◌≡◌, ◌≤◌, [], ap, arith, drop, false, inl, length, List, map, Option, refl, rules, subst, sym, true, ℕ, IfOk-weaker, All, IfOk, IfSome, out_told, AreFrom, IsEmptySet, IsDisplay, of-Chain, of-Constant, of-Listed, of-Unary, part_of, resolved_of, Quantifier, Range, Resolved, size-Resolved, Describes, AreNeutral, AreNeutralIf, IsPart, IsPiece, IsWanted, neutral, NeedsFront, within, found_outcome, several_by, several_of, Builds, HasOutcome, IsBuilt, IsBuiltOver, IsConstraint, IsLink, IsTruth, row_value, seen, declared_of, spread, row_of, scope_of, is_settled, truth_by, IsConnected, IsOver, IsQuantified, IsTold, Arrows, Nothing, plain-describes, Span}
 use Rattle.zf_term.specs.ResolvedTrees as tree
 use Rattle.zf_term.specs.ResolvedViews as tree_views
 use Rattle.zf_value.specs.declared.value.Outcome.TheVariants as outcome
@@ -9,7 +9,7 @@ use Rattle.zf_meaning.proofs.Builds.{nothing, built-same, built-more, built-too-
 use Rattle.zf_meaning.proofs.Connecting.{connected-told, decided-told, told-by}
 use Rattle.zf_meaning.proofs.Early.{neutral-told, neutral-built, neutral-by, neutral-other-if, itself-passed, passed-after}
 use Rattle.zf_meaning.proofs.Told.{IsTallied, none-tallied, one-more, settled-truth, all-told}
-use Rattle.zf_meaning.proofs.Turns.{fewer, adds-here, told-here, one-told, one-filter, one-term, span-bound, row-bound, next-turn, told-ended, built-ended}
+use Rattle.zf_meaning.proofs.Turns.{fewer, adds-here, told-here, one-told, one-filter, one-term, frame-bound, row-bound, next-turn, told-ended, built-ended}
 use Rattle.zf_meaning.proofs.Walking.{walk-begun, walk-row, walk-done, walk-new, no-row, none-from, bound-row, outside-bound, FilterIn, TermIn, ToldIn, NeutralIn}
 use Rattle.zf_meaning.proofs.Gathering.{gather-begun, gather-more, gather-all, ranges-begun, ranges-more, ranges-all, drop-past}
 use Rattle.zf_meaning.proofs.Operands.{power-told, both-seen, both-told, arrows-told, interval-told, product-told}
@@ -124,17 +124,17 @@ memberships::described-returns-in_ok-outcome-in_default g t c =
 
 pub memberships::many-returns-in-Product : goal.memberships::many-returns-in-Product
 memberships::many-returns-in-Product g t c =
-    λ line. product-told (scope_of c.args.env.now (g.R.Row.values c.args.row.now) c.args.locals.now) line c.args.form
+    λ span. product-told (scope_of c.args.env.now (g.R.Row.values c.args.row.now) c.args.locals.now) span c.args.form
     (tree_views.terms (map resolved_of c.args.terms.now)) (several_of c.in_ok-gathered.gathered) c.product_of.result c.in-Product.is
     c.in_ok-gathered.ensures c.product_of.ensures
 
 pub memberships::many-returns-in_ok-on_several-in_default : goal.memberships::many-returns-in_ok-on_several-in_default
 memberships::many-returns-in_ok-on_several-in_default g t c =
     let o = c.in_ok-on_several-in_default in
-    λ line. plain-describes (HasOutcome (scope_of c.args.env.now (g.R.Row.values c.args.row.now) c.args.locals.now)
-    (tree.listed line c.args.form (tree_views.terms (map resolved_of c.args.terms.now)))) c.own.result
+    λ span. plain-describes (HasOutcome (scope_of c.args.env.now (g.R.Row.values c.args.row.now) c.args.locals.now)
+    (tree.listed span c.args.form (tree_views.terms (map resolved_of c.args.terms.now)))) c.own.result
     (subst (HasOutcome (scope_of c.args.env.now (g.R.Row.values c.args.row.now) c.args.locals.now)
-    (tree.listed line c.args.form (tree_views.terms (map resolved_of c.args.terms.now)))) (sym c.own.ensures) (
+    (tree.listed span c.args.form (tree_views.terms (map resolved_of c.args.terms.now)))) (sym c.own.ensures) (
       several_of c.in_ok-gathered.gathered,
       c.in_ok-gathered.ensures,
       o.ensures,
@@ -171,13 +171,13 @@ memberships::of_both-returns g t c =
 
 pub memberships::of_one-returns-then-is_power : goal.memberships::of_one-returns-then-is_power
 memberships::of_one-returns-then-is_power g t c =
-    λ line. power-told (scope_of c.args.env.now (g.R.Row.values c.args.row.now) c.args.locals.now) line c.args.op (resolved_of c.args.of.now)
+    λ span. power-told (scope_of c.args.env.now (g.R.Row.values c.args.row.now) c.args.locals.now) span c.args.op (resolved_of c.args.of.now)
     (found_outcome c.in_ok-operand.operand) c.power_of.result (c.is_power.ensures c.if-is_power.true) c.in_ok-operand.ensures c.power_of.ensures
 
 pub memberships::of_one-returns : goal.memberships::of_one-returns
 memberships::of_one-returns g t c =
-    λ line. plain-describes (HasOutcome (scope_of c.args.env.now (g.R.Row.values c.args.row.now) c.args.locals.now) (tree.unary line c.args.op (resolved_of c.args.of.now))) c.own.result
-    (subst (HasOutcome (scope_of c.args.env.now (g.R.Row.values c.args.row.now) c.args.locals.now) (tree.unary line c.args.op (resolved_of c.args.of.now)))
+    λ span. plain-describes (HasOutcome (scope_of c.args.env.now (g.R.Row.values c.args.row.now) c.args.locals.now) (tree.unary span c.args.op (resolved_of c.args.of.now))) c.own.result
+    (subst (HasOutcome (scope_of c.args.env.now (g.R.Row.values c.args.row.now) c.args.locals.now) (tree.unary span c.args.op (resolved_of c.args.of.now)))
     (sym c.own.ensures) (found_outcome c.in_ok-operand.operand, c.in_ok-operand.ensures, c.in_ok-on_one.ensures))
 
 pub binders::comprehension-returns : goal.binders::comprehension-returns
@@ -364,11 +364,11 @@ binders::over_rows-walk-preserved g t c =
     let row = row_of c.walk.rows in
     let inv = c.walk.invariant in
     let wide : length (seen c.args.locals.now) + length (spread c.args.sets.now)
-    ≡ c.span_of-span.result.whole = span-bound c.in-Some.rows outside ss
-    (seen c.in_ok-lists_of.field-0.items) c.span_of-span.result.whole c.in_ok-lists_of.ensures.is
-    (rw c.in-Some.is at c.in_ok-rows.ensures) c.span_of-span.ensures.whole in
-    let b = row-bound (NeutralIn c.args.term.now k) env values c.args.locals.now c.bound.result.now c.walk.rows ss inv.0 c.span_of-span.result c.bound.ensures
-    c.span_of-span.ensures.outside wide inv.1 in
+    ≡ c.frame_of-frame.result.whole = frame-bound c.in-Some.rows outside ss
+    (seen c.in_ok-lists_of.field-0.items) c.frame_of-frame.result.whole c.in_ok-lists_of.ensures.is
+    (rw c.in-Some.is at c.in_ok-rows.ensures) c.frame_of-frame.ensures.whole in
+    let b = row-bound (NeutralIn c.args.term.now k) env values c.args.locals.now c.bound.result.now c.walk.rows ss inv.0 c.frame_of-frame.result c.bound.ensures
+    c.frame_of-frame.ensures.outside wide inv.1 in
     let next = rw c.in-Some-2.is at (c.in_ok-pass.ensures outside inv.1.at) in (
       row ∷ inv.0,
       next-turn c.args.term.now k c.walk.rows c.pass.new.self outside ss inv.0 c.in_ok-met.met.passing inv.1 (c.in_ok-met.ensures.passed k row b) next,
@@ -406,11 +406,11 @@ binders::over_rows-returns-then-is_settled g t c =
     let row = row_of c.walk.rows in
     let inv = c.walk.invariant in
     let wide : length (seen c.args.locals.now) + length (spread c.args.sets.now)
-    ≡ c.span_of-span.result.whole = span-bound c.in-Some.rows outside ss
-    (seen c.in_ok-lists_of.field-0.items) c.span_of-span.result.whole c.in_ok-lists_of.ensures.is
-    (rw c.in-Some.is at c.in_ok-rows.ensures) c.span_of-span.ensures.whole in
-    let b = row-bound (NeutralIn c.args.term.now k) env values c.args.locals.now c.bound.result.now c.walk.rows ss inv.0 c.span_of-span.result c.bound.ensures
-    c.span_of-span.ensures.outside wide inv.1 in
+    ≡ c.frame_of-frame.result.whole = frame-bound c.in-Some.rows outside ss
+    (seen c.in_ok-lists_of.field-0.items) c.frame_of-frame.result.whole c.in_ok-lists_of.ensures.is
+    (rw c.in-Some.is at c.in_ok-rows.ensures) c.frame_of-frame.ensures.whole in
+    let b = row-bound (NeutralIn c.args.term.now k) env values c.args.locals.now c.bound.result.now c.walk.rows ss inv.0 c.frame_of-frame.result c.bound.ensures
+    c.frame_of-frame.ensures.outside wide inv.1 in
     let i = c.in-Quantified in
     let sq = same-quantifier i.quantifier q i.field-1 l i.field-2 rs i.constraint p i.body e (sym i.is ∙ is) in
     let tallied : IsTallied (ToldIn k q (part_of p) (resolved_of e)) (row ∷ inv.0) c.with-tally.result = subst
@@ -425,13 +425,13 @@ binders::over_rows-returns-then-is_settled g t c =
 pub binders::over_rows-met_at-requires : goal.binders::over_rows-met_at-requires
 binders::over_rows-met_at-requires g t c =
     let i = c.in-Quantified in
-    let front : (q : Quantifier) (l : ℕ) (rs : List Range) (p : Option Resolved) (e : Resolved) → c.args.term.now ≡ v.Quantified q l rs p e
-    → NeedsFront c.span_of-span.result c.front_of-front.result (part_of p) (resolved_of e) =
+    let front : (q : Quantifier) (l : Span) (rs : List Range) (p : Option Resolved) (e : Resolved) → c.args.term.now ≡ v.Quantified q l rs p e
+    → NeedsFront c.frame_of-frame.result c.front_of-front.result (part_of p) (resolved_of e) =
     λ q l rs p e is.
-    subst (λ x. NeedsFront c.span_of-span.result c.front_of-front.result (part_of x) (resolved_of e)) (same-constraint i.quantifier q i.field-1 l i.field-2 rs i.constraint p i.body e (sym i.is ∙ is))
-    (subst (λ x. NeedsFront c.span_of-span.result c.front_of-front.result (part_of i.constraint) (resolved_of x))
+    subst (λ x. NeedsFront c.frame_of-frame.result c.front_of-front.result (part_of x) (resolved_of e)) (same-constraint i.quantifier q i.field-1 l i.field-2 rs i.constraint p i.body e (sym i.is ∙ is))
+    (subst (λ x. NeedsFront c.frame_of-frame.result c.front_of-front.result (part_of i.constraint) (resolved_of x))
     (c.get.ensures ∙ same-body i.quantifier q i.field-1 l i.field-2 rs i.constraint p i.body e (sym i.is ∙ is)) c.front_of-front.ensures) in
-    let pieces : All (IsPiece c.args.term.now c.span_of-span.result) c.deref.result.now = subst (All (IsPiece c.args.term.now c.span_of-span.result))
+    let pieces : All (IsPiece c.args.term.now c.frame_of-frame.result) c.deref.result.now = subst (All (IsPiece c.args.term.now c.frame_of-frame.result))
     (sym c.deref.ensures.value) c.in_ok-pieces.ensures in
     search (rules, pieces, front)
 
@@ -449,11 +449,11 @@ binders::over_rows-returns-in-None g t c =
     let row = row_of c.walk.rows in
     let inv = c.walk.invariant in
     let wide : length (seen c.args.locals.now) + length (spread c.args.sets.now)
-    ≡ c.span_of-span.result.whole = span-bound c.in-Some.rows outside ss
-    (seen c.in_ok-lists_of.field-0.items) c.span_of-span.result.whole c.in_ok-lists_of.ensures.is
-    (rw c.in-Some.is at c.in_ok-rows.ensures) c.span_of-span.ensures.whole in
-    let b = row-bound (NeutralIn c.args.term.now k) env values c.args.locals.now c.bound.result.now c.walk.rows ss inv.0 c.span_of-span.result c.bound.ensures
-    c.span_of-span.ensures.outside wide inv.1 in
+    ≡ c.frame_of-frame.result.whole = frame-bound c.in-Some.rows outside ss
+    (seen c.in_ok-lists_of.field-0.items) c.frame_of-frame.result.whole c.in_ok-lists_of.ensures.is
+    (rw c.in-Some.is at c.in_ok-rows.ensures) c.frame_of-frame.ensures.whole in
+    let b = row-bound (NeutralIn c.args.term.now k) env values c.args.locals.now c.bound.result.now c.walk.rows ss inv.0 c.frame_of-frame.result c.bound.ensures
+    c.frame_of-frame.ensures.outside wide inv.1 in
     let i = c.in-Quantified in
     let sq = same-quantifier i.quantifier q i.field-1 l i.field-2 rs i.constraint p i.body e (sym i.is ∙ is) in
     let tallied : IsTallied (ToldIn k q (part_of p) (resolved_of e)) (row ∷ inv.0) c.with-tally.result = subst
@@ -483,13 +483,13 @@ binders::built_over-walk-preserved g t c =
     let row = row_of c.walk.rows in
     let inv = c.walk.invariant in
     let wide : length (seen c.args.locals.now) + length (spread c.args.sets.now)
-    ≡ c.span_of-span.result.whole = span-bound c.in-Some.rows outside ss
-    (seen c.in_ok-lists_of.field-0.items) c.span_of-span.result.whole c.in_ok-lists_of.ensures.is
-    (rw c.in-Some.is at c.in_ok-rows.ensures) c.span_of-span.ensures.whole in
-    let b = row-bound (NeutralIn c.args.term.now k) env values c.args.locals.now c.bound.result.now c.walk.rows ss inv.0 c.span_of-span.result c.bound.ensures
-    c.span_of-span.ensures.outside wide inv.1 in
-    let rest : drop c.span_of-span.result.outside (seen c.bound.result.now)
-    ≡ row = subst (λ n. drop n (seen c.bound.result.now) ≡ row) (sym c.span_of-span.ensures.outside)
+    ≡ c.frame_of-frame.result.whole = frame-bound c.in-Some.rows outside ss
+    (seen c.in_ok-lists_of.field-0.items) c.frame_of-frame.result.whole c.in_ok-lists_of.ensures.is
+    (rw c.in-Some.is at c.in_ok-rows.ensures) c.frame_of-frame.ensures.whole in
+    let b = row-bound (NeutralIn c.args.term.now k) env values c.args.locals.now c.bound.result.now c.walk.rows ss inv.0 c.frame_of-frame.result c.bound.ensures
+    c.frame_of-frame.ensures.outside wide inv.1 in
+    let rest : drop c.frame_of-frame.result.outside (seen c.bound.result.now)
+    ≡ row = subst (λ n. drop n (seen c.bound.result.now) ≡ row) (sym c.frame_of-frame.ensures.outside)
     (bound-row c.args.locals.now c.bound.result.now row (ap seen c.bound.ensures ∙ inv.1.at.1)) in
     let passed = rw c.in-Some-2.is at (c.in_ok-passing.ensures.passed k row b) in
     let next = rw c.in-Some-3.is at (c.in_ok-pass.ensures outside inv.1.at) in (
@@ -507,11 +507,11 @@ binders::built_over-walk-smaller g t c =
 
 pub binders::built_over-built_at-requires : goal.binders::built_over-built_at-requires
 binders::built_over-built_at-requires g t c =
-    let pieces : All (IsPiece c.args.term.now c.span_of-span.result) c.deref.result.now = subst (All (IsPiece c.args.term.now c.span_of-span.result))
+    let pieces : All (IsPiece c.args.term.now c.frame_of-frame.result) c.deref.result.now = subst (All (IsPiece c.args.term.now c.frame_of-frame.result))
     (sym c.deref.ensures.value) c.in_ok-pieces.ensures in
-    let outside : c.span_of-span.result.outside ≤ length c.bound.result.now = omega (
+    let outside : c.frame_of-frame.result.outside ≤ length c.bound.result.now = omega (
       arith,
-      c.span_of-span.ensures.outside,
+      c.frame_of-frame.ensures.outside,
       outside-bound c.args.locals.now c.bound.result.now (row_of c.walk.rows) (ap seen c.bound.ensures ∙ c.walk.invariant.1.at.1),
     ) in
     search (rules, pieces, outside)
@@ -551,12 +551,12 @@ pub binders::met_at-returns-clause-passed : goal.binders::met_at-returns-clause-
 binders::met_at-returns-clause-passed g t c =
     λ k vs b.
     let i = c.in-Quantified in
-    passed-after c.args.term.now i.quantifier i.field-1 i.field-2 i.field-3 i.field-4 c.args.span c.args.front _ k vs c.in_ok-truth.truth c.passing_after.result i.is b
+    passed-after c.args.term.now i.quantifier i.field-1 i.field-2 i.field-3 i.field-4 c.args.frame c.args.front _ k vs c.in_ok-truth.truth c.passing_after.result i.is b
     (c.requires.front i.quantifier i.field-1 i.field-2 i.field-3 i.field-4 i.is) (c.in_ok-truth.ensures i.quantifier i.field-1 i.field-2 i.field-3 i.field-4 i.is) c.passing_after.ensures
 
 pub binders::refuted-passing_at-requires : goal.binders::refuted-passing_at-requires
 binders::refuted-passing_at-requires g t c =
-    let piece : IsPiece c.args.term.now c.args.span c.piece-item.result = subst (IsPiece c.args.term.now c.args.span) (sym c.piece-item.is)
+    let piece : IsPiece c.args.term.now c.args.frame c.piece-item.result = subst (IsPiece c.args.term.now c.args.frame) (sym c.piece-item.is)
     (c.requires c.loop-piece.piece-index c.piece-item.result c.loop-piece-test.true) in
     search (rules, piece)
 
@@ -568,7 +568,7 @@ binders::passing_at-truth-requires g t c =
 pub binders::passing_at-outcome-requires : goal.binders::passing_at-outcome-requires
 binders::passing_at-outcome-requires g t c =
     let whole : IsPart c.args.term.now c.args.piece.now.term.now = c.requires.part in
-    let wanted : IsWanted c.args.piece.now.term.now c.args.span c.in-Some.wanted = subst (λ o. IfSome o (IsWanted c.args.piece.now.term.now c.args.span)) c.in-Some.is c.requires.wanted in
+    let wanted : IsWanted c.args.piece.now.term.now c.args.frame c.in-Some.wanted = subst (λ o. IfSome o (IsWanted c.args.piece.now.term.now c.args.frame)) c.in-Some.is c.requires.wanted in
     let less : size-Resolved c.in-Some.wanted.term.now < size-Resolved c.args.term.now = omega (arith, wanted.smaller, whole.smaller) in
     search (rules, less)
 
@@ -576,8 +576,8 @@ pub binders::passing_at-returns-in-Some : goal.binders::passing_at-returns-in-So
 binders::passing_at-returns-in-Some g t c =
     λ k vs b.
     let here = scope_of c.args.env.now (g.R.Row.values c.args.row.now) c.args.bound.now in
-    let wanted : IsWanted c.args.piece.now.term.now c.args.span c.in-Some.wanted = subst (λ o. IfSome o (IsWanted c.args.piece.now.term.now c.args.span)) c.in-Some.is c.requires.wanted in
-    neutral-other-if c.args.term.now c.args.span c.args.piece.now.term.now c.in-Some.wanted here k vs
+    let wanted : IsWanted c.args.piece.now.term.now c.args.frame c.in-Some.wanted = subst (λ o. IfSome o (IsWanted c.args.piece.now.term.now c.args.frame)) c.in-Some.is c.requires.wanted in
+    neutral-other-if c.args.term.now c.args.frame c.args.piece.now.term.now c.in-Some.wanted here k vs
     (found_outcome c.in_ok-found.found) c.passing_by.result c.requires.part wanted b c.in_ok-found.ensures c.passing_by.ensures.other
     (c.passing_by.ensures.passes wanted.earlier.outside)
 
@@ -585,7 +585,7 @@ pub binders::passing_at-returns-then-is_false : goal.binders::passing_at-returns
 binders::passing_at-returns-then-is_false g t c =
     λ k vs b.
     let here = scope_of c.args.env.now (g.R.Row.values c.args.row.now) c.args.bound.now in
-    neutral-by c.args.term.now c.args.span c.args.piece.now here k vs c.requires b
+    neutral-by c.args.term.now c.args.frame c.args.piece.now here k vs c.requires b
     (subst (IsTruth here (resolved_of c.args.piece.now.term.now)) (c.is_false.ensures.0 c.if-is_false.true) c.in_ok-told.ensures)
 
 pub binders::built_at-returns-in-Some-clause-is : goal.binders::built_at-returns-in-Some-clause-is
@@ -605,7 +605,7 @@ binders::built_at-returns-then-branch-clause-is g t c = λ k vs b d l rs p e is.
     (part_of e) c.args.built.now.items c.add_row.new.built.items c.in_ok-add_row.field-0 true b.is d c.if-branch.true (c.in_ok-add_row.ensures l rs p e is)
 
 pub binders::built_at-returns-then-branch-clause-passed : goal.binders::built_at-returns-then-branch-clause-passed
-binders::built_at-returns-then-branch-clause-passed g t c = λ k vs b. itself-passed (resolved_of c.args.term.now) c.args.span _ k vs b
+binders::built_at-returns-then-branch-clause-passed g t c = λ k vs b. itself-passed (resolved_of c.args.term.now) c.args.frame _ k vs b
 
 pub binders::built_at-returns-else-branch-clause-is : goal.binders::built_at-returns-else-branch-clause-is
 binders::built_at-returns-else-branch-clause-is g t c = λ k vs b d l rs p e is. adds-here _ k vs _ (part_of p)
@@ -622,13 +622,13 @@ binders::built_over-returns-in_default-2 g t c =
     let row = row_of c.walk.rows in
     let inv = c.walk.invariant in
     let wide : length (seen c.args.locals.now) + length (spread c.args.sets.now)
-    ≡ c.span_of-span.result.whole = span-bound c.in-Some.rows outside ss
-    (seen c.in_ok-lists_of.field-0.items) c.span_of-span.result.whole c.in_ok-lists_of.ensures.is
-    (rw c.in-Some.is at c.in_ok-rows.ensures) c.span_of-span.ensures.whole in
-    let b = row-bound (NeutralIn c.args.term.now k) env values c.args.locals.now c.bound.result.now c.walk.rows ss inv.0 c.span_of-span.result c.bound.ensures
-    c.span_of-span.ensures.outside wide inv.1 in
-    let rest : drop c.span_of-span.result.outside (seen c.bound.result.now)
-    ≡ row = subst (λ n. drop n (seen c.bound.result.now) ≡ row) (sym c.span_of-span.ensures.outside)
+    ≡ c.frame_of-frame.result.whole = frame-bound c.in-Some.rows outside ss
+    (seen c.in_ok-lists_of.field-0.items) c.frame_of-frame.result.whole c.in_ok-lists_of.ensures.is
+    (rw c.in-Some.is at c.in_ok-rows.ensures) c.frame_of-frame.ensures.whole in
+    let b = row-bound (NeutralIn c.args.term.now k) env values c.args.locals.now c.bound.result.now c.walk.rows ss inv.0 c.frame_of-frame.result c.bound.ensures
+    c.frame_of-frame.ensures.outside wide inv.1 in
+    let rest : drop c.frame_of-frame.result.outside (seen c.bound.result.now)
+    ≡ row = subst (λ n. drop n (seen c.bound.result.now) ≡ row) (sym c.frame_of-frame.ensures.outside)
     (bound-row c.args.locals.now c.bound.result.now row (ap seen c.bound.ensures ∙ inv.1.at.1)) in
     built-out (λ vs. AreFrom vs ss) (FilterIn k (part_of p)) (TermIn k (part_of e)) c.walk.built.items c.built_at.new.built.items row
     (walk-row (NeutralIn c.args.term.now k) c.walk.rows outside ss inv.0 inv.1)
@@ -645,13 +645,13 @@ binders::built_over-returns-then-branch g t c =
     let row = row_of c.walk.rows in
     let inv = c.walk.invariant in
     let wide : length (seen c.args.locals.now) + length (spread c.args.sets.now)
-    ≡ c.span_of-span.result.whole = span-bound c.in-Some.rows outside ss
-    (seen c.in_ok-lists_of.field-0.items) c.span_of-span.result.whole c.in_ok-lists_of.ensures.is
-    (rw c.in-Some.is at c.in_ok-rows.ensures) c.span_of-span.ensures.whole in
-    let b = row-bound (NeutralIn c.args.term.now k) env values c.args.locals.now c.bound.result.now c.walk.rows ss inv.0 c.span_of-span.result c.bound.ensures
-    c.span_of-span.ensures.outside wide inv.1 in
-    let rest : drop c.span_of-span.result.outside (seen c.bound.result.now)
-    ≡ row = subst (λ n. drop n (seen c.bound.result.now) ≡ row) (sym c.span_of-span.ensures.outside)
+    ≡ c.frame_of-frame.result.whole = frame-bound c.in-Some.rows outside ss
+    (seen c.in_ok-lists_of.field-0.items) c.frame_of-frame.result.whole c.in_ok-lists_of.ensures.is
+    (rw c.in-Some.is at c.in_ok-rows.ensures) c.frame_of-frame.ensures.whole in
+    let b = row-bound (NeutralIn c.args.term.now k) env values c.args.locals.now c.bound.result.now c.walk.rows ss inv.0 c.frame_of-frame.result c.bound.ensures
+    c.frame_of-frame.ensures.outside wide inv.1 in
+    let rest : drop c.frame_of-frame.result.outside (seen c.bound.result.now)
+    ≡ row = subst (λ n. drop n (seen c.bound.result.now) ≡ row) (sym c.frame_of-frame.ensures.outside)
     (bound-row c.args.locals.now c.bound.result.now row (ap seen c.bound.ensures ∙ inv.1.at.1)) in
     built-too-many (λ vs. AreFrom vs ss) (FilterIn k (part_of p)) (TermIn k (part_of e)) (row ∷ inv.0) c.is_too_many.new.values.items
     (walk-done (NeutralIn c.args.term.now k) c.walk.rows outside ss inv.0 inv.1)
@@ -671,13 +671,13 @@ binders::built_over-returns-in-None g t c =
     let row = row_of c.walk.rows in
     let inv = c.walk.invariant in
     let wide : length (seen c.args.locals.now) + length (spread c.args.sets.now)
-    ≡ c.span_of-span.result.whole = span-bound c.in-Some.rows outside ss
-    (seen c.in_ok-lists_of.field-0.items) c.span_of-span.result.whole c.in_ok-lists_of.ensures.is
-    (rw c.in-Some.is at c.in_ok-rows.ensures) c.span_of-span.ensures.whole in
-    let b = row-bound (NeutralIn c.args.term.now k) env values c.args.locals.now c.bound.result.now c.walk.rows ss inv.0 c.span_of-span.result c.bound.ensures
-    c.span_of-span.ensures.outside wide inv.1 in
-    let rest : drop c.span_of-span.result.outside (seen c.bound.result.now)
-    ≡ row = subst (λ n. drop n (seen c.bound.result.now) ≡ row) (sym c.span_of-span.ensures.outside)
+    ≡ c.frame_of-frame.result.whole = frame-bound c.in-Some.rows outside ss
+    (seen c.in_ok-lists_of.field-0.items) c.frame_of-frame.result.whole c.in_ok-lists_of.ensures.is
+    (rw c.in-Some.is at c.in_ok-rows.ensures) c.frame_of-frame.ensures.whole in
+    let b = row-bound (NeutralIn c.args.term.now k) env values c.args.locals.now c.bound.result.now c.walk.rows ss inv.0 c.frame_of-frame.result c.bound.ensures
+    c.frame_of-frame.ensures.outside wide inv.1 in
+    let rest : drop c.frame_of-frame.result.outside (seen c.bound.result.now)
+    ≡ row = subst (λ n. drop n (seen c.bound.result.now) ≡ row) (sym c.frame_of-frame.ensures.outside)
     (bound-row c.args.locals.now c.bound.result.now row (ap seen c.bound.ensures ∙ inv.1.at.1)) in
     let passed = rw c.in-Some-2.is at (c.in_ok-passing.ensures.passed k row b) in
     let none = rw c.in-None.is at (c.in_ok-pass.ensures outside inv.1.at) in

@@ -1,4 +1,4 @@
-use Rattle.zf_meaning.proofs.Prelude.{◌≡◌, drop, length, List, map, Option, ℕ, Truth, Value, Quantifier, links, part_of, resolved_link_of, resolved_of, Range, Resolved, conjunction, found_outcome, AreLinked, seen, spread, ahead, scope_of}
+use Rattle.zf_meaning.proofs.Prelude.{◌≡◌, drop, length, List, map, Option, ℕ, Truth, Value, Quantifier, links, part_of, resolved_link_of, resolved_of, Range, Resolved, conjunction, found_outcome, AreLinked, seen, spread, ahead, scope_of, Span}
 use Rattle.zf_term.specs.declared.resolved.Resolved.TheVariants as form
 use Rattle.zf_meaning.proofs.Builds.{HasBuilt}
 use Rattle.zf_meaning.proofs.Gathering.{GathersTo, RangesTo}
@@ -9,7 +9,7 @@ use Rattle.zf_meaning.proofs.evaluate.+meaning.Given as goal
 abbrev pub invariant-binders::built_over-walk : goal.invariant-binders::built_over-walk
 invariant-binders::built_over-walk g l =
     (done : List (List Value)) × WalksOver (NeutralIn l.term (scope_of l.env (g.R.Row.values l.row) l.locals)) l.rows (seen l.locals) (spread l.sets) done
-    × ((n : ℕ) (rs : List Range) (p e : Option Resolved) → l.term ≡ form.Comprehension n rs p e
+    × ((n : Span) (rs : List Range) (p e : Option Resolved) → l.term ≡ form.Comprehension n rs p e
     → HasBuilt (FilterIn (scope_of l.env (g.R.Row.values l.row) l.locals) (part_of p))
     (TermIn (scope_of l.env (g.R.Row.values l.row) l.locals) (part_of e)) done l.built.items)
 
@@ -19,7 +19,7 @@ decreases-binders::built_over-walk g l = length (ahead l.rows)
 abbrev pub invariant-binders::over_rows-walk : goal.invariant-binders::over_rows-walk
 invariant-binders::over_rows-walk g l =
     (done : List (List Value)) × WalksOver (NeutralIn l.term (scope_of l.env (g.R.Row.values l.row) l.locals)) l.rows (seen l.locals) (spread l.sets) done
-    × ((q : Quantifier) (n : ℕ) (rs : List Range) (p : Option Resolved) (e : Resolved) → l.term ≡ form.Quantified q n rs p e
+    × ((q : Quantifier) (n : Span) (rs : List Range) (p : Option Resolved) (e : Resolved) → l.term ≡ form.Quantified q n rs p e
     → IsTallied (ToldIn (scope_of l.env (g.R.Row.values l.row) l.locals) q (part_of p) (resolved_of e)) done l.tally)
 
 abbrev pub decreases-binders::over_rows-walk : goal.decreases-binders::over_rows-walk

@@ -28,4 +28,4 @@ returns-in_ok-cut_others-in-Err-clause-wrong c =
     refused_there source c.args.border.now c.cut_next.new.border c.args.boxes.now
     (map (token_at source) symbols) c.requires c.in_ok-cut_next.ensures.cut c.in_ok-cut_next.ensures.one
     (some_tokens source symbols (λ none. some_there c.as_slice.result.now (sym c.is_empty.ensures ∙ c.if-is_empty.false) (c.as_slice.ensures.value ∙ none)))
-    c.in-Err.unread.fault.kind c.in-Err.unread.fault.line c.in-Err.ensures c.in_ok-cut_others-in-Err.ensures.cut
+    c.in-Err.unread.fault.kind c.in-Err.unread.fault.span c.in-Err.ensures c.in_ok-cut_others-in-Err.ensures.cut

@@ -1,4 +1,4 @@
-use Rattle.zf_parse.proofs.Prelude.{◌+◌, ◌<◌, ◌∙◌, ◌∷◌, ◌≡◌, ap, arith, drop, length, List, map, refl, rules, sym, true, ℕ, ◌||◌, symbol_at, token_at, reduced_after, starts_closed}
+use Rattle.zf_parse.proofs.Prelude.{◌+◌, ◌<◌, ◌∙◌, ◌∷◌, ◌≡◌, ap, arith, drop, length, List, map, refl, rules, sym, true, ℕ, ◌||◌, token_at, reduced_after, starts_closed}
 use Rattle.zf_parse.proofs.Reducing.{Reduced, left_out, stored, at_separator, at_needless, at_other, head, moved, rest_taken}
 use Rattle.zf_parse.proofs.reading.reduce.Goals as goal
 use Rattle.zf_parse.proofs.reading.reduce.Goals.{then-is_separator+then-not-drops+then-not-starts_closed, then-is_separator+else-not-drops, else-not-drops-via-then-not-drops+else-not-starts_closed, else-not-drops-via-else-not-drops, else-is_separator}
@@ -27,7 +27,7 @@ loop-i-preserved c =
           (stored initial now i kept drops true v r h
           (λ text. at text ∙ at_separator drops w.starts_closed.result text p rest (sym (c.is_separator.ensures _ _) ∙ w.if-is_separator.true)
           (closed text) w.if-not-drops.true w.if-not-starts_closed.true
-          ∙ ap (λ q. symbol_at text q ∷ reduced_after true (map (token_at text) rest)) (sym w.as_separator.ensures)))
+          ∙ ap (λ q. token_at text q ∷ reduced_after true (map (token_at text) rest)) (sym w.as_separator.ensures)))
           _ _ _ (ap (λ v. v.items) w.symbols-is) w.kept-is w.drops-is
       | then-is_separator+else-not-drops w ↦
           let out : Reduced initial now (i + 1) kept drops = elim w.else-not-drops.branch [

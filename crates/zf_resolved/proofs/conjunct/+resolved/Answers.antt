@@ -21,10 +21,10 @@ joined-loop-batch-preserved t c =
 
 pub joined-returns-in-None : goal.joined-returns-in-None
 joined-returns-in-None t c =
-    none_joined c.args.line c.as_slice-batch-items.result.now c.loop-batch.batch-index c.loop-batch.whole
+    none_joined c.args.span c.as_slice-batch-items.result.now c.loop-batch.batch-index c.loop-batch.whole
     (all_of (map batch_of c.args.batches.now)) c.in-None.is (omega (arith, c.loop-batch-test.false)) c.loop-batch.invariant
 
 pub joined-returns-in-Some : goal.joined-returns-in-Some
 joined-returns-in-Some t c =
-    some_joined c.args.line c.as_slice-batch-items.result.now c.loop-batch.batch-index c.loop-batch.whole c.in-Some.term
+    some_joined c.args.span c.as_slice-batch-items.result.now c.loop-batch.batch-index c.loop-batch.whole c.in-Some.term
     (all_of (map batch_of c.args.batches.now)) c.in-Some.is (omega (arith, c.loop-batch-test.false)) c.loop-batch.invariant

@@ -1,5 +1,5 @@
 use Rattle.std.proofs.Common.{sym, ◌∙◌, rules}
-use Rattle.zf_scan.proofs.Quiet.{no_fixed_word}
+use Rattle.zf_scan.proofs.FirstLetters.{no_fixed_word}
 use Rattle.zf_scan.proofs.inside.fixed_word.Goals as goal
 
 pub returns-in_default-first : goal.returns-in_default-first

@@ -4,7 +4,7 @@ use Rattle.zf_scan.proofs.scan.next_box.Given as goal
 
 abbrev pub invariant-loop-start : goal.invariant-loop-start
 invariant-loop-start l = record {
-  before : (tokens : List Token) → IsCutUpTo l.source l.initial.border tokens → Before l.source l.start l.line l.place (tokens ++ map (token_at l.source) l.symbols.items);
+  before : (tokens : List Token) → IsCutUpTo l.source l.initial.border tokens → Before l.source l.start l.place (tokens ++ map (token_at l.source) l.symbols.items);
   part : IsPart l.place (map (token_at l.source) l.symbols.items);
   short : length l.source ≤ SOURCE_MAX;
   within : l.start ≤ length l.source;

@@ -7,5 +7,5 @@ returns-then-not-is_new-clause-fault c =
     let n = c.args.name.now in
     let taken : IsNew g n → ⊥ = λ e. true≢false (sym (c.is_new.ensures.1
     (subst (λ x. first_named (λ d. d.name) x g ≡ None) (sym (c.as_slice.ensures ∙ c.spelled-spelled.ensures)) e)) ∙ c.if-not-is_new.true) in
-    told c.refused.result (already_defined c.spelled-spelled.result) c.name.inside.line (IsTaken g n) c.refused.ensures
-    (ap already_defined c.spelled-spelled.ensures, ap (λ m. m.line) c.name.view_is, taken)
+    told c.refused.result (already_defined c.spelled-spelled.result) c.name.inside.span (IsTaken g n) c.refused.ensures
+    (ap already_defined c.spelled-spelled.ensures, ap (λ m. m.span) c.name.view_is, taken)

@@ -1,4 +1,4 @@
-use Rattle.zf_schema.proofs.Prelude.{at_step, at_end, if_fault, inl, inr, refl, rules, ℕ, plain, schema_of, resolved_of, type_of, Offence, AddsAll, CantAdd, OffendsNames}
+use Rattle.zf_schema.proofs.Prelude.{at_step, at_end, if_fault, inl, inr, refl, rules, plain, schema_of, resolved_of, type_of, Offence, AddsAll, CantAdd, OffendsNames, Span}
 use Rattle.zf_schema.proofs.text.add_all.Goals as goal
 
 pub loop-name-preserved : goal.loop-name-preserved
@@ -19,7 +19,7 @@ returns-in_err-add-clause-wrong c =
     let a = schema_of c.loop-name.growing in
     let t = type_of c.args.ztype.now in
     let d = plain (resolved_of c.args.set.now) in
-    let step : (k : Offence) (m : ℕ) → CantAdd a c.name-item.result t d k m → OffendsNames (schema_of c.args.growing.now) c.args.names.now t d k m =
+    let step : (k : Offence) (m : Span) → CantAdd a c.name-item.result t d k m → OffendsNames (schema_of c.args.growing.now) c.args.names.now t d k m =
     λ k m o. c.loop-name.invariant.offends k m (at_step (λ ns. OffendsNames a ns t d k m) c.args.names.now c.loop-name.name-index c.name-item.result c.name-item.is c.loop-name-test.true (inl o)) in
     let fact = if_fault _ _ _ step c.in_err-add.ensures.wrong in
     search rules

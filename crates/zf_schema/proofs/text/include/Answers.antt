@@ -10,7 +10,7 @@ returns-in-Err-clause-wrong c =
     let b = schema_of c.in_ok-other.other in
     let r = c.args.reference.now in
     let stops = Stops (OneClashes a.comps b.comps) (Agree a.comps b.comps) (conjoined a b) in
-    let offends = subst (λ l. (k : Offence) → stops k → CantDeclare g a (include r) k l) (ap (λ m. m.name.line) (sym c.reference.view_is)) (cant_include g a r b c.in_ok-other.ensures.ok) in
+    let offends = subst (λ l. (k : Offence) → stops k → CantDeclare g a (include r) k l) (ap (λ m. m.name.span) (sym c.reference.view_is)) (cant_include g a r b c.in_ok-other.ensures.ok) in
     refused_by c.in-Err.stop _ c.refusal.result stops (CantDeclare g a (include r)) offends c.refusal.ensures c.in-Err.ensures.err
 
 pub returns-in-Ok-clause-ok : goal.returns-in-Ok-clause-ok

@@ -7,5 +7,5 @@ returns-in-Err-clause-wrong c =
     let a = schema_of c.args.growing.now in
     let t = resolved_of c.args.conjunct.now in
     let u = conjunct_of c.lasting.result in
-    refused_by c.in-Err.stop c.line.result c.refusal.result (IsTooLarge (constrained a (u ∷ []))) (CantTake a t)
-    (cant_take a t u c.line.result c.lasting.ensures c.line.ensures) c.refusal.ensures c.in-Err.ensures.err
+    refused_by c.in-Err.stop c.span.result c.refusal.result (IsTooLarge (constrained a (u ∷ []))) (CantTake a t)
+    (cant_take a t u c.span.result c.lasting.ensures c.span.ensures) c.refusal.ensures c.in-Err.ensures.err

@@ -1,4 +1,4 @@
-use Rattle.zf_shape.proofs.Prelude.{◌+◌, ◌<◌, ◌∙◌, ap, arith, length, map, refl, sym, all_nodes, conjunct_of, nodes, resolved_of, terms}
+use Rattle.zf_shape.proofs.Prelude.{◌+◌, ◌<◌, ◌∙◌, ap, arith, length, map, refl, sym, all_nodes, conjunct_of, nodes, resolved_of, terms, anywhere}
 use Rattle.zf_shape.proofs.Conjuncts.{as_many_nodes, left_by_joined, left_by_more, left_by_two, nodes_member, nodes_sides, nodes_term, same_left}
 use Rattle.zf_shape.proofs.Joined.{all_in, batches_more, conjuncts_more, joined_nodes}
 use Rattle.zf_shape.proofs.Nodes.{none_left}
@@ -43,4 +43,5 @@ room_after_joined-returns-in_err-rest t c =
 pub room_after_joined-returns : goal.room_after_joined-returns
 room_after_joined-returns t c =
     let some : 0 < length (all_in c.args.batches.now) = omega (arith, c.in_ok-rest.ensures, c.if-rest-room.false) in
-    left_by_joined _ _ _ _ c.in_ok-rest.rest c.args.room (joined_nodes 0 (all_in c.args.batches.now) some) c.in_ok-rest.ensures c.room_after_batches.ensures
+    left_by_joined _ _ _ _ c.in_ok-rest.rest c.args.room (joined_nodes anywhere (all_in c.args.batches.now) some) c.in_ok-rest.ensures
+    c.room_after_batches.ensures

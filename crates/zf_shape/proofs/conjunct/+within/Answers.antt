@@ -1,4 +1,4 @@
-use Rattle.zf_shape.proofs.Prelude.{◌+◌, ◌-◌, ◌∙◌, ap, arith, conjunct_of, height, length, List, map, refl, resolved_of, subst, sym, true≢false, Batch, Conjunct, AreLow}
+use Rattle.zf_shape.proofs.Prelude.{◌+◌, ◌-◌, ◌∙◌, ap, arith, conjunct_of, height, length, List, map, refl, resolved_of, subst, sym, true≢false, Batch, Conjunct, AreLow, anywhere}
 use Rattle.zf_shape.proofs.Conjuncts.{first_told, height_member, height_sides, height_term, joined_told, lower_told, none_low_enough, same_height_told, second_told}
 use Rattle.zf_shape.proofs.Heights.{some_height}
 use Rattle.zf_shape.proofs.Joined.{all_in, as_high, batch_low_at, batch_low_more, count_more, low_at, low_more}
@@ -67,7 +67,7 @@ are_batches_within-loop-batch-preserved t c = record {
 }
 
 pub is_joined_within-returns-in_default : goal.is_joined_within-returns-in_default
-is_joined_within-returns-in_default t c = none_low_enough _ _ (omega (arith, c.in_default.ensures, as_high 0 (all_in c.args.batches.now)))
+is_joined_within-returns-in_default t c = none_low_enough _ _ (omega (arith, c.in_default.ensures, as_high anywhere (all_in c.args.batches.now)))
 
 pub is_joined_within-returns : goal.is_joined_within-returns
 is_joined_within-returns t c = joined_told _ c.args.highest (c.args.highest - c.in-Some.beside) (all_in c.args.batches.now) (omega (arith, c.in-Some.ensures))

@@ -49,6 +49,6 @@ returns-then-is_bound-clause-repeated c =
     let found : IsBound v.name old = subst (λ x. IsBound x old) c.as_slice.ensures (c.is_bound.ensures.0 c.if-is_bound.true) in
     let bound : IsBound (spelling n) old = subst (λ x. IsBound x old) named found in
     let o = local_twice c.spelled.result in
-    told c.refused.result o c.name.inside.line (λ k m. (ns : List Name) → AreRepeated (map variable_of c.args.variables.now) (c.args.names.now ++ ns) k m) c.refused.ensures
-    (λ ns. c.loop-name.invariant.repeated ns o c.name.inside.line (subst (λ xs. AreRepeated old (xs ++ ns) o c.name.inside.line) (sym ahead)
-    (inl (bound, ap local_twice c.spelled.ensures, ap (λ m. m.line) c.name.view_is))))
+    told c.refused.result o c.name.inside.span (λ k m. (ns : List Name) → AreRepeated (map variable_of c.args.variables.now) (c.args.names.now ++ ns) k m) c.refused.ensures
+    (λ ns. c.loop-name.invariant.repeated ns o c.name.inside.span (subst (λ xs. AreRepeated old (xs ++ ns) o c.name.inside.span) (sym ahead)
+    (inl (bound, ap local_twice c.spelled.ensures, ap (λ m. m.span) c.name.view_is))))

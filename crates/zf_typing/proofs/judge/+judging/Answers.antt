@@ -1,4 +1,4 @@
-use Rattle.zf_typing.proofs.Prelude.{◌++◌, ◌+◌, ◌∙◌, ◌∷◌, ◌≡◌, [], ap, append-nil, arith, drop, Err, inl, inr, length, List, map, None, Ok, refl, Some, subst, sym, ℕ, ⊎_elim, left_need, need_of, relation_rule, right_need, rule_of, part_of, tree_of, trees, Name, at_end, at_step, pushed, range_of, resolved_link_of, resolved_of, no_types, type_of, types, Disagreement, Offence, AreNew, AreRepeated, DeclarationsOffend, Judges, JudgesPart, LinksOffend, OneOffends, SetsOffend, IfFault, resolved, resolved_all, resolved_links, resolved_ranges, Meets, predicate, Sort, sort_of, Takes, variable_of, with_variables, scope_of, LinksAreTyped, AreMembers, Declare, declared, IsOf, member_need, variables}
+use Rattle.zf_typing.proofs.Prelude.{◌++◌, ◌+◌, ◌∙◌, ◌∷◌, ◌≡◌, [], ap, append-nil, arith, drop, Err, inl, inr, length, List, map, None, Ok, refl, Some, subst, sym, ⊎_elim, left_need, need_of, relation_rule, right_need, rule_of, part_of, tree_of, trees, Name, at_end, at_step, pushed, range_of, resolved_link_of, resolved_of, no_types, type_of, types, Disagreement, Offence, AreNew, AreRepeated, DeclarationsOffend, Judges, JudgesPart, LinksOffend, OneOffends, SetsOffend, IfFault, resolved, resolved_all, resolved_links, resolved_ranges, Meets, predicate, Sort, sort_of, Takes, variable_of, with_variables, scope_of, LinksAreTyped, AreMembers, Declare, declared, IsOf, member_need, variables, Span}
 use Rattle.std.proofs.lemmas.List.{length-map, append_assoc}
 use Rattle.zf_tree.specs.Trees as tree
 use Rattle.zf_tree.specs.TreeViews as tree_views
@@ -29,13 +29,13 @@ pub empty_set-returns-in_err-term-clause-judged : goal.empty_set-returns-in_err-
 empty_set-returns-in_err-term-clause-judged t c =
     let s = scope_of c.args.scope.now in
     let e = c.args.of.now in
-    from_part s need.Set e c.args.place.need (tree.empty_set c.args.place.line (tree_of e)) c.in_err-term.field-0.0 c.from_residual.result
+    from_part s need.Set e c.args.place.need (tree.empty_set c.args.place.span (tree_of e)) c.in_err-term.field-0.0 c.from_residual.result
     refl refl refl c.in_err-term.ensures.judged (λ k m h. inl h) c.from_residual.ensures
 
 pub empty_set-returns-clause-judged : goal.empty_set-returns-clause-judged
 empty_set-returns-clause-judged t c =
     let s = scope_of c.args.scope.now in
-    let l = c.args.place.line in
+    let l = c.args.place.span in
     let e = tree_of c.args.of.now in
     let judged = judged_of s need.Set e c.in_ok-term.field-0 c.in_ok-term.ensures.judged in
     c.placed.ensures s (tree.empty_set l e) (judged.met.0, subst (λ z. IsOf s e z) judged.met.1 judged.is_of, judged.met.1)
@@ -45,14 +45,14 @@ pub bracket-returns-in_err-term-clause-judged : goal.bracket-returns-in_err-term
 bracket-returns-in_err-term-clause-judged t c =
     let n = c.args.place.need in
     let e = c.args.inner.now in
-    from_part (scope_of c.args.scope.now) n e n (tree.bracket c.args.place.line (tree_of e)) c.in_err-term.field-0.0 c.from_residual.result
+    from_part (scope_of c.args.scope.now) n e n (tree.bracket c.args.place.span (tree_of e)) c.in_err-term.field-0.0 c.from_residual.result
     refl refl refl c.in_err-term.ensures.judged (λ k m h. inl h) c.from_residual.ensures
 
 pub bracket-returns-clause-judged : goal.bracket-returns-clause-judged
 bracket-returns-clause-judged t c =
     let s = scope_of c.args.scope.now in
     let n = c.args.place.need in
-    let l = c.args.place.line in
+    let l = c.args.place.span in
     let e = tree_of c.args.inner.now in
     let judged = judged_of s n e c.in_ok-term.field-0 c.in_ok-term.ensures.judged in
     judges_ok s n (tree.bracket l e) _ (record {
@@ -66,7 +66,7 @@ bracket-returns-clause-judged t c =
 pub operands::unary-returns-in_err-operand-clause-judged : goal.operands::unary-returns-in_err-operand-clause-judged
 operands::unary-returns-in_err-operand-clause-judged t c =
     let e = c.args.operand.now in
-    from_part (scope_of c.args.scope.now) (need_of c.args.op) e c.args.place.need (tree.unary c.args.place.line c.args.op (tree_of e))
+    from_part (scope_of c.args.scope.now) (need_of c.args.op) e c.args.place.need (tree.unary c.args.place.span c.args.op (tree_of e))
     c.in_err-operand.field-0.0 c.from_residual.result refl c.need.ensures refl c.in_err-operand.ensures.judged (λ k m o. inl o) c.from_residual.ensures
 
 pub operands::unary-returns-clause-judged : goal.operands::unary-returns-clause-judged
@@ -83,7 +83,7 @@ operands::unary-with_operand-requires t c =
 pub operands::binary-returns-in_err-of_left-clause-judged : goal.operands::binary-returns-in_err-of_left-clause-judged
 operands::binary-returns-in_err-of_left-clause-judged t c =
     let s = scope_of c.args.scope.now in
-    let l = c.in-Binary.line in
+    let l = c.in-Binary.span in
     let op = c.in-Binary.op in
     let left = c.get-left.result.now in
     subst (λ d. Judges s c.args.need d c.from_residual.result) (sym (of_binary _ l op _ _ _ _ c.in-Binary.is c.get-left.ensures c.get-right.ensures))
@@ -94,7 +94,7 @@ operands::binary-returns-in_err-of_left-clause-judged t c =
 pub operands::binary-returns-in_err-of_right-clause-judged : goal.operands::binary-returns-in_err-of_right-clause-judged
 operands::binary-returns-in_err-of_right-clause-judged t c =
     let s = scope_of c.args.scope.now in
-    let l = c.in-Binary.line in
+    let l = c.in-Binary.span in
     let op = c.in-Binary.op in
     let right = c.get-right.result.now in
     let residual = c.from_residual-in_err-of_right in
@@ -119,12 +119,12 @@ operands::binary-returns-clause-judged t c =
     let op = c.in-Binary.op in
     let left = c.get-left.result.now in
     let right = c.get-right.result.now in
-    subst (λ d. Judges s c.args.need d c.with_operands.result) (sym (of_binary _ c.in-Binary.line op _ _ _ _ c.in-Binary.is c.get-left.ensures c.get-right.ensures))
+    subst (λ d. Judges s c.args.need d c.with_operands.result) (sym (of_binary _ c.in-Binary.span op _ _ _ _ c.in-Binary.is c.get-left.ensures c.get-right.ensures))
     (c.with_operands.ensures s (tree_of left) (tree_of right)
     (judged_in s (left_need (rule_of op)) left c.in_ok-of_left.of_left refl (c.left_need.ensures ∙ ap left_need c.rule-rule.ensures) refl
     c.in_ok-of_left.ensures.judged)
     (judged_in s (right_need (rule_of op)) right c.in_ok-of_right.of_right c.in_ok-of_left.ensures.scope
-    (c.right_need.ensures ∙ ap right_need c.rule-rule.ensures) refl c.in_ok-of_right.ensures.judged) c.line.ensures)
+    (c.right_need.ensures ∙ ap right_need c.rule-rule.ensures) refl c.in_ok-of_right.ensures.judged) c.span.ensures)
 
 -- ---- members
 
@@ -132,7 +132,7 @@ pub lists::listed-returns-in_err-members-clause-judged : goal.lists::listed-retu
 lists::listed-returns-in_err-members-clause-judged t c =
     let s = scope_of c.args.scope.now in
     let es = trees (map tree_of c.args.terms.now) in
-    from_offence s c.args.place.need (tree.listed c.args.place.line c.args.form es) c.in_err-members.field-0.0
+    from_offence s c.args.place.need (tree.listed c.args.place.span c.args.form es) c.in_err-members.field-0.0
     (λ k m. OneOffends s (member_need c.args.form) es k m)
     c.from_residual.result (λ k m o. inl o) c.in_err-members.ensures.wrong c.from_residual.ensures
 
@@ -249,7 +249,7 @@ chains::judge_links-loop-link-preserved t c =
           let b = c.loop-link.invariant.offends a h l in (
             e,
             judged.is_of,
-            c.line-line.ensures ∙ ap (λ y. tree.line_of (tree_of y)) c.get.ensures,
+            c.span-span.ensures ∙ ap (λ y. tree.span_of (tree_of y)) c.get.ensures,
             λ f m o. b.3 f m (link_ahead (λ q. LinksOffend s b.0 q f m) all i k c.link-item.is (omega arith) (inr (inr (inr o)))),
           );
     }
@@ -287,7 +287,7 @@ chains::judge_links-returns-in_err-check_left-clause-wrong t c = λ a h l.
     let b = c.loop-link.invariant.offends a h l in
     let is : n ≡ left_need (relation_rule k.relation) = c.left_need.ensures ∙ ap left_need c.relation_rule-rule.ensures in
     let residual = c.from_residual-in_err-check_left in
-    fault_from c.in_err-check_left.field-0.0 (λ f m. (Meets n z → ⊥) × (f ≡ fault.misplaced n z) × (m ≡ c.loop-link.left.line))
+    fault_from c.in_err-check_left.field-0.0 (λ f m. (Meets n z → ⊥) × (f ≡ fault.misplaced n z) × (m ≡ c.loop-link.left.span))
     (λ f m. LinksOffend s a (tree_views.links (map tree_views.link_of all)) f m) residual.result
     (λ f m o. b.3 f m (link_ahead (λ q. LinksOffend s b.0 q f m) all c.loop-link.link-index k c.link-item.is (omega arith)
     (inl (z, b.1, (λ meets. o.0 (subst (λ q. Meets q z) (sym is) meets)), o.1 ∙ ap (λ q. fault.misplaced q z) is, o.2 ∙ b.2))))
@@ -312,9 +312,9 @@ chains::judge_links-returns-in_err-relate-clause-wrong t c = λ a h l.
     let judged = judged_in s (right_need (relation_rule k.relation)) k.right j c.loop-link.invariant.same (c.right_need.ensures ∙ ap right_need same) refl
     c.in_ok-term.ensures.judged in
     let meets = subst (λ n. Meets n y) (c.left_need.ensures ∙ ap left_need same) c.in_ok-check_left.ensures.ok in
-    let line = c.line-line.ensures ∙ ap (λ r. tree.line_of (tree_of r)) c.get.ensures in
+    let span = c.span-span.ensures ∙ ap (λ r. tree.span_of (tree_of r)) c.get.ensures in
     let residual = c.from_residual-in_err-relate in
-    fault_from c.in_err-relate.field-0.0 (λ f m. ((q : Sort) → Takes rule y z q → ⊥) × Disagreement rule y z f × (m ≡ c.line-line.result))
+    fault_from c.in_err-relate.field-0.0 (λ f m. ((q : Sort) → Takes rule y z q → ⊥) × Disagreement rule y z f × (m ≡ c.span-span.result))
     (λ f m. LinksOffend s a (tree_views.links (map tree_views.link_of all)) f m) residual.result
     (λ f m o. b.3 f m (link_ahead (λ q. LinksOffend s b.0 q f m) all c.loop-link.link-index k c.link-item.is (omega arith)
     (inr (inr (inl (
@@ -326,13 +326,13 @@ chains::judge_links-returns-in_err-relate-clause-wrong t c = λ a h l.
       judged.met,
       (λ q takes. o.0 q (subst (λ r. Takes r y z q) (sym same) takes)),
       subst (λ r. Disagreement r y z f) same o.1,
-      o.2 ∙ line,
+      o.2 ∙ span,
     )))))) c.in_err-relate.ensures.wrong residual.ensures
 
 pub chains::chain-returns-in_err-term-clause-judged : goal.chains::chain-returns-in_err-term-clause-judged
 chains::chain-returns-in_err-term-clause-judged t c =
     let s = scope_of c.args.scope.now in
-    let l = c.in-Chain.line in
+    let l = c.in-Chain.span in
     let first = c.get.result.now in
     let ks = tree_views.links (map tree_views.link_of c.in-Chain.links) in
     let is = ap tree_of c.in-Chain.is ∙ seen.of-Chain l c.in-Chain.first c.in-Chain.links ∙ ap (λ r. tree.chain l (tree_of r) ks) (sym c.get.ensures) in
@@ -343,7 +343,7 @@ chains::chain-returns-in_err-term-clause-judged t c =
 pub chains::chain-returns-in_err-links-clause-judged : goal.chains::chain-returns-in_err-links-clause-judged
 chains::chain-returns-in_err-links-clause-judged t c =
     let s = scope_of c.args.scope.now in
-    let l = c.in-Chain.line in
+    let l = c.in-Chain.span in
     let first = c.in-Chain.first in
     let e = tree_of first in
     let ks = tree_views.links (map tree_views.link_of c.in-Chain.links) in
@@ -351,8 +351,8 @@ chains::chain-returns-in_err-links-clause-judged t c =
     let x = c.in_err-links.field-0.0 in
     let residual = c.from_residual-in_err-links in
     let judged = judged_in s need.Expression first j refl refl c.get.ensures c.in_ok-term.ensures.judged in
-    let line = c.line.ensures ∙ ap (λ y. tree.line_of (tree_of y)) c.get-2.ensures in
-    let fault = c.in_err-links.ensures.wrong e (subst (λ y. IsOf y e (sort_of j.sort)) (sym c.in_ok-term.ensures.scope) judged.is_of) line in
+    let span = c.span.ensures ∙ ap (λ y. tree.span_of (tree_of y)) c.get-2.ensures in
+    let fault = c.in_err-links.ensures.wrong e (subst (λ y. IsOf y e (sort_of j.sort)) (sym c.in_ok-term.ensures.scope) judged.is_of) span in
     let here = subst (λ y. IfFault x (λ k m. LinksOffend y e (tree_views.links (map tree_views.link_of c.as_slice.result.now)) k m)) c.in_ok-term.ensures.scope fault in
     subst (λ d. Judges s c.args.need d residual.result) (sym (ap tree_of c.in-Chain.is ∙ seen.of-Chain l first c.in-Chain.links))
     (from_offence s c.args.need (tree.chain l e ks) x (λ k m. LinksOffend s e ks k m) residual.result (λ k m o. inr (inl o))
@@ -361,7 +361,7 @@ chains::chain-returns-in_err-links-clause-judged t c =
 pub chains::chain-returns-clause-judged : goal.chains::chain-returns-clause-judged
 chains::chain-returns-clause-judged t c =
     let s = scope_of c.args.scope.now in
-    let l = c.in-Chain.line in
+    let l = c.in-Chain.span in
     let e = tree_of c.in-Chain.first in
     let ks = tree_views.links (map tree_views.link_of c.in-Chain.links) in
     let is = ap tree_of c.in-Chain.is ∙ seen.of-Chain l c.in-Chain.first c.in-Chain.links in
@@ -411,7 +411,7 @@ binders::declare-returns-clause-ok t c =
 
 pub binders::declare-returns-in_err-variables-clause-wrong : goal.binders::declare-returns-in_err-variables-clause-wrong
 binders::declare-returns-in_err-variables-clause-wrong t c =
-    let P : Offence → ℕ → Type 0 = λ k m. DeclarationsOffend (scope_of c.args.scope.now)
+    let P : Offence → Span → Type 0 = λ k m. DeclarationsOffend (scope_of c.args.scope.now)
     (tree_views.var_decls (map tree_views.var_decl_of c.args.decls.now)) k m in
     fault_from c.in_err-variables.field-0.0 P P c.from_residual.result (λ k m o. o) c.in_err-variables.ensures.wrong c.from_residual.ensures
 
@@ -524,7 +524,7 @@ binders::judge_sets-declare_names-requires t c =
 pub binders::quantified-returns-in_err-ranges-clause-judged : goal.binders::quantified-returns-in_err-ranges-clause-judged
 binders::quantified-returns-in_err-ranges-clause-judged t c =
     let s = scope_of c.args.scope.now in
-    let l = c.in-Quantified.line in
+    let l = c.in-Quantified.span in
     let q = c.in-Quantified.quantifier in
     let p = part_of c.in-Quantified.constraint in
     let e = tree_of c.in-Quantified.body in
@@ -538,7 +538,7 @@ binders::quantified-returns-in_err-ranges-clause-judged t c =
 pub binders::quantified-returns-clause-judged : goal.binders::quantified-returns-clause-judged
 binders::quantified-returns-clause-judged t c =
     let s = scope_of c.args.scope.now in
-    let l = c.in-Quantified.line in
+    let l = c.in-Quantified.span in
     let q = c.in-Quantified.quantifier in
     let p = part_of c.in-Quantified.constraint in
     let e = tree_of c.get.result.now in
@@ -560,7 +560,7 @@ binders::quantified-returns-clause-scope t c =
 pub binders::comprehension-returns-in_err-ranges-clause-judged : goal.binders::comprehension-returns-in_err-ranges-clause-judged
 binders::comprehension-returns-in_err-ranges-clause-judged t c =
     let s = scope_of c.args.scope.now in
-    let l = c.in-Comprehension.line in
+    let l = c.in-Comprehension.span in
     let p = part_of c.in-Comprehension.filter in
     let e = part_of c.in-Comprehension.member in
     let ds = tree_views.var_decls (map tree_views.var_decl_of c.as_slice.result.now) in
@@ -573,7 +573,7 @@ binders::comprehension-returns-in_err-ranges-clause-judged t c =
 pub binders::comprehension-returns-clause-judged : goal.binders::comprehension-returns-clause-judged
 binders::comprehension-returns-clause-judged t c =
     let s = scope_of c.args.scope.now in
-    let l = c.in-Comprehension.line in
+    let l = c.in-Comprehension.span in
     let p = part_of c.in-Comprehension.filter in
     let e = part_of c.in-Comprehension.member in
     let ds = tree_views.var_decls (map tree_views.var_decl_of c.as_slice.result.now) in

@@ -14,7 +14,7 @@ pub returns-in_ok-new-in-Not-clause-same : goal.returns-in_ok-new-in-Not-clause-
 returns-in_ok-new-in-Not-clause-same t c =
     let i = c.in-Unary in
     let x = c.in_ok-of-in-Not in
-    λ e b. opposed _ e i.line i.op i.of c.get-in-Not.result.now x.of c.in_ok-new-in-Not.field-0 c.args.term.now i.is c.in-Not.is c.get-in-Not.ensures
+    λ e b. opposed _ e i.span i.op i.of c.get-in-Not.result.now x.of c.in_ok-new-in-Not.field-0 c.args.term.now i.is c.in-Not.is c.get-in-Not.ensures
     c.in_ok-new-in-Not.ensures (x.ensures.same e b)
 
 pub returns-in_ok-right-in-Connective-2-clause-same : goal.returns-in_ok-right-in-Connective-2-clause-same
@@ -23,7 +23,7 @@ returns-in_ok-right-in-Connective-2-clause-same t c =
     let k = c.in-Connective in
     let x = c.in_ok-left-in-Connective in
     let y = c.in_ok-right-in-Connective in
-    λ e b. joined _ e i.line i.op k.connective i.left c.get-in-Connective.result.now x.left c.in_ok-left-in-Connective-2.left i.right
+    λ e b. joined _ e i.span i.op k.connective i.left c.get-in-Connective.result.now x.left c.in_ok-left-in-Connective-2.left i.right
     c.get-in-Connective-2.result.now y.right c.in_ok-right-in-Connective-2.right c.args.term.now i.is k.is c.get-in-Connective.ensures
     c.in_ok-left-in-Connective-2.ensures c.get-in-Connective-2.ensures c.in_ok-right-in-Connective-2.ensures
     (unfold_later _ _ e _ _ y.ensures.grows (x.ensures.same e b)) (y.ensures.same e (base_later _ e _ _ b x.ensures.grows))

@@ -1,4 +1,4 @@
-use Rattle.zf_why.proofs.Prelude.{◌∙◌, ◌∷◌, ◌≡◌, [], ap, Bool, List, map, Option, refl, subst, sym, ℕ, Comp, Environment, ResolvedTree, Value, comp_of, conjunct_of, environment_of, AreAlone, AreEmpty, CanBegin, HasChosen, HasNoValue, HasRow, HasValue, IsCore, RuleOut, Conjunct, Told, AreTold, disjunction_at, nothing_beside, others_beside}
+use Rattle.zf_why.proofs.Prelude.{◌∙◌, ◌∷◌, ◌≡◌, [], ap, Bool, List, map, Option, refl, subst, sym, ℕ, Comp, Environment, ResolvedTree, Value, comp_of, conjunct_of, environment_of, AreAlone, AreEmpty, CanBegin, HasChosen, HasNoValue, HasRow, HasValue, IsCore, RuleOut, Conjunct, Told, AreTold, split_at, nothing_beside, others_beside}
 use Rattle.zf_why.proofs.Beginning.{can_begin, over_none}
 use Rattle.zf_why.proofs.Explained.{some_row}
 use Rattle.zf_why.proofs.Lists.{of_equal}
@@ -57,12 +57,12 @@ told_alone-requires c =
 -- what is reported, of the conjuncts of the schema
 told_of_all : (e : Environment) (held : List (Option Value)) (details : Bool) (beside : List ResolvedTree → List Bool → ℕ
     → List ResolvedTree) (ds cs : List Comp) (ys xs : List Conjunct) (m n : List Bool) (told : List Told) → ds ≡ cs → ys ≡ xs → m ≡ n
-    → AreTold e ds held details (beside (map conjunct_of ys) m) (disjunction_at ys) (map conjunct_of ys) m told
-    → AreTold e cs held details (beside (map conjunct_of xs) n) (disjunction_at xs) (map conjunct_of xs) n told
+    → AreTold e ds held details (beside (map conjunct_of ys) m) (split_at ys) (map conjunct_of ys) m told
+    → AreTold e cs held details (beside (map conjunct_of xs) n) (split_at xs) (map conjunct_of xs) n told
 told_of_all e held details beside ds cs ys xs m n told p q r h =
-    subst (λ (k : List Bool). AreTold e cs held details (beside (map conjunct_of xs) k) (disjunction_at xs) (map conjunct_of xs) k told) r
-    (subst (λ (zs : List Conjunct). AreTold e cs held details (beside (map conjunct_of zs) m) (disjunction_at zs) (map conjunct_of zs) m told) q
-    (subst (λ (bs : List Comp). AreTold e bs held details (beside (map conjunct_of ys) m) (disjunction_at ys) (map conjunct_of ys) m told) p h))
+    subst (λ (k : List Bool). AreTold e cs held details (beside (map conjunct_of xs) k) (split_at xs) (map conjunct_of xs) k told) r
+    (subst (λ (zs : List Conjunct). AreTold e cs held details (beside (map conjunct_of zs) m) (split_at zs) (map conjunct_of zs) m told) q
+    (subst (λ (bs : List Comp). AreTold e bs held details (beside (map conjunct_of ys) m) (split_at ys) (map conjunct_of ys) m told) p h))
 
 pub returns-then-has_one-2 : goal.returns-then-has_one-2
 returns-then-has_one-2 c =

@@ -1,4 +1,4 @@
-use Rattle.zf_why.proofs.Prelude.{◌+◌, ◌∙◌, ◌≡◌, ap, arith, List, map, refl, Some, subst, sym, ℕ, slice_get, comp_of, conjunct_of, environment_of, ResolvedTree, Global, Vec, length-map, disjunction_at, IsTelling, nothing_beside, Told}
+use Rattle.zf_why.proofs.Prelude.{◌+◌, ◌∙◌, ◌≡◌, ap, arith, List, map, refl, Some, subst, sym, ℕ, slice_get, comp_of, conjunct_of, environment_of, ResolvedTree, Global, Vec, length-map, split_at, IsTelling, nothing_beside, Told}
 use Rattle.zf_why.proofs.Beginning.{one_begins}
 use Rattle.zf_why.proofs.Gathered.{read_mapped}
 use Rattle.zf_why.proofs.Lists.{read_at, seen_at, some_at}
@@ -12,7 +12,7 @@ loop-place-init c =
     let e = environment_of s.env.now in
     let cs = map comp_of s.components.now in
     let xs = c.args.conjuncts.now in
-    let R = (λ (i : ℕ) (p : ResolvedTree) (t : Told). IsTelling e cs s.held.now s.details (nothing_beside i) (disjunction_at xs i) p t) in
+    let R = (λ (i : ℕ) (p : ResolvedTree) (t : Told). IsTelling e cs s.held.now s.details (nothing_beside i) (split_at xs i) p t) in
     subst (AreToldUpTo R (map conjunct_of xs) c.args.chosen.now 0) (sym c.new-told.ensures.items) (none_told R (map conjunct_of xs) c.args.chosen.now)
 
 pub told_of-requires : goal.told_of-requires
@@ -40,7 +40,7 @@ loop-place-preserved c =
     let m = c.args.chosen.now in
     let i = c.loop-place.place in
     let old = c.loop-place.told.items in
-    let R = (λ (i : ℕ) (p : ResolvedTree) (t : Told). IsTelling e cs s.held.now s.details (nothing_beside i) (disjunction_at xs i) p t) in
+    let R = (λ (i : ℕ) (p : ResolvedTree) (t : Told). IsTelling e cs s.held.now s.details (nothing_beside i) (split_at xs i) p t) in
     let goes = (λ (v w : List Told) (is : v ≡ w) (h : AreToldUpTo R (map conjunct_of xs) m (i + 1) w). subst (AreToldUpTo R (map conjunct_of xs) m (i + 1)) (sym is) h) in
     let seen = λ (v w : Vec Told Global) (is : v ≡ w). ap (λ (u : Vec Told Global). u.items) is in
     elim c.if-chosen-place.branch [
@@ -62,5 +62,5 @@ pub returns : goal.returns
 returns c =
     let s = c.args.setting.now in
     let xs = c.args.conjuncts.now in
-    let R = (λ (i : ℕ) (p : ResolvedTree) (t : Told). IsTelling (environment_of s.env.now) (map comp_of s.components.now) s.held.now s.details (nothing_beside i) (disjunction_at xs i) p t) in
+    let R = (λ (i : ℕ) (p : ResolvedTree) (t : Told). IsTelling (environment_of s.env.now) (map comp_of s.components.now) s.held.now s.details (nothing_beside i) (split_at xs i) p t) in
     all_told R (map conjunct_of xs) c.args.chosen.now c.loop-place.place c.loop-place.told.items (omega (arith, length-map xs conjunct_of, c.loop-place-test.false)) c.loop-place.invariant

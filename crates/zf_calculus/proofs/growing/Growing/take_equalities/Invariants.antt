@@ -3,4 +3,4 @@ use Rattle.zf_calculus.proofs.growing.Growing.take_equalities.Given as goal
 
 abbrev pub invariant-loop-place : goal.invariant-loop-place
 invariant-loop-place l =
-    constrained (schema_of l.self) (equalities l.line l.place (drop l.place l.places)) ≡ constrained (schema_of l.initial.self) (equalities l.line 0 l.places)
+    constrained (schema_of l.self) (equalities l.span l.place (drop l.place l.places)) ≡ constrained (schema_of l.initial.self) (equalities l.span 0 l.places)

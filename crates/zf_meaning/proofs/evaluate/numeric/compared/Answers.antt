@@ -10,6 +10,6 @@ returns g c =
     let f : FitsSigned w64 c.in_ok-m.m = search rules in
     let h : FitsSigned w64 c.in_ok-n.n = search rules in
     let told = written-both (λ x y. IsAtom (Is (Int x)) (Is (Int y)) (Holds k.result.relation) c.between_numbers.result) c.in_ok-m.m c.in_ok-n.n f h c.between_numbers.ensures in
-    λ line. subst (λ ks. IsTruth scope (chain line (resolved_of c.args.first.now) (links (map resolved_link_of ks))) c.between_numbers.result) (sym one)
-    (compared-told scope line (resolved_of c.args.first.now) k.result c.in_ok-m.m c.in_ok-n.n c.between_numbers.result
+    λ span. subst (λ ks. IsTruth scope (chain span (resolved_of c.args.first.now) (links (map resolved_link_of ks))) c.between_numbers.result) (sym one)
+    (compared-told scope span (resolved_of c.args.first.now) k.result c.in_ok-m.m c.in_ok-n.n c.between_numbers.result
     (c.is_comparison.ensures c.if-not-is_comparison.false) c.in_ok-m.ensures c.in_ok-n.ensures told)

@@ -8,7 +8,7 @@ returns c = λ before l.
     let text = c.args.self.now.text.items in
     let symbols = c.args.self.now.symbols.items in
     let more = spelling t.kind in
-    let placed : Next → ℕ → ℕ → ℕ → Placed = λ (next : Next) (start stop amount : ℕ). record { next = next; line = t.line; start = start; stop = stop; amount = amount } in
+    let placed : Next → ℕ → ℕ → ℕ → Placed = λ (next : Next) (start stop amount : ℕ). record { next = next; span = t.span; start = start; stop = stop; amount = amount } in
     let text_is : c.spell.new.text.items ≡ text ++ more = c.in_ok-spell.ensures in
     let start : c.len-start.result ≡ length text = search rules in
     let stop_is : c.len.result ≡ length c.spell.new.text.items = search rules in

@@ -13,6 +13,6 @@ returns-in_ok-composed-in-Member c =
 
 pub returns-in_ok-composed-in-Either : goal.returns-in_ok-composed-in-Either
 returns-in_ok-composed-in-Either c =
-    moved_either c.in-Either.own c.in_ok-composed-in-Either.field-0 (numbering c.args.places.now) c.in-Either.line c.in-Either.left c.in-Either.right
+    moved_either c.in-Either.own c.in_ok-composed-in-Either.field-0 (numbering c.args.places.now) c.in-Either.sides c.in-Either.left c.in-Either.right
     c.in_ok-left-in-Either.left c.in_ok-right-in-Either.right c.args.self.now c.in-Either.is c.in_ok-left-in-Either.ensures c.in_ok-right-in-Either.ensures
     c.in_ok-composed-in-Either.ensures

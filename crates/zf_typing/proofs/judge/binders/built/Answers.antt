@@ -9,7 +9,7 @@ pub returns-in_err-filter : goal.returns-in_err-filter
 returns-in_err-filter c = λ s ds vs p e binds sets hp he hr.
     let x = c.in_err-filter.field-0.0 in
     let inside = with_variables s vs in
-    from_offence s c.args.place.need (tree.comprehension c.args.place.line ds p e) x (λ k m. PartOffends inside need.Predicate p k m) c.from_residual.result
+    from_offence s c.args.place.need (tree.comprehension c.args.place.span ds p e) x (λ k m. PartOffends inside need.Predicate p k m) c.from_residual.result
     (λ k m o. inr (inr (inl (vs, binds, inl o))))
     (part_fault inside need.Predicate p x (subst (λ r. JudgesPart inside need.Predicate p r) c.in_err-filter.was hp)) c.from_residual.ensures
 
@@ -18,13 +18,13 @@ returns-in_err-member c = λ s ds vs p e binds sets hp he hr.
     let x = c.in_err-member.field-0.0 in
     let inside = with_variables s vs in
     let residual = c.from_residual-in_err-member in
-    from_offence s c.args.place.need (tree.comprehension c.args.place.line ds p e) x (λ k m. PartOffends inside need.Expression e k m) residual.result
+    from_offence s c.args.place.need (tree.comprehension c.args.place.span ds p e) x (λ k m. PartOffends inside need.Expression e k m) residual.result
     (λ k m o. inr (inr (inl (vs, binds, inr (inl o)))))
     (part_fault inside need.Expression e x (subst (λ r. JudgesPart inside need.Expression e r) c.in_err-member.was he)) residual.ensures
 
 pub returns : goal.returns
 returns c = λ s ds vs p e binds sets hp he hr.
-    let l = c.args.place.line in
+    let l = c.args.place.span in
     let inside = with_variables s vs in
     let filter = part_of_judged inside need.Predicate p c.in_ok-filter.filter (subst (λ r. JudgesPart inside need.Predicate p r) c.in_ok-filter.was hp) in
     let member = part_of_judged inside need.Expression e c.in_ok-member.member (subst (λ r. JudgesPart inside need.Expression e r) c.in_ok-member.was he) in

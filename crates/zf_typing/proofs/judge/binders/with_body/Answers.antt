@@ -9,7 +9,7 @@ pub returns-in_err-constraint : goal.returns-in_err-constraint
 returns-in_err-constraint c = λ s ds vs p e binds sets hp hb.
     let x = c.in_err-constraint.field-0.0 in
     let inside = with_variables s vs in
-    let whole = tree.quantified c.args.place.line c.args.quantifier ds p e in
+    let whole = tree.quantified c.args.place.span c.args.quantifier ds p e in
     from_offence s c.args.place.need whole x (λ k m. PartOffends inside need.Predicate p k m) c.from_residual.result
     (λ k m o. inr (inr (inl (vs, binds, inl o))))
     (part_fault inside need.Predicate p x (subst (λ r. JudgesPart inside need.Predicate p r) c.in_err-constraint.was hp)) c.from_residual.ensures
@@ -18,14 +18,14 @@ pub returns-in_err-body : goal.returns-in_err-body
 returns-in_err-body c = λ s ds vs p e binds sets hp hb.
     let x = c.in_err-body.field-0.0 in
     let inside = with_variables s vs in
-    let whole = tree.quantified c.args.place.line c.args.quantifier ds p e in
+    let whole = tree.quantified c.args.place.span c.args.quantifier ds p e in
     let residual = c.from_residual-in_err-body in
     from_offence s c.args.place.need whole x (λ k m. Offends inside need.Predicate e k m) residual.result (λ k m o. inr (inr (inl (vs, binds, inr o))))
     (fault_of inside need.Predicate e x (subst (λ r. Judges inside need.Predicate e r) c.in_err-body.was hb)) residual.ensures
 
 pub returns : goal.returns
 returns c = λ s ds vs p e binds sets hp hb.
-    let l = c.args.place.line in
+    let l = c.args.place.span in
     let q = c.args.quantifier in
     let inside = with_variables s vs in
     let part = part_of_judged inside need.Predicate p c.in_ok-constraint.constraint (subst (λ r. JudgesPart inside need.Predicate p r) c.in_ok-constraint.was hp) in

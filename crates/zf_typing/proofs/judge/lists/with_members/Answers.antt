@@ -8,7 +8,7 @@ use Rattle.zf_typing.proofs.judge.lists.with_members.Goals as goal
 
 pub returns-in_err-ztype : goal.returns-in_err-ztype
 returns-in_err-ztype c = λ s h kept.
-    let l = c.args.place.line in
+    let l = c.args.place.span in
     let form = c.args.form in
     let es = map tree_of c.args.terms.now in
     let us = types (map type_of c.args.members.types) in
@@ -18,7 +18,7 @@ returns-in_err-ztype c = λ s h kept.
 
 pub returns : goal.returns
 returns c = λ s h kept.
-    let l = c.args.place.line in
+    let l = c.args.place.span in
     let form = c.args.form in
     let es = trees (map tree_of c.args.terms.now) in
     let us = types (map type_of c.args.members.types) in

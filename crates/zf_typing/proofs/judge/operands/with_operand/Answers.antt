@@ -15,7 +15,7 @@ unreachable-requires c =
 pub returns : goal.returns
 unfolding IsMadeOfOne
 returns c = λ s e h.
-    let l = c.args.place.line in
+    let l = c.args.place.span in
     let op = c.args.op in
     let x = sort_of c.args.operand.sort in
     let z = sort_of c.in-Some.sort in
