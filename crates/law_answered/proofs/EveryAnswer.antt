@@ -156,7 +156,7 @@ every_request_is_answered every_source job file source limited = elim (every_sou
       let answer = some_of_job job file source limited judged.0 judged.1 (record { boxes = read.0; reads = read.1; judged = judged.2 }) in
       (answer.0, answer.1, inr answer.2)
   | inr unread ↦
-      let none : Cited = record { symbol = []; other = []; span = nowhere } in
+      let none : Cited = record { symbol = []; other = []; span = nowhere; like = []; across = nowhere; entry = []; others = [] } in
       let told = text_fault_message (wants_details job) source unread.0 none ∷ [] in
       (messages_text (format_of job) file told, BadSpec, inl (told, (unread.0, none, unread.1, refl, refl), refl))
 ]
