@@ -4,9 +4,6 @@ pub mod Judging
 pub mod EventLaws
 pub mod Resolved
 pub mod Started
-pub mod Held
-pub mod Planted
-pub mod Naming
 pub mod Fixed
 pub mod Keying
 pub mod Trying
