@@ -2,7 +2,7 @@ mod Prelude
 pub mod Dues
 pub mod Judging
 pub mod EventLaws
-pub mod Resolved
+pub mod ConjunctTerms
 pub mod Started
 pub mod Fixed
 pub mod Keying

@@ -1,5 +1,5 @@
 use Rattle.zf_instances.proofs.Prelude.{List, map, subst, sym, take, trees_of, resolved_of, ResolvedTree, Resolved, ArePlanted}
-use Rattle.zf_enum.proofs.Resolved.{one_term_more, whole}
+use Rattle.zf_enum.proofs.ConjunctTerms.{one_term_more, whole}
 use Rattle.zf_instances.proofs.planting.plant_all.Goals as goal
 
 pub loop-conjunct-preserved : goal.loop-conjunct-preserved
