@@ -20,7 +20,8 @@ pub use Rattle.zf_checker.specs.{AreWellTyped}
 pub use Rattle.zf_meaning.specs.{Environment, environment_of, IsRow, AreComplete, given_sets, IsEnvironment}
 pub use Rattle.zf_print.specs.{spellings, AreClear, binding_text, goes_on, comma_before}
 pub use Rattle.zf_print.specs.declared.spelling.Spelling.{Spelling}
-pub use Rattle.zf_enum.specs.{counted_goal, due, due_of, Goal, greatest_place, place_named, planted_goal, Portion, portion, property, Begins, conjuncts_of}
+pub use Rattle.zf_enum.specs.{counted_goal, due, due_of, Goal, greatest_place, place_named, Portion, portion, property, Begins, conjuncts_of}
+pub use Rattle.zf_instances.specs.{planted_goal}
 pub use Rattle.zf_command.specs.declared.job.Request.{Request}
 pub use Rattle.zf_lines.proofs.Beginning.{at_start, counting_at_start}
 pub use Rattle.zf_lines.specs.declared.fault.Status.{Status}

@@ -16,7 +16,8 @@ pub use Rattle.zf_walk.specs.{Event, AreDueWithin, Stage, HasLength}
 pub use Rattle.zf_meaning.specs.declared.sizes.SizeFault.{SizeFault}
 pub use Rattle.zf_meaning.specs.declared.sizes.SizeFault.TheVariants.{OutOfMemory, NoSize, NotGiven, SizeTwice, SizeTooLarge}
 pub use Rattle.zf_meaning.specs.{AreComplete, Environment, given_sets, IsEnvironment, IsRefusal, IsRow, environment_of}
-pub use Rattle.zf_enum.specs.{Portion, Begins, Goal, portion, property, BeginsCounting, planted_goal}
+pub use Rattle.zf_enum.specs.{Portion, Begins, Goal, portion, property, BeginsCounting}
+pub use Rattle.zf_instances.specs.{planted_goal}
 pub use Rattle.zf_ranges.specs.{IsFirstOut, IsNoneOut, RefusesStart}
 pub use Rattle.zf_print.specs.{binding_text, spellings, parted, value_object, value_text, AreClear, comma_before}
 pub use Rattle.zf_read.specs.{IsLineOfSome, HaveClearNames}

@@ -6,7 +6,8 @@ ghost use Rattle.zf_engine.specs.{CanBeSearched, environment_in, IfAnswered, sch
 use crate::stop::Stop;
 use crate::subject::Subject;
 use std::alloc::Global;
-use zf_enum::{Bindings, Instances};
+use zf_enum::Bindings;
+use zf_instances::Instances;
 use zf_lines::Status;
 use zf_messages::texts;
 use zf_ranges::StartFault;

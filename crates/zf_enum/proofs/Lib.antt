@@ -2,11 +2,8 @@ mod Prelude
 pub mod Dues
 pub mod Judging
 pub mod EventLaws
-pub mod Resolved
+pub mod ConjunctTerms
 pub mod Started
-pub mod Held
-pub mod Planted
-pub mod Naming
 pub mod Fixed
 pub mod Keying
 pub mod Trying

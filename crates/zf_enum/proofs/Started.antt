@@ -1,5 +1,5 @@
 -- What a walk asks of ranges and conjuncts, of those of a schema.
-use Rattle.zf_enum.proofs.Prelude.{◌<◌, ◌∷◌, ◌≡◌, ◌≤◌, [], ap, arith, length, List, Option, refl, subst, suc, sym, zero, ℕ, ⊎_elim, AllPairs, Contains, slice_get, Less, Ahead, AreAllAhead, AreDueWithin, AreAscending, HasLength, itself, SayTheSame, IsAscending, value_order, Value, Comp, ResolvedTree, Environment, NeedWithin, due_of, property, AreRanges, later_held, AllByRecursion}
+use Rattle.zf_enum.proofs.Prelude.{◌∷◌, ◌≡◌, [], ap, arith, length, List, Option, refl, subst, suc, sym, zero, ⊎_elim, AllPairs, Contains, Less, Ahead, AreAllAhead, AreDueWithin, AreAscending, HasLength, itself, SayTheSame, IsAscending, value_order, Value, Comp, ResolvedTree, Environment, property, AreRanges, later_held, AllByRecursion}
 use Rattle.zf_walk.proofs.Lists.{AllPairs-nil, AllPairs-cons, Contains-cases, Contains-nil}
 
 abbrev Below : Value → Value → Type 0
@@ -13,27 +13,17 @@ ascending_pairs : (xs : List Value) → IsAscending xs → AllPairs Below xs
 ascending_pairs [] h = AllPairs-nil Below
 ascending_pairs (x ∷ xs) h = AllPairs-cons Below x xs (λ y m. every_contained (Below x) xs y h.0 m) (ascending_pairs xs h.1)
 
-need_at_all : (n : ℕ) (ps : List ResolvedTree) → ((c : ℕ) → c < length ps → due_of (slice_get ps c) ≤ n) → NeedWithin n ps
-need_at_all n [] h c = omega arith
-need_at_all n (p ∷ ps) h zero = h zero (omega arith)
-need_at_all n (p ∷ ps) h (suc c) = need_at_all n ps (λ d l. h (suc d) (omega (arith, l))) c
-
 -- the same predicates in the same environment
 pub say_alike : (d e : Environment) (ts ps : List ResolvedTree) → d ≡ e → ts ≡ ps → SayTheSame (property d ts) (property e ps)
 say_alike d e ts ps here same =
     subst (λ (f : Environment). SayTheSame (property d ts) (property f ps)) here (subst (λ (us : List ResolvedTree). SayTheSame (property d ts) (property d us)) same (itself (property d ts)))
 
 module _ (e : Environment) where
-  as_many : (cs : List Comp) (held : List (Option Value)) (rs : List (List Value)) → AreRanges e cs held rs → length cs ≡ length rs
+  pub as_many : (cs : List Comp) (held : List (Option Value)) (rs : List (List Value)) → AreRanges e cs held rs → length cs ≡ length rs
   as_many [] held [] h = refl
   as_many [] held (xs ∷ rs) h = absurd h
   as_many (c ∷ cs) held [] h = absurd h
   as_many (c ∷ cs) held (xs ∷ rs) h = ap suc (as_many cs (later_held held) rs h.1)
-
-  -- so many components are due
-  pub needs_within : (cs : List Comp) (held : List (Option Value)) (rs : List (List Value)) (ps : List ResolvedTree) → AreRanges e cs held rs
-      → AreDueWithin (property e ps) (length cs) → NeedWithin (length rs) ps
-  needs_within cs held rs ps h d = subst (λ n. NeedWithin n ps) (as_many cs held rs h) (need_at_all (length cs) ps d)
 
   pub ranges_ascend : (cs : List Comp) (held : List (Option Value)) (rs : List (List Value)) → AreRanges e cs held rs → AreAscending value_order rs
   ranges_ascend [] held [] h k d l = absurd (omega arith)

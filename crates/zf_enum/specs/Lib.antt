@@ -8,15 +8,12 @@ pub mod PortionViews
 pub mod Events
 pub mod EventLaws
 pub mod Starts
-pub mod Holding
 pub mod Searches
-pub mod Planting
 pub mod Fixing
 pub mod Keys
 pub mod Spans
 pub mod Sums
 pub mod Spreads
-pub mod Instances
 pub use Rattle.zf_enum.specs.Property.{due, due_of, greatest_place, HasTruth, place_named, property, told}
 pub use Rattle.zf_enum.specs.Uses.{is_among, is_component, uses, uses_of}
 pub use Rattle.zf_enum.specs.PropertyLaws.{follows_outcome, one_truth_in, uses_first}
@@ -26,13 +23,10 @@ pub use Rattle.zf_enum.specs.PortionViews.{behind, portion}
 pub use Rattle.zf_enum.specs.Events.{AreTests}
 pub use Rattle.zf_enum.specs.EventLaws.{AreEvents, EventsResume, IsBoundOf, OneEvents, OneRanges, TestsAreBound}
 pub use Rattle.zf_enum.specs.Starts.{Begins, BeginsCounting}
-pub use Rattle.zf_enum.specs.Holding.{AreHeldAgain, CanHold}
-pub use Rattle.zf_enum.specs.Searches.{conjuncts_of, counted_goal, Goal, judged, planted_goal, with_first}
-pub use Rattle.zf_enum.specs.Planting.{ArePlanted, IsPlanted, NeedWithin, Plants, PlantsNext}
+pub use Rattle.zf_enum.specs.Searches.{conjuncts_of, counted_goal, Goal, judged}
 pub use Rattle.zf_enum.specs.Fixing.{AreCandidates, Fixes, GoesOn, HasPlace, IsBeside, IsKept, IsName}
 unfoldable pub use Rattle.zf_enum.specs.Keys.{number_of}
 pub use Rattle.zf_enum.specs.Keys.{AreSides, HasKey, HasKeyWith, IsKey, IsKeyed, IsKeyOfValue, IsOnly, key_side}
 pub use Rattle.zf_enum.specs.Spans.{IsSmall}
 pub use Rattle.zf_enum.specs.Sums.{AreRuledOut, IsDifferenceOf, IsIntervalAhead, IsIntervalOf, IsIntervalOver, IsRuledOut}
 pub use Rattle.zf_enum.specs.Spreads.{AddsSpreads, AreSpreads, AsksFor, Equates, IsSetOver, IsSpread, IsThere}
-pub use Rattle.zf_enum.specs.Instances.{HaveSameEvents}

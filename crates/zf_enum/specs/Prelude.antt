@@ -4,13 +4,13 @@ pub use Rattle.zf_reference.specs.declared.reference.Reference.TheVariants.{Comp
 pub use Rattle.zf_term.specs.{absent, binary, bracket, comprehension, chain, link, no_links, present, quantified, reference, ResolvedTree, Schema, resolved_of, references, range_of, ranges, schema_of, conjunct_of}
 pub use Rattle.zf_value.specs.declared.plain.Value.{Value, Int}
 pub use Rattle.zf_value.specs.{value_order, IsMember, members}
-pub use Rattle.zf_walk.specs.{Event, IsBound, IsEvents, IsNumberOfTests, IsRowOf, IsEvent, FollowUsed, HaveOneTruth, KeepTruths, AreAllAhead, Stage, picked, Advances, AreAscending, AreDueWithin, AreTests, ended, HasLength, IsBounded, SameProblem, Stays, AreWithin, past, SameRanges}
+pub use Rattle.zf_walk.specs.{Event, IsBound, IsEvents, IsNumberOfTests, IsRowOf, FollowUsed, HaveOneTruth, KeepTruths, AreAllAhead, Stage, picked, Advances, AreAscending, AreDueWithin, AreTests, ended, HasLength, IsBounded, SameProblem, Stays, AreWithin, past, SameRanges}
 pub use Rattle.zf_meaning.specs.{Environment, HasOutcome, in_row, IsTruth, AreBelow, IsBelow, UsesFirst, environment_of}
-pub use Rattle.zf_ranges.specs.{AreRanges, held_at, IsNoneOut, RefusesStart}
+pub use Rattle.zf_ranges.specs.{AreRanges, IsNoneOut, RefusesStart}
 pub use Rattle.zf_tree.specs.declared.symbol.Relation.TheVariants.{Equal}
 pub use Rattle.zf_value.specs.declared.value.Outcome.{Outcome}
 pub use Rattle.zf_value.specs.declared.value.Outcome.TheVariants.{Is, Undefined, Out}
-pub use Rattle.zf_plan.specs.{SayTheSame, planted, Tree, Grove, HasLeavesWithin, IsTreeTruth, tree_at, trees_made, trees_of, StaysIn}
+pub use Rattle.zf_plan.specs.{SayTheSame, planted, Tree, StaysIn}
 pub use Rattle.std.specs.Option.{option_map_or, option_copied}
 pub use Rattle.zf_value.specs.declared.value.Truth.{Truth}
 pub use Rattle.zf_walk.specs.Conjuncts.{Conjuncts}

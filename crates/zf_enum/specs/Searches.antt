@@ -1,8 +1,7 @@
 -- What a search for bindings is seen as.
-use Rattle.std.specs.Prelude.{ℕ, List, Option, Some, None, map, take}
-use Rattle.zf_enum.specs.Prelude.{resolved_of, ResolvedTree, Value, Conjuncts, planted, Tree, trees_of, Environment, environment_of}
+use Rattle.std.specs.Prelude.{List, Option, Some, None, map}
+use Rattle.zf_enum.specs.Prelude.{resolved_of, ResolvedTree, Value, Conjuncts, planted, Tree, Environment, environment_of}
 use Rattle.zf_walk.specs.Progress as walk
-use Rattle.zf_plan.specs.Progress as plan
 use Rattle.zf_enum.specs.declared.property.Property as judge
 use Rattle.zf_enum.specs.Property.{property}
 
@@ -28,16 +27,3 @@ judged p = property (environment_of p.env.now) (map resolved_of p.conjuncts)
 -- a search that counts its tests goes by predicates
 abbrev pub counted_goal : walk.Progress Value judge.Property → Goal
 counted_goal w = record { environment = environment_of w.judge.env.now; further = environment_of w.judge.env.now; predicates = map resolved_of w.judge.conjuncts; trees = None }
-
--- the environment of its first n names
-abbrev pub with_first : ℕ → Environment → Environment
-with_first n e = record { globals = e.globals; sizes = e.sizes; outcomes = take n e.outcomes; numbers = e.numbers }
-
--- one that counts none goes by trees, and the schema's are the first names
-abbrev pub planted_goal : ℕ → plan.Progress Value judge.Property → Goal
-planted_goal names s = record {
-  environment = with_first names (environment_of s.judge.env.now);
-  further = environment_of s.judge.env.now;
-  predicates = map resolved_of s.judge.conjuncts;
-  trees = Some (trees_of s.forest);
-}

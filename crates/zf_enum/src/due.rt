@@ -69,7 +69,7 @@ pub(crate) fn needs_first(term: &Resolved<'_>, first: usize, components: usize) 
 }
 
 /// The last component up to a bound that the term names.
-pub(crate) fn last_up_to(term: &Resolved<'_>, bound: usize) -> Option<usize>
+pub fn last_up_to(term: &Resolved<'_>, bound: usize) -> Option<usize>
     ensures { place_after result ≡ need bound (resolved_of term.now) }
 {
     last_of(term, &UpTo { bound }, None)

@@ -10,16 +10,16 @@ use zf_tree::Relation;
 
 /// A relation between two terms.
 #[derive(Clone, Copy)]
-pub(crate) struct Relating<'t, 'a> {
-    pub(crate) left: &'t Resolved<'a>,
-    pub(crate) relation: Relation,
-    pub(crate) right: &'t Resolved<'a>,
+pub struct Relating<'t, 'a> {
+    pub left: &'t Resolved<'a>,
+    pub relation: Relation,
+    pub right: &'t Resolved<'a>,
 }
 
 /// The relation that a predicate is, if it is one between two terms.
 #[inline]
 #[tactic(auto, using(zf_term::proofs::ResolvedSeen::seen))]
-pub(crate) fn relation_of<'t, 'a>(term: &'t Resolved<'a>) -> Option<Relating<'t, 'a>>
+pub fn relation_of<'t, 'a>(term: &'t Resolved<'a>) -> Option<Relating<'t, 'a>>
     ensures { IfSome result (λ it. (span : Span) × (resolved_of term.now ≡ chain span (resolved_of it.left.now) (link it.relation (resolved_of it.right.now) no_links))) }
 {
     let Resolved::Chain(_, first, links) = term else {

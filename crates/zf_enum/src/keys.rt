@@ -81,9 +81,9 @@ fn is_only(term: &Resolved<'_>, component: usize) -> bool
 
 /// As many values as are asked for, each the same.
 #[derive(Drop)]
-pub(crate) struct Repeated<'v> {
-    pub(crate) value: &'v Value,
-    pub(crate) count: usize,
+pub struct Repeated<'v> {
+    pub value: &'v Value,
+    pub count: usize,
 }
 
 impl<'v> Row for Repeated<'v> {

@@ -1,5 +1,5 @@
 //! Laws of the definitions.
-ghost use Rattle.zf_enum.specs.{EventsResume, HaveSameEvents, OneEvents, OneRanges, TestsAreBound};
+ghost use Rattle.zf_enum.specs.{EventsResume, OneEvents, OneRanges, TestsAreBound};
 
 /// A schema in an environment has one list of ranges, and one of events.
 pub fn one_list()
@@ -15,9 +15,4 @@ pub fn resuming()
 /// No search makes more tests than there are pairs, whichever row is named.
 pub fn bound()
     ensures { TestsAreBound }
-{}
-
-/// A search for instances is for the events of its schema.
-pub fn same_events()
-    ensures { HaveSameEvents }
 {}

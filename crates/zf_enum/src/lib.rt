@@ -1,4 +1,4 @@
-//! The bindings of a schema in an environment: searches over the rows of the ranges of its components.
+//! The bindings of a schema in an environment: what a search over the rows of the ranges of its components does, and one that counts its tests.
 #![tactic(auto)]
 
 mod bindings;
@@ -6,13 +6,9 @@ mod candidates;
 mod conjuncts;
 mod due;
 mod fixing;
-mod hopeless;
-mod instances;
 mod interval;
 mod keys;
 pub mod laws;
-mod lifting;
-mod planting;
 mod property;
 mod search;
 mod shown;
@@ -22,6 +18,11 @@ mod sums;
 
 pub use bindings::Bindings;
 pub use conjuncts::Conjuncts;
-pub use instances::Instances;
-pub use property::Property;
+pub use due::last_up_to;
+pub use fixing::{Relating, relation_of};
+pub use keys::Repeated;
+pub use property::{Property, property_of};
 pub use search::{Located, Passing, Ranged, Search};
+pub use spread::is_there;
+pub use start::resolved;
+pub use sums::compares;

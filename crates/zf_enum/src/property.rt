@@ -1,6 +1,6 @@
 //! The property of a schema in an environment, as the judge of a walk.
 ghost use Rattle.std.specs.Prelude.{◌≡◌, ◌<◌, ◌^◌, ℕ, IfOk, map, slice_get};
-ghost use Rattle.zf_enum.specs.Prelude.{resolved_of};
+ghost use Rattle.zf_enum.specs.Prelude.{environment_of, resolved_of};
 ghost use Rattle.zf_enum.specs.Property.{due, due_of, told};
 
 use crate::candidates::{Tie, gather_candidates, gather_spread, gather_value, is_tried};
@@ -10,6 +10,7 @@ use crate::fixing::fixing;
 use crate::keys::{key_at, key_of_row, keyed};
 use crate::shown::Shown;
 use crate::sums::{balances, equates, gather_balanced};
+use bumpalo::Bump;
 use std::alloc::{AllocError, Global};
 use zf_meaning::{Env, truth_of};
 use zf_plan::{Guide, Means};
@@ -140,6 +141,26 @@ pub(crate) fn dues(alloc: Global, conjuncts: &[Resolved<'_>]) -> Result<Vec<usiz
         dues.push(due(conjunct))?;
     }
     Ok(dues)
+}
+
+/// The predicates as conjuncts.
+pub fn property_of<'e, 'g, 'a>(
+    alloc: Global,
+    arena: &'a Bump,
+    terms: Vec<Resolved<'a>>,
+    env: &'e Env<'g, 'a>,
+) -> Result<Property<'e, 'g, 'a>, AllocError>
+    requires small { (c : ℕ) → due_of (slice_get (map resolved_of terms.items) c) < 2 ^ 64 }
+    ensures { IfOk result (λ p. (environment_of p.env.now ≡ environment_of env.now) × (p.conjuncts ≡ terms.entry.items)) }
+{
+    let dues = dues(alloc, &terms)?;
+    let conjuncts = Conjuncts::narrowing(alloc, arena, terms)?;
+    let property: Property<'e, 'g, 'a> = Property {
+        conjuncts,
+        env,
+        dues,
+    };
+    Ok(property)
 }
 
 /// What a walk calls a truth.

@@ -177,7 +177,7 @@ fn copied_range<'a>(arena: &'a Bump, range: &Range<'a>) -> Result<Range<'a>, All
 }
 
 /// Whether a quantifier asks for a row.
-pub(crate) fn is_there(quantifier: Quantifier) -> bool
+pub fn is_there(quantifier: Quantifier) -> bool
     ensures { IsTrue result → IsThere quantifier }
 {
     !matches!(quantifier, Quantifier::ForAll)

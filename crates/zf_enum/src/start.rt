@@ -45,7 +45,7 @@ impl<'s, 'e, 'g, 'a> Bindings<'s, 'e, 'g, 'a> {
 }
 
 /// The terms of the conjuncts, by the places in the schema.
-pub(crate) fn resolved<'a>(
+pub fn resolved<'a>(
     alloc: Global,
     arena: &'a Bump,
     conjuncts: &[Conjunct<'a>],

@@ -40,7 +40,7 @@ pub(crate) fn equates(term: &Resolved<'_>) -> bool {
 }
 
 /// Whether a relation is one of numbers, or an equation.
-pub(crate) fn compares(relation: Relation) -> bool {
+pub fn compares(relation: Relation) -> bool {
     match relation {
         Relation::Equal => true,
         Relation::Less => true,

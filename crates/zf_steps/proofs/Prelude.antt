@@ -10,7 +10,8 @@ pub use Rattle.zf_walk.proofs.Lists.{AllPairs-nil, Contains-nil, Contains-cases,
 pub use Rattle.zf_walk.specs.declared.judge.Truth.TheVariants.{Out, True, False}
 pub use Rattle.zf_walk.specs.Conjuncts.{Conjuncts}
 pub use Rattle.zf_walk.specs.{Advances, ComesAfter, Event, IsEvent, IsNoneAhead, SameRanges, Stage, Takes, IsRowOf, Ahead}
-pub use Rattle.zf_enum.specs.{property, Begins, CanHold, conjuncts_of, planted_goal, portion}
+pub use Rattle.zf_enum.specs.{property, Begins, conjuncts_of, portion}
+pub use Rattle.zf_instances.specs.{CanHold, planted_goal}
 pub use Rattle.zf_steps.specs.declared.node.Label.{Label}
 pub use Rattle.zf_steps.specs.declared.node.Node.{Node}
 pub use Rattle.zf_steps.specs.declared.node.Node.TheVariants.{State, Root}

@@ -3,7 +3,7 @@ use Rattle.zf_steps.proofs.Prelude.{◌≡◌, ◌≢◌, ◌∙◌, ◌∷◌, 
 use Rattle.std.proofs.lemmas.Bool.{false≢true}
 use Rattle.zf_plan.proofs.Alike.{advances}
 use Rattle.zf_plan.specs.{SayTheSame}
-use Rattle.zf_enum.specs.declared.instances.Instances.{Instances}
+use Rattle.zf_instances.specs.declared.instances.Instances.{Instances}
 use Rattle.zf_steps.specs.declared.renewed.Renewed.{Renewed}
 
 pub goes_by_schema : {E : Type 0} (r : Renewed) (i j : Instances) (result : Result Stepped E) → r.search ≡ Some i

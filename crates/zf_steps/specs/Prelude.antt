@@ -5,7 +5,8 @@ pub use Rattle.zf_value.specs.declared.plain.Value.{Value}
 pub use Rattle.zf_value.specs.{value_order}
 pub use Rattle.zf_walk.specs.{Advances, AreAllAhead, SameRanges, Stage, IsTruthOf, Event, ComesAfter, IsEvent}
 pub use Rattle.zf_meaning.specs.{Environment, environment_of}
-pub use Rattle.zf_enum.specs.{property, conjuncts_of, planted_goal, one_truth_in, Begins, CanHold, portion}
+pub use Rattle.zf_enum.specs.{property, conjuncts_of, one_truth_in, Begins, portion}
+pub use Rattle.zf_instances.specs.{planted_goal, CanHold}
 pub use Rattle.zf_ranges.specs.{AreRanges, held_at, IsNoneOut, IsHeld, IsInSets, RefusesStart}
 pub use Rattle.zf_print.specs.declared.spelling.Spelling.{Spelling}
 pub use Rattle.zf_print.specs.{components_in, binding_object, binding_text, component_text}

@@ -3,7 +3,7 @@ use Rattle.std.specs.Prelude.{◌≡◌, ◌≢◌, ◌⊎◌, ℕ, Bool, true, 
 use Rattle.zf_steps.specs.Prelude.{AllByRecursion, Schema, schema_of, IsFinite, Value, Environment, environment_of, conjuncts_of, planted_goal, property, AreRanges, held_at, IsNoneOut}
 use Rattle.zf_walk.specs.{AreDueWithin, ended, Stage}
 use Rattle.zf_plan.specs.{SayTheSame}
-use Rattle.zf_enum.specs.declared.instances.Instances.{Instances}
+use Rattle.zf_instances.specs.declared.instances.Instances.{Instances}
 use Rattle.zf_steps.specs.declared.renewed.Renewed.{Renewed}
 use Rattle.zf_steps.specs.Finders.{Place}
 use Rattle.zf_steps.specs.Systems.{System}

@@ -9,7 +9,7 @@ use Rattle.zf_extent.specs.declared.offender.Offender.{Offender}
 use Rattle.zf_value.specs.declared.value.Truth.{Truth}
 use Rattle.zf_value.specs.declared.value.Truth.TheVariants as truth
 use Rattle.law_total.proofs.Terms.{some_truth}
-use Rattle.zf_enum.proofs.Planted.{due_binary}
+use Rattle.zf_instances.proofs.Planted.{due_binary}
 
 -- ---- numbered anew
 

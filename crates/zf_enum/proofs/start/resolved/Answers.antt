@@ -1,5 +1,5 @@
 use Rattle.zf_enum.proofs.Prelude.{◌+◌, ◌≡◌, List, map, subst, sym, take, conjunct_of, resolved_of, Resolved}
-use Rattle.zf_enum.proofs.Resolved.{one_more, all_done}
+use Rattle.zf_enum.proofs.ConjunctTerms.{one_more, all_done}
 use Rattle.zf_enum.proofs.start.resolved.Goals as goal
 
 pub loop-conjunct-preserved : goal.loop-conjunct-preserved
