@@ -55,7 +55,8 @@ pub use Rattle.zf_lines.specs.declared.fault.Status.TheVariants.{BadRequest, Bad
 pub use Rattle.law_total.proofs.Rows.{AreTold, one_truth_of}
 pub use Rattle.law_exists.proofs.Searches.{some_search, some_tests_line, some_list}
 pub use Rattle.zf_parts.proofs.Told.{property_told}
-pub use Rattle.zf_engine.specs.{Answer, AreHeld, AreMessages, AreShown, AreSmall, AreTooLarge, check_status, CheckAnswer, Checks, empty_lines, format_of, HasSchema, HoldsNoValues, IsAsked, IsLimited, IsLineOf, IsNamed, IsNamedRow, IsSearch, JobAnswer, JobBegins, listed, NamesNoParts, NamesNoRow, NamesParts, no_binding_line, numbers_of, RefusesRequest, RequestAnswer, row_after, satisfied_line, ShowBegins, ShowsEvents, ShowsParts, size_fault_messages, stated, TellsConjuncts, TellsShown, TellsWhy, told_lines, UnreadAnswer, wants_details, wording, AreSchemasOf, ExplorationAnswer, ExplorationBegins, ExploresMachine, HasInfinite, HasLacking, HasOut, HasSchemas, IsBounded, IsSchemaOf, IsSearchable, IsSettled, LacksSchema, RefusesExploration, Seeks, TellsFaults, TellsInfinite, TellsMachine, TellsMisfit, TellsNoSchema, TellsNumbers, TellsOut, component_place, ending_status, form_of, names_between, names_of, result_status, states_limit}
+pub use Rattle.zf_answers.specs.{AreHeld, AreMessages, AreShown, AreSmall, AreTooLarge, check_status, CheckAnswer, Checks, empty_lines, HasSchema, HoldsNoValues, IsAsked, IsLineOf, IsNamed, IsNamedRow, IsSearch, listed, NamesNoParts, NamesNoRow, NamesParts, no_binding_line, numbers_of, RefusesRequest, RequestAnswer, row_after, satisfied_line, size_fault_messages, stated, TellsConjuncts, TellsWhy, told_lines, UnreadAnswer, TellsFaults, TellsInfinite, TellsMisfit, TellsNoSchema, TellsNumbers, TellsOut, component_place, names_between}
+pub use Rattle.zf_engine.specs.{Answer, format_of, IsLimited, JobAnswer, JobBegins, ShowBegins, ShowsEvents, ShowsParts, TellsShown, wants_details, wording, AreSchemasOf, ExplorationAnswer, ExplorationBegins, ExploresMachine, HasInfinite, HasLacking, HasOut, HasSchemas, IsBounded, IsSchemaOf, IsSearchable, IsSettled, LacksSchema, RefusesExploration, Seeks, TellsMachine, ending_status, form_of, names_of, result_status, states_limit}
 pub use Rattle.zf_messages.specs.{AreFaultMessages, Cited, declared_out, IsReportedBeside, messages_text, no_component, no_schema_message, not_a_binding, not_components, not_finite_message, not_held, nothing, numbers_too_large, Reported, text_fault_message}
 pub use Rattle.zf_messages.specs.declared.message.Message.{Message}
 pub use Rattle.law_answered.specs.{AnswersRequest, AreAlike, AreFaultsAlike, AreMessagesAlike, AreOfSame, EachBindingIsShown, EndsLines, EventsAreShown, EveryHeldLineIsJudged, EveryLineIsJudged, EveryRequestIsAnswered, EverySourceIsRead, FirstLinesAreAFront, IsBefore, IsBinding, IsGranted, IsInDoubt, IsNotPast, IsShownInOneWay, limited, OneStatus, OneText, PartsAreFronts, ReasonIsTold, resumed, RunsMakeOne, ShowsBindings, together, EachPartIsShown, IsFirstInDoubt, IsPartOfBinding, IsSchemaAt, OneRowOfALine, OneRowOfAnObject, plain_message, PlainMessages, ReachableAreMet, RefusedLinesAreOfNoRow, SatisfiesAt, Says, ShowsEachPart, ShowsWay, WhatIsReachedIsTold, WhatIsSoughtIsTold, graph_in}

@@ -4,7 +4,7 @@ use Rattle.std.proofs.lemmas.Int.{ints}
 use Rattle.zf_term.specs.declared.extent.Infinite.TheVariants.{Num}
 use Rattle.zf_value.specs.declared.value.Outcome.TheVariants.{Out}
 use Rattle.zf_value.proofs.Intervals.{interval_not_out, interval_out}
-use Rattle.zf_engine.specs.declared.numbers.TheConstants.{NUMBERS_MAX}
+use Rattle.zf_answers.specs.declared.numbers.TheConstants.{NUMBERS_MAX}
 
 pub small_or_too_large : (numbers : Option ℕ) → AreSmall numbers ⊎ AreTooLarge numbers
 small_or_too_large None = inl tt

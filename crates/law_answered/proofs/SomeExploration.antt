@@ -4,7 +4,7 @@ use Rattle.zf_graph.proofs.Existing.{somehow_written}
 use Rattle.zf_steps.specs.{CanSearch}
 use Rattle.zf_machines.proofs.Sole.{can_search_all}
 use Rattle.zf_engine.proofs.Explored.{can_search}
-use Rattle.zf_engine.proofs.Lists.{all_weaker}
+use Rattle.zf_answers.proofs.Lists.{all_weaker}
 use Rattle.law_answered.proofs.EveryName.{finite_or_told, named_or_none}
 use Rattle.law_answered.proofs.FaultMessages.{some_messages}
 use Rattle.law_answered.proofs.Machines.{all_or_first, shape_or_lack, some_machine}

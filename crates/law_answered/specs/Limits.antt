@@ -7,7 +7,7 @@ use Rattle.zf_grammar.specs.{height_limit}
 use Rattle.zf_value.specs.declared.TheConstants.{SET_MAX}
 use Rattle.zf_value.specs.declared.value.Outcome.TheVariants.{Out}
 use Rattle.zf_term.specs.declared.extent.Infinite.TheVariants.{Num}
-use Rattle.zf_engine.specs.declared.numbers.TheConstants.{NUMBERS_MAX}
+use Rattle.zf_answers.specs.declared.numbers.TheConstants.{NUMBERS_MAX}
 
 -- a set has at most so many members, a source so many bytes, and a limit is at most so many bindings or states
 abbrev pub LimitsOfRuns : Type 0

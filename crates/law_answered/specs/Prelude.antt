@@ -10,7 +10,8 @@ pub use Rattle.zf_ranges.specs.{AreRanges}
 pub use Rattle.zf_lines.specs.declared.fault.Status.{Status}
 pub use Rattle.zf_lines.specs.{IsBelow, IsTestsLine, Wording, HasLimit}
 pub use Rattle.zf_command.specs.declared.job.Request.{Request}
-pub use Rattle.zf_engine.specs.{wording, Answer, AreHeld, Checks, format_of, HasSchema, HoldsNoValues, IsLimited, IsNamedRow, IsSearch, NamesNoRow, ShowsEvents, TellsConjuncts, TellsWhy, wants_details, AreTooLarge, IsLineOf, NamesParts, IsSearchable, TellsMachine, IsPartOfAnswer, ShowBegins, Seeks}
+pub use Rattle.zf_answers.specs.{AreHeld, Checks, HasSchema, HoldsNoValues, IsNamedRow, IsSearch, NamesNoRow, TellsConjuncts, TellsWhy, AreTooLarge, IsLineOf, NamesParts}
+pub use Rattle.zf_engine.specs.{wording, Answer, format_of, IsLimited, ShowsEvents, wants_details, IsSearchable, TellsMachine, IsPartOfAnswer, ShowBegins, Seeks}
 pub use Rattle.zf_command.specs.declared.job.Job.{Job}
 pub use Rattle.zf_command.specs.declared.job.Job.TheVariants.{Show, Why, Reach}
 pub use Rattle.zf_scan.specs.{IsCutInto, number_max}

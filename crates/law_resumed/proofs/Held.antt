@@ -5,7 +5,7 @@ use Rattle.zf_value.specs.declared.plain.Value.{Value}
 use Rattle.zf_meaning.specs.{Environment, IsOfType, IsRow}
 use Rattle.zf_read.specs.{held_comps, held_values}
 use Rattle.law_sound.specs.{AreHeldTyped}
-use Rattle.zf_engine.specs.{AreHeld}
+use Rattle.zf_answers.specs.{AreHeld}
 
 none_typed : (e : Environment) (cs : List Comp) → AreHeldTyped e cs []
 none_typed e [] = tt

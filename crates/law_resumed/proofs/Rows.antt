@@ -2,7 +2,7 @@
 use Rattle.std.proofs.Common.{refl}
 use Rattle.zf_term.specs.{schema}
 use Rattle.law_sound.proofs.Rows.{events_of_texts_typed}
-use Rattle.zf_engine.specs.{numbers_of, stated}
+use Rattle.zf_answers.specs.{numbers_of, stated}
 use Rattle.zf_schema.proofs.Named.{named_there}
 use Rattle.law_resumed.specs.{LinesAreRows}
 use Rattle.law_resumed.proofs.Held.{held_typed}

@@ -8,7 +8,7 @@ use Rattle.zf_enum.specs.{Portion}
 use Rattle.zf_print.specs.{binding_text, spellings}
 use Rattle.zf_lines.specs.{HasEvents}
 use Rattle.zf_command.specs.declared.job.Request.{Request}
-use Rattle.zf_engine.specs.{IsLineOf, IsSearch}
+use Rattle.zf_answers.specs.{IsLineOf, IsSearch}
 
 -- the text of each event of a search is the line of a row of the schema's types: what the option for the named binding takes
 abbrev pub LinesAreRows : Type 0

@@ -1,5 +1,5 @@
 -- The lines of what is chosen, one after another.
-use Rattle.zf_engine.proofs.Prelude.{◌++◌, ◌+◌, ◌<◌, ◌∙◌, ◌≡◌, [], ap, append_assoc, Bool, false, length, List, refl, Some, sym, true, ℕ, drop, slice_get, flat_map, stays_out_at}
+use Rattle.zf_answers.proofs.Prelude.{◌++◌, ◌+◌, ◌<◌, ◌∙◌, ◌≡◌, [], ap, append_assoc, Bool, false, length, List, refl, Some, sym, true, ℕ, drop, slice_get, flat_map, stays_out_at}
 use Rattle.zf_cores.specs.{chosen_of}
 use Rattle.zf_cores.proofs.Choosing.{goes_in}
 

@@ -1,8 +1,8 @@
 -- A schema that a well typed text defines can be searched: each conjunct needs the components of the schema alone.
-use Rattle.zf_engine.proofs.Prelude.{[], ◌<◌, ◌∷◌, ◌≡◌, ◌≤◌, arith, length, List, Some, suc, take, zero, ℕ, none-some, AreDueWithin, Defined, Schema, schema, ResolvedTree, AreWellTyped, Environment, due_of, property, IsNamed, slice_get}
+use Rattle.zf_answers.proofs.Prelude.{[], ◌<◌, ◌∷◌, ◌≡◌, ◌≤◌, arith, length, List, Some, suc, take, zero, ℕ, none-some, AreDueWithin, Defined, Schema, schema, ResolvedTree, AreWellTyped, Environment, due_of, property, IsNamed, slice_get}
 use Rattle.zf_schema.proofs.Named.{named_there}
-use Rattle.zf_engine.proofs.Within.{AreDue}
-use Rattle.zf_engine.proofs.OwnComponents.{IsOwn, AreOwn, own_schema}
+use Rattle.zf_answers.proofs.Within.{AreDue}
+use Rattle.zf_answers.proofs.OwnComponents.{IsOwn, AreOwn, own_schema}
 
 in_front : (i j : ℕ) (g : List Defined) (d : Defined) → slice_get (take i g) j ≡ Some d → (j < i) × (slice_get g j ≡ Some d)
 in_front zero j g d e = absurd (none-some d e)

@@ -1,5 +1,5 @@
 -- The first event of a search, and what is reported of it.
-use Rattle.zf_engine.proofs.Prelude.{◌++◌, ◌∙◌, ◌∷◌, ◌≡◌, [], ap, List, None, Option, refl, Some, subst, ℕ, Stage, Value, Schema, Environment, portion, property, Goal, spellings, Spelling, unwrap_or, Begins, conjuncts_of, value_order, Advances, Event, IsNoneAhead, Takes, Done, PastBounds, HasEvents, out_line, row_line, CanBeSearched, environment_in, HasNone, IsBegunOf, line_in, out_line_in, satisfied_line, schema_in, TellsFirst, TellsWhy, Subject}
+use Rattle.zf_answers.proofs.Prelude.{◌++◌, ◌∙◌, ◌∷◌, ◌≡◌, [], ap, List, None, Option, refl, Some, subst, ℕ, Stage, Value, Schema, Environment, portion, property, Goal, spellings, Spelling, unwrap_or, Begins, conjuncts_of, value_order, Advances, Event, IsNoneAhead, Takes, Done, PastBounds, HasEvents, out_line, row_line, CanBeSearched, environment_in, HasNone, IsBegunOf, line_in, out_line_in, satisfied_line, schema_in, TellsFirst, TellsWhy, Subject}
 use Rattle.zf_value.specs.contracts.plain.ValueOrd.TheImpl.Laws as order_laws
 use Rattle.zf_walk.specs.Conjuncts.{Conjuncts}
 use Rattle.zf_walk.specs.declared.judge.Truth.TheVariants.{Out, True}

@@ -1,5 +1,5 @@
 -- What holds of each of a list.
-use Rattle.zf_engine.proofs.Prelude.{[], ◌++◌, ◌∷◌, List, map, AllByRecursion}
+use Rattle.zf_answers.proofs.Prelude.{[], ◌++◌, ◌∷◌, List, map, AllByRecursion}
 
 module _ {A : Type 0} (P : A → Type 0) where
   pub all_joined : (xs ys : List A) → AllByRecursion P xs → AllByRecursion P ys → AllByRecursion P (xs ++ ys)

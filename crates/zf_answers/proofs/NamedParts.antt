@@ -1,9 +1,13 @@
 -- The names of components in a text, read one after another.
-use Rattle.zf_engine.proofs.Prelude.{◌++◌, ◌+◌, ◌<◌, ◌==◌, ◌∙◌, ◌∷◌, ◌≡◌, ◌≢◌, [], ap, arith, eqb-true, false, get_or, inl, inr, length, length-append, List, map, None, Option, refl, Some, subst, sym, take, true, ℕ, Comp, ahead_at, eq-eqb, list_any_at, get_or_append_left, get_or_default, map-append, take_all, take_more, drop, option_map, AllPairs, Contains, list_any, slice_split, first_named, component_place, HasNoPlace, is_comma, IsAdded, NamesParts, trimmed}
+use Rattle.zf_answers.proofs.Prelude.{◌++◌, ◌+◌, ◌<◌, ◌==◌, ◌∙◌, ◌∷◌, ◌≡◌, ◌≢◌, [], ap, arith, eqb-true, false, get_or, inl, inr, length, length-append, List, map, None, Option, refl, Some, subst, sym, take, true, ℕ, Comp, eq-eqb, list_any_at, get_or_append_left, get_or_default, map-append, take_all, take_more, drop, option_map, AllPairs, Contains, list_any, slice_split, first_named, component_place, HasNoPlace, is_comma, IsAdded, NamesParts, trimmed}
 use Rattle.std.proofs.lemmas.Map.Views.{Contains-from_any}
 use Rattle.std.proofs.Math.Seq.{get_or-append_seam}
 use Rattle.std.proofs.lemmas.List.Quantifiers.{all_pairs_push}
-use Rattle.std.proofs.lemmas.List.{take-append-drop}
+use Rattle.std.proofs.lemmas.List.{drop_more, take-append-drop}
+
+-- what is ahead of a place, as it is seen
+ahead_at : {X : Type 0} (xs : List X) (i : ℕ) (x : X) → x ≡ get_or xs i x → i < length xs → drop i xs ≡ x ∷ drop (i + 1) xs
+ahead_at xs i x at l = drop_more xs i x l ∙ ap (λ y. y ∷ drop (i + 1) xs) (sym at)
 
 -- ---- lists of places
 

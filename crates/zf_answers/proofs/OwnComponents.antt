@@ -1,5 +1,5 @@
 -- The conjuncts of each schema that a text defines name its own components alone.
-use Rattle.zf_engine.proofs.Prelude.{inl, inr, [], AllByRecursion, ap, ◌∙◌, false≢true, option_or, if◌then◌else◌, ◌++◌, ◌+◌, ◌<◌, ◌∷◌, ◌≡◌, ◌≤◌, arith, Bool, false, length, List, map, None, Option, refl, Some, subst, suc, sym, true, zero, ℕ, length-map, none-some, same_Some, bytes_eq, Component, spelling, both, DeclTree, either, include, schema_bracket, schema_text, SchemaTree, Tree, vars, carrier, Comp, DeclaredSet, Defined, plain, Schema, schema, sides, binary, ResolvedTree, conjuncts, term_span, moved, resolved, due, Ty}
+use Rattle.zf_answers.proofs.Prelude.{inl, inr, [], AllByRecursion, ap, ◌∙◌, false≢true, option_or, if◌then◌else◌, ◌++◌, ◌+◌, ◌<◌, ◌∷◌, ◌≡◌, ◌≤◌, arith, Bool, false, length, List, map, None, Option, refl, Some, subst, suc, sym, true, zero, ℕ, length-map, none-some, same_Some, bytes_eq, Component, spelling, both, DeclTree, either, include, schema_bracket, schema_text, SchemaTree, Tree, vars, carrier, Comp, DeclaredSet, Defined, plain, Schema, schema, sides, binary, ResolvedTree, conjuncts, term_span, moved, resolved, due, Ty}
 use Rattle.std.specs.Prelude.{flat_map, fold, slice_get}
 use Rattle.zf_tree.specs.declared.symbol.Connective.TheVariants.{And}
 use Rattle.zf_tree.specs.declared.span.Span.{Span}
@@ -17,8 +17,8 @@ use Rattle.std.proofs.lemmas.Option.{slice_get_cases}
 use Rattle.zf_calculus.proofs.Merging.{known_is, none_shorter, nothing_before}
 use Rattle.zf_schema.proofs.Named.{joined_type, named_there, not_found}
 use Rattle.zf_schema.specs.{type_found, type_named}
-use Rattle.zf_engine.proofs.Lists.{all_joined, all_mapped}
-use Rattle.zf_engine.proofs.Within.{AreDue, conjuncts_due, due_both, due_joined, due_longer, greatest_onto, moved_due, resolved_within}
+use Rattle.zf_answers.proofs.Lists.{all_joined, all_mapped}
+use Rattle.zf_answers.proofs.Within.{AreDue, conjuncts_due, due_both, due_joined, due_longer, greatest_onto, moved_due, resolved_within}
 
 -- ---- places
 

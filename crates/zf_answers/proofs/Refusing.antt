@@ -1,5 +1,5 @@
 -- The steps before the first binding make answers: refusals, in their order.
-use Rattle.zf_engine.proofs.Prelude.{◌==◌, ◌∙◌, ◌∷◌, ◌≡◌, ◌⊎◌, [], ap, arith, Bool, Err, false, IfErr, inl, inr, length, List, map, None, Ok, Option, refl, Result, Some, subst, sym, true, ℕ, eqb-true, Value, Comp, Defined, Schema, AreWellTyped, Environment, spellings, Spelling, Status, AreHeld, Checks, HasSchema, IsAsked, IsNamed, IsNamedRow, Request, RefusesRequest, numbers_of, stated, UnreadAnswer, AnswersRequest, IfAnswered, IsRefused, IsUnfit, IsTextFault, AreSmall, TellsInfinite, TellsMisfit, TellsNoSchema, TellsNumbers, TellsNoRow, TellsNoValues, TellsBounds, TellsMisnamed, TellsOut, TellsPlace, TellsPlaceHeld, Cited, Message, Stop, Answered, OutOfMemory, IsFinite, Fault, AreComplete, given_sets, IsEnvironment, AreClear, binding_text, AreShown, NamesParts, row_after, comps_at}
+use Rattle.zf_answers.proofs.Prelude.{◌==◌, ◌∙◌, ◌∷◌, ◌≡◌, ◌⊎◌, [], ap, arith, Bool, Err, false, IfErr, inl, inr, length, List, map, None, Ok, Option, refl, Result, Some, subst, sym, true, ℕ, eqb-true, Value, Comp, Defined, Schema, AreWellTyped, Environment, spellings, Spelling, Status, AreHeld, Checks, HasSchema, IsAsked, IsNamed, IsNamedRow, Request, RefusesRequest, numbers_of, stated, UnreadAnswer, AnswersRequest, IfAnswered, IsRefused, IsUnfit, IsTextFault, AreSmall, TellsInfinite, TellsMisfit, TellsNoSchema, TellsNumbers, TellsNoRow, TellsNoValues, TellsBounds, TellsMisnamed, TellsOut, TellsPlace, TellsPlaceHeld, Cited, Message, Stop, Answered, OutOfMemory, IsFinite, Fault, AreComplete, given_sets, IsEnvironment, AreClear, binding_text, AreShown, NamesParts, row_after, comps_at}
 use Rattle.zf_scan.specs.declared.fault.TextFault.{TextFault}
 use Rattle.zf_scan.specs.{IsWantOfMemory}
 use Rattle.zf_parse.specs.{RefusesSource}

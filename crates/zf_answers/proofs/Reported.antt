@@ -1,5 +1,5 @@
 -- The messages of faults, one fault after another.
-use Rattle.zf_engine.proofs.Prelude.{◌++◌, ◌+◌, ◌<◌, ◌∙◌, ◌∷◌, ◌≡◌, [], ap, Bool, get_or, length, List, map, subst, sym, take, ℕ, fault_of, AreFaultMessages, type_fault_message, map-append, take_more, Fault, Aside, Reported, Message}
+use Rattle.zf_answers.proofs.Prelude.{◌++◌, ◌+◌, ◌<◌, ◌∙◌, ◌∷◌, ◌≡◌, [], ap, Bool, get_or, length, List, map, subst, sym, take, ℕ, fault_of, AreFaultMessages, type_fault_message, map-append, take_more, Fault, Aside, Reported, Message}
 use Rattle.zf_sorts.specs.declared.fault.TypeFault.{TypeFault}
 
 module _ (details : Bool) (source : List ℕ) where

@@ -1,8 +1,7 @@
--- What is asked for can be searched, in the wording of the request.
-use Rattle.zf_engine.proofs.Prelude.{◌∙◌, ◌≡◌, ap, List, None, Option, refl, Some, subst, sym, ℕ, Comp, IsNamedRow, IsSearch, portion, Request, schema_of, spellings, Value, wording, row_wording, comps_at, part_wording, IsNoneOut, AreShown, CanBeSearched, environment_in, IsChosenBy, IsSubjectOf, NamesParts, schema_in, shown_in, Subject}
-use Rattle.zf_engine.specs.declared.bounds.Chosen.{Chosen}
-use Rattle.zf_engine.proofs.DueWithin.{due_within}
-use Rattle.zf_engine.proofs.Refusing.{after_all, after_some, all_shown, some_shown, well_typed}
+-- What is asked for can be searched.
+use Rattle.zf_answers.proofs.Prelude.{◌≡◌, List, None, Option, refl, Some, subst, sym, ℕ, Comp, IsNamedRow, IsSearch, portion, Request, schema_of, Value, comps_at, IsNoneOut, AreShown, CanBeSearched, environment_in, IsChosenBy, IsSubjectOf, NamesParts, schema_in, shown_in, Subject}
+use Rattle.zf_answers.specs.declared.bounds.Chosen.{Chosen}
+use Rattle.zf_answers.proofs.DueWithin.{due_within}
 
 module _ (r : Request) (source : List ℕ) (s : Subject) (is : IsSubjectOf r source s) where
   pub can_be_searched : CanBeSearched s
@@ -11,9 +10,6 @@ module _ (r : Request) (source : List ℕ) (s : Subject) (is : IsSubjectOf r sou
     due = due_within (environment_in s) (environment_in s).globals r.name (schema_in s) (well_typed source (environment_in s).globals is.asked.has_schema.checks) is.asked.has_schema.named;
     spelled = is.spelled;
   }
-
-  pub worded : row_wording s.style.now.format s.style.now.elements.now (schema_in s).comps ≡ wording r (environment_in s).globals (schema_in s)
-  worded = ap (λ f. row_wording f s.style.now.elements.now (schema_in s).comps) is.formed ∙ ap (λ k. row_wording r.format k (schema_in s).comps) is.spelled
 
   -- it is searched from a row on, if one is named
   pub searched_all : r.only ≡ None → (after : Option (List Value)) → IsNamedRow (environment_in s) (schema_in s).comps r.after after → IsNoneOut (environment_in s) (schema_in s).comps
@@ -43,15 +39,6 @@ module _ (r : Request) (source : List ℕ) (s : Subject) (is : IsSubjectOf r sou
     held = is.held;
     none_out = none_out;
   }
-
-  -- the wording of parts, where these are their components
-  pub part_worded : (places : List ℕ) (c : Chosen) → (schema_of c.schema.now).comps ≡ comps_at (schema_in s).comps places
-      → part_wording s.style.now.format s.style.now.elements.now (schema_of c.schema.now).comps (schema_in s).comps
-      ≡ part_wording r.format (spellings (environment_in s).globals) (comps_at (schema_in s).comps places) (schema_in s).comps
-  part_worded places c same =
-      ap (λ f. part_wording f s.style.now.elements.now (schema_of c.schema.now).comps (schema_in s).comps) is.formed
-      ∙ ap (λ k. part_wording r.format k (schema_of c.schema.now).comps (schema_in s).comps) is.spelled
-      ∙ ap (λ cs. part_wording r.format (spellings (environment_in s).globals) cs (schema_in s).comps) same
 
 -- the components that are chosen by a text
 pub chosen_by : (comps : List Comp) (only : Option (List ℕ)) (c : Chosen) → IsChosenBy comps only (Some c)

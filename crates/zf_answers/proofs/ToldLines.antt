@@ -1,6 +1,14 @@
 -- What is reported piece after piece, where the last may be refused.
-use Rattle.zf_engine.proofs.Prelude.{◌++◌, ◌≡◌, Err, List, Ok, OnOk, Result, ℕ}
-use Rattle.zf_steps.proofs.Pieces.{next_piece}
+use Rattle.zf_answers.proofs.Prelude.{◌++◌, ◌∙◌, ◌≡◌, ap, append_assoc, Err, List, Ok, OnOk, Result, ℕ, if◌then◌else◌}
+use Rattle.std.specs.Result.{is_ok}
+
+-- what is so where nothing is refused
+pub if_appended : {T E : Type 0} (r : Result T E) (w x y : List ℕ) → w ≡ (if is_ok r then x else y) → OnOk r (w ≡ x)
+if_appended (Ok v) w x y h = h
+if_appended (Err e) w x y h = tt
+
+next_piece : (line a b u v : List ℕ) → u ≡ line ++ a → v ≡ u ++ b → v ≡ line ++ (a ++ b)
+next_piece line a b u v p q = q ∙ ap (λ x. x ++ b) p ∙ append_assoc line a b
 
 two_told : {R E : Type 0} (r : Result R E) (old a b mid new : List ℕ) → mid ≡ old ++ a → OnOk r (new ≡ mid ++ b) → OnOk r (new ≡ old ++ (a ++ b))
 two_told (Ok x) old a b mid new one last = next_piece old a b mid new one last

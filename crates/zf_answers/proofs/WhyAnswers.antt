@@ -1,13 +1,13 @@
 -- What `why` finds is the answer of its request.
-use Rattle.zf_engine.proofs.Prelude.{◌++◌, ◌∙◌, ◌≡◌, ap, Bool, Err, IfOk, inr, List, None, Ok, Option, refl, Result, subst, sym, ℕ, codes, spellings, Value, Schema, Environment, portion, Status, Answer, AreHeld, IsAsked, IsNamedRow, Request, RequestAnswer, AnswersRequest, IfAnswered, TellsOut, Stop, OnOk, Why, IsNoneOut, Done, CanBeSearched, cause_lines, environment_in, HasNone, no_binding_line, schema_in, TellsNone, TellsOf, TellsWhy, told_lines, Subject}
+use Rattle.zf_answers.proofs.Prelude.{◌++◌, ◌∙◌, ◌≡◌, ap, Bool, Err, IfOk, List, None, Ok, Option, refl, Result, subst, sym, ℕ, codes, spellings, Value, Schema, Environment, portion, Status, WhyAnswer, AreHeld, IsAsked, IsNamedRow, Request, RequestAnswer, AnswersRequest, IfAnswered, TellsOut, Stop, OnOk, IsNoneOut, Done, CanBeSearched, cause_lines, environment_in, HasNone, no_binding_line, schema_in, TellsNone, TellsOf, TellsWhy, told_lines, Subject}
 use Rattle.std.proofs.Common.{Global, Vec}
 use Rattle.zf_command.specs.{IsBare}
 use Rattle.zf_why.specs.{Explains, Split, split_at}
 use Rattle.zf_why.specs.declared.cause.Cause.{Cause}
 use Rattle.zf_why.specs.declared.cause.Cause.TheVariants.{Alone, Empty, Together}
 use Rattle.zf_why.specs.declared.told.Told.{Told}
-use Rattle.zf_engine.specs.Subjects.{IsOfSchema}
-use Rattle.zf_engine.proofs.Refusing.{after_all, all_shown, out_answers}
+use Rattle.zf_answers.specs.Subjects.{IsOfSchema}
+use Rattle.zf_answers.proofs.Refusing.{after_all, all_shown, out_answers}
 
 -- no row is named where none is asked for
 pub none_named : (r : Request) (e : Environment) (a : Schema) → IsBare r → IsNamedRow e a.comps r.after None
@@ -16,9 +16,9 @@ none_named r e a plain = subst (λ t. IsNamedRow e a.comps t None) (sym plain.0)
 module _ (r : Request) (file source : List ℕ) (a : Schema) (e : Environment) (held : List (Option Value)) (plain : IsBare r)
     (is : IsAsked r source e.globals a e) (are : AreHeld e a.comps r.held held) where
   pub why_told : (text : List ℕ) (status : Status) → IsNoneOut e a.comps
-      → TellsWhy r.format r.details file source e.globals a e (portion None held) text status → Answer (Why r) file source text status
+      → TellsWhy r.format r.details file source e.globals a e (portion None held) text status → WhyAnswer r file source text status
   why_told text status none_out told =
-      inr (RequestAnswer.granted e.globals a e (portion None held) (record {
+      RequestAnswer.granted e.globals a e (portion None held) (record {
         asked = is;
         shown = a.comps;
         after = None;
@@ -27,10 +27,10 @@ module _ (r : Request) (file source : List ℕ) (a : Schema) (e : Environment) (
         begins = after_all r e a.comps plain.1 None;
         held = are;
         none_out = none_out;
-      }) told)
+      }) told
 
   pub why_found : {E : Type 0} (result : Result (Vec ℕ Global × Status) E) (details : Bool) → details ≡ r.details → OnOk result (IsNoneOut e a.comps)
-      → IfOk result (λ p. TellsWhy r.format details file source e.globals a e (portion None held) p.0.items p.1) → IfOk result (λ p. Answer (Why r) file source p.0.items p.1)
+      → IfOk result (λ p. TellsWhy r.format details file source e.globals a e (portion None held) p.0.items p.1) → IfOk result (λ p. WhyAnswer r file source p.0.items p.1)
   why_found (Ok (text, status)) details same none_out told = why_told text.items status none_out
       (subst (λ (d : Bool). TellsWhy r.format d file source e.globals a e (portion None held) text.items status) same told)
   why_found (Err stop) details same none_out told = tt

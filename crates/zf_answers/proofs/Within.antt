@@ -1,12 +1,12 @@
 -- The conjuncts of a schema name its own components alone.
-use Rattle.zf_engine.proofs.Prelude.{[], AllByRecursion, ◌∙◌, if◌then◌else◌, ◌++◌, ◌+◌, ◌<◌, ◌∷◌, ◌≡◌, ◌≤◌, ap, arith, Bool, false, length, List, map, None, Option, refl, Some, subst, sym, true, ℕ, Component, Global, Local, spelling, Links, no_decls, no_trees, Perhaps, Tree, tree, Trees, var_decl, VarDecls, onto_behind, Comp, Defined, first_named, binary, bracket, comprehension, chain, constant, empty_set, listed, quantified, ResolvedTree, unary, conjuncts, is_and, is_conjunction, moved, references, bound, referent, resolved, resolved_all, resolved_links, resolved_part, resolved_ranges, due, greatest_place, place_named, option_or, all_onto, links_onto, onto, part_onto, ranges_onto, component_meaning, global_meaning, last_named, meaning, Scope, Var, variable_meaning}
+use Rattle.zf_answers.proofs.Prelude.{[], AllByRecursion, ◌∙◌, if◌then◌else◌, ◌++◌, ◌+◌, ◌<◌, ◌∷◌, ◌≡◌, ◌≤◌, ap, arith, Bool, false, length, List, map, None, Option, refl, Some, subst, sym, true, ℕ, Component, Global, Local, spelling, Links, no_decls, no_trees, Perhaps, Tree, tree, Trees, var_decl, VarDecls, onto_behind, Comp, Defined, first_named, binary, bracket, comprehension, chain, constant, empty_set, listed, quantified, ResolvedTree, unary, conjuncts, is_and, is_conjunction, moved, references, bound, referent, resolved, resolved_all, resolved_links, resolved_part, resolved_ranges, due, greatest_place, place_named, option_or, all_onto, links_onto, onto, part_onto, ranges_onto, component_meaning, global_meaning, last_named, meaning, Scope, Var, variable_meaning}
 use Rattle.std.specs.Prelude.{max}
 use Rattle.zf_tree.specs.Trees as text
 use Rattle.zf_reference.specs.declared.reference.Reference.{Reference}
 use Rattle.zf_reference.specs.{renumbered}
 use Rattle.zf_term.proofs.MovedReferences.{moved_keeps_variables}
 use Rattle.zf_calculus.proofs.Merging.{known_is}
-use Rattle.zf_engine.proofs.Lists.{all_joined, all_weaker}
+use Rattle.zf_answers.proofs.Lists.{all_joined, all_weaker}
 
 -- ---- places
 

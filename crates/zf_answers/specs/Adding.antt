@@ -1,8 +1,8 @@
 -- One more place of a component. No public clause rests on this file.
 use Rattle.std.specs.Prelude.{◌≡◌, ◌⊎◌, ℕ, List, [], ◌∷◌, ◌++◌, Some, None, Contains}
-use Rattle.zf_engine.specs.Prelude.{Comp}
-use Rattle.zf_engine.specs.Only.{trimmed}
-use Rattle.zf_engine.specs.Only.{component_place}
+use Rattle.zf_answers.specs.Prelude.{Comp}
+use Rattle.zf_answers.specs.Only.{trimmed}
+use Rattle.zf_answers.specs.Only.{component_place}
 
 -- after these places stands that of the component which is named between blanks, and it is none of them
 pub record IsAdded (comps : List Comp) (name : List ℕ) (old new : List ℕ) : Type 0 where

@@ -1,7 +1,7 @@
 -- The lines of a cause, as the program has it. No public clause rests on this file.
 use Rattle.std.specs.Prelude.{ℕ, Bool, List, ◌++◌, codes}
-use Rattle.zf_engine.specs.Prelude.{Format, Spelling, Schema, chosen_of, Cause, Empty, Alone, Together}
-use Rattle.zf_engine.specs.Reasons.{empty_lines, no_binding_line, told_lines}
+use Rattle.zf_answers.specs.Prelude.{Format, Spelling, Schema, chosen_of, Cause, Empty, Alone, Together}
+use Rattle.zf_answers.specs.Reasons.{empty_lines, no_binding_line, told_lines}
 
 -- the components without a value, or what is reported of the conjuncts that are to blame
 abbrev pub reasons : Format → (details : Bool) → (file source : List ℕ) → List Spelling → Schema → Cause → List ℕ

@@ -1,6 +1,6 @@
 -- The statuses of a process, and what a reader gave.
 use Rattle.std.specs.Prelude.{◌≡◌, ◌≤◌, ℕ, ◌+◌, ◌⊎◌, List, length, Option}
-use Rattle.zf_engine.specs.Prelude.{Consumes, IsAtEnd, SOURCE_MAX}
+use Rattle.zf_answers.specs.Prelude.{Consumes, IsAtEnd, SOURCE_MAX}
 
 -- the reader gave these bytes, and is at its end or gave one byte more than a source may have
 abbrev pub Gave : Option (List ℕ) → Option (List ℕ) → List ℕ → Type 0

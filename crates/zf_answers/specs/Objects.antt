@@ -1,8 +1,8 @@
 -- The objects of a cause: what `why` tells of a conjunct, for programs.
 use Rattle.std.specs.Prelude.{ℕ, Bool, List, [], ◌∷◌, ◌++◌, codes, decimal, map, Option, Some, None}
-use Rattle.zf_engine.specs.Prelude.{Comes, Comp, detail_member, flat_map, line_at, member, Operand, Operands, Outcome, Part, parted, place_members, quoted, Side, Spelling, Stands, Told, value_object}
+use Rattle.zf_answers.specs.Prelude.{Comes, Comp, detail_member, flat_map, line_at, member, Operand, Operands, Outcome, Part, parted, place_members, quoted, Side, Spelling, Stands, Told, value_object}
 use Rattle.zf_value.specs.declared.value.Outcome.TheVariants as outcome
-use Rattle.zf_engine.specs.Parts.{at_line, part_place, part_text, range_details}
+use Rattle.zf_answers.specs.Parts.{at_line, part_place, part_text, range_details}
 
 -- `{"line": LINE, "source": PREDICATE}`
 abbrev pub part_object : (source : List ℕ) → List Comp → Part → List ℕ

@@ -1,6 +1,6 @@
 -- Which components the lines of `show` have: those that a text names, parted by commas, or all.
 use Rattle.std.specs.Prelude.{◌≡◌, ◌≢◌, ℕ, ◌-◌, ◌==◌, Bool, List, length, take, drop, map, Option, Some, None, option_map, AllPairs}
-use Rattle.zf_engine.specs.Prelude.{prefix_len, slice_split, suffix_len, Comp, first_named, comps_at}
+use Rattle.zf_answers.specs.Prelude.{prefix_len, slice_split, suffix_len, Comp, first_named, comps_at}
 use Rattle.std.specs.Char.{is_ascii_whitespace}
 
 -- a text without the blanks round it

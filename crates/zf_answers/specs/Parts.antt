@@ -1,7 +1,7 @@
 -- What `why` shows a conjunct by.
 use Rattle.std.specs.Prelude.{ℕ, Bool, if◌then◌else◌, List, [], ◌++◌, codes, slice_get}
 use Rattle.std.specs.Option.{option_map_or}
-use Rattle.zf_engine.specs.Prelude.{At, Comes, Comp, Detail, Line, line_at, line_range, Member, Operand, Outcome, Part, quoted, Span, Spelling, Stands, Text, Unchanged, value_text}
+use Rattle.zf_answers.specs.Prelude.{At, Comes, Comp, Detail, Line, line_at, line_range, Member, Operand, Outcome, Part, quoted, Span, Spelling, Stands, Text, Unchanged, value_text}
 use Rattle.zf_value.specs.declared.value.Outcome.TheVariants as outcome
 
 -- the name of the component at a place

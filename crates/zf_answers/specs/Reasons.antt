@@ -1,9 +1,9 @@
 -- What `why` tells of a search: its first event, or why there is none.
 use Rattle.std.specs.Prelude.{◌≡◌, ℕ, Bool, List, [], ◌∷◌, ◌++◌, codes, Option, Some, None}
-use Rattle.zf_engine.specs.Prelude.{At, flat_map, Format, Lines, Objects, Comp, Defined, ResolvedTree, Schema, sets_of, first_plain, Span, Value, Event, Environment, Portion, Spelling, spellings, chosen_of, Operands, Part, Side, Split, Told, AreTold, detail_line, member, place_members, place_text, quoted, EmptiedBy, nothing_beside, others_beside, RefutedBy, RefutedTogetherBy, Status, Done, PastBounds, HasEvents, out_line, row_line}
+use Rattle.zf_answers.specs.Prelude.{At, flat_map, Format, Lines, Objects, Comp, Defined, ResolvedTree, Schema, sets_of, first_plain, Span, Value, Event, Environment, Portion, Spelling, spellings, chosen_of, Operands, Part, Side, Split, Told, AreTold, detail_line, member, place_members, place_text, quoted, EmptiedBy, nothing_beside, others_beside, RefutedBy, RefutedTogetherBy, Status, Done, PastBounds, HasEvents, out_line, row_line}
 use Rattle.zf_walk.specs.declared.judge.Truth.TheVariants.{True, Out}
-use Rattle.zf_engine.specs.Objects.{told_object}
-use Rattle.zf_engine.specs.Parts.{at_line, outcome_text, operand_text, part_place, part_text, range_details}
+use Rattle.zf_answers.specs.Objects.{told_object}
+use Rattle.zf_answers.specs.Parts.{at_line, outcome_text, operand_text, part_place, part_text, range_details}
 
 -- ---- the lines of a cause
 

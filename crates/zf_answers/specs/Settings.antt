@@ -1,12 +1,12 @@
 -- What `show`, `why` and `reach` share: what a source defines, the sizes and the greatest number that are stated, and what is reported where these or a schema are refused.
 use Rattle.std.specs.Prelude.{◌≡◌, ◌≢◌, ℕ, Bool, not, List, [], ◌∷◌, ◌++◌, map, Option, Some, None, slice_get}
-use Rattle.zf_engine.specs.Prelude.{filter, list_any, bytes_eq, Format, messages_text, NotFinite, causes, ReadsSource, BoxTree, Comp, Defined, Fault, first_named, Schema, schema, first, SizeFault, NoSize, NotGiven, SizeTwice, SizeTooLarge, Environment, given_sets, IsRefusal, IsFirstOut, Status, BadSpec, BadRequest, PastBounds, Message, AreFaultMessages, declared_out, IsReportedBeside, no_schema_message, no_size_message, not_finite_message, not_given, numbers_too_large, size_too_large, size_twice}
+use Rattle.zf_answers.specs.Prelude.{filter, list_any, bytes_eq, Format, messages_text, NotFinite, causes, ReadsSource, BoxTree, Comp, Defined, Fault, first_named, Schema, schema, first, SizeFault, NoSize, NotGiven, SizeTwice, SizeTooLarge, Environment, given_sets, IsRefusal, IsFirstOut, Status, BadSpec, BadRequest, PastBounds, Message, AreFaultMessages, declared_out, IsReportedBeside, no_schema_message, no_size_message, not_finite_message, not_given, numbers_too_large, size_too_large, size_twice}
 use Rattle.zf_command.specs.declared.job.Setting.{Setting}
 use Rattle.zf_command.specs.declared.job.Size as command
 use Rattle.zf_schema.specs.{IsChecked}
 use Rattle.zf_meaning.specs.declared.sizes.Size.{Size}
 use Rattle.zf_meaning.specs.declared.sizes.SizeFault.TheVariants as size_faults
-use Rattle.zf_engine.specs.Numbers.{AreTooLarge}
+use Rattle.zf_answers.specs.Numbers.{AreTooLarge}
 
 -- a tree reads the source; it defines these globals, and has these faults of types
 pub record Checks (source : List ℕ) (globals : List Defined) (faults : List Fault) : Type 0 where

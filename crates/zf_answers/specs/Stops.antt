@@ -1,18 +1,14 @@
 -- What the steps of an answer ensure. No public clause rests on this file.
 use Rattle.std.specs.Prelude.{◌≡◌, ◌≢◌, ◌⊎◌, ℕ, Bool, List, [], ◌∷◌, Option, Result, Ok, Err}
-use Rattle.zf_engine.specs.Prelude.{Appends, Reach, Show, TextFault, Comp, Defined, Value, Environment, Status, BadSpec, BadRequest, Exploration, Request, AppendsFront, Cited, Message, not_a_binding, not_components, not_held, text_fault_message, Job, Format, messages_text}
+use Rattle.zf_answers.specs.Prelude.{Appends, TextFault, Comp, Defined, Value, Environment, Status, BadSpec, BadRequest, Request, AppendsFront, Cited, Message, not_a_binding, not_components, not_held, text_fault_message, Format, messages_text}
 use Rattle.zf_scan.specs.declared.fault.TextFaultKind.TheVariants as text_faults
 use Rattle.zf_lines.specs.declared.fault.RunFault.{RunFault}
-use Rattle.zf_engine.specs.declared.stop.Stop.{Stop}
-use Rattle.zf_engine.specs.declared.stop.Stop.TheVariants.{Answered, OutOfMemory}
-use Rattle.zf_engine.specs.Answers.{AnswersSource, HoldsNoValues, IsNamedRow, NamesNoRow, RefusesRequest, UnreadAnswer, IsPartOfAnswer}
-use Rattle.zf_engine.specs.Only.{AreShown, NamesNoParts}
-use Rattle.zf_engine.specs.Adding.{HasNoPlace}
-use Rattle.zf_engine.specs.Settings.{Checks, TellsFaults}
-use Rattle.zf_engine.specs.Explorations.{RefusesExploration}
-
-abbrev pub StopsInSource : Job → List ℕ → List ℕ → Option (List ℕ) → Option (List ℕ) → Type 0
-StopsInSource job file source old new = (written : List ℕ) × IsPartOfAnswer job file source written × Appends old new written
+use Rattle.zf_answers.specs.declared.stop.Stop.{Stop}
+use Rattle.zf_answers.specs.declared.stop.Stop.TheVariants.{Answered, OutOfMemory}
+use Rattle.zf_answers.specs.Answers.{HoldsNoValues, IsNamedRow, NamesNoRow, RefusesRequest, UnreadAnswer}
+use Rattle.zf_answers.specs.Only.{AreShown, NamesNoParts}
+use Rattle.zf_answers.specs.Adding.{HasNoPlace}
+use Rattle.zf_answers.specs.Settings.{Checks, TellsFaults}
 
 -- ---- answers that are whole
 
@@ -84,23 +80,3 @@ abbrev pub Tells : Format → (file : List ℕ) → Stop → Option (List ℕ) �
 Tells format file (Answered told status) old new result = WritesText (messages_text format file told) status old new result
 Tells format file OutOfMemory old new (Ok given) = ⊥
 Tells format file OutOfMemory old new (Err fault) = Appends old new []
-
--- the answer of the job is written, or a part of it
-abbrev pub Writes : Job → (file source : List ℕ) → Option (List ℕ) → Option (List ℕ) → Result Status RunFault → Type 0
-Writes job file source old new (Ok status) = AnswersSource job file source old new status
-Writes job file source old new (Err fault) = StopsInSource job file source old new
-
-abbrev pub Shows : Request → (file source : List ℕ) → Option (List ℕ) → Option (List ℕ) → Result Status RunFault → Type 0
-Shows r file source old new result = Writes (Show r) file source old new result
-
-abbrev pub Reaches : Exploration → (file source : List ℕ) → Option (List ℕ) → Option (List ℕ) → Result Status RunFault → Type 0
-Reaches x file source old new result = Writes (Reach x) file source old new result
-
--- ---- answers of `reach` that are whole
-
--- the source is not read, or the exploration is refused for it
-abbrev pub IsUnexplored : Exploration → (source : List ℕ) → List Message → Status → Type 0
-IsUnexplored x source told status = UnreadAnswer x.details source told status ⊎ RefusesExploration x source told status
-
-abbrev pub AnswersExploration : Exploration → (source : List ℕ) → Stop → Type 0
-AnswersExploration x source stop = IfAnswered stop (IsUnexplored x source)

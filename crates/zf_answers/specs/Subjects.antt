@@ -1,13 +1,13 @@
 -- A schema in an environment, and what `why` finds of it. No public clause rests on this file.
 use Rattle.std.specs.Prelude.{◌≡◌, ℕ, Bool, List, [], length, Option, Some, None, IsSomeAnd, option_map, Vec}
-use Rattle.zf_engine.specs.Prelude.{Global, Comp, Schema, schema_of, IsFinite, Value, AreDueWithin, Stage, Environment, environment_of, Begins, Goal, Portion, portion, property, spellings, split_at, Explains, RuleOut, Cause, Empty, Alone, Together, Status, HasEvents, out_line, row_line, Request, comps_at}
-use Rattle.zf_engine.specs.Answers.{AreHeld, IsAsked, IsNamedRow}
-use Rattle.zf_engine.specs.Only.{NamesParts}
-use Rattle.zf_engine.specs.declared.bounds.Bounds.{Bounds}
-use Rattle.zf_engine.specs.declared.bounds.Chosen.{Chosen}
-use Rattle.zf_engine.specs.Reasons.{TellsWhy}
-use Rattle.zf_engine.specs.CauseLines.{cause_lines}
-use Rattle.zf_engine.specs.declared.subject.Subject.{Subject}
+use Rattle.zf_answers.specs.Prelude.{Global, Comp, Schema, schema_of, IsFinite, Value, AreDueWithin, Stage, Environment, environment_of, Begins, Goal, Portion, portion, property, spellings, split_at, Explains, RuleOut, Cause, Empty, Alone, Together, Status, HasEvents, out_line, row_line, Request, comps_at}
+use Rattle.zf_answers.specs.Answers.{AreHeld, IsAsked, IsNamedRow}
+use Rattle.zf_answers.specs.Only.{NamesParts}
+use Rattle.zf_answers.specs.declared.bounds.Bounds.{Bounds}
+use Rattle.zf_answers.specs.declared.bounds.Chosen.{Chosen}
+use Rattle.zf_answers.specs.Reasons.{TellsWhy}
+use Rattle.zf_answers.specs.CauseLines.{cause_lines}
+use Rattle.zf_answers.specs.declared.subject.Subject.{Subject}
 
 abbrev pub environment_in : Subject → Environment
 environment_in s = environment_of s.env.now

@@ -1,9 +1,9 @@
 //! The schema that is asked for, in the environment of the stated sizes and numbers.
 ghost use Rattle.std.specs.Prelude.{◌≡◌, ℕ, List, [], IfOk, IfErr, OnOk};
-ghost use Rattle.zf_engine.specs.Prelude.{IsReportedBeside, IsFinite, AreComplete, environment_of, given_sets, IsEnvironment, globals_of, schema_of};
-ghost use Rattle.zf_engine.specs.{AnswersOver, Checks, IfAnswered, IsAsked, IsMisfit, IsNamed, numbers_of, stated, TellsInfinite, TellsMisfit, TellsNoSchema, without_size};
+ghost use Rattle.zf_answers.specs.Prelude.{IsReportedBeside, IsFinite, AreComplete, environment_of, given_sets, IsEnvironment, globals_of, schema_of};
+ghost use Rattle.zf_answers.specs.{AnswersOver, Checks, IfAnswered, IsAsked, IsMisfit, IsNamed, numbers_of, stated, TellsInfinite, TellsMisfit, TellsNoSchema, without_size};
 ghost use Rattle.zf_messages.specs.Missing as spec;
-ghost use Rattle.zf_engine.specs.declared.stop.Stop.TheVariants.{OutOfMemory};
+ghost use Rattle.zf_answers.specs.declared.stop.Stop.TheVariants.{OutOfMemory};
 
 use crate::numbers::greatest_number;
 use crate::stated::{sets_without_size, stated_sizes};

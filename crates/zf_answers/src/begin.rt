@@ -1,7 +1,7 @@
 //! The search for the bindings of a schema, or the answer where none is begun.
 ghost use Rattle.std.specs.Prelude.{◌<◌, length, IfOk, IfErr};
-ghost use Rattle.zf_engine.specs.Prelude.{option_copied, Begins, BeginsCounting, planted_goal, portion, RefusesStart, Environment, schema_of, HasLength};
-ghost use Rattle.zf_engine.specs.{CanBeSearched, environment_in, IfAnswered, schema_in, TellsComponent, TellsOut};
+ghost use Rattle.zf_answers.specs.Prelude.{option_copied, Begins, BeginsCounting, planted_goal, portion, RefusesStart, Environment, schema_of, HasLength};
+ghost use Rattle.zf_answers.specs.{CanBeSearched, environment_in, IfAnswered, schema_in, TellsComponent, TellsOut};
 
 use crate::stop::Stop;
 use crate::subject::Subject;

@@ -1,7 +1,7 @@
 //! Which bindings are asked for, and which of their components.
 ghost use Rattle.std.specs.Prelude.{◌≡◌, IfOk, IfErr};
-ghost use Rattle.zf_engine.specs.Prelude.{environment_of, schema_of, AreClear, spellings, HaveClearNames};
-ghost use Rattle.zf_engine.specs.{AreHeld, AreNamedIn, IfAnswered, IsChosenBy, shown_in, TellsMisnamed, TellsNoParts};
+ghost use Rattle.zf_answers.specs.Prelude.{environment_of, schema_of, AreClear, spellings, HaveClearNames};
+ghost use Rattle.zf_answers.specs.{AreHeld, AreNamedIn, IfAnswered, IsChosenBy, shown_in, TellsMisnamed, TellsNoParts};
 
 use crate::held::values_held;
 use crate::inquiry::Inquiry;

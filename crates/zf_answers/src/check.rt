@@ -1,7 +1,7 @@
 //! What a source defines, its faults, and the answer of `check`.
 ghost use Rattle.std.specs.Prelude.{◌≡◌, [], IfOk, IfErr, map};
-ghost use Rattle.zf_engine.specs.Prelude.{AreFaultMessages, cited_of, globals_of};
-ghost use Rattle.zf_engine.specs.{check_status, CheckAnswer, Checks, IfAnswered, IsCheckText, IsTextFault, IsUnfit, UnreadAnswer};
+ghost use Rattle.zf_answers.specs.Prelude.{AreFaultMessages, cited_of, globals_of};
+ghost use Rattle.zf_answers.specs.{check_status, CheckAnswer, Checks, IfAnswered, IsCheckText, IsTextFault, IsUnfit, UnreadAnswer};
 ghost use Rattle.zf_sorts.specs.{fault_of};
 
 use crate::stop::Stop;

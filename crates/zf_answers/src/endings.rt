@@ -1,7 +1,7 @@
 //! The last line of `why`.
 ghost use Rattle.std.specs.Prelude.{◌≡◌, ◌++◌, OnOk};
-ghost use Rattle.zf_engine.specs.Prelude.{Lines, Objects};
-ghost use Rattle.zf_engine.specs.{cause_text, no_binding_line, satisfied_line};
+ghost use Rattle.zf_answers.specs.Prelude.{Lines, Objects};
+ghost use Rattle.zf_answers.specs.{cause_text, no_binding_line, satisfied_line};
 
 use std::alloc::AllocError;
 use zf_format::Format;

@@ -1,7 +1,7 @@
 //! The values that are held.
 ghost use Rattle.std.specs.Prelude.{◌≡◌, IfOk, IfErr};
-ghost use Rattle.zf_engine.specs.Prelude.{environment_of, schema_of, AreClear, spellings, HaveClearNames};
-ghost use Rattle.zf_engine.specs.{AreHeld, IfAnswered, TellsNoValues};
+ghost use Rattle.zf_answers.specs.Prelude.{environment_of, schema_of, AreClear, spellings, HaveClearNames};
+ghost use Rattle.zf_answers.specs.{AreHeld, IfAnswered, TellsNoValues};
 
 use crate::stop::Stop;
 use std::alloc::Global;

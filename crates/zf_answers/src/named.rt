@@ -1,7 +1,7 @@
 //! The binding that a search comes after.
 ghost use Rattle.std.specs.Prelude.{◌≡◌, IfOk, IfErr, option_map};
-ghost use Rattle.zf_engine.specs.Prelude.{environment_of, schema_of, AreClear, spellings};
-ghost use Rattle.zf_engine.specs.{IfAnswered, IsNamedRow, TellsNoRow};
+ghost use Rattle.zf_answers.specs.Prelude.{environment_of, schema_of, AreClear, spellings};
+ghost use Rattle.zf_answers.specs.{IfAnswered, IsNamedRow, TellsNoRow};
 
 use crate::stop::Stop;
 use std::alloc::Global;

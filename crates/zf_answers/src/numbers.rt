@@ -1,6 +1,6 @@
 //! The greatest number that a request states.
 ghost use Rattle.std.specs.Prelude.{◌≡◌, IfErr, IfOk, OnOk};
-ghost use Rattle.zf_engine.specs.{AreSmall, IfAnswered, TellsNumbers};
+ghost use Rattle.zf_answers.specs.{AreSmall, IfAnswered, TellsNumbers};
 
 use crate::stop::Stop;
 use std::alloc::Global;

@@ -1,8 +1,8 @@
 //! The objects that say why a schema has no binding, each with its newline.
 ghost use Rattle.std.specs.Prelude.{◌≡◌, ◌++◌, OnOk, codes, map};
-ghost use Rattle.zf_engine.specs.Prelude.{comma_before, member, parted, place_members};
-ghost use Rattle.zf_engine.specs.Objects as spec;
-ghost use Rattle.zf_engine.specs.{part_text, schema_in};
+ghost use Rattle.zf_answers.specs.Prelude.{comma_before, member, parted, place_members};
+ghost use Rattle.zf_answers.specs.Objects as spec;
+ghost use Rattle.zf_answers.specs.{part_text, schema_in};
 
 use crate::parts::{append_part, line_at, place_of, range_of};
 use crate::subject::Subject;

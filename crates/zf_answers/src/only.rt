@@ -1,7 +1,7 @@
 //! The components that alone are shown.
 ghost use Rattle.std.specs.Prelude.{IfErr, IfOk, OnOk, Some, map};
-ghost use Rattle.zf_engine.specs.Prelude.{comp_of};
-ghost use Rattle.zf_engine.specs.{IfAnswered, IsAdded, IsMisnamed, NamesParts, TellsNoParts, TellsPlaceMisnamed};
+ghost use Rattle.zf_answers.specs.Prelude.{comp_of};
+ghost use Rattle.zf_answers.specs.{IfAnswered, IsAdded, IsMisnamed, NamesParts, TellsNoParts, TellsPlaceMisnamed};
 
 use crate::stop::Stop;
 use std::alloc::Global;

@@ -1,8 +1,8 @@
 //! What `why` shows a conjunct by.
 ghost use Rattle.std.specs.Prelude.{◌≡◌, ◌++◌, IfOk, OnOk};
-ghost use Rattle.zf_engine.specs.Prelude.{line_at};
-ghost use Rattle.zf_engine.specs.Parts as spec;
-ghost use Rattle.zf_engine.specs.{schema_in};
+ghost use Rattle.zf_answers.specs.Prelude.{line_at};
+ghost use Rattle.zf_answers.specs.Parts as spec;
+ghost use Rattle.zf_answers.specs.{schema_in};
 
 use crate::subject::Subject;
 use std::alloc::{AllocError, Global};

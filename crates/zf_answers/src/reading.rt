@@ -1,7 +1,7 @@
 //! The loop that reads a source.
 ghost use Rattle.std.specs.Prelude.{◌≡◌, ◌≤◌, ◌+◌, IfOk, vec_len};
-ghost use Rattle.zf_engine.specs.Prelude.{device_of, failures_of, read_failures, write_failures};
-ghost use Rattle.zf_engine.specs.{Gave, GaveAtMost};
+ghost use Rattle.zf_answers.specs.Prelude.{device_of, failures_of, read_failures, write_failures};
+ghost use Rattle.zf_answers.specs.{Gave, GaveAtMost};
 
 use std::alloc::Global;
 use std::io::Read;

@@ -1,10 +1,10 @@
 //! The lines that say why a schema has no binding.
 ghost use Rattle.std.specs.Prelude.{◌≡◌, ◌++◌, IfOk, OnOk, codes, length};
 ghost use Rattle.std.specs.List.{flat_map};
-ghost use Rattle.zf_engine.specs.Prelude.{chosen_of, comp_of, Lines, place_text};
-ghost use Rattle.zf_engine.specs.Reasons as spec;
-ghost use Rattle.zf_engine.specs.{cause_lines, reasons, schema_in};
-ghost use Rattle.zf_engine.specs.Subjects.{IsOfSchema};
+ghost use Rattle.zf_answers.specs.Prelude.{chosen_of, comp_of, Lines, place_text};
+ghost use Rattle.zf_answers.specs.Reasons as spec;
+ghost use Rattle.zf_answers.specs.{cause_lines, reasons, schema_in};
+ghost use Rattle.zf_answers.specs.Subjects.{IsOfSchema};
 
 use crate::endings::append_no_binding;
 use crate::objects::{append_empty_object, append_told_object};

@@ -1,7 +1,7 @@
 //! The sizes that are stated.
 ghost use Rattle.std.specs.Prelude.{◌≡◌, ◌++◌, IfOk, OnOk, Some, map};
-ghost use Rattle.zf_engine.specs.Prelude.{list_any, bytes_eq, given_sets, globals_of};
-ghost use Rattle.zf_engine.specs.Settings as spec;
+ghost use Rattle.zf_answers.specs.Prelude.{list_any, bytes_eq, given_sets, globals_of};
+ghost use Rattle.zf_answers.specs.Settings as spec;
 
 use std::alloc::{AllocError, Global};
 use zf_command::{Setting, Size};

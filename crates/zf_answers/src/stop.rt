@@ -1,7 +1,7 @@
 //! Why no binding is looked for.
 ghost use Rattle.std.specs.Prelude.{◌≡◌, ◌∷◌, []};
-ghost use Rattle.zf_engine.specs.declared.stop.Stop.TheVariants.{OutOfMemory};
-ghost use Rattle.zf_engine.specs.{IfAnswered};
+ghost use Rattle.zf_answers.specs.declared.stop.Stop.TheVariants.{OutOfMemory};
+ghost use Rattle.zf_answers.specs.{IfAnswered};
 
 use std::alloc::{AllocError, AllocFailed, Global};
 use zf_data::Items;

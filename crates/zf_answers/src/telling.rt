@@ -1,7 +1,7 @@
 //! What is reported in the place of bindings, states or causes.
 ghost use Rattle.std.specs.Prelude.{◌≡◌};
-ghost use Rattle.zf_engine.specs.Prelude.{device_of, failures_of, read_failures, write_failures};
-ghost use Rattle.zf_engine.specs.{Tells, WritesText};
+ghost use Rattle.zf_answers.specs.Prelude.{device_of, failures_of, read_failures, write_failures};
+ghost use Rattle.zf_answers.specs.{Tells, WritesText};
 
 use crate::stop::Stop;
 use std::alloc::Global;

@@ -1,7 +1,7 @@
 //! The first binding of a schema, or why it has none.
 ghost use Rattle.std.specs.Prelude.{◌≡◌, ◌++◌, IfOk, IfErr, MatchOption, OnOk};
-ghost use Rattle.zf_engine.specs.Prelude.{IsBare, Why, IsNoneOut, environment_of, schema_of};
-ghost use Rattle.zf_engine.specs.{Answer, AnswersRequest, CanBeSearched, environment_in, HasNone, IfAnswered, IsAsked, IsBegunOf, line_in, out_line_in, satisfied_line, schema_in, TellsFirst, TellsNone, TellsOf, TellsOut};
+ghost use Rattle.zf_answers.specs.Prelude.{IsBare, IsNoneOut, environment_of, schema_of};
+ghost use Rattle.zf_answers.specs.{AnswersRequest, CanBeSearched, environment_in, HasNone, IfAnswered, IsAsked, IsBegunOf, line_in, out_line_in, satisfied_line, schema_in, TellsFirst, TellsNone, TellsOf, TellsOut, WhyAnswer};
 
 use crate::asked::find_schema;
 use crate::begin::begin;
@@ -32,7 +32,7 @@ pub fn why_source(
     source: &[u8],
 ) -> Result<(Vec<u8>, Status), Stop>
     requires { IsBare request.now }
-    ensures answer { IfOk result (λ p. Answer (Why request.now) file.now source.now p.0.items p.1) }
+    ensures answer { IfOk result (λ p. WhyAnswer request.now file.now source.now p.0.items p.1) }
     ensures stop { IfErr result (AnswersRequest request.now source.now) }
 {
     let trees = Bump::new(alloc);
@@ -62,7 +62,7 @@ fn why_schema<'a>(
     requires plain { IsBare inquiry.request.now }
     requires details { inquiry.report.details ≡ inquiry.request.now.details }
     requires asked { IsAsked inquiry.request.now inquiry.report.source.now (environment_of env.now).globals (schema_of schema.now) (environment_of env.now) }
-    ensures answer { IfOk result (λ p. Answer (Why inquiry.entry.request.now) inquiry.entry.report.file.now inquiry.entry.report.source.now p.0.items p.1) }
+    ensures answer { IfOk result (λ p. WhyAnswer inquiry.entry.request.now inquiry.entry.report.file.now inquiry.entry.report.source.now p.0.items p.1) }
     ensures stop { IfErr result (AnswersRequest inquiry.entry.request.now inquiry.entry.report.source.now) }
 {
     let request = inquiry.request;

@@ -8,10 +8,10 @@ use Rattle.zf_reach.specs.declared.finding.Finding.TheVariants.{Found, Missing, 
 use Rattle.zf_reach.specs.{ending_of, result_of, StopsEarly, StopsSearch}
 use Rattle.zf_steps.specs.declared.form.Form.{Form}
 use Rattle.zf_steps.specs.{CanSearch, explored_in, sought_in, System, verdict, words}
-use Rattle.zf_engine.proofs.DueWithin.{due_within}
+use Rattle.zf_answers.proofs.DueWithin.{due_within}
 use Rattle.zf_engine.proofs.Writing.{nothing_stops}
 use Rattle.zf_engine.proofs.Reaching.{in_order}
-use Rattle.zf_engine.proofs.Refusing.{well_typed}
+use Rattle.zf_answers.proofs.Refusing.{well_typed}
 
 -- ---- each of the schemas can be searched
 

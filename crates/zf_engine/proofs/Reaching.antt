@@ -1,7 +1,7 @@
 -- The steps before the first state make answers: refusals, in their order.
 use Rattle.zf_engine.proofs.Prelude.{[], ◌+◌, ◌++◌, ◌<◌, ◌∙◌, ◌∷◌, ◌≡◌, ap, get_or, inl, inr, length, List, Option, Result, subst, sym, take, ℕ, Defined, Environment, Status, AnswersExploration, Checks, IfAnswered, IsUnexplored, IsUnfit, numbers_of, Reaches, stated, Stop, Tells, TellsInfinite, TellsMisfit, TellsNumbers, TellsOut, AllByRecursion, AllZip, option_to_list, take_more, Exploration, Reach, IsFinite, RunFault, Message, all_of, FirstFails, HasShape, Named, Schemas, AreComplete, given_sets, IsEnvironment, IsNoneOut, AreSchemasOf, AreSmall, HasInfinite, HasLacking, HasOut, HasSchemas, IsBounded, IsSchemaOf, IsSearchable, IsSettled, LacksSchema, names_of, RefusesExploration, IsOfSchema}
 use Rattle.zf_engine.proofs.Writing.{reach_refused, told_written}
-use Rattle.zf_engine.proofs.Refusing.{weaker}
+use Rattle.zf_answers.proofs.Refusing.{weaker}
 
 -- ---- lists beside each other
 

@@ -9,8 +9,8 @@ use Rattle.zf_graph.specs.{broken, ended, Ending, paused}
 use Rattle.zf_steps.specs.declared.form.Form.{Form}
 use Rattle.zf_steps.specs.declared.form.Form.TheVariants as form
 use Rattle.zf_steps.specs.{explored_in, sought_in, System, verdict, words}
-use Rattle.zf_engine.specs.Numbers.{AreSmall}
-use Rattle.zf_engine.specs.Settings.{AreMessages, Checks, IsNamed, numbers_of, stated, TellsFaults, TellsInfinite, TellsMisfit, TellsNoSchema, TellsNumbers, TellsOut}
+use Rattle.zf_answers.specs.Numbers.{AreSmall}
+use Rattle.zf_answers.specs.Settings.{AreMessages, Checks, IsNamed, numbers_of, stated, TellsFaults, TellsInfinite, TellsMisfit, TellsNoSchema, TellsNumbers, TellsOut}
 
 -- ---- what is asked for
 

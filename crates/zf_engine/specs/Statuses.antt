@@ -2,7 +2,7 @@
 use Rattle.std.specs.Prelude.{◌≡◌, ◌⊎◌, ℕ, List, []}
 use Rattle.zf_engine.specs.Prelude.{Job, IsAsked, IsRefused, Status, number}
 use Rattle.zf_command.specs.declared.job.Asked.TheVariants.{About, Work}
-use Rattle.zf_engine.specs.Answers.{Answer}
+use Rattle.zf_engine.specs.Jobs.{Answer}
 use Rattle.zf_command.specs.declared.job.UsageFault.{UsageFault}
 use Rattle.zf_command.specs.declared.job.UsageFault.TheVariants.{BadWords, OutOfMemory}
 

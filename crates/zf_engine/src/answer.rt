@@ -1,21 +1,17 @@
 //! What is written of a job on a source.
 ghost use Rattle.std.specs.Prelude.{◌≡◌, true, IfOk, None, OnErr, Some};
 ghost use Rattle.zf_engine.specs.Prelude.{option_copied, Check, IsBare, Why, device_of, failures_of, HasLimit, read_failures, write_failures, environment_of, schema_of};
-ghost use Rattle.zf_engine.specs.{AnswersRequest, AnswersSource, AreNamedIn, environment_in, IsAsked, IsChosenBy, IsLimited, IsNamedRow, IsSubjectOf, schema_in, Shows, StopsInSource, Writes};
+ghost use Rattle.zf_answers.specs.{AnswersRequest, AreNamedIn, environment_in, IsAsked, IsChosenBy, IsNamedRow, IsSubjectOf, schema_in};
+ghost use Rattle.zf_engine.specs.{AnswersSource, IsLimited, Shows, StopsInSource, Writes};
 
-use crate::asked::{Asked, find_schema};
-use crate::begin::{begin, begin_counting};
-use crate::bounds::{Bounds, Chosen, bounds_in};
-use crate::check::{checked, load};
-use crate::inquiry::Inquiry;
 use crate::reach::reach_source;
-use crate::stop::Stop;
-use crate::subject::Subject;
-use crate::telling::{tell, write_whole};
-use crate::why::why_source;
 use bumpalo::Bump;
 use std::alloc::Global;
 use std::io::Write;
+use zf_answers::{
+    Asked, Bounds, Chosen, Inquiry, Stop, Subject, begin, begin_counting, bounds_in, checked,
+    find_schema, load, tell, why_source, write_whole,
+};
 use zf_command::{Job, Request};
 use zf_format::Format;
 use zf_lines::show::{show, show_with_tests};

@@ -2,19 +2,17 @@
 ghost use Rattle.std.specs.Prelude.{◌≡◌, ◌≤◌, [], IfErr, IfOk, OnOk, map, option_map, option_to_list};
 ghost use Rattle.zf_engine.specs.Prelude.{AllByRecursion, AllZip, IsFinite, device_of, failures_of, HasLimit, read_failures, write_failures, all_of, FirstFails, HasShape, named_of, schemas_of, environment_of, IsNoneOut, globals_of, schema_of};
 ghost use Rattle.zf_engine.specs.Explorations as spec;
-ghost use Rattle.zf_engine.specs.{AnswersExploration, AreSchemasOf, Checks, HasInfinite, HasLacking, HasOut, IfAnswered, IsSchemaOf, IsSearchable, LacksSchema, Reaches, TellsNoSchema, TellsOut};
+ghost use Rattle.zf_answers.specs.{Checks, IfAnswered, TellsNoSchema, TellsOut};
+ghost use Rattle.zf_engine.specs.{AnswersExploration, AreSchemasOf, HasInfinite, HasLacking, HasOut, IsSchemaOf, IsSearchable, LacksSchema, Reaches};
 ghost use Rattle.zf_engine.specs.Explorations.{IsOfSchema};
 ghost use Rattle.zf_reach.specs.{ending_of, result_of};
 
-use crate::asked::{check_finite, env_in, schema_named};
-use crate::begin::not_begun;
-use crate::check::load;
-use crate::numbers::greatest_number;
-use crate::stop::Stop;
-use crate::telling::tell;
 use bumpalo::Bump;
 use std::alloc::{AllocError, Global};
 use std::io::Write;
+use zf_answers::{
+    Stop, check_finite, env_in, greatest_number, load, not_begun, schema_named, tell,
+};
 use zf_command::{Exploration, STATES_MAX};
 use zf_data::Word;
 use zf_format::Format;

@@ -1,12 +1,13 @@
 //! A run: it reads a source, and writes the answer of a job.
 ghost use Rattle.std.specs.Prelude.{◌≡◌, ◌+◌, OnErr, IfOk, IsErrOf};
 ghost use Rattle.zf_engine.specs.Prelude.{Keeps, device_of, failures_of, read_failures, write_failures, SOURCE_MAX};
-ghost use Rattle.zf_engine.specs.{AnswersReader, GaveAtMost, IsLimited, StopsInReader};
+ghost use Rattle.zf_answers.specs.{GaveAtMost};
+ghost use Rattle.zf_engine.specs.{AnswersReader, IsLimited, StopsInReader};
 
 use crate::answer::answer;
-use crate::reading::read_source;
 use std::alloc::Global;
 use std::io::{Read, Write};
+use zf_answers::read_source;
 use zf_command::Job;
 use zf_lines::{Counted, RunFault, Status};
 

@@ -1,6 +1,6 @@
-use Rattle.zf_engine.proofs.Prelude.{rules, subst, globals_of, schema_of, environment_of, numbers_of, stated, AnswersOver, IfAnswered, TellsInfinite, TellsMisfit, TellsNoSchema, TellsNumbers}
-use Rattle.zf_engine.proofs.Refusing.{asked, has_schema, infinite_answers, infinite_here, misfit_answers, no_schema_answers, numbers_answer, weaker_err}
-use Rattle.zf_engine.proofs.asked.find_schema.Goals as goal
+use Rattle.zf_answers.proofs.Prelude.{rules, subst, globals_of, schema_of, environment_of, numbers_of, stated, AnswersOver, IfAnswered, TellsInfinite, TellsMisfit, TellsNoSchema, TellsNumbers}
+use Rattle.zf_answers.proofs.Refusing.{asked, has_schema, infinite_answers, infinite_here, misfit_answers, no_schema_answers, numbers_answer, weaker_err}
+use Rattle.zf_answers.proofs.asked.find_schema.Goals as goal
 
 pub returns-in_err-schema-clause-stop : goal.returns-in_err-schema-clause-stop
 returns-in_err-schema-clause-stop c =

@@ -1,6 +1,6 @@
-use Rattle.zf_engine.proofs.Prelude.{◌∙◌, ◌∷◌, [], ap, globals_of, no_schema_message}
-use Rattle.zf_engine.proofs.Refusing.{weaker}
-use Rattle.zf_engine.proofs.asked.schema_named.Goals as goal
+use Rattle.zf_answers.proofs.Prelude.{◌∙◌, ◌∷◌, [], ap, globals_of, no_schema_message}
+use Rattle.zf_answers.proofs.Refusing.{weaker}
+use Rattle.zf_answers.proofs.asked.schema_named.Goals as goal
 
 pub returns-in_default-clause-stop : goal.returns-in_default-clause-stop
 returns-in_default-clause-stop c =

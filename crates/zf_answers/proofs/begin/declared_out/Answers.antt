@@ -1,8 +1,8 @@
-use Rattle.zf_engine.proofs.Prelude.{◌∙◌, ◌∷◌, ◌≡◌, [], ap, arith, get_or, List, subst, length-map, comp_of, declared_out}
+use Rattle.zf_answers.proofs.Prelude.{◌∙◌, ◌∷◌, ◌≡◌, [], ap, arith, get_or, List, subst, length-map, comp_of, declared_out}
 use Rattle.zf_term.specs.declared.schema.Component.{Component}
 use Rattle.zf_ranges.proofs.Comps.{comp_at}
-use Rattle.zf_engine.proofs.Refusing.{weaker}
-use Rattle.zf_engine.proofs.begin.declared_out.Goals as goal
+use Rattle.zf_answers.proofs.Refusing.{weaker}
+use Rattle.zf_answers.proofs.begin.declared_out.Goals as goal
 
 pub returns-in-Ok : goal.returns-in-Ok
 returns-in-Ok c =

@@ -1,8 +1,8 @@
-use Rattle.zf_engine.proofs.Prelude.{inl, inr, rules, subst, schema_of, environment_of, IfAnswered, IsNamedRow, TellsMisnamed, TellsNoParts, TellsNoRow, TellsNoValues, Value, AreClear, HaveClearNames, option_map}
+use Rattle.zf_answers.proofs.Prelude.{inl, inr, rules, subst, schema_of, environment_of, IfAnswered, IsNamedRow, TellsMisnamed, TellsNoParts, TellsNoRow, TellsNoValues, Value, AreClear, HaveClearNames, option_map}
 use Rattle.std.proofs.Common.{Global, Vec}
-use Rattle.zf_engine.proofs.Refusing.{weaker, weaker_err}
-use Rattle.zf_engine.proofs.Subjects.{are_shown_as}
-use Rattle.zf_engine.proofs.bounds.bounds_in.Goals as goal
+use Rattle.zf_answers.proofs.Refusing.{weaker, weaker_err}
+use Rattle.zf_answers.proofs.Subjects.{are_shown_as}
+use Rattle.zf_answers.proofs.bounds.bounds_in.Goals as goal
 
 pub returns-in_err-chosen-clause-stop : goal.returns-in_err-chosen-clause-stop
 returns-in_err-chosen-clause-stop c =

@@ -1,6 +1,6 @@
-use Rattle.zf_engine.proofs.Prelude.{cited_of}
-use Rattle.zf_engine.proofs.Refusing.{unread_answers}
-use Rattle.zf_engine.proofs.check.check_source.Goals as goal
+use Rattle.zf_answers.proofs.Prelude.{cited_of}
+use Rattle.zf_answers.proofs.Refusing.{unread_answers}
+use Rattle.zf_answers.proofs.check.check_source.Goals as goal
 
 pub returns-in-Err-clause-stop : goal.returns-in-Err-clause-stop
 returns-in-Err-clause-stop c =

@@ -1,5 +1,5 @@
-use Rattle.zf_engine.proofs.Reported.{one_more}
-use Rattle.zf_engine.proofs.check.fault_messages.Goals as goal
+use Rattle.zf_answers.proofs.Reported.{one_more}
+use Rattle.zf_answers.proofs.check.fault_messages.Goals as goal
 
 pub loop-fault-preserved : goal.loop-fault-preserved
 loop-fault-preserved c = (

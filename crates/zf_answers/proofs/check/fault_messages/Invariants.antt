@@ -1,6 +1,6 @@
 -- The messages of the faults so far, and a line that is known.
-use Rattle.zf_engine.proofs.Prelude.{map, take, fault_of, AreFaultMessages, IsKnown}
-use Rattle.zf_engine.proofs.check.fault_messages.Given as goal
+use Rattle.zf_answers.proofs.Prelude.{map, take, fault_of, AreFaultMessages, IsKnown}
+use Rattle.zf_answers.proofs.check.fault_messages.Given as goal
 
 abbrev pub invariant-loop-fault : goal.invariant-loop-fault
 invariant-loop-fault l =

@@ -1,6 +1,6 @@
-use Rattle.zf_engine.proofs.Prelude.{◌==◌, ◌∙◌, ap, inl, inr, length, map, refl, rules, subst, fault_of, globals_of, AreFaultMessages, Checks, IfAnswered, IsUnfit, UnreadAnswer}
-use Rattle.zf_engine.proofs.Refusing.{some_mapped, some_of, none_of, weaker, weaker_err}
-use Rattle.zf_engine.proofs.check.load.Goals as goal
+use Rattle.zf_answers.proofs.Prelude.{◌==◌, ◌∙◌, ap, inl, inr, length, map, refl, rules, subst, fault_of, globals_of, AreFaultMessages, Checks, IfAnswered, IsUnfit, UnreadAnswer}
+use Rattle.zf_answers.proofs.Refusing.{some_mapped, some_of, none_of, weaker, weaker_err}
+use Rattle.zf_answers.proofs.check.load.Goals as goal
 
 pub returns-in_err-checked-clause-stop : goal.returns-in_err-checked-clause-stop
 returns-in_err-checked-clause-stop c =

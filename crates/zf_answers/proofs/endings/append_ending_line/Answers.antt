@@ -1,7 +1,6 @@
-use Rattle.zf_engine.proofs.Prelude.{codes}
-use Rattle.zf_steps.proofs.Pieces.{if_appended}
-use Rattle.zf_engine.proofs.ToldLines.{three_told}
-use Rattle.zf_engine.proofs.endings.append_ending_line.Goals as goal
+use Rattle.zf_answers.proofs.Prelude.{codes}
+use Rattle.zf_answers.proofs.ToldLines.{if_appended, three_told}
+use Rattle.zf_answers.proofs.endings.append_ending_line.Goals as goal
 
 pub returns : goal.returns
 returns c =

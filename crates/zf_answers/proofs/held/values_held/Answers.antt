@@ -1,6 +1,6 @@
-use Rattle.zf_engine.proofs.Prelude.{◌∙◌, ◌∷◌, [], ap, subst, sym, environment_of, schema_of, AreHeld, IfAnswered, TellsNoValues, AreClear, HaveClearNames}
-use Rattle.zf_engine.proofs.Refusing.{line_told, no_values_told, weaker}
-use Rattle.zf_engine.proofs.held.values_held.Goals as goal
+use Rattle.zf_answers.proofs.Prelude.{◌∙◌, ◌∷◌, [], ap, subst, sym, environment_of, schema_of, AreHeld, IfAnswered, TellsNoValues, AreClear, HaveClearNames}
+use Rattle.zf_answers.proofs.Refusing.{line_told, no_values_told, weaker}
+use Rattle.zf_answers.proofs.held.values_held.Goals as goal
 
 pub returns-in_ok-message-in-Err-NotABinding-clause-stop : goal.returns-in_ok-message-in-Err-NotABinding-clause-stop
 returns-in_ok-message-in-Err-NotABinding-clause-stop c =

@@ -1,6 +1,6 @@
-use Rattle.zf_engine.proofs.Prelude.{◌∙◌, ◌∷◌, [], ap, subst, sym, environment_of, schema_of, IfAnswered, TellsNoRow, AreClear}
-use Rattle.zf_engine.proofs.Refusing.{no_row_told, weaker}
-use Rattle.zf_engine.proofs.named.named_row.Goals as goal
+use Rattle.zf_answers.proofs.Prelude.{◌∙◌, ◌∷◌, [], ap, subst, sym, environment_of, schema_of, IfAnswered, TellsNoRow, AreClear}
+use Rattle.zf_answers.proofs.Refusing.{no_row_told, weaker}
+use Rattle.zf_answers.proofs.named.named_row.Goals as goal
 
 pub returns-in_ok-message-in-Err-NotABinding-clause-stop : goal.returns-in_ok-message-in-Err-NotABinding-clause-stop
 returns-in_ok-message-in-Err-NotABinding-clause-stop c =

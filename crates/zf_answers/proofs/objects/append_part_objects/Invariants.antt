@@ -1,6 +1,6 @@
-use Rattle.zf_engine.proofs.Prelude.{◌++◌, ◌≡◌, map, drop, goes_on, part_object, schema_in}
+use Rattle.zf_answers.proofs.Prelude.{◌++◌, ◌≡◌, map, drop, goes_on, part_object, schema_in}
 use Rattle.zf_print.specs.{parted}
-use Rattle.zf_engine.proofs.objects.append_part_objects.Given as goal
+use Rattle.zf_answers.proofs.objects.append_part_objects.Given as goal
 
 abbrev pub invariant-loop-place : goal.invariant-loop-place
 invariant-loop-place l =

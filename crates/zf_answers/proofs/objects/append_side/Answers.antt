@@ -1,9 +1,8 @@
-use Rattle.zf_engine.proofs.Prelude.{◌++◌, ◌∙◌, ap, map, codes, part_object, schema_in}
+use Rattle.zf_answers.proofs.Prelude.{◌++◌, ◌∙◌, ap, map, codes, part_object, schema_in}
 use Rattle.zf_messages.specs.{member, quoted}
 use Rattle.zf_print.specs.{parted}
-use Rattle.zf_steps.proofs.Pieces.{if_appended}
-use Rattle.zf_engine.proofs.ToldLines.{five_told}
-use Rattle.zf_engine.proofs.objects.append_side.Goals as goal
+use Rattle.zf_answers.proofs.ToldLines.{five_told, if_appended}
+use Rattle.zf_answers.proofs.objects.append_side.Goals as goal
 
 pub returns : goal.returns
 returns c =

@@ -1,7 +1,7 @@
-use Rattle.zf_engine.proofs.Prelude.{◌∙◌, ap, inl, inr, map, sym, comp_of, trim_ascii_end_is, trim_ascii_start_is, without_end}
-use Rattle.zf_engine.proofs.NamedParts.{component_at, is_among, is_not_among, no_component}
-use Rattle.zf_engine.proofs.Refusing.{weaker}
-use Rattle.zf_engine.proofs.only.add_place.Goals as goal
+use Rattle.zf_answers.proofs.Prelude.{◌∙◌, ap, inl, inr, map, sym, comp_of, trim_ascii_end_is, trim_ascii_start_is, without_end}
+use Rattle.zf_answers.proofs.NamedParts.{component_at, is_among, is_not_among, no_component}
+use Rattle.zf_answers.proofs.Refusing.{weaker}
+use Rattle.zf_answers.proofs.only.add_place.Goals as goal
 
 pub returns-in_default-clause-stop : goal.returns-in_default-clause-stop
 returns-in_default-clause-stop c =

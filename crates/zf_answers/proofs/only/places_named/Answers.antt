@@ -1,10 +1,10 @@
-use Rattle.zf_engine.proofs.Prelude.{length, map, rules, subst, sym, comp_of, IfAnswered, Some, TellsNoParts, is_comma, IsMisnamed}
+use Rattle.zf_answers.proofs.Prelude.{length, map, rules, subst, sym, comp_of, IfAnswered, Some, TellsNoParts, is_comma, IsMisnamed}
 use Rattle.std.proofs.lemmas.Iterator.Consumers.{YieldsList-at, YieldsList-end, YieldsList-turn}
 use Rattle.std.proofs.lemmas.Iterator.Splits.{YieldsList-from_slice_split}
 use Rattle.std.proofs.lemmas.List.{length_push}
-use Rattle.zf_engine.proofs.NamedParts.{all_read, none_named, none_yet, one_more, SoFar}
-use Rattle.zf_engine.proofs.Refusing.{weaker, weaker_err}
-use Rattle.zf_engine.proofs.only.places_named.Goals as goal
+use Rattle.zf_answers.proofs.NamedParts.{all_read, none_named, none_yet, one_more, SoFar}
+use Rattle.zf_answers.proofs.Refusing.{weaker, weaker_err}
+use Rattle.zf_answers.proofs.only.places_named.Goals as goal
 
 pub loop-name-init : goal.loop-name-init
 loop-name-init c =

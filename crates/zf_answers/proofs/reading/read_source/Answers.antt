@@ -1,5 +1,5 @@
-use Rattle.zf_engine.proofs.Prelude.{◌++◌, arith, length-append, take, Consumes-trans, length-take}
-use Rattle.zf_engine.proofs.reading.read_source.Goals as goal
+use Rattle.zf_answers.proofs.Prelude.{◌++◌, arith, length-append, take, Consumes-trans, length-take}
+use Rattle.zf_answers.proofs.reading.read_source.Goals as goal
 
 -- what was read last is not kept, and yet was given
 pub returns-in_err-extend_from_slice-in-Ok-clause-bound : goal.returns-in_err-extend_from_slice-in-Ok-clause-bound

@@ -1,7 +1,7 @@
 -- What the vector holds was consumed, and no call failed.
-use Rattle.zf_engine.proofs.Prelude.{◌+◌, ◌-◌, ◌≡◌, ◌≤◌, vec_len, Consumes, device_of, failures_of}
+use Rattle.zf_answers.proofs.Prelude.{◌+◌, ◌-◌, ◌≡◌, ◌≤◌, vec_len, Consumes, device_of, failures_of}
 use Rattle.zf_scan.specs.declared.scan.TheConstants.{SOURCE_MAX}
-use Rattle.zf_engine.proofs.reading.read_source.Given as goal
+use Rattle.zf_answers.proofs.reading.read_source.Given as goal
 
 abbrev pub invariant-loop-buffer : goal.invariant-loop-buffer
 invariant-loop-buffer g l = Consumes (g.R.Read.remaining (device_of l.initial.reader)) (g.R.Read.remaining (device_of l.reader)) l.source.items

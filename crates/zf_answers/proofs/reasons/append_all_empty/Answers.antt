@@ -1,11 +1,11 @@
-use Rattle.zf_engine.proofs.Prelude.{◌++◌, ◌+◌, ◌<◌, ◌∙◌, ◌≡◌, ap, arith, length, length-map, List, map, Some, subst, ℕ, comp_of, drop, empty_line, empty_lines, read_at, slice_get}
+use Rattle.zf_answers.proofs.Prelude.{◌++◌, ◌+◌, ◌<◌, ◌∙◌, ◌≡◌, ap, arith, length, length-map, List, map, Some, subst, ℕ, comp_of, drop, empty_line, empty_lines, read_at, slice_get}
 use Rattle.std.proofs.Common.{Global, Vec}
 use Rattle.zf_cores.specs.{chosen_of}
 use Rattle.zf_term.specs.declared.schema.Component.{Component}
 use Rattle.zf_why.proofs.Lists.{seen_at}
-use Rattle.zf_engine.proofs.ChosenLines.{one_chosen, one_left}
-use Rattle.zf_engine.proofs.reasons.append_all_empty.Goals.{then-chosen-place+in_ok-append_empty, else-chosen-place}
-use Rattle.zf_engine.proofs.reasons.append_all_empty.Goals as goal
+use Rattle.zf_answers.proofs.ChosenLines.{one_chosen, one_left}
+use Rattle.zf_answers.proofs.reasons.append_all_empty.Goals.{then-chosen-place+in_ok-append_empty, else-chosen-place}
+use Rattle.zf_answers.proofs.reasons.append_all_empty.Goals as goal
 
 pub loop-place-preserved : goal.loop-place-preserved
 loop-place-preserved c =

@@ -1,6 +1,6 @@
-use Rattle.zf_engine.proofs.Prelude.{◌++◌, ◌≡◌, drop, empty_lines, schema_in}
+use Rattle.zf_answers.proofs.Prelude.{◌++◌, ◌≡◌, drop, empty_lines, schema_in}
 use Rattle.zf_cores.specs.{chosen_of}
-use Rattle.zf_engine.proofs.reasons.append_all_empty.Given as goal
+use Rattle.zf_answers.proofs.reasons.append_all_empty.Given as goal
 
 abbrev pub invariant-loop-place : goal.invariant-loop-place
 invariant-loop-place l =

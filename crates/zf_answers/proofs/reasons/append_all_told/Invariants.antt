@@ -1,5 +1,5 @@
-use Rattle.zf_engine.proofs.Prelude.{◌++◌, ◌≡◌, drop, schema_in, told_lines}
-use Rattle.zf_engine.proofs.reasons.append_all_told.Given as goal
+use Rattle.zf_answers.proofs.Prelude.{◌++◌, ◌≡◌, drop, schema_in, told_lines}
+use Rattle.zf_answers.proofs.reasons.append_all_told.Given as goal
 
 abbrev pub invariant-loop-one : goal.invariant-loop-one
 invariant-loop-one l =

@@ -1,5 +1,5 @@
-use Rattle.zf_engine.proofs.Prelude.{◌++◌, ◌≡◌, drop, flat_map, schema_in, side_line, side_lines}
-use Rattle.zf_engine.proofs.reasons.append_side.Given as goal
+use Rattle.zf_answers.proofs.Prelude.{◌++◌, ◌≡◌, drop, flat_map, schema_in, side_line, side_lines}
+use Rattle.zf_answers.proofs.reasons.append_side.Given as goal
 
 abbrev pub invariant-loop-part : goal.invariant-loop-part
 invariant-loop-part l =

@@ -1,5 +1,5 @@
-use Rattle.zf_engine.proofs.Prelude.{◌++◌, ◌≡◌, drop, flat_map, schema_in, side_lines}
-use Rattle.zf_engine.proofs.reasons.append_sides.Given as goal
+use Rattle.zf_answers.proofs.Prelude.{◌++◌, ◌≡◌, drop, flat_map, schema_in, side_lines}
+use Rattle.zf_answers.proofs.reasons.append_sides.Given as goal
 
 abbrev pub invariant-loop-side : goal.invariant-loop-side
 invariant-loop-side l =

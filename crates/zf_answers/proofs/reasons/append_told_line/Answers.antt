@@ -1,8 +1,8 @@
-use Rattle.zf_engine.proofs.Prelude.{◌++◌, ◌∙◌, ap, flat_map, operands_lines, part_line, schema_in, side_lines}
+use Rattle.zf_answers.proofs.Prelude.{◌++◌, ◌∙◌, ap, flat_map, operands_lines, part_line, schema_in, side_lines}
 use Rattle.zf_messages.specs.{detail_line}
-use Rattle.zf_engine.specs.{range_details}
-use Rattle.zf_engine.proofs.ToldLines.{four_told}
-use Rattle.zf_engine.proofs.reasons.append_told_line.Goals as goal
+use Rattle.zf_answers.specs.{range_details}
+use Rattle.zf_answers.proofs.ToldLines.{four_told}
+use Rattle.zf_answers.proofs.reasons.append_told_line.Goals as goal
 
 pub returns : goal.returns
 returns c =

@@ -1,6 +1,6 @@
-use Rattle.zf_engine.proofs.Prelude.{◌∙◌, ap, not, rules, list_any, bytes_eq, without_size}
+use Rattle.zf_answers.proofs.Prelude.{◌∙◌, ap, not, rules, list_any, bytes_eq, without_size}
 use Rattle.std.proofs.lemmas.Fn.{filter_same}
-use Rattle.zf_engine.proofs.stated.sets_without_size.Goals as goal
+use Rattle.zf_answers.proofs.stated.sets_without_size.Goals as goal
 
 pub returns : goal.returns
 returns c =

@@ -1,5 +1,5 @@
-use Rattle.zf_engine.proofs.FirstEvents.{first_none, first_out, first_satisfied}
-use Rattle.zf_engine.proofs.why.first_event.Goals as goal
+use Rattle.zf_answers.proofs.FirstEvents.{first_none, first_out, first_satisfied}
+use Rattle.zf_answers.proofs.why.first_event.Goals as goal
 
 pub returns-in_ok-satisfied_text-in-Holds : goal.returns-in_ok-satisfied_text-in-Holds
 returns-in_ok-satisfied_text-in-Holds g c =

@@ -1,5 +1,5 @@
-use Rattle.zf_engine.proofs.WhyAnswers.{of_schema, why_none}
-use Rattle.zf_engine.proofs.why.none_text.Goals as goal
+use Rattle.zf_answers.proofs.WhyAnswers.{of_schema, why_none}
+use Rattle.zf_answers.proofs.why.none_text.Goals as goal
 
 pub cause_lines-requires : goal.cause_lines-requires
 cause_lines-requires c = of_schema _ _ _ _ _ _ c.in_ok-cause.ensures

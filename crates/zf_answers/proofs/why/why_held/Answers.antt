@@ -1,5 +1,5 @@
-use Rattle.zf_engine.proofs.WhyAnswers.{none_told}
-use Rattle.zf_engine.proofs.why.why_held.Goals as goal
+use Rattle.zf_answers.proofs.WhyAnswers.{none_told}
+use Rattle.zf_answers.proofs.why.why_held.Goals as goal
 
 pub returns-in-Some-clause-told : goal.returns-in-Some-clause-told
 returns-in-Some-clause-told c = (rw c.in-Some.is at c.in_ok-answer.ensures.first) c.args.report.details c.args.report.file.now c.args.report.source.now

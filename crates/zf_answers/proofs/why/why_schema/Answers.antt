@@ -1,8 +1,8 @@
-use Rattle.zf_engine.proofs.Prelude.{◌∙◌, ap, None, rules, subst, sym, schema_of, environment_of, spellings, AnswersRequest, AreHeld, IfAnswered, TellsNoValues, TellsOut, AreClear, HaveClearNames}
-use Rattle.zf_engine.proofs.DueWithin.{due_within}
-use Rattle.zf_engine.proofs.Refusing.{all_shown, clear_of, names_of, no_values_answers, weaker_err, well_typed}
-use Rattle.zf_engine.proofs.WhyAnswers.{none_named, why_found, why_out}
-use Rattle.zf_engine.proofs.why.why_schema.Goals as goal
+use Rattle.zf_answers.proofs.Prelude.{◌∙◌, ap, None, rules, subst, sym, schema_of, environment_of, spellings, AnswersRequest, AreHeld, IfAnswered, TellsNoValues, TellsOut, AreClear, HaveClearNames}
+use Rattle.zf_answers.proofs.DueWithin.{due_within}
+use Rattle.zf_answers.proofs.Refusing.{all_shown, clear_of, names_of, no_values_answers, weaker_err, well_typed}
+use Rattle.zf_answers.proofs.WhyAnswers.{none_named, why_found, why_out}
+use Rattle.zf_answers.proofs.why.why_schema.Goals as goal
 
 pub returns-in_err-held-clause-stop : goal.returns-in_err-held-clause-stop
 returns-in_err-held-clause-stop c =

@@ -1,6 +1,6 @@
-use Rattle.zf_engine.proofs.Prelude.{rules, globals_of, AnswersOver, AnswersRequest, IfAnswered, IsUnfit}
-use Rattle.zf_engine.proofs.Refusing.{unfit_answers, weaker_err}
-use Rattle.zf_engine.proofs.why.why_source.Goals as goal
+use Rattle.zf_answers.proofs.Prelude.{rules, globals_of, AnswersOver, AnswersRequest, IfAnswered, IsUnfit}
+use Rattle.zf_answers.proofs.Refusing.{unfit_answers, weaker_err}
+use Rattle.zf_answers.proofs.why.why_source.Goals as goal
 
 pub returns-in_err-globals-clause-stop : goal.returns-in_err-globals-clause-stop
 returns-in_err-globals-clause-stop c =

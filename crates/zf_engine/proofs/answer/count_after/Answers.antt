@@ -1,8 +1,9 @@
 use Rattle.zf_engine.proofs.Prelude.{sym, true, option_copied, portion, counted_goal, counting_at_start, environment_in, schema_in}
 use Rattle.zf_engine.proofs.NamedRows.{named_length}
 use Rattle.zf_engine.proofs.Writing.{shown}
-use Rattle.zf_engine.proofs.Refusing.{all_shown, out_answers}
-use Rattle.zf_engine.proofs.Subjects.{can_be_searched, searched_all, worded}
+use Rattle.zf_answers.proofs.Refusing.{all_shown, out_answers}
+use Rattle.zf_answers.proofs.Subjects.{can_be_searched, searched_all}
+use Rattle.zf_engine.proofs.Wordings.{worded}
 use Rattle.zf_engine.proofs.answer.count_after.Goals as goal
 
 pub begin_counting-requires-clause-searched : goal.begin_counting-requires-clause-searched

@@ -1,7 +1,8 @@
 use Rattle.zf_engine.proofs.Prelude.{arith, comp_of, length-map, None, subst, option_copied, portion, planted_goal, at_start, IsNamedRow, environment_in, schema_in}
 use Rattle.zf_engine.proofs.Writing.{parts_shown}
-use Rattle.zf_engine.proofs.Refusing.{out_answers, some_shown}
-use Rattle.zf_engine.proofs.Subjects.{can_be_searched, chosen_by, part_worded, searched_some}
+use Rattle.zf_answers.proofs.Refusing.{out_answers, some_shown}
+use Rattle.zf_answers.proofs.Subjects.{can_be_searched, chosen_by, searched_some}
+use Rattle.zf_engine.proofs.Wordings.{part_worded}
 use Rattle.zf_engine.proofs.answer.show_chosen.Goals as goal
 
 pub begin-requires-clause-searched : goal.begin-requires-clause-searched

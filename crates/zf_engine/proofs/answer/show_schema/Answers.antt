@@ -1,6 +1,6 @@
 use Rattle.zf_engine.proofs.Prelude.{◌∙◌, ap, refl, subst, sym, schema_of, environment_of, spellings, AreHeld}
 use Rattle.zf_engine.proofs.Writing.{stopped}
-use Rattle.zf_engine.proofs.Refusing.{misnamed_answers, clear_of, names_of}
+use Rattle.zf_answers.proofs.Refusing.{misnamed_answers, clear_of, names_of}
 use Rattle.zf_engine.proofs.answer.show_schema.Goals as goal
 
 pub returns-in_err-elements-clause-shows : goal.returns-in_err-elements-clause-shows

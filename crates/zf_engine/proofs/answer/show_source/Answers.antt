@@ -1,4 +1,4 @@
-use Rattle.zf_engine.proofs.Refusing.{unfit_answers}
+use Rattle.zf_answers.proofs.Refusing.{unfit_answers}
 use Rattle.zf_engine.proofs.answer.show_source.Goals as goal
 
 pub refuse-requires-clause-answers : goal.refuse-requires-clause-answers

@@ -1,6 +1,6 @@
 use Rattle.zf_engine.proofs.Prelude.{subst, sym, schema_of, IsNamedRow, Value, option_map, environment_in, IsChosenBy, schema_in, shown_in}
 use Rattle.std.proofs.Common.{Global, Vec}
-use Rattle.zf_engine.proofs.Subjects.{none_chosen}
+use Rattle.zf_answers.proofs.Subjects.{none_chosen}
 use Rattle.zf_engine.proofs.answer.show_within.Goals as goal
 
 pub show_after-requires-clause-all : goal.show_after-requires-clause-all

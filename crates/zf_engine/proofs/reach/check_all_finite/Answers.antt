@@ -1,6 +1,6 @@
 use Rattle.zf_engine.proofs.Prelude.{◌∙◌, ap, map, rules, subst, sym, environment_of, IfAnswered, schema_of, TellsInfinite, all_of, all_passed, at_first, failed, IsAhead, mapped_ahead, mapped_end, passed, named_of, schemas_of, HasInfinite}
 use Rattle.zf_engine.proofs.Reaching.{Ends, TellsEndless}
-use Rattle.zf_engine.proofs.Refusing.{weaker, weaker_err}
+use Rattle.zf_answers.proofs.Refusing.{weaker, weaker_err}
 use Rattle.zf_engine.proofs.reach.check_all_finite.Goals as goal
 
 pub loop-named-init : goal.loop-named-init

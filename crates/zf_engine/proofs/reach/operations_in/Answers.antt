@@ -1,6 +1,6 @@
 use Rattle.zf_engine.proofs.Prelude.{◌+◌, ◌∷◌, [], List, map, Message, rules, subst, sym, take, globals_of, IfAnswered, Status, TellsNoSchema, AllZip, map-append, take_all, ahead_at, at_first, failed, passed, FirstFails, named_of, IsSchemaOf, IsOfSchema}
 use Rattle.zf_engine.proofs.Reaching.{zip_more}
-use Rattle.zf_engine.proofs.Refusing.{weaker, weaker_err}
+use Rattle.zf_answers.proofs.Refusing.{weaker, weaker_err}
 use Rattle.zf_engine.proofs.reach.operations_in.Goals as goal
 
 pub loop-name-init : goal.loop-name-init

@@ -1,6 +1,6 @@
 use Rattle.zf_engine.proofs.Prelude.{inl, inr, map, rules, subst, globals_of, IfAnswered, TellsNoSchema, AllZip, option_to_list, FirstFails, named_of, IsSchemaOf, LacksSchema, IsOfSchema}
 use Rattle.zf_engine.proofs.Reaching.{all_named, fails_before, fails_behind}
-use Rattle.zf_engine.proofs.Refusing.{weaker, weaker_err}
+use Rattle.zf_answers.proofs.Refusing.{weaker, weaker_err}
 use Rattle.zf_engine.proofs.reach.schemas_in.Goals as goal
 
 pub returns-in_err-state-clause-stop : goal.returns-in_err-state-clause-stop

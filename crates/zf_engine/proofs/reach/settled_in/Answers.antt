@@ -1,6 +1,6 @@
 use Rattle.zf_engine.proofs.Prelude.{rules, AnswersExploration, environment_of, globals_of, IfAnswered, numbers_of, stated, TellsMisfit, TellsNumbers, schemas_of, HasInfinite, HasLacking, HasOut, LacksSchema}
 use Rattle.zf_engine.proofs.Reaching.{has_bad_sizes, has_infinite, has_large_numbers, has_out, lacks_component, lacks_schema, searchable}
-use Rattle.zf_engine.proofs.Refusing.{weaker_err}
+use Rattle.zf_answers.proofs.Refusing.{weaker_err}
 use Rattle.zf_engine.proofs.reach.settled_in.Goals as goal
 
 pub returns-in_err-schemas-clause-stop : goal.returns-in_err-schemas-clause-stop

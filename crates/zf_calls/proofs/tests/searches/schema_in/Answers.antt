@@ -1,8 +1,8 @@
 use Rattle.std.proofs.Common.{subst}
 use Rattle.zf_meaning.specs.{environment_of}
 use Rattle.zf_term.specs.{schema_of}
-use Rattle.zf_engine.specs.{IsNamed}
-use Rattle.zf_engine.proofs.DueWithin.{due_within}
+use Rattle.zf_answers.specs.{IsNamed}
+use Rattle.zf_answers.proofs.DueWithin.{due_within}
 use Rattle.zf_calls.proofs.tests.searches.schema_in.Goals as goal
 
 pub returns-clause-due : goal.returns-clause-due
