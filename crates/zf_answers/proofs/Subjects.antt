@@ -2,6 +2,7 @@
 use Rattle.zf_answers.proofs.Prelude.{◌≡◌, List, None, Option, refl, Some, subst, sym, ℕ, Comp, IsNamedRow, IsSearch, portion, Request, schema_of, Value, comps_at, IsNoneOut, AreShown, CanBeSearched, environment_in, IsChosenBy, IsSubjectOf, NamesParts, schema_in, shown_in, Subject}
 use Rattle.zf_answers.specs.declared.bounds.Chosen.{Chosen}
 use Rattle.zf_answers.proofs.DueWithin.{due_within}
+use Rattle.zf_answers.proofs.Refusing.{after_all, after_some, all_shown, some_shown, well_typed}
 
 module _ (r : Request) (source : List ℕ) (s : Subject) (is : IsSubjectOf r source s) where
   pub can_be_searched : CanBeSearched s
