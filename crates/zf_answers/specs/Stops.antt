@@ -1,4 +1,4 @@
--- What the steps of an answer ensure. No public clause rests on this file.
+-- What the steps of an answer ensure. What is answered does not rest on this file.
 use Rattle.std.specs.Prelude.{◌≡◌, ◌≢◌, ◌⊎◌, ℕ, Bool, List, [], ◌∷◌, Option, Result, Ok, Err}
 use Rattle.zf_answers.specs.Prelude.{Appends, TextFault, Comp, Defined, Value, Environment, Status, BadSpec, BadRequest, Request, AppendsFront, Cited, Message, not_a_binding, not_components, not_held, text_fault_message, Format, messages_text}
 use Rattle.zf_scan.specs.declared.fault.TextFaultKind.TheVariants as text_faults

@@ -1,4 +1,4 @@
--- A schema in an environment, and what `why` finds of it. No public clause rests on this file.
+-- A schema in an environment, and what `why` finds of it. What is answered does not rest on this file.
 use Rattle.std.specs.Prelude.{◌≡◌, ℕ, Bool, List, [], length, Option, Some, None, IsSomeAnd, option_map, Vec}
 use Rattle.zf_answers.specs.Prelude.{Global, Comp, Schema, schema_of, IsFinite, Value, AreDueWithin, Stage, Environment, environment_of, Begins, Goal, Portion, portion, property, spellings, split_at, Explains, RuleOut, Cause, Empty, Alone, Together, Status, HasEvents, out_line, row_line, Request, comps_at}
 use Rattle.zf_answers.specs.Answers.{AreHeld, IsAsked, IsNamedRow}

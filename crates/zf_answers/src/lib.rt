@@ -2,7 +2,7 @@
 #![tactic(auto)]
 
 mod asked;
-mod begin;
+pub mod begin;
 mod bounds;
 mod check;
 mod endings;
@@ -22,7 +22,6 @@ mod telling;
 mod why;
 
 pub use asked::{Asked, check_finite, env_in, find_schema, schema_named};
-pub use begin::{begin, begin_counting, not_begun};
 pub use bounds::{Bounds, Chosen, bounds_in};
 pub use check::{checked, load};
 pub use inquiry::Inquiry;

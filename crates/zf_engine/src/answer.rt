@@ -8,9 +8,10 @@ use crate::reach::reach_source;
 use bumpalo::Bump;
 use std::alloc::Global;
 use std::io::Write;
+use zf_answers::begin::{begin, begin_counting};
 use zf_answers::{
-    Asked, Bounds, Chosen, Inquiry, Stop, Subject, begin, begin_counting, bounds_in, checked,
-    find_schema, load, tell, why_source, write_whole,
+    Asked, Bounds, Chosen, Inquiry, Stop, Subject, bounds_in, checked, find_schema, load, tell,
+    why_source, write_whole,
 };
 use zf_command::{Job, Request};
 use zf_format::Format;

@@ -10,9 +10,8 @@ ghost use Rattle.zf_reach.specs.{ending_of, result_of};
 use bumpalo::Bump;
 use std::alloc::{AllocError, Global};
 use std::io::Write;
-use zf_answers::{
-    Stop, check_finite, env_in, greatest_number, load, not_begun, schema_named, tell,
-};
+use zf_answers::begin::not_begun;
+use zf_answers::{Stop, check_finite, env_in, greatest_number, load, schema_named, tell};
 use zf_command::{Exploration, STATES_MAX};
 use zf_data::Word;
 use zf_format::Format;
