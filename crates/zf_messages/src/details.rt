@@ -627,7 +627,7 @@ pub fn not_finite_message(
     cause: &NotFinite<'_>,
     beside: Beside<'_>,
 ) -> Result<Message, AllocError>
-    ensures { IfOk result (λ m. m ≡ spec.not_finite_message report.entry.details report.entry.source.now (globals_of globals.now) cause.now beside.side.now beside.mended) }
+    ensures { IfOk result (λ m. m ≡ spec.not_finite_message report.entry.details report.entry.source.now (globals_of globals.now) cause.now beside.entry.side.now beside.entry.mended) }
 {
     let line = line_of(report.source, cause.span().start);
     let mut message = Message::of(alloc, At::Line(line), b"not finite")?;
