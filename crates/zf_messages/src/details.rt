@@ -606,11 +606,7 @@ fn add_cause(
 }
 
 /// What else makes it finite, if that does.
-fn add_mending(
-    details: &mut Items<Detail>,
-    alloc: Global,
-    mended: bool,
-) -> Result<(), AllocError>
+fn add_mending(details: &mut Items<Detail>, alloc: Global, mended: bool) -> Result<(), AllocError>
     ensures { OnOk result (details.new ≡ details.old ++ spec.mending_details mended) }
 {
     if mended {
