@@ -1,5 +1,5 @@
 -- A greatest number mends a schema that is finite with one.
-use Rattle.zf_engine.proofs.Prelude.{◌≡◌, ap, Defined, Err, IfErr, IsFinite, List, Ok, Result, Schema, Some, sym, ℕ}
+use Rattle.zf_engine.proofs.Prelude.{◌≡◌, ap, Defined, Err, IfErr, IsFinite, List, Ok, Result, Schema, Some, sym}
 use Rattle.std.proofs.Common.{is_none, is_ok, OnOk}
 use Rattle.zf_extent.specs.{first}
 use Rattle.zf_finite.proofs.FiniteSchemas.{finite_without_cause}
