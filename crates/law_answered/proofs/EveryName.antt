@@ -1,6 +1,6 @@
 -- A name is that of a schema, or of none; and what need be reported beside what makes a schema infinite.
 use Rattle.zf_schema.proofs.Named.{named_there}
-use Rattle.law_answered.proofs.Prelude.{◌∙◌, ◌≡◌, ◌⊎◌, [], ap, inl, inr, List, None, Option, refl, Some, sym, ℕ, same_Some, Defined, Definition, IsNamed, NotFinite, Schema, schema, IsReportedBeside, first_named, ◌∷◌, Bool, first, finite_without_cause, causes, IsFinite, Status, BadSpec, TellsInfinite, Message, not_finite_message}
+use Rattle.law_answered.proofs.Prelude.{◌∙◌, ◌≡◌, ◌⊎◌, [], ap, inl, inr, List, None, Option, refl, Some, sym, ℕ, same_Some, Defined, Definition, IsNamed, NotFinite, Schema, schema, IsReportedBeside, first_named, ◌∷◌, Bool, first, finite_without_cause, causes, is_mended, IsFinite, Status, BadSpec, TellsInfinite, Message, not_finite_message}
 use Rattle.zf_finite.specs.declared.not_finite.NotFinite.TheVariants.{Offends, Unbounded}
 
 -- a definition is a schema, or none
@@ -36,4 +36,4 @@ finite_or_told numbers g a details source = by (causes numbers g a) refl
     by : (them : List NotFinite) → causes numbers g a ≡ them
         → IsFinite numbers g a ⊎ ((b : List Message × Status) × TellsInfinite numbers g a details source b.0 b.1)
     by [] none = inl ((finite_without_cause numbers g a).1 none)
-    by (cause ∷ them) some = inr ((not_finite_message details source g cause [] ∷ [], BadSpec), (cause, [], ap first some, none_beside g cause, refl, refl))
+    by (cause ∷ them) some = inr ((not_finite_message details source g cause [] (is_mended numbers g a) ∷ [], BadSpec), (cause, [], ap first some, none_beside g cause, refl, refl))

@@ -1,5 +1,6 @@
 mod Prelude
 mod SmallNumbers
+mod Mending
 pub mod Rows
 pub mod OneEnding
 pub mod WrittenRows

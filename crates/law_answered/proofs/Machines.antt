@@ -1,6 +1,8 @@
 -- Schemas make a machine, or one of them is the first that lacks a component, and one component the first that it lacks.
-use Rattle.law_answered.proofs.Prelude.{◌∙◌, ◌∷◌, ◌≡◌, ◌⊎◌, [], ap, inl, inr, List, map, None, Option, refl, Some, subst, sym, ℕ, AllByRecursion, Comp, Environment, same_Some, Schema, Allows, AllowsAll, AllowsSought, CanBeInitial, CanStep, FirstFails, Form, Has, HasAll, HasShape, IsInit, IsMachineOf, Lacks, LacksBehind, LacksFirst, LacksInit, LacksStep, LacksStepFirst, Named, Operation, Schemas, SoughtLacks, Spelling, StateClashes, System, both_states, first_named, init_in, operation_in, state_of, test_in, test_of, with_strokes}
+use Rattle.law_answered.proofs.Prelude.{◌∙◌, ◌∷◌, ◌≡◌, ◌⊎◌, [], ap, inl, inr, List, map, None, Option, refl, Some, subst, sym, ℕ, AllByRecursion, Comp, Environment, same_Some, Schema, Allows, AllowsAll, AllowsSought, CanBeInitial, CanStep, FirstFails, Form, Has, HasAll, HasShape, IsInit, IsMachineOf, Lacks, LacksBehind, LacksFirst, LacksInit, LacksStep, LacksStepFirst, Named, Operation, Schemas, SoughtLacks, Spelling, StateClashes, System, are_after, both_states, first_named, init_in, meant_in, names_any, operation_in, place_of, state_of, test_in, test_of, with_strokes}
 use Rattle.law_decided.proofs.Decided.{same_type}
+use Rattle.std.proofs.Common.{◌&&◌, ◌||◌, Bool, false, if◌then◌else◌, is_some, not, option_map, true, true≢false}
+use Rattle.std.proofs.lemmas.Bool.{and_right}
 
 -- ---- the first that fails
 
@@ -114,6 +116,12 @@ one_sought_lack state (Some o) n c m d x y = (x.0 ∙ sym y.0, one_clash o.schem
 
 -- ---- schemas that make a machine
 
+-- one of two lists of components lacks one where both do
+lack_of_either : (comps left right : List Comp) (b : Bool) → ((name : List ℕ) × Lacks comps left name) → ((name : List ℕ) × Lacks comps right name)
+    → (name : List ℕ) × Lacks comps (if b then left else right) name
+lack_of_either comps left right true one other = one
+lack_of_either comps left right false one other = other
+
 initial_or_lack : (state : List Comp) (a : Schema) → CanBeInitial state a ⊎ ((name : List ℕ) × LacksInit state a name)
 initial_or_lack state a = by (all_or_lack a.comps (with_strokes state)) (all_or_lack a.comps state)
   where
@@ -121,11 +129,25 @@ initial_or_lack state a = by (all_or_lack a.comps (with_strokes state)) (all_or_
         → CanBeInitial state a ⊎ ((name : List ℕ) × LacksInit state a name)
     by (inl all) others = inl (inl all)
     by (inr lacks) (inl all) = inl (inr all)
-    by (inr lacks) (inr others) = inr (others.0, ((λ all. not_all_and_lack a.comps (with_strokes state) lacks.0 all lacks.1), others.1))
+    by (inr lacks) (inr others) =
+        let meant = lack_of_either a.comps (with_strokes state) state (are_after state a.comps) lacks others in
+        inr (meant.0, ((λ all. not_all_and_lack a.comps (with_strokes state) lacks.0 all lacks.1), meant.1))
+
+-- what has all components of the state is not read as one that lacks some with a stroke
+all_named : (comps state : List Comp) → HasAll comps state → (names_any comps (with_strokes state) && not (names_any comps state)) ≡ true → ⊥
+all_named comps [] all after = true≢false (sym after)
+all_named comps (c ∷ cs) all after =
+    let there : place_of comps c.name ≡ Some all.0.place = ap (option_map (λ (p : ℕ × Comp). p.0)) all.0.named in
+    let named : names_any comps (c ∷ cs) ≡ true = ap (λ (p : Option ℕ). is_some p || names_any comps cs) there in
+    let none : (names_any comps (with_strokes (c ∷ cs)) && not (names_any comps (c ∷ cs))) ≡ false = and_right (names_any comps (with_strokes (c ∷ cs))) (not (names_any comps (c ∷ cs))) (ap not named) in
+    true≢false (sym after ∙ none)
 
 not_initial_and_lack : (state : List Comp) (a : Schema) (name : List ℕ) → CanBeInitial state a → LacksInit state a name → ⊥
 not_initial_and_lack state a name (inl all) lacks = lacks.0 all
-not_initial_and_lack state a name (inr all) lacks = not_all_and_lack a.comps state name all lacks.1
+not_initial_and_lack state a name (inr all) lacks = by (are_after state a.comps) refl lacks.1 where
+  by : (b : Bool) → are_after state a.comps ≡ b → Lacks a.comps (if b then with_strokes state else state) name → ⊥
+  by true after meant = all_named a.comps state all after
+  by false after meant = not_all_and_lack a.comps state name all meant
 
 steps_or_lack : (state : List Comp) (o : Named) → CanStep state o ⊎ ((b : List ℕ × List ℕ) × ((b.0 ≡ o.name) × LacksStep state o.schema b.1))
 steps_or_lack state o = elim (all_or_lack o.schema.comps (both_states state)) [
@@ -168,7 +190,7 @@ module _ (p : Schemas) where
   one_behind n c m d (inr x) (inr y) = one_sought_lack (state_of p) p.sought n c m d x.1 y.1
 
   pub one_lacking : (n c m d : List ℕ) → LacksFirst p n c → LacksFirst p m d → (n ≡ m) × (c ≡ d)
-  one_lacking n c m d (inl x) (inl y) = (x.0 ∙ sym y.0, one_lack p.init.schema.comps (state_of p) c d x.1.1 y.1.1)
+  one_lacking n c m d (inl x) (inl y) = (x.0 ∙ sym y.0, one_lack p.init.schema.comps (meant_in (state_of p) p.init.schema.comps) c d x.1.1 y.1.1)
   one_lacking n c m d (inl x) (inr y) = absurd (not_initial_and_lack (state_of p) p.init.schema c y.0 x.1)
   one_lacking n c m d (inr x) (inl y) = absurd (not_initial_and_lack (state_of p) p.init.schema d x.0 y.1)
   one_lacking n c m d (inr x) (inr y) = one_behind n c m d x.1 y.1

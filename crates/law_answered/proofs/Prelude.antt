@@ -55,7 +55,7 @@ pub use Rattle.zf_lines.specs.declared.fault.Status.TheVariants.{BadRequest, Bad
 pub use Rattle.law_total.proofs.Rows.{AreTold, one_truth_of}
 pub use Rattle.law_exists.proofs.Searches.{some_search, some_tests_line, some_list}
 pub use Rattle.zf_parts.proofs.Told.{property_told}
-pub use Rattle.zf_engine.specs.{Answer, AreHeld, AreMessages, AreShown, AreSmall, AreTooLarge, check_status, CheckAnswer, Checks, empty_lines, format_of, HasSchema, HoldsNoValues, IsAsked, IsLimited, IsLineOf, IsNamed, IsNamedRow, IsSearch, JobAnswer, JobBegins, listed, NamesNoParts, NamesNoRow, NamesParts, no_binding_line, numbers_of, RefusesRequest, RequestAnswer, row_after, satisfied_line, ShowBegins, ShowsEvents, ShowsParts, size_fault_messages, stated, TellsConjuncts, TellsShown, TellsWhy, told_lines, UnreadAnswer, wants_details, wording, AreSchemasOf, ExplorationAnswer, ExplorationBegins, ExploresMachine, HasInfinite, HasLacking, HasOut, HasSchemas, IsBounded, IsSchemaOf, IsSearchable, IsSettled, LacksSchema, RefusesExploration, Seeks, TellsFaults, TellsInfinite, TellsMachine, TellsMisfit, TellsNoSchema, TellsNumbers, TellsOut, component_place, ending_status, form_of, names_between, names_of, result_status, states_limit}
+pub use Rattle.zf_engine.specs.{Answer, AreHeld, AreMessages, AreShown, AreSmall, AreTooLarge, check_status, CheckAnswer, Checks, empty_lines, format_of, HasSchema, HoldsNoValues, is_mended, IsAsked, IsLimited, IsLineOf, IsNamed, IsNamedRow, IsSearch, JobAnswer, JobBegins, listed, NamesNoParts, NamesNoRow, NamesParts, no_binding_line, numbers_of, RefusesRequest, RequestAnswer, row_after, satisfied_line, ShowBegins, ShowsEvents, ShowsParts, size_fault_messages, stated, TellsConjuncts, TellsShown, TellsWhy, told_lines, UnreadAnswer, wants_details, wording, AreSchemasOf, ExplorationAnswer, ExplorationBegins, ExploresMachine, HasInfinite, HasLacking, HasOut, HasSchemas, IsBounded, IsSchemaOf, IsSearchable, IsSettled, LacksSchema, RefusesExploration, Seeks, TellsFaults, TellsInfinite, TellsMachine, TellsMisfit, TellsNoSchema, TellsNumbers, TellsOut, component_place, ending_status, form_of, names_between, names_of, result_status, states_limit}
 pub use Rattle.zf_messages.specs.{AreFaultMessages, Cited, declared_out, IsReportedBeside, messages_text, no_component, no_schema_message, not_a_binding, not_components, not_finite_message, not_held, nothing, numbers_too_large, Reported, text_fault_message}
 pub use Rattle.zf_messages.specs.declared.message.Message.{Message}
 pub use Rattle.law_answered.specs.{AnswersRequest, AreAlike, AreFaultsAlike, AreMessagesAlike, AreOfSame, EachBindingIsShown, EndsLines, EventsAreShown, EveryHeldLineIsJudged, EveryLineIsJudged, EveryRequestIsAnswered, EverySourceIsRead, FirstLinesAreAFront, IsBefore, IsBinding, IsGranted, IsInDoubt, IsNotPast, IsShownInOneWay, limited, OneStatus, OneText, PartsAreFronts, ReasonIsTold, resumed, RunsMakeOne, ShowsBindings, together, EachPartIsShown, IsFirstInDoubt, IsPartOfBinding, IsSchemaAt, OneRowOfALine, OneRowOfAnObject, plain_message, PlainMessages, ReachableAreMet, RefusedLinesAreOfNoRow, SatisfiesAt, Says, ShowsEachPart, ShowsWay, WhatIsReachedIsTold, WhatIsSoughtIsTold, graph_in}
@@ -75,7 +75,7 @@ pub use Rattle.zf_parts.specs.{AllHold, AreParts, ArePartsWritten, HasParts, IsF
 pub use Rattle.zf_places.specs.{comps_at, values_at}
 pub use Rattle.zf_print.specs.declared.spelling.Spelling.{Spelling}
 pub use Rattle.zf_steps.proofs.Sure.{is_of, is_searched_once, is_sure}
-pub use Rattle.zf_steps.specs.{Allows, AllowsAll, CanExplore, Has, HasAll, IsInit, IsOther, IsSought, Lacks, LacksInit, LacksStep, Operation, Satisfies, StateClashes, System, both_states, explored_in, init_in, operation_in, sought_in, test_in, verdict, with_strokes, words}
+pub use Rattle.zf_steps.specs.{Allows, AllowsAll, CanExplore, Has, HasAll, IsInit, IsOther, IsSought, Lacks, LacksInit, LacksStep, Operation, Satisfies, StateClashes, System, are_after, both_states, explored_in, init_in, meant_in, names_any, operation_in, place_of, sought_in, test_in, verdict, with_strokes, words}
 pub use Rattle.zf_steps.specs.declared.form.Form.{Form}
 pub use Rattle.zf_why.proofs.Decided.{event_of, row_at}
 pub use Rattle.zf_why.proofs.Explained.{held_later, some_row}

@@ -1,5 +1,5 @@
 -- Two refusals of one kind have one status, that of no success, and texts that are alike; and each excludes what it says is not so.
-use Rattle.law_answered.proofs.Prelude.{◌∙◌, ◌≡◌, ap, List, Option, subst, sym, ℕ, ◌≢◌, same_Some, slice_get, AreComplete, AreMessagesAlike, BadRequest, BadSpec, Checks, Comp, declared_out, Defined, Done, Environment, first, Format, given_sets, IsFinite, IsNoneOut, Message, messages_text, NotFinite, not_finite_message, PastBounds, Schema, Size, size_fault_messages, Status, TellsFaults, TellsInfinite, TellsMisfit, TellsNoSchema, TellsNumbers, TellsOut, [], ◌∷◌, Bool}
+use Rattle.law_answered.proofs.Prelude.{◌∙◌, ◌≡◌, ap, List, Option, subst, sym, ℕ, ◌≢◌, same_Some, slice_get, AreComplete, AreMessagesAlike, BadRequest, BadSpec, Checks, Comp, declared_out, Defined, Done, Environment, first, Format, given_sets, is_mended, IsFinite, IsNoneOut, Message, messages_text, NotFinite, not_finite_message, PastBounds, Schema, Size, size_fault_messages, Status, TellsFaults, TellsInfinite, TellsMisfit, TellsNoSchema, TellsNumbers, TellsOut, [], ◌∷◌, Bool}
 use Rattle.law_answered.proofs.OneRefusal.{none_refused, one_refusal}
 use Rattle.law_answered.proofs.OneSearch.{not_infinite, one_first_out}
 use Rattle.law_answered.proofs.OneSource.{one_checked, some_and_none}
@@ -40,8 +40,9 @@ module _ (details : Bool) (source : List ℕ) (one two : List Message) (s t : St
   pub one_infinite : (numbers : Option ℕ) (g : List Defined) (a : Schema)
       → TellsInfinite numbers g a details source one s → TellsInfinite numbers g a details source two t → Alike
   one_infinite numbers g a u v =
-      let told = u.4 ∙ ap (λ (c : NotFinite). not_finite_message details source g c u.1 ∷ []) (same_Some u.0 v.0 (sym u.2 ∙ v.2)) in
-      bad_spec u.5 v.5 (AreMessagesAlike.infinite g v.0 u.1 v.1 told v.4)
+      let mended = is_mended numbers g a in
+      let told = u.4 ∙ ap (λ (c : NotFinite). not_finite_message details source g c u.1 mended ∷ []) (same_Some u.0 v.0 (sym u.2 ∙ v.2)) in
+      bad_spec u.5 v.5 (AreMessagesAlike.infinite g v.0 mended u.1 v.1 told v.4)
 
   pub one_misfit : (g : List Defined) (sizes : List Size) → TellsMisfit details g sizes one s → TellsMisfit details g sizes two t → Alike
   one_misfit g sizes u v =

@@ -106,8 +106,8 @@ pub data AreMessagesAlike (details : Bool) (source : List ℕ) (one two : List M
       → two ≡ text_fault_message details source fault second ∷ [] → AreMessagesAlike details source one two
   grammar : TellsGrammar details source one → TellsGrammar details source two → AreMessagesAlike details source one two
   types : AreFaultsAlike details source one two → AreMessagesAlike details source one two
-  infinite : (globals : List Defined) (cause : NotFinite) (first second : List ℕ) → one ≡ not_finite_message details source globals cause first ∷ []
-      → two ≡ not_finite_message details source globals cause second ∷ [] → AreMessagesAlike details source one two
+  infinite : (globals : List Defined) (cause : NotFinite) (mended : Bool) (first second : List ℕ) → one ≡ not_finite_message details source globals cause first mended ∷ []
+      → two ≡ not_finite_message details source globals cause second mended ∷ [] → AreMessagesAlike details source one two
   no_components : (first second : ℕ) → one ≡ not_components first ∷ [] → two ≡ not_components second ∷ [] → AreMessagesAlike details source one two
   no_binding : (first second : ℕ) → one ≡ not_a_binding first ∷ [] → two ≡ not_a_binding second ∷ [] → AreMessagesAlike details source one two
   no_values : (first second : ℕ) → one ≡ not_held first ∷ [] → two ≡ not_held second ∷ [] → AreMessagesAlike details source one two

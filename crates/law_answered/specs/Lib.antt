@@ -7,6 +7,7 @@ pub mod Sought
 pub mod Runs
 pub mod NamedLines
 pub mod Limits
+pub mod Mending
 pub use Rattle.law_answered.specs.Bindings.{EndsLines, IsBefore, IsBinding, IsInDoubt, IsNotPast, ShowsBindings}
 pub use Rattle.law_answered.specs.Parts.{IsFirstInDoubt, IsPartOfBinding, ShowsEachPart}
 pub use Rattle.law_answered.specs.Laws.{AnswersRequest, AreAlike, AreFaultsAlike, AreMessagesAlike, AreOfSame, EachBindingIsShown, EachPartIsShown, EventsAreShown, EveryHeldLineIsJudged, EveryLineIsJudged, EveryRequestIsAnswered, EverySourceIsRead, IsGranted, IsShownInOneWay, OneStatus, OneText, plain_message, PlainMessages, ReasonIsTold}
@@ -15,3 +16,4 @@ pub use Rattle.law_answered.specs.Sought.{SatisfiesAt, Says, ShowsWay, WhatIsSou
 pub use Rattle.law_answered.specs.Runs.{FirstLinesAreAFront, limited, PartsAreFronts, resumed, RunsMakeOne, together}
 pub use Rattle.law_answered.specs.NamedLines.{IsSchemaAt, OneRowOfALine, OneRowOfAnObject, RefusedLinesAreOfNoRow}
 pub use Rattle.law_answered.specs.Limits.{LimitsAre}
+pub use Rattle.law_answered.specs.Mending.{NumbersMend}

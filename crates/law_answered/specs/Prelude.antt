@@ -4,13 +4,14 @@ pub use Rattle.zf_term.specs.{Defined, ResolvedTree, Schema, Comp, Fault, compon
 pub use Rattle.zf_value.specs.declared.plain.Value.{Value}
 pub use Rattle.zf_value.specs.{value_order}
 pub use Rattle.zf_walk.specs.{ComesAfter, IsLater, IsRowOf}
+pub use Rattle.zf_finite.specs.{IsFinite}
 pub use Rattle.zf_meaning.specs.{Environment, in_row, IsTruth, IsEnvironment, IsNumberSet, AreComplete, given_sets, IsRow}
 pub use Rattle.zf_enum.specs.{Portion}
 pub use Rattle.zf_ranges.specs.{AreRanges}
 pub use Rattle.zf_lines.specs.declared.fault.Status.{Status}
 pub use Rattle.zf_lines.specs.{IsBelow, IsTestsLine, Wording, HasLimit}
 pub use Rattle.zf_command.specs.declared.job.Request.{Request}
-pub use Rattle.zf_engine.specs.{wording, Answer, AreHeld, Checks, format_of, HasSchema, HoldsNoValues, IsLimited, IsNamedRow, IsSearch, NamesNoRow, ShowsEvents, TellsConjuncts, TellsWhy, wants_details, AreTooLarge, IsLineOf, NamesParts, IsSearchable, TellsMachine, IsPartOfAnswer, ShowBegins, Seeks}
+pub use Rattle.zf_engine.specs.{wording, Answer, AreHeld, Checks, format_of, HasSchema, HoldsNoValues, is_mended, IsLimited, IsNamedRow, IsSearch, NamesNoRow, ShowsEvents, TellsConjuncts, TellsWhy, wants_details, AreTooLarge, IsLineOf, NamesParts, IsSearchable, TellsMachine, IsPartOfAnswer, ShowBegins, Seeks}
 pub use Rattle.zf_command.specs.declared.job.Job.{Job}
 pub use Rattle.zf_command.specs.declared.job.Job.TheVariants.{Show, Why, Reach}
 pub use Rattle.zf_scan.specs.{IsCutInto, number_max}

@@ -1,7 +1,7 @@
 //! Laws over what is answered, above the answers of the engine: each source has one answer, that of `show` has each binding once, that of `why` the first one, or why there is none, and that of `reach` what can be reached, or a shortest way to a state that is sought.
 #![tactic(auto)]
 
-ghost use Rattle.law_answered.specs.{EachBindingIsShown, EachPartIsShown, EventsAreShown, EveryHeldLineIsJudged, EveryLineIsJudged, EveryRequestIsAnswered, EverySourceIsRead, FirstLinesAreAFront, IsShownInOneWay, LimitsAre, OneRowOfALine, OneRowOfAnObject, OneStatus, OneText, PartsAreFronts, PlainMessages, ReachableAreMet, ReasonIsTold, RefusedLinesAreOfNoRow, RunsMakeOne, SchemasMakeOneMachine, WhatIsReachedIsTold, WhatIsSoughtIsTold};
+ghost use Rattle.law_answered.specs.{EachBindingIsShown, EachPartIsShown, EventsAreShown, EveryHeldLineIsJudged, EveryLineIsJudged, EveryRequestIsAnswered, EverySourceIsRead, FirstLinesAreAFront, IsShownInOneWay, LimitsAre, NumbersMend, OneRowOfALine, OneRowOfAnObject, OneStatus, OneText, PartsAreFronts, PlainMessages, ReachableAreMet, ReasonIsTold, RefusedLinesAreOfNoRow, RunsMakeOne, SchemasMakeOneMachine, WhatIsReachedIsTold, WhatIsSoughtIsTold};
 
 /// What `show` answers, where nothing stands in its way: the line of each binding, once, in ascending order.
 pub fn each_binding_is_shown()
@@ -84,4 +84,9 @@ pub fn lines_name_rows()
 /// The limits that the definitions speak of are these numbers.
 pub fn limits_are()
     ensures { LimitsAre }
+{}
+
+/// Where a message says that a greatest number makes a schema finite, each does, and otherwise none.
+pub fn numbers_mend()
+    ensures { NumbersMend }
 {}

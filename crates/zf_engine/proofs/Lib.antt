@@ -1,6 +1,7 @@
 mod Prelude
 pub mod Reported
 pub mod Refusing
+pub mod Mending
 pub mod Writing
 pub mod Lists
 pub mod Within

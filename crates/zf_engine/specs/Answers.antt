@@ -10,7 +10,7 @@ use Rattle.zf_engine.specs.Explorations.{ExplorationAnswer, ExplorationBegins}
 use Rattle.zf_engine.specs.Numbers.{AreSmall, AreTooLarge}
 use Rattle.zf_engine.specs.Only.{AreShown, NamesNoParts, NamesParts}
 use Rattle.zf_engine.specs.Reasons.{TellsWhy}
-use Rattle.zf_engine.specs.Settings.{AreMessages, Checks, HasSchema, IsNamed, numbers_of, size_fault_messages, stated}
+use Rattle.zf_engine.specs.Settings.{AreMessages, Checks, HasSchema, is_mended, IsNamed, numbers_of, size_fault_messages, stated}
 
 -- ---- `check`
 
@@ -92,7 +92,7 @@ pub data RefusesRequest (r : Request) (source : List ℕ) (told : List Message) 
   bad_sizes : (globals : List Defined) (a : Schema) (fault : SizeFault) → HasSchema source r.name globals a → AreSmall (numbers_of r.setting)
       → IsRefusal (given_sets globals) (stated globals r.setting) fault → fault ≢ OutOfMemory → told ≡ size_fault_messages r.details globals (stated globals r.setting) fault → status ≡ BadRequest → RefusesRequest r source told status
   not_finite : (globals : List Defined) (a : Schema) (cause : NotFinite) (side : List ℕ) → HasSchema source r.name globals a → AreSmall (numbers_of r.setting)
-      → AreComplete (given_sets globals) (stated globals r.setting) → first (causes (numbers_of r.setting) globals a) ≡ Some cause → IsReportedBeside globals cause side → told ≡ not_finite_message r.details source globals cause side ∷ [] → status ≡ BadSpec
+      → AreComplete (given_sets globals) (stated globals r.setting) → first (causes (numbers_of r.setting) globals a) ≡ Some cause → IsReportedBeside globals cause side → told ≡ not_finite_message r.details source globals cause side (is_mended (numbers_of r.setting) globals a) ∷ [] → status ≡ BadSpec
       → RefusesRequest r source told status
   not_components : (globals : List Defined) (a : Schema) (e : Environment) (place : ℕ) → IsAsked r source globals a e → NamesNoParts a.comps r.only
       → told ≡ messages.not_components place ∷ [] → status ≡ BadRequest → RefusesRequest r source told status

@@ -19,7 +19,7 @@ pub use Rattle.zf_engine.specs.Objects.{operand_object, operands_members, outcom
 pub use Rattle.zf_engine.specs.Reasons.{at_component, empty_line, empty_lines, no_binding_line, operands_lines, part_line, satisfied_line, side_line, side_lines, TellsConjuncts, TellsWhy, told_line, told_lines}
 pub use Rattle.zf_engine.specs.CauseLines.{cause_lines, cause_text, reasons}
 pub use Rattle.zf_engine.specs.Numbers.{AreSmall, AreTooLarge}
-pub use Rattle.zf_engine.specs.Settings.{AreMessages, Checks, HasSchema, IsMisfit, IsNamed, numbers_of, size_fault_messages, stated, stated_size, TellsComponent, TellsFaults, TellsInfinite, TellsMisfit, TellsNoSchema, TellsNumbers, TellsOut, with_size, without_size}
+pub use Rattle.zf_engine.specs.Settings.{AreMessages, Checks, HasSchema, is_mended, IsMisfit, IsNamed, numbers_of, size_fault_messages, stated, stated_size, TellsComponent, TellsFaults, TellsInfinite, TellsMisfit, TellsNoSchema, TellsNumbers, TellsOut, with_size, without_size}
 pub use Rattle.zf_engine.specs.Only.{AreShown, component_place, is_comma, names_between, NamesNoParts, NamesParts, trimmed, without_end, without_start}
 pub use Rattle.zf_engine.specs.Adding.{HasNoPlace, IsAdded}
 pub use Rattle.zf_engine.specs.Explorations.{AreSchemasOf, ending_status, ExplorationAnswer, ExplorationBegins, ExploresMachine, form_of, HasInfinite, HasLacking, HasOut, HasSchemas, IsBounded, IsSchemaOf, IsSearchable, IsSettled, LacksSchema, names_of, RefusesExploration, result_status, Seeks, states_limit, TellsMachine}

@@ -1,5 +1,5 @@
 -- What `show`, `why` and `reach` share: what a source defines, the sizes and the greatest number that are stated, and what is reported where these or a schema are refused.
-use Rattle.std.specs.Prelude.{◌≡◌, ◌≢◌, ℕ, Bool, not, List, [], ◌∷◌, ◌++◌, map, Option, Some, None, slice_get}
+use Rattle.std.specs.Prelude.{◌≡◌, ◌≢◌, ℕ, Bool, false, not, is_none, List, [], ◌∷◌, ◌++◌, map, Option, Some, None, slice_get}
 use Rattle.zf_engine.specs.Prelude.{filter, list_any, bytes_eq, Format, messages_text, NotFinite, causes, ReadsSource, BoxTree, Comp, Defined, Fault, first_named, Schema, schema, first, SizeFault, NoSize, NotGiven, SizeTwice, SizeTooLarge, Environment, given_sets, IsRefusal, IsFirstOut, Status, BadSpec, BadRequest, PastBounds, Message, AreFaultMessages, declared_out, IsReportedBeside, no_schema_message, no_size_message, not_finite_message, not_given, numbers_too_large, size_too_large, size_twice}
 use Rattle.zf_command.specs.declared.job.Setting.{Setting}
 use Rattle.zf_command.specs.declared.job.Size as command
@@ -86,10 +86,15 @@ TellsMisfit details g sizes told status = (fault : SizeFault) × IsRefusal (give
 abbrev pub TellsNumbers : (numbers : Option ℕ) → List Message → Status → Type 0
 TellsNumbers n told status = AreTooLarge n × (told ≡ numbers_too_large ∷ []) × (status ≡ BadRequest)
 
+-- whether a greatest number makes the schema finite, where there is none yet; which one it is makes no difference
+abbrev pub is_mended : (numbers : Option ℕ) → List Defined → Schema → Bool
+is_mended (Some n) g a = false
+is_mended None g a = is_none (first (causes (Some 0) g a))
+
 -- the answer tells the first that makes the schema infinite
 abbrev pub TellsInfinite : (numbers : Option ℕ) → List Defined → Schema → (details : Bool) → (source : List ℕ) → List Message → Status → Type 0
 TellsInfinite n g a details source told status =
-    (cause : NotFinite) × (side : List ℕ) × (first (causes n g a) ≡ Some cause) × IsReportedBeside g cause side × (told ≡ not_finite_message details source g cause side ∷ []) × (status ≡ BadSpec)
+    (cause : NotFinite) × (side : List ℕ) × (first (causes n g a) ≡ Some cause) × IsReportedBeside g cause side × (told ≡ not_finite_message details source g cause side (is_mended n g a) ∷ []) × (status ≡ BadSpec)
 
 -- the answer names the component at a place
 abbrev pub TellsComponent : List Comp → ℕ → List Message → Status → Type 0

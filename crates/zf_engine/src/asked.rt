@@ -3,6 +3,7 @@ ghost use Rattle.std.specs.Prelude.{◌≡◌, ℕ, List, [], IfOk, IfErr, OnOk}
 ghost use Rattle.zf_engine.specs.Prelude.{IsReportedBeside, IsFinite, AreComplete, environment_of, given_sets, IsEnvironment, globals_of, schema_of};
 ghost use Rattle.zf_engine.specs.{AnswersOver, Checks, IfAnswered, IsAsked, IsMisfit, IsNamed, numbers_of, stated, TellsInfinite, TellsMisfit, TellsNoSchema, without_size};
 ghost use Rattle.zf_messages.specs.Missing as spec;
+ghost use Rattle.zf_engine.specs.Settings as settings;
 ghost use Rattle.zf_engine.specs.declared.stop.Stop.TheVariants.{OutOfMemory};
 
 use crate::numbers::greatest_number;
@@ -15,7 +16,8 @@ use zf_finite::{NotFinite, finite};
 use zf_lines::Status;
 use zf_meaning::{Env, Size as StatedSize, SizeFault};
 use zf_messages::{
-    Message, Report, no_schema_message, no_size_message, not_finite_message, side_without, texts,
+    Beside, Message, Report, no_schema_message, no_size_message, not_finite_message, side_without,
+    texts,
 };
 use zf_term::{Flat, Globals};
 
@@ -134,8 +136,22 @@ pub fn check_finite<'a>(
         return Ok(());
     };
     let side = side_beside(alloc, report, globals, name, &cause)?;
-    let message = not_finite_message(alloc, report, globals, &cause, &side)?;
+    let beside = Beside {
+        side: &side,
+        mended: is_mended(env.numbers(), schema, globals),
+    };
+    let message = not_finite_message(alloc, report, globals, &cause, beside)?;
     Err(Stop::told(alloc, message, Status::BadSpec))
+}
+
+/// Whether a greatest number would make the schema finite, where there is none yet.
+fn is_mended<'a>(numbers: Option<u16>, schema: &Flat<'a>, globals: &Globals<'a>) -> bool
+    ensures { result ≡ settings.is_mended numbers (globals_of globals.now) (schema_of schema.now) }
+{
+    match numbers {
+        Some(_) => false,
+        None => finite(Some(0), schema, globals).is_ok(),
+    }
 }
 
 /// What is reported beside the cause, if details are asked for: the name of a side that does not declare the component.

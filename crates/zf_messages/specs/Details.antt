@@ -234,5 +234,10 @@ abbrev pub cause_details : List Defined → NotFinite → (side : List ℕ) → 
 cause_details g (Unbounded l name) side = detail (codes "component") name ++ detail_if_any (codes "not declared in") side
 cause_details g (Offends o) side = detail (codes "name") (offender_text g o)
 
-abbrev pub not_finite_message : (details : Bool) → (source : List ℕ) → List Defined → NotFinite → (side : List ℕ) → Message
-not_finite_message details source g cause side = with_details details (Line (line_at source (cause_span cause).start)) not_finite_text (cause_details g cause side)
+-- what else makes it finite, if that does
+abbrev pub mending_details : (mended : Bool) → List Detail
+mending_details mended = if mended then detail (codes "or") (codes "--numbers N") else []
+
+abbrev pub not_finite_message : (details : Bool) → (source : List ℕ) → List Defined → NotFinite → (side : List ℕ) → (mended : Bool) → Message
+not_finite_message details source g cause side mended =
+    with_details details (Line (line_at source (cause_span cause).start)) not_finite_text (cause_details g cause side ++ mending_details mended)

@@ -532,6 +532,15 @@ pub fn text_fault_message(
 
 // ---- schemas that are not finite
 
+/// What is reported beside what makes a schema infinite.
+#[derive(Clone, Copy)]
+pub struct Beside<'b> {
+    /// The name of a schema that does not declare the component, or nothing.
+    pub side: &'b [u8],
+    /// Whether it is finite with a greatest number.
+    pub mended: bool,
+}
+
 /// How a constant is spelled.
 fn constant_text(constant: Constant) -> &'static [u8]
     ensures { result.now ≡ spec.constant_text constant }
@@ -596,20 +605,32 @@ fn add_cause(
     }
 }
 
-/// The message for a schema that is not finite, and for a side of a disjunction that does not declare the component.
+/// What else makes it finite, if that does.
+fn add_mending(details: &mut Items<Detail>, alloc: Global, mended: bool) -> Result<(), AllocError>
+    ensures { OnOk result (details.new ≡ details.old ++ spec.mending_details mended) }
+{
+    if mended {
+        add_detail(details, alloc, b"or", b"--numbers N")?;
+    }
+    Ok(())
+}
+
+/// The message for a schema that is not finite.
 pub fn not_finite_message(
     alloc: Global,
     report: Report<'_>,
     globals: &Globals<'_>,
     cause: &NotFinite<'_>,
-    side: &[u8],
+    beside: Beside<'_>,
 ) -> Result<Message, AllocError>
-    ensures { IfOk result (λ m. m ≡ spec.not_finite_message report.entry.details report.entry.source.now (globals_of globals.now) cause.now side.now) }
+    ensures { IfOk result (λ m. m ≡ spec.not_finite_message report.entry.details report.entry.source.now (globals_of globals.now) cause.now beside.entry.side.now beside.entry.mended) }
 {
     let line = line_of(report.source, cause.span().start);
     let mut message = Message::of(alloc, At::Line(line), b"not finite")?;
     if report.details {
-        add_cause(&mut message.details, alloc, globals, cause, side)?;
+        let details = &mut message.details;
+        add_cause(details, alloc, globals, cause, beside.side)?;
+        add_mending(details, alloc, beside.mended)?;
     }
     Ok(message)
 }

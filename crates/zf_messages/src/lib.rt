@@ -12,7 +12,9 @@ mod undeclared;
 mod writing;
 
 pub use aside::{Aside, Asides};
-pub use details::{add_line_range, not_finite_message, text_fault_message, type_fault_message};
+pub use details::{
+    Beside, add_line_range, not_finite_message, text_fault_message, type_fault_message,
+};
 pub use message::{At, Detail, Message, add_detail};
 pub use missing::{no_schema_message, no_size_message};
 pub use places::{Known, line_of, quoted, slice};

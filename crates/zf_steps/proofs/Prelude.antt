@@ -15,7 +15,7 @@ pub use Rattle.zf_instances.specs.{CanHold, planted_goal}
 pub use Rattle.zf_steps.specs.declared.node.Label.{Label}
 pub use Rattle.zf_steps.specs.declared.node.Node.{Node}
 pub use Rattle.zf_steps.specs.declared.node.Node.TheVariants.{State, Root}
-pub use Rattle.zf_steps.specs.{BeginsFor, BeginsState, begun_as, exploration, GoesOn, HasFound, HasPassed, held_by, IsEventOf, IsFirstOf, IsFound, IsSight, IsStray, Operation, parts_of, rows_ahead, searched, sought_in, stopped, System, Allows, AllowsAll, StateClashes, column, AreFor, Fits, HasPart, number_of, rows_ahead_at, search_of, Stands, AreMarked, AreMarkedHeld, CanSearch, GoesBy, GoesOver, IsFor, stage_of, AgreesWith, HasRow, IsOther, IsRowIn, IsSought, Satisfies, sources_of, test_in, IsFoundAt, never_both, step, stop, values_of, Has, HasAll, init_in, is_other, IsInit, Lacks, others_from, with_strokes, decisive, explored_in, orderly, steps, verdict, words, words_in, system_of, label_of, column_text, operation_of, operation_text, IsForIn, stage_in, step_members, source_value, before_of, LacksInit, place_of, places_of, both_states, LacksStep, stroked}
+pub use Rattle.zf_steps.specs.{BeginsFor, BeginsState, begun_as, exploration, GoesOn, HasFound, HasPassed, held_by, IsEventOf, IsFirstOf, IsFound, IsSight, IsStray, Operation, parts_of, rows_ahead, searched, sought_in, stopped, System, Allows, AllowsAll, StateClashes, column, AreFor, Fits, HasPart, number_of, rows_ahead_at, search_of, Stands, AreMarked, AreMarkedHeld, CanSearch, GoesBy, GoesOver, IsFor, stage_of, AgreesWith, HasRow, IsOther, IsRowIn, IsSought, Satisfies, sources_of, test_in, IsFoundAt, never_both, step, stop, values_of, Has, HasAll, init_in, is_other, IsInit, Lacks, others_from, with_strokes, decisive, explored_in, orderly, steps, verdict, words, words_in, system_of, label_of, column_text, operation_of, operation_text, IsForIn, stage_in, step_members, source_value, before_of, LacksInit, place_of, places_of, both_states, LacksStep, stroked, are_after, names_any}
 pub use Rattle.zf_steps.specs.declared.stepped.Stepped.{Stepped}
 pub use Rattle.zf_places.specs.{values_at, comps_at}
 pub use Rattle.zf_graph.proofs.Places.{one_some, none_some, at_map}

@@ -1,7 +1,7 @@
 -- The schemas of a machine, component by component.
 use Rattle.std.proofs.Common.{◌++◌, ◌+◌, ◌<◌, ◌∙◌, ◌∷◌, ◌≡◌, ◌≤◌, ◌⊎◌, ◌↔◌, [], add-one, ap, append_assoc, arith, Bool, drop, Err, get_or, IfOk, inl, inr, IsTrue, length, List, map, MatchOption, None, Ok, Option, refl, Result, Some, subst, suc, sym, take, zero, ℕ}
 use Rattle.std.proofs.lemmas.List.{append-nil, map-append, map_more}
-use Rattle.zf_steps.proofs.Prelude.{slice_get-get_or, cond, slice_get, none_some, one_some, Comp, comp_of, first_named, Schema, Component, Has, HasAll, init_in, is_other, IsInit, Lacks, Operation, others_from, with_strokes}
+use Rattle.zf_steps.proofs.Prelude.{slice_get-get_or, cond, slice_get, none_some, one_some, Comp, comp_of, first_named, Schema, Component, are_after, Has, HasAll, if◌then◌else◌, init_in, is_other, IsInit, Lacks, LacksInit, Operation, others_from, with_strokes}
 use Rattle.std.specs.List.{filter_map}
 use Rattle.zf_steps.proofs.Fitting.{map_map}
 
@@ -98,6 +98,12 @@ lacks_front comps (x ∷ xs) ys name (inr h) = inr (h.0, lacks_front comps xs ys
 pub lacks_behind : (comps xs ys : List Comp) (name : List ℕ) → HasAll comps xs → Lacks comps ys name → Lacks comps (xs ++ ys) name
 lacks_behind comps [] ys name h k = k
 lacks_behind comps (x ∷ xs) ys name h k = inr (h.0, lacks_behind comps xs ys name h.1 k)
+
+-- which of the two is meant is known, and what lacks is a component of that
+pub lacks_meant : (state : List Comp) (name component : List ℕ) (a : Schema) (b : Bool) → b ≡ are_after state a.comps → Lacks a.comps (with_strokes state) name
+    → Lacks a.comps (if b then with_strokes state else state) component → LacksInit state a component
+lacks_meant state name component a b is stroked lacks =
+    (not_all a.comps (with_strokes state) name stroked, subst (λ c. Lacks a.comps (if c then with_strokes state else state) component) is lacks)
 
 -- ---- the schemas
 

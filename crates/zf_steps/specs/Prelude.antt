@@ -13,7 +13,7 @@ pub use Rattle.zf_print.specs.{components_in, binding_object, binding_text, comp
 pub use Rattle.zf_reach.specs.{AdvancesTo, BeginsAs, UnlessOut, HasFewer, IsSeenAs, ending_of, StopsEarly, result_of, StopsSearch}
 pub use Rattle.zf_places.specs.{values_at, comps_at}
 pub use Rattle.zf_format.specs.{string_text}
-pub use Rattle.std.specs.List.{AllByRecursion, filter_map}
+pub use Rattle.std.specs.List.{AllByRecursion, filter_map, list_any}
 pub use Rattle.zf_finite.specs.{IsFinite}
 pub use Rattle.zf_walk.specs.declared.judge.Truth.{Truth}
 pub use Rattle.zf_walk.specs.declared.judge.Truth.TheVariants.{True, False, Out}

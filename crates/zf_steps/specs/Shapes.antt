@@ -1,6 +1,6 @@
 -- The schemas of a machine: which of their components are those of the state before, and which those of the state after.
-use Rattle.std.specs.Prelude.{◌≡◌, ◌⊎◌, ◌++◌, ◌+◌, ℕ, Bool, not, cond, List, [], ◌∷◌, codes, map, Option, Some, is_some, option_map}
-use Rattle.zf_steps.specs.Prelude.{AllByRecursion, filter_map, Comp, first_named, Schema, comps_at}
+use Rattle.std.specs.Prelude.{◌≡◌, ◌⊎◌, ◌++◌, ◌+◌, ◌&&◌, if◌then◌else◌, ℕ, Bool, not, cond, List, [], ◌∷◌, codes, map, Option, Some, is_some, option_map}
+use Rattle.zf_steps.specs.Prelude.{AllByRecursion, filter_map, list_any, Comp, first_named, Schema, comps_at}
 use Rattle.zf_steps.specs.Systems.{Operation}
 
 -- ---- components
@@ -86,8 +86,19 @@ abbrev pub IsInit : (state : List Comp) → (name : List ℕ) → Schema → Ope
 IsInit state name a o =
     (HasAll a.comps (with_strokes state) × (o ≡ init_in (with_strokes state) name a)) ⊎ ((HasAll a.comps (with_strokes state) → ⊥) × HasAll a.comps state × (o ≡ init_in state name a))
 
+-- whether one of these has the name of one that is wanted
+abbrev pub names_any : List Comp → (wanted : List Comp) → Bool
+names_any comps wanted = list_any (λ c. is_some (place_of comps c.name)) wanted
+
+-- Which of the two are meant, where it has neither all: those with a stroke, if it names one of these, and none without.
+abbrev pub are_after : (state : List Comp) → List Comp → Bool
+are_after state comps = names_any comps (with_strokes state) && not (names_any comps state)
+
+abbrev pub meant_in : (state : List Comp) → List Comp → List Comp
+meant_in state comps = if are_after state comps then with_strokes state else state
+
 abbrev pub LacksInit : (state : List Comp) → Schema → (name : List ℕ) → Type 0
-LacksInit state a name = (HasAll a.comps (with_strokes state) → ⊥) × Lacks a.comps state name
+LacksInit state a name = (HasAll a.comps (with_strokes state) → ⊥) × Lacks a.comps (meant_in state a.comps) name
 
 -- an operation has the components of both states
 abbrev pub both_states : (state : List Comp) → List Comp

@@ -53,10 +53,31 @@ pub fn init_lacks<'a>(states: States<'_, 'a>, schema: &Flat<'a>) -> Option<&'a [
     ensures { MatchOption result (spec.HasAll (schema_of schema.now).comps (spec.with_strokes (before_of states.entry)) ⊎ spec.HasAll (schema_of schema.now).comps (before_of states.entry)) (λ name. spec.LacksInit (before_of states.entry) (schema_of schema.now) name.now) }
 {
     let components = schema.components.as_slice();
-    match lacking(components, states.after) {
-        None => None,
-        Some(_) => lacking(components, states.before),
+    let stroked = lacking(components, states.after)?;
+    if are_after(states, components) {
+        return Some(stroked);
     }
+    lacking(components, states.before)
+}
+
+/// Whether the components are those of the state after, by their names.
+fn are_after(states: States<'_, '_>, components: &[Component<'_>]) -> bool
+    requires { AreStates states }
+    ensures { result ≡ spec.are_after (before_of states.entry) (map comp_of components.now) }
+{
+    names_any(components, states.after) && !names_any(components, states.before)
+}
+
+/// Whether one of the components has the name of one that is wanted.
+fn names_any(components: &[Component<'_>], wanted: &[Component<'_>]) -> bool
+    ensures { result ≡ spec.names_any (map comp_of components.now) (map comp_of wanted.now) }
+{
+    for component in wanted {
+        if place_of(components, component.name.as_slice()).is_some() {
+            return true;
+        }
+    }
+    false
 }
 
 /// The name of a component that the schema lacks to be an operation.
