@@ -1,5 +1,5 @@
 -- Which number is the greatest makes no difference to what is finite.
-use Rattle.law_answered.proofs.Prelude.{◌≡◌, [], ap, List, None, refl, Some, subst, sym, ℕ, AllByRecursion, causes, Comp, Defined, finite_without_cause, first, IsFinite, IsTrue, NotFinite, one_bounds, Schema, ◌∷◌}
+use Rattle.law_answered.proofs.Prelude.{◌≡◌, [], ap, List, refl, Some, subst, sym, ℕ, AllByRecursion, causes, Comp, Defined, finite_without_cause, first, IsFinite, IsTrue, NotFinite, one_bounds, Schema, ◌∷◌}
 use Rattle.std.proofs.Common.{◌&&◌, ◌||◌, ap₂, is_none, true≢false}
 use Rattle.zf_finite.specs.{bounds}
 use Rattle.zf_term.specs.{carrier, DeclaredSet, DeclaredSets, no_sets, plain, set, sets_of, sides}

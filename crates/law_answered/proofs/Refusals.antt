@@ -1,5 +1,5 @@
 -- Two refusals of one kind have one status, that of no success, and texts that are alike; and each excludes what it says is not so.
-use Rattle.law_answered.proofs.Prelude.{◌∙◌, ◌≡◌, ap, List, Option, subst, sym, ℕ, ◌≢◌, same_Some, slice_get, AreComplete, AreMessagesAlike, BadRequest, BadSpec, Checks, Comp, declared_out, Defined, Done, Environment, first, Format, given_sets, is_mended, IsFinite, IsNoneOut, Message, messages_text, NotFinite, not_finite_message, PastBounds, Schema, Size, size_fault_messages, Status, TellsFaults, TellsInfinite, TellsMisfit, TellsNoSchema, TellsNumbers, TellsOut, [], ◌∷◌, Bool}
+use Rattle.law_answered.proofs.Prelude.{◌∙◌, ◌≡◌, ap, List, Option, subst, sym, ℕ, ◌≢◌, same_Some, slice_get, AreComplete, AreMessagesAlike, BadRequest, BadSpec, Checks, Comp, declared_out, Defined, Done, Environment, Format, given_sets, is_mended, IsFinite, IsNoneOut, Message, messages_text, NotFinite, not_finite_message, PastBounds, Schema, Size, size_fault_messages, Status, TellsFaults, TellsInfinite, TellsMisfit, TellsNoSchema, TellsNumbers, TellsOut, [], ◌∷◌, Bool}
 use Rattle.law_answered.proofs.OneRefusal.{none_refused, one_refusal}
 use Rattle.law_answered.proofs.OneSearch.{not_infinite, one_first_out}
 use Rattle.law_answered.proofs.OneSource.{one_checked, some_and_none}
