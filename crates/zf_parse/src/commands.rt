@@ -96,7 +96,7 @@ const ELSEWHERE: &[Row] = &[
     (b"\\mem", b"\\in"),
     (b"\\nem", b"\\notin"),
     (b"\\nin", b"\\notin"),
-    (b"\\nsubseteq", b"\\lnot"),
+    (b"\\nsubseteq", b"\\lnot .. \\subseteq"),
     (b"\\subsetneq", b"\\subset"),
     (b"\\int", b"\\cap"),
     (b"\\uni", b"\\cup"),
