@@ -1,4 +1,4 @@
-//! Commands that are meant by other words. Nothing is promised of it.
+//! Commands that are meant by others. Nothing is promised of this.
 
 use zf_tree::back;
 
