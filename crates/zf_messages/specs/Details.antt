@@ -20,6 +20,7 @@ use Rattle.zf_finite.specs.declared.not_finite.NotFinite.{NotFinite}
 use Rattle.zf_finite.specs.declared.not_finite.NotFinite.TheVariants.{Unbounded, Offends}
 use Rattle.zf_finite.specs.{cause_span}
 use Rattle.zf_tree.specs.declared.span.Span.{Span}
+use Rattle.zf_messages.specs.declared.causes.Causes.{Causes}
 use Rattle.zf_messages.specs.declared.message.At.{At}
 use Rattle.zf_messages.specs.declared.message.At.TheVariants.{File, Line}
 use Rattle.zf_messages.specs.declared.message.Detail.{Detail}
@@ -59,13 +60,24 @@ offence_details (misplaced n z) = detail (codes "found") (sort_text z)
 offence_details (clash x t u) = detail (codes "component") x ++ (detail (codes "left") (type_text t) ++ detail (codes "right") (type_text u))
 offence_details (too_large l) = detail (codes "limit") (limit_text l)
 
--- what is reported beside an offence: the term that offends, by its place; a name like the missing one; both, with a symbol that is meant; or, by its line, a paragraph that would declare it and has a fault itself
-pub data Aside : Type 0 where
-  nothing : Aside
-  term : (span : Span) → Aside
-  like : (name : List ℕ) → Aside
-  meant : (span : Span) → (symbol : List ℕ) → Aside
-  lost : (line : ℕ) → Aside
+-- what is remarked on an offence: the term that offends, by its place; a name like the missing one; both, with a symbol that is meant; or, by its line, an earlier paragraph that would declare it and has a fault itself
+pub data Remark : Type 0 where
+  no_remark : Remark
+  term : (span : Span) → Remark
+  like : (name : List ℕ) → Remark
+  meant : (span : Span) → (symbol : List ℕ) → Remark
+  lost : (line : ℕ) → Remark
+
+-- what is reported beside an offence: a remark, and how many faults come of it, with the lines of the first and the last of them
+pub record Aside : Type 0 where
+  pub remark : Remark
+  pub causes : Causes
+
+abbrev pub no_causes : Causes
+no_causes = record { count = 0; first = 0; last = 0 }
+
+abbrev pub nothing : Aside
+nothing = record { remark = no_remark; causes = no_causes }
 
 -- how many bytes of a term are quoted at most
 abbrev pub width : ℕ
@@ -90,19 +102,29 @@ abbrev pub term_details : (source : List ℕ) → Span → List Detail
 term_details source s = detail (codes "term") (shortened (quoted source s)) ++ lines_details source s
 
 -- the term comes before what is wrong with it, other things after that
-abbrev pub before : (source : List ℕ) → Aside → List Detail
+abbrev pub before : (source : List ℕ) → Remark → List Detail
 before source (term s) = term_details source s
 before source (meant s symbol) = term_details source s
 before source _ = []
 
-abbrev pub after : Aside → List Detail
+abbrev pub after : Remark → List Detail
 after (like name) = detail (codes "like") name
 after (meant s symbol) = detail (codes "like") symbol
 after (lost line) = detail (codes "declared at") (decimal line ++ codes ", in a paragraph with a fault")
 after _ = []
 
+abbrev pub counted_faults : ℕ → List ℕ
+counted_faults n = if n == 1 then codes "1 fault" else decimal n ++ codes " faults"
+
+abbrev pub lines_text : (first last : ℕ) → List ℕ
+lines_text first last = if first == last then codes ", line " ++ decimal first else codes ", lines " ++ decimal first ++ codes " to " ++ decimal last
+
+-- how many faults come of this one, if any do, and where they are
+abbrev pub causes_details : Causes → List Detail
+causes_details c = if c.count == 0 then [] else detail (codes "causes") (counted_faults c.count ++ lines_text c.first c.last)
+
 abbrev pub beside : (source : List ℕ) → Aside → List Detail → List Detail
-beside source aside details = before source aside ++ details ++ after aside
+beside source aside details = before source aside.remark ++ details ++ after aside.remark ++ causes_details aside.causes
 
 abbrev pub type_fault_message : (details : Bool) → (source : List ℕ) → Fault → Aside → Message
 type_fault_message details source fault aside =
@@ -186,7 +208,7 @@ others_details source about = detail_if_any (codes "see") about.entry ++ detail_
 
 abbrev pub text_details : (source : List ℕ) → TextFaultKind → Cited → List Detail
 text_details source BadByte about = byte_details about.symbol
-text_details source UnknownCommand about = detail_if_any (codes "command") (command_text about.symbol) ++ others_details source about
+text_details source UnknownCommand about = detail_if_any (codes "command") (command_text about.symbol) ++ detail_if_any (codes "like") about.like ++ others_details source about
 text_details source NotInProfile about = detail_if_any (codes "symbol") about.symbol ++ others_details source about
 text_details source UnclosedBox about = closing_details source about.other about.span
 text_details source Unexpected about = unexpected_details source about

@@ -11,4 +11,4 @@ pub use Rattle.zf_messages.specs.Texts.{about_words, declared_out, no_component,
 pub use Rattle.zf_messages.specs.Details.{AreFaultMessages, Aside, Cited, IsReportedBeside, IsWithout, LacksComponent, line_range, not_finite_message, nothing, Reported, text_fault_message, type_fault_message}
 pub use Rattle.zf_messages.specs.Missing.{and_name, first_like, no_schema_message, no_size_message, schemas}
 pub use Rattle.zf_messages.specs.Named.{name_of, schema_at}
-pub use Rattle.zf_messages.specs.AsideViews.{aside_of, cited_of, other_of}
+pub use Rattle.zf_messages.specs.AsideViews.{aside_of, cited_of, other_of, remark_of}

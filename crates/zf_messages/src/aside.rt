@@ -1,19 +1,20 @@
 //! What is reported beside the offences of faults: the term that offends, a name like the one that is missing, or the paragraph
-//! that would declare it.
+//! that would declare it; and how many faults come of one.
 
+use crate::causes::Causes;
 use crate::places::Known;
 use crate::report::Report;
 use bumpalo::Bump;
 use std::alloc::{AllocError, Global};
 use zf_data::Text;
 use zf_data::arena::Lent;
-use zf_parse::read_spec;
+use zf_parse::{command_named, read_spec};
 use zf_sorts::{Hint, Offence, Sort, TypeFault};
 use zf_tree::{Name, Paragraph, Span, ZBox};
 
-/// What is reported beside an offence.
+/// What is remarked on an offence.
 #[derive(Drop)]
-pub enum Aside<'a> {
+pub enum Remark<'a> {
     Nothing,
     /// The term that offends, by its place.
     Term(Span),
@@ -23,21 +24,43 @@ pub enum Aside<'a> {
     Command(&'static [u8]),
     /// The term that offends, and the symbol that is meant elsewhere in its paragraph.
     Meant(Span, &'static [u8]),
-    /// The line of a paragraph with a fault that would declare the name.
+    /// The line of an earlier paragraph with a fault that would declare the name.
     Lost(u64),
 }
 
-/// A name, and the line on which a paragraph with a fault would declare it.
+/// What is reported beside an offence: a remark, and what comes of the fault.
+#[derive(Drop)]
+pub struct Aside<'a> {
+    pub remark: Remark<'a>,
+    pub causes: Causes,
+}
+
+/// A name, the line on which a paragraph with a fault would declare it, and the number of that fault.
 #[derive(Drop)]
 struct Lost {
     name: Text,
     line: u64,
+    fault: usize,
 }
 
-/// What paragraphs and boxes tell of faults: the names that are lost with those that have faults, and where the abbreviations are.
+/// Where a fault comes from, and what comes of it.
+#[derive(Clone, Copy)]
+struct Origin {
+    /// The place of the fault.
+    start: u32,
+    /// The number of the first fault of those of which it comes; its own, if it comes of none.
+    root: usize,
+    /// The line on which the missing name would be declared.
+    lost: Option<u64>,
+    causes: Causes,
+}
+
+/// What paragraphs and boxes tell of faults: the names that are lost with those that have faults, what comes of which fault, in
+/// the order of the text, and where the abbreviations are.
 #[derive(Drop)]
 pub struct Asides {
     lost: Vec<Lost>,
+    origins: Vec<Origin>,
     abbreviations: Vec<Span>,
 }
 
@@ -50,6 +73,7 @@ impl Asides {
     ) -> Result<Asides, AllocError> {
         let mut asides = Asides {
             lost: Vec::new(alloc),
+            origins: Vec::new(alloc),
             abbreviations: Vec::new(alloc),
         };
         if report.details && need_paragraphs(faults) {
@@ -71,6 +95,7 @@ impl Asides {
         };
         let declared = Declarations::of(alloc, spec.boxes.as_slice())?;
         self.push_lost(alloc, source, faults, &declared)?;
+        self.push_origins(source, faults)?;
         for item in spec.boxes.as_slice() {
             self.push_abbreviations(item)?;
         }
@@ -88,12 +113,47 @@ impl Asides {
         let faulty = faulty_items(alloc, &declared.starts, faults)?;
         let mut known = Known::start();
         for name in &declared.names {
-            if faulty.get(name.item) == Some(&true) {
+            if let Some(Some(fault)) = faulty.get(name.item) {
                 let line = known.line_at(source, name.place);
                 let name = Text::of(alloc, name.name)?;
-                self.lost.push(Lost { name, line })?;
+                self.lost.push(Lost {
+                    name,
+                    line,
+                    fault: *fault,
+                })?;
             }
         }
+        Ok(())
+    }
+
+    /// Adds where each fault comes from, and counts it with that.
+    fn push_origins(&mut self, source: &[u8], faults: &[TypeFault<'_>]) -> Result<(), AllocError> {
+        let mut known = Known::start();
+        for fault in faults {
+            let line = known.line_at(source, fault.span.start);
+            self.push_origin(fault, line)?;
+        }
+        Ok(())
+    }
+
+    /// Adds where the next fault comes from, which is on this line.
+    fn push_origin(&mut self, fault: &TypeFault<'_>, line: u64) -> Result<(), AllocError> {
+        let number = self.origins.len();
+        let lost = self.lost_before(fault.offence.get(), number);
+        let root = match &lost {
+            Some(lost) => self.root_of(lost.fault),
+            None => number,
+        };
+        let lost = lost.map(|lost| lost.line);
+        if let Some(origin) = self.origins.get_mut(root) {
+            origin.causes = origin.causes.with(line);
+        }
+        self.origins.push(Origin {
+            start: fault.span.start,
+            root,
+            lost,
+            causes: Causes::none(),
+        })?;
         Ok(())
     }
 
@@ -112,24 +172,47 @@ impl Asides {
 
     /// What is reported beside the fault.
     pub fn aside<'a>(&self, fault: &TypeFault<'a>) -> Aside<'a> {
-        let offence = fault.offence.get();
-        if let Some(line) = self.line_lost(offence) {
-            return Aside::Lost(line);
+        match self.origin(fault) {
+            Some(origin) => Aside {
+                remark: self.remark(fault, origin.lost),
+                causes: origin.causes,
+            },
+            None => Aside {
+                remark: self.remark(fault, None),
+                causes: Causes::none(),
+            },
         }
-        if let Some(command) = command_like(offence) {
-            return Aside::Command(command);
+    }
+
+    /// Where the fault comes from, if that is known.
+    fn origin(&self, fault: &TypeFault<'_>) -> Option<Origin> {
+        let start = fault.span.start;
+        let place = self.origins.partition_point(|origin| origin.start < start);
+        match self.origins.get(place) {
+            Some(origin) if origin.start == start => Some(*origin),
+            _ => None,
+        }
+    }
+
+    /// What is remarked on the fault, whose missing name would be declared on the line that is lost.
+    fn remark<'a>(&self, fault: &TypeFault<'a>, lost: Option<u64>) -> Remark<'a> {
+        if let Some(line) = lost {
+            return Remark::Lost(line);
+        }
+        if let Some(command) = command_like(fault.offence.get()) {
+            return Remark::Command(command);
         }
         self.hinted(fault)
     }
 
     /// The hint that the checker gives. Where a schema stands in an abbreviation, a schema is to be defined.
-    fn hinted<'a>(&self, fault: &TypeFault<'a>) -> Aside<'a> {
+    fn hinted<'a>(&self, fault: &TypeFault<'a>) -> Remark<'a> {
         match &fault.hint {
-            None => Aside::Nothing,
+            None => Remark::Nothing,
             Some(hint) => match hint.get() {
-                Hint::Term(span) if self.defines_schema(fault) => Aside::Meant(*span, b"\\defs"),
-                Hint::Term(span) => Aside::Term(*span),
-                Hint::Like(name) => Aside::Like(name.share()),
+                Hint::Term(span) if self.defines_schema(fault) => Remark::Meant(*span, b"\\defs"),
+                Hint::Term(span) => Remark::Term(*span),
+                Hint::Like(name) => Remark::Like(name.share()),
             },
         }
     }
@@ -147,17 +230,25 @@ impl Asides {
         false
     }
 
-    /// The line on which the name would be declared that is missing.
-    fn line_lost(&self, offence: &Offence<'_>) -> Option<u64> {
+    /// What would declare the name that is missing, where a fault before this number loses it.
+    fn lost_before(&self, offence: &Offence<'_>, number: usize) -> Option<&Lost> {
         let Offence::NotDeclared(name) = offence else {
             return None;
         };
         for lost in &self.lost {
-            if is_of(name.as_slice(), lost.name.as_slice()) {
-                return Some(lost.line);
+            if lost.fault < number && is_of(name.as_slice(), lost.name.as_slice()) {
+                return Some(lost);
             }
         }
         None
+    }
+
+    /// The number of the first fault of those of which the fault with this number comes.
+    fn root_of(&self, number: usize) -> usize {
+        match self.origins.get(number) {
+            Some(origin) => origin.root,
+            None => number,
+        }
     }
 }
 
@@ -168,61 +259,11 @@ fn is_of(name: &[u8], base: &[u8]) -> bool {
 
 /// The command that is spelled like the name which is missing.
 fn command_like(offence: &Offence<'_>) -> Option<&'static [u8]> {
-    let Offence::NotDeclared(name) = offence else {
-        return None;
-    };
-    for command in COMMANDS {
-        if command.strip_prefix(b"\\") == Some(name.as_slice()) {
-            return Some(*command);
-        }
+    match offence {
+        Offence::NotDeclared(name) => command_named(name.as_slice()),
+        _ => None,
     }
-    None
 }
-
-/// The commands that are words.
-const COMMANDS: &[&[u8]] = &[
-    b"\\cap",
-    b"\\comp",
-    b"\\cross",
-    b"\\cup",
-    b"\\div",
-    b"\\dom",
-    b"\\dres",
-    b"\\emptyset",
-    b"\\exists",
-    b"\\finset",
-    b"\\forall",
-    b"\\fun",
-    b"\\geq",
-    b"\\iff",
-    b"\\implies",
-    b"\\in",
-    b"\\inj",
-    b"\\inv",
-    b"\\land",
-    b"\\leq",
-    b"\\lnot",
-    b"\\lor",
-    b"\\mapsto",
-    b"\\mod",
-    b"\\nat",
-    b"\\ndres",
-    b"\\neq",
-    b"\\notin",
-    b"\\nrres",
-    b"\\num",
-    b"\\oplus",
-    b"\\pfun",
-    b"\\pinj",
-    b"\\power",
-    b"\\ran",
-    b"\\rel",
-    b"\\rres",
-    b"\\setminus",
-    b"\\subset",
-    b"\\subseteq",
-    b"\\upto",
-];
 
 /// Whether the paragraphs tell more of one of the faults: of a name that is missing, or a schema out of place.
 fn need_paragraphs(faults: &[TypeFault<'_>]) -> bool {
@@ -252,19 +293,20 @@ struct Declarations<'t> {
     names: Vec<Declared<'t>>,
 }
 
-/// Which of the paragraphs and boxes that begin there have a fault. Both are in the order of the text.
+/// The number of the first fault of each of the paragraphs and boxes that begin there. Both are in the order of the text.
 fn faulty_items(
     alloc: Global,
     starts: &[u32],
     faults: &[TypeFault<'_>],
-) -> Result<Vec<bool>, AllocError> {
+) -> Result<Vec<Option<usize>>, AllocError> {
     let mut faulty = Vec::with_capacity(alloc, starts.len())?;
     let mut passed: usize = 0;
     for place in 0..starts.len() {
         let end = starts.get(place + 1).copied().unwrap_or(u32::MAX);
         let before = passed;
         passed = faults_before(faults, passed, end);
-        faulty.push(before < passed)?;
+        let first = if before < passed { Some(before) } else { None };
+        faulty.push(first)?;
     }
     Ok(faulty)
 }

@@ -1,11 +1,12 @@
 //! What a fault is about: the details of its message.
 ghost use Rattle.std.specs.Prelude.{◌≡◌, ◌<◌, ◌++◌, codes, decimal, IfOk, OnOk, length, map, slice_get, take};
 ghost use Rattle.zf_messages.specs.Details as spec;
-ghost use Rattle.zf_messages.specs.{aside_of, cited_of, detail, detail_if_any, IsKnown, name_of, other_of};
+ghost use Rattle.zf_messages.specs.{aside_of, cited_of, detail, detail_if_any, IsKnown, name_of, other_of, remark_of};
 ghost use Rattle.zf_term.specs.{globals_of, type_of, type_text};
 ghost use Rattle.zf_sorts.specs.{fault_of, offence_of, sort_of};
 
-use crate::aside::Aside;
+use crate::aside::{Aside, Remark};
+use crate::causes::Causes;
 use crate::message::{At, Detail, Message, add_detail};
 use crate::places::{Known, line_of, quoted};
 use crate::report::Report;
@@ -252,19 +253,19 @@ fn add_before(
     alloc: Global,
     source: &[u8],
     known: &mut Known,
-    aside: &Aside<'_>,
+    remark: &Remark<'_>,
 ) -> Result<(), AllocError>
     requires { IsKnown source.now known.old }
-    ensures before { OnOk result (details.new ≡ details.old ++ spec.before source.now (aside_of aside.now)) }
+    ensures before { OnOk result (details.new ≡ details.old ++ spec.before source.now (remark_of remark.now)) }
     ensures known { IsKnown source.now known.new }
 {
-    match aside {
-        Aside::Term(span) => add_term(details, alloc, source, known, *span),
-        Aside::Meant(span, _) => add_term(details, alloc, source, known, *span),
-        Aside::Nothing => Ok(()),
-        Aside::Like(_) => Ok(()),
-        Aside::Command(_) => Ok(()),
-        Aside::Lost(_) => Ok(()),
+    match remark {
+        Remark::Term(span) => add_term(details, alloc, source, known, *span),
+        Remark::Meant(span, _) => add_term(details, alloc, source, known, *span),
+        Remark::Nothing => Ok(()),
+        Remark::Like(_) => Ok(()),
+        Remark::Command(_) => Ok(()),
+        Remark::Lost(_) => Ok(()),
     }
 }
 
@@ -272,18 +273,58 @@ fn add_before(
 fn add_after(
     details: &mut Items<Detail>,
     alloc: Global,
-    aside: &Aside<'_>,
+    remark: &Remark<'_>,
 ) -> Result<(), AllocError>
-    ensures { OnOk result (details.new ≡ details.old ++ spec.after (aside_of aside.now)) }
+    ensures { OnOk result (details.new ≡ details.old ++ spec.after (remark_of remark.now)) }
 {
-    match aside {
-        Aside::Nothing => Ok(()),
-        Aside::Term(_) => Ok(()),
-        Aside::Like(name) => add_detail(details, alloc, b"like", name.as_slice()),
-        Aside::Command(symbol) => add_detail(details, alloc, b"like", symbol),
-        Aside::Meant(_, symbol) => add_detail(details, alloc, b"like", symbol),
-        Aside::Lost(line) => add_lost(details, alloc, *line),
+    match remark {
+        Remark::Nothing => Ok(()),
+        Remark::Term(_) => Ok(()),
+        Remark::Like(name) => add_detail(details, alloc, b"like", name.as_slice()),
+        Remark::Command(symbol) => add_detail(details, alloc, b"like", symbol),
+        Remark::Meant(_, symbol) => add_detail(details, alloc, b"like", symbol),
+        Remark::Lost(line) => add_lost(details, alloc, *line),
     }
+}
+
+/// `1 fault`, or how many there are.
+fn append_count(text: &mut Vec<u8>, count: u64) -> Result<(), AllocError>
+    ensures { OnOk result (text.new.items ≡ text.old.items ++ spec.counted_faults count) }
+{
+    if count == 1 {
+        return text.extend_from_slice(b"1 fault");
+    }
+    let mut number = Buffer::new();
+    text.extend_from_slice(number.format(count).as_bytes())?;
+    text.extend_from_slice(b" faults")
+}
+
+/// `, line LINE` or `, lines FIRST to LAST`
+fn append_lines(text: &mut Vec<u8>, first: u64, last: u64) -> Result<(), AllocError>
+    ensures { OnOk result (text.new.items ≡ text.old.items ++ spec.lines_text first last) }
+{
+    let mut number = Buffer::new();
+    if first == last {
+        text.extend_from_slice(b", line ")?;
+        return text.extend_from_slice(number.format(first).as_bytes());
+    }
+    text.extend_from_slice(b", lines ")?;
+    text.extend_from_slice(number.format(first).as_bytes())?;
+    text.extend_from_slice(b" to ")?;
+    text.extend_from_slice(number.format(last).as_bytes())
+}
+
+/// How many faults come of this one, if any do, and where they are.
+fn add_causes(details: &mut Items<Detail>, alloc: Global, causes: Causes) -> Result<(), AllocError>
+    ensures { OnOk result (details.new ≡ details.old ++ spec.causes_details causes) }
+{
+    if causes.count == 0 {
+        return Ok(());
+    }
+    let mut text = Vec::new(alloc);
+    append_count(&mut text, causes.count)?;
+    append_lines(&mut text, causes.first, causes.last)?;
+    add_detail(details, alloc, b"causes", &text)
 }
 
 /// The message of a fault of types, with what is reported beside it. Its line is counted from what is known.
@@ -302,9 +343,11 @@ pub fn type_fault_message(
     let text = type_fault_text(fault.kind());
     let mut message = Message::of(alloc, At::Line(line), text)?;
     if report.details {
-        add_before(&mut message.details, alloc, report.source, known, aside)?;
+        let remark = &aside.remark;
+        add_before(&mut message.details, alloc, report.source, known, remark)?;
         add_offence(&mut message.details, alloc, fault.offence.get())?;
-        add_after(&mut message.details, alloc, aside)?;
+        add_after(&mut message.details, alloc, remark)?;
+        add_causes(&mut message.details, alloc, aside.causes)?;
     }
     Ok(message)
 }
@@ -487,6 +530,7 @@ fn add_text_details(
         TextFaultKind::BadByte => add_bad(details, alloc, symbol),
         TextFaultKind::UnknownCommand => {
             add_if_any(details, alloc, b"command", command_text(symbol))?;
+            add_if_any(details, alloc, b"like", about.like)?;
             add_others(details, alloc, source, about)
         }
         TextFaultKind::NotInProfile => {

@@ -2,6 +2,7 @@
 #![tactic(auto)]
 
 mod aside;
+mod causes;
 mod details;
 mod message;
 mod missing;

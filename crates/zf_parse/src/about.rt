@@ -32,7 +32,7 @@ fn spelled_at<'a>(text: &'a [u8], symbols: &[Placed], place: usize) -> &'a [u8] 
 }
 
 /// An unexpected symbol, with the bracket before it that is not closed, what it may be meant for, and the part of the text before
-/// it in which a separator may lack.
+/// it in which a separator may be missing.
 fn unexpected<'a>(text: &'a [u8], symbols: &[Placed], place: usize) -> About<'a> {
     let mut about = About::of(spelled_at(text, symbols, place));
     if let Some(bracket) = unclosed(symbols, place) {
@@ -86,19 +86,64 @@ fn abbreviates(symbols: &[Placed], place: usize) -> bool {
     false
 }
 
-/// From the last symbol of a declaration to the first one of the next, where the symbol after its name, or that itself, is
-/// unexpected: if they stand on two lines, a separator is missing between.
+/// From the last symbol of a declaration, a predicate or a paragraph to the first one of the next, where that, or the symbol
+/// after the name that it is, is unexpected: if they stand on two lines, a separator is missing between.
 fn unparted(symbols: &[Placed], place: usize) -> Span {
-    let first = match symbols.get(place) {
-        Some(symbol) if matches!(symbol.next, Next::Colon | Next::Comma) => place.saturating_sub(1),
-        Some(symbol) if matches!(symbol.next, Next::Name | Next::Delta | Next::Xi) => place,
-        _ => 0,
-    };
+    let first = beginning(symbols, place);
     match (symbols.get(first.saturating_sub(1)), symbols.get(first)) {
-        (Some(before), Some(symbol)) if 0 < first => Span {
+        (Some(before), Some(symbol)) if 0 < first && may_end(before.next) => Span {
             start: before.span.start,
             stop: symbol.span.start,
         },
         _ => Span { start: 0, stop: 0 },
     }
+}
+
+/// Where the declaration, predicate or paragraph begins whose first symbol is unexpected, or the one after the name that it is;
+/// 0 where none does.
+fn beginning(symbols: &[Placed], place: usize) -> usize {
+    match symbols.get(place) {
+        Some(symbol) if follows_name(symbol.next) => place.saturating_sub(1),
+        Some(symbol) if may_begin(symbol.next) => place,
+        _ => 0,
+    }
+}
+
+/// Whether the symbol stands right after a name with which a declaration or a paragraph begins.
+fn follows_name(next: Next) -> bool {
+    matches!(
+        next,
+        Next::Colon | Next::Comma | Next::Abbreviates | Next::FreeType | Next::Defines
+    )
+}
+
+/// Whether a declaration, a predicate or a paragraph may begin with the symbol.
+fn may_begin(next: Next) -> bool {
+    matches!(
+        next,
+        Next::Name
+            | Next::Delta
+            | Next::Xi
+            | Next::Not
+            | Next::Quantifier(_)
+            | Next::Prefix(_)
+            | Next::OpenRound
+            | Next::OpenSquare
+            | Next::OpenBrace
+    )
+}
+
+/// Whether one may end with the symbol.
+fn may_end(next: Next) -> bool {
+    matches!(
+        next,
+        Next::Name
+            | Next::Number
+            | Next::Constant(_)
+            | Next::Inverse
+            | Next::CloseRound
+            | Next::CloseSquare
+            | Next::CloseBrace
+            | Next::CloseImage
+    )
 }

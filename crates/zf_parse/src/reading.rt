@@ -6,6 +6,7 @@ ghost use Rattle.zf_parse.specs.Reads.{Reads};
 ghost use Rattle.zf_scan.specs.declared.placed.Placed.{Placed};
 
 use crate::about::about;
+use crate::commands::meant_by;
 use crate::unread::{About, Unread};
 use bumpalo::Bump;
 use bumpalo::collections::into_bump_slice;
@@ -17,7 +18,7 @@ use zf_scan::scan::{SOURCE_MAX, cut_rest, next_box};
 use zf_scan::{
     Border, Laid, Placed, TextFault, TextFaultKind, Token, lay_out, refused_at, refused_place,
 };
-use zf_tree::{Span, Spec, ZBox};
+use zf_tree::{Span, Spec, ZBox, back};
 
 /// Whether a separator before these symbols is dropped.
 fn starts_closed(symbols: &[Placed]) -> bool
@@ -132,8 +133,18 @@ fn refused<'a>(fault: TextFault, source: &'a [u8], border: Border) -> About<'a> 
             about.span = part(start, about.other);
             about
         }
+        TextFaultKind::UnknownCommand => unknown(refused_at(source, start), back(source, start)),
         _ => About::of(refused_at(source, refused_place(source, start))),
     }
+}
+
+/// A command that is not known, in front of a text. What the page on the language tells of it says what to write.
+fn unknown<'a>(command: &'a [u8], text: &[u8]) -> About<'a> {
+    let mut about = About::of(command);
+    if about.entry.is_empty() {
+        about.like = meant_by(command, text);
+    }
+    about
 }
 
 /// The symbols of the next box, as `next_box` gives them, or the piece that is refused.
