@@ -18,8 +18,8 @@ pub use Rattle.zf_term.specs.{basic, Comp, comp_of, first_named, int, no_types, 
 pub use Rattle.zf_term.specs.declared.schema.Component.{Component}
 pub use Rattle.zf_meaning.specs.{AreOfTypes, Environment, environment_of, found_number, IsExistingElement, IsOfType, IsRow, type_number}
 pub use Rattle.zf_print.specs.{AreApart, AreClear, AreNames, binding_text, Closes, comma_before, component_text, component_texts, Ends, EndsAs, goes_on, is_in_word, IsClear, IsName, IsNoneOf, later_parts, parted, spelled, value_text}
-pub use Rattle.zf_read.specs.{AreMembers, AreMembersAt, ArePartsAt, BeginsWithName, held_comps, held_values, HoldNext, IfMisfit, IsComponentAt, IsHeldAt, IsHeldLine, IsItem, IsLineOf, IsNamedAt, IsNamedNext, IsNext, IsSpelledType, IsValueAt, IsWordAt, HeldIsLine, LineIsHeld, OneHeldLine}
-unfoldable pub use Rattle.zf_read.specs.{AreNoMembers, AreNoParts, BeginsWithoutName, GoesOn, HasNoElements, HoldsNothing, IsNoComponent, IsNoHeldLine, IsNoItem, IsNoLine, IsNoNext, IsNoRest, IsNoSpelledType, IsNotNamed, IsNoValue, SpellsNone}
+pub use Rattle.zf_read.specs.{AreMembers, AreMembersAt, ArePartsAt, BeginsWithName, AreChosen, HaveClearNames, HoldNext, IfMisfit, IsComponentAt, IsElsewhere, IsHeldLine, IsItem, IsLineOf, IsLineOfSome, IsNamed, IsNext, IsPart, IsPartAt, IsSpelledType, IsValueAt, IsWordAt, HeldIsLine, LineIsHeld, nothing_of, OneHeldLine, with_values}
+unfoldable pub use Rattle.zf_read.specs.{AreNoMembers, AreNoParts, BeginsWithoutName, GoesOn, HasNoElements, IsNoComponent, IsNoHeldRest, IsNoHeldLine, IsNoItem, IsNoLine, IsNoNext, IsNoRest, IsNoSpelledType, IsNoValue, NamesNone, SpellsNone}
 pub use Rattle.zf_print.specs.declared.spelling.Spelling.{Spelling}
 pub use Rattle.zf_print.specs.declared.spelling.Spelling.TheVariants.{Named, Numbered}
 pub use Rattle.std.proofs.lemmas.Option.{same_Some}
