@@ -1,6 +1,10 @@
 -- What is read so far of a line of some components: what its parts hold, and what may still follow.
-use Rattle.zf_read.proofs.Prelude.{Lines, ◌++◌, ◌+◌, ◌-◌, ◌<◌, ◌∙◌, ◌∷◌, ◌≡◌, ◌≤◌, [], add-one, ap, arith, Bool, codes, drop, false, get_or, length, List, map, None, Option, refl, Some, subst, suc, sym, take, true, zero, ℕ, append_assoc, length-append, length-drop, take_all, MatchBool, slice_get, Value, Comp, Environment, IsOfType, component_text, AreApart, AreClear, AreNames, Ends, is_in_word, IsName, IsNoneOf, HaveClearNames, HoldNext, IsHeldLine, IsNoHeldLine, IsNoHeldRest, IsPart, IsPartAt, BeginsWithName, EndsAs, IsComponentAt, IsItem, IsNamed, NamesNone, nothing_of, BeginsWithoutName, GoesOn, IsNoComponent, IsNoItem, comma_before, value_text, Spelling, same_Some, ends_as, one_component, one_run, name_in_word, drop-end, cancel}
-use Rattle.std.specs.Prelude.{set}
+use Rattle.zf_read.proofs.Prelude.{Lines, ◌++◌, ◌+◌, ◌-◌, ◌<◌, ◌∙◌, ◌∷◌, ◌≡◌, ◌≤◌, [], add-one, ap, arith, Bool, codes, drop, false, get_or, length, List, map, None, Option, refl, Some, subst, suc, sym, take, true, zero, ℕ, append_assoc, length-append, length-drop, take_all, MatchBool, slice_get, Value, Comp, comp_of, Component, Environment, IsOfType, component_text, AreApart, AreClear, AreNames, Ends, is_in_word, IsName, IsNoneOf, HaveClearNames, HoldNext, IsHeldLine, IsNoHeldLine, IsNoHeldRest, IsPart, IsPartAt, BeginsWithName, EndsAs, IsComponentAt, IsItem, IsNamed, NamesNone, nothing_of, BeginsWithoutName, GoesOn, IsNoComponent, IsNoItem, comma_before, value_text, Spelling, same_Some, ends_as, one_component, one_run, name_in_word, drop-end, cancel}
+use Rattle.std.specs.Prelude.{option_map, set}
+use Rattle.std.proofs.lemmas.Option.{slice_get-map, slice_get_read, slice_get_within}
+use Rattle.std.proofs.lemmas.List.{length-map, length-set}
+use Rattle.std.proofs.lemmas.Bool.{cases_eq}
+use Rattle.std.proofs.Common.{inl, inr}
 
 -- ---- names
 
@@ -24,6 +28,9 @@ none_begins name bytes here same none (rest, ends, is) = none rest (same ∙ is)
 
 pub component_parts : (ss : List Spelling) (c : Comp) (v : Value) (rest : List ℕ) → component_text ss c v ++ rest ≡ c.name ++ (codes " == " ++ (value_text ss v ++ rest))
 component_parts ss c v rest = append_assoc (c.name ++ codes " == ") (value_text ss v) rest ∙ append_assoc c.name (codes " == ") (value_text ss v ++ rest)
+
+pub comps-end : (cs : List Component) (i : ℕ) → length cs ≤ i → map comp_of (drop i cs) ≡ []
+comps-end cs i l = ap (map comp_of) (drop-end i cs l)
 
 -- ---- names that are clear
 
@@ -150,3 +157,118 @@ module _ (ss : List Spelling) (e : Environment) (cs : List Comp) where
 
   pub held_read : (text : List ℕ) (n : ℕ) (before : List (Option Value)) (bytes : List ℕ) → HeldSoFar text n before bytes → bytes ≡ [] → IsHeldLine ss e cs text before
   held_read text n before bytes r none = r.whole [] before (none, refl)
+
+-- ---- the name that stands at a place
+
+pub is_named : (cs : List Component) (held : List (Option Value)) (bytes name : List ℕ) (i : ℕ) (c : Component) (v : Option Value) → c ≡ get_or cs i c → i < length cs
+    → v ≡ get_or held i v → i < length held → v ≡ None → name ≡ c.name → BeginsWithName name bytes → IsNamed (map comp_of cs) held bytes i
+is_named cs held bytes name i c v got l at k none same named = record {
+  comp = comp_of c;
+  there = slice_get-map comp_of cs i ∙ ap (option_map comp_of) (slice_get_read cs (length cs) i c refl l got);
+  free = slice_get_read held (length held) i v refl k at ∙ ap Some none;
+  named = subst (λ n. BeginsWithName n bytes) same named;
+}
+
+pub has_value : (cs : List Component) (held : List (Option Value)) (bytes : List ℕ) (i : ℕ) (v : Option Value) → v ≡ get_or held i v → i < length held → (v ≡ None → ⊥) → IsNamed (map comp_of cs) held bytes i → ⊥
+has_value cs held bytes i v at k some h = some (same_Some v None (sym (slice_get_read held (length held) i v refl k at) ∙ h.free))
+
+pub another_name : (cs : List Component) (held : List (Option Value)) (bytes name : List ℕ) (i : ℕ) (c : Component) → c ≡ get_or cs i c → i < length cs → name ≡ c.name → BeginsWithoutName name bytes
+    → IsNamed (map comp_of cs) held bytes i → ⊥
+unfolding BeginsWithoutName
+another_name cs held bytes name i c got l same none h =
+    let there = slice_get-map comp_of cs i ∙ ap (option_map comp_of) (slice_get_read cs (length cs) i c refl l got) in
+    let one : comp_of c ≡ h.comp = same_Some (comp_of c) h.comp (sym there ∙ h.there) in
+    none (subst (λ n. BeginsWithName n bytes) (sym (same ∙ ap (λ (d : Comp). d.name) one)) h.named)
+
+pub none_further : (cs : List Comp) (held : List (Option Value)) (bytes : List ℕ) (i : ℕ) → ((p : ℕ) → p < i → IsNamed cs held bytes p → ⊥) → (IsNamed cs held bytes i → ⊥)
+    → (p : ℕ) → p < i + 1 → IsNamed cs held bytes p → ⊥
+none_further cs held bytes i before here p l h = elim (cases_eq p i) [
+  | inl same ↦ here (subst (IsNamed cs held bytes) same h)
+  | inr other ↦ before p (below other) h
+]
+  where
+    below : (p ≡ i → ⊥) → p < i
+    below other = omega (arith, l, other)
+
+pub none_at_all : (cs : List Component) (held : List (Option Value)) (bytes : List ℕ) (i : ℕ) → length cs ≤ i → ((p : ℕ) → p < i → IsNamed (map comp_of cs) held bytes p → ⊥) → NamesNone (map comp_of cs) held bytes
+unfolding NamesNone
+none_at_all cs held bytes i l none p h =
+    let within = slice_get_within (map comp_of cs) p h.comp h.there in
+    let long = length-map cs comp_of in
+    none p (omega (arith, l, within, long)) h
+
+pub named_within : (cs : List Component) (held : List (Option Value)) (bytes : List ℕ) (i : ℕ) → IsNamed (map comp_of cs) held bytes i → i < length cs
+named_within cs held bytes i h =
+    let within = slice_get_within (map comp_of cs) i h.comp h.there in
+    let long = length-map cs comp_of in
+    omega (arith, within, long)
+
+-- ---- the steps of reading
+
+-- bytes from a place within them are not none
+pub not_empty : (text : List ℕ) (place : ℕ) → place < length text → drop place text ≡ [] → ⊥
+not_empty text place l none =
+    let rest = length-drop place text in
+    let all = ap length none in
+    omega (arith, rest, all, l)
+
+module _ (ss : List Spelling) (e : Environment) (cs : List Component) where
+  pub no_value_there : (n : ℕ) (text : List ℕ) (place start : ℕ) (before : List (Option Value)) (i : ℕ) (c : Component) → c ≡ get_or cs i c → i < length cs → place < length text
+      → IsItem text place (comma_before n) start → IsNamed (map comp_of cs) before (drop start text) i → IsNoComponent ss e (comp_of c) (drop start text)
+      → IsNoHeldRest ss e (map comp_of cs) n (drop place text) before
+  no_value_there n text place start before i c got l some separated named none =
+      let there = slice_get-map comp_of cs i ∙ ap (option_map comp_of) (slice_get_read cs (length cs) i c refl l got) in
+      let one : comp_of c ≡ named.comp = same_Some (comp_of c) named.comp (sym there ∙ named.there) in
+      not_valued ss e (map comp_of cs) n (drop place text) (drop start text) before i (not_empty text place some) separated.stands named
+      (subst (λ (d : Comp). IsNoComponent ss e d (drop start text)) one none)
+
+  pub part_at : (n : ℕ) (text : List ℕ) (place start : ℕ) (before : List (Option Value)) (i : ℕ) (c : Component) (v : Value) (end : ℕ) → c ≡ get_or cs i c → i < length cs → place < length text
+      → IsItem text place (comma_before n) start → IsNamed (map comp_of cs) before (drop start text) i → IsComponentAt ss e (comp_of c) text start v end
+      → IsPartAt ss e (map comp_of cs) text n place before i v end
+  part_at n text place start before i c v end got l some separated named k =
+      let there = slice_get-map comp_of cs i ∙ ap (option_map comp_of) (slice_get_read cs (length cs) i c refl l got) in
+      let whole = separated.stands ∙ ap (λ x. comma_before n ++ x) k.stands.stands in
+      let long = ap length (whole ∙ ap (λ l. comma_before n ++ l) (component_parts ss (comp_of c) v (drop end text))) in
+      let outer = length-append (comma_before n) (c.name ++ (codes " == " ++ (value_text ss v ++ drop end text))) in
+      let inner = length-append c.name (codes " == " ++ (value_text ss v ++ drop end text)) in
+      let last = length-append (value_text ss v) (drop end text) in
+      let from = length-drop place text in
+      let to = length-drop end text in
+      record {
+        part = record { comp = comp_of c; there = there; free = named.free; of_type = k.value; stands = whole };
+        ends = k.ends;
+        further = omega (arith, long, outer, inner, last, from, to, some, k.stands.within);
+        within = k.stands.within;
+      }
+
+-- ---- the loop over parts
+
+module _ {ss : List Spelling} {e : Environment} where
+  pub nothing_read : (cs : List Component) (text : List ℕ) (held : List (Option Value)) → held ≡ nothing_of (map comp_of cs)
+      → (0 ≤ length text) × (0 ≤ 0) × (length held ≡ length cs) × HeldSoFar ss e (map comp_of cs) text 0 held text
+  nothing_read cs text held none = (
+    omega arith,
+    omega arith,
+    ap length none ∙ length-map (map comp_of cs) (λ c. None) ∙ length-map cs comp_of,
+    subst (λ vs. HeldSoFar ss e (map comp_of cs) text 0 vs text) (sym none) (held_begun ss e (map comp_of cs) text),
+  )
+
+  pub free_within : {cs : List Comp} {text : List ℕ} {n place i : ℕ} {before : List (Option Value)} {v : Value} {end : ℕ} → IsPartAt ss e cs text n place before i v end → i < length before
+  free_within {i = i} {before = before} k = slice_get_within before i None k.part.free
+
+  pub one_more : (cs : List Component) (text : List ℕ) (n place i : ℕ) (before : List (Option Value)) (v : Value) (end : ℕ) → n ≤ place → length before ≡ length cs
+      → HeldSoFar ss e (map comp_of cs) text n before (drop place text) → IsPartAt ss e (map comp_of cs) text n place before i v end
+      → (end ≤ length text) × (n + 1 ≤ end) × (length (set before i (Some v)) ≡ length cs) × HeldSoFar ss e (map comp_of cs) text (n + 1) (set before i (Some v)) (drop end text)
+  one_more cs text n place i before v end few long r k = (
+    k.within,
+    omega (arith, few, k.further),
+    length-set before i (Some v) ∙ long,
+    held_further ss e (map comp_of cs) text n before (drop place text) i v (drop end text) r k.part k.ends,
+  )
+
+  pub all_read : (cs : List Component) (text : List ℕ) (n place : ℕ) (before : List (Option Value)) → length text ≤ place → HeldSoFar ss e (map comp_of cs) text n before (drop place text)
+      → IsHeldLine ss e (map comp_of cs) text before
+  all_read cs text n place before l r = held_read ss e (map comp_of cs) text n before (drop place text) r (drop-end place text l)
+
+  pub none_read : {cs : List Comp} {text bytes : List ℕ} {n : ℕ} {before : List (Option Value)} → HeldSoFar ss e cs text n before bytes → IsNoHeldRest ss e cs n bytes before → IsNoHeldLine ss e cs text
+  none_read r none = r.none none

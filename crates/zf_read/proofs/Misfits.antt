@@ -1,6 +1,5 @@
 -- What a misfit tells, where it is passed on.
 use Rattle.zf_read.proofs.Prelude.{◌≡◌, Err, IfErr, Ok, Result, subst, sym, IsErrAnd, IfMisfit}
-use Rattle.zf_read.specs.{TellsAsMuch}
 use Rattle.zf_read.specs.declared.fault.AfterFault.{AfterFault}
 use Rattle.zf_read.specs.declared.fault.AfterFault.TheVariants.{NotABinding, OutOfMemory}
 
@@ -22,8 +21,3 @@ answered (Err y) f h = tells y f h
 pub made : {P : Type 0} (x : AfterFault) → P → IfMisfit P x
 made (NotABinding place expected) h = h
 made OutOfMemory h = tt
-
--- of a fault that tells as much as another
-pub as_much : {P : Type 0} (x y : AfterFault) → TellsAsMuch x y → IfMisfit P x → IfMisfit P y
-as_much (NotABinding place expected) y same h = made y h
-as_much {P = P} OutOfMemory y same h = subst (IfMisfit P) (sym same) tt

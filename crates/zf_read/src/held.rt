@@ -146,7 +146,7 @@ fn unnamed(
 {
     match free_names(line.alloc, components, held) {
         Ok(names) => {
-            if names.is_empty() {
+            if names.as_slice().is_empty() {
                 return AfterFault::NotABinding(place, Expected::Words(b"the end"));
             }
             AfterFault::NotABinding(misfit(line.text, start, components, held), Expected::Names(names))

@@ -1,5 +1,5 @@
 //! Values and bindings as they are read back.
-ghost use Rattle.std.specs.Prelude.{◌↔◌, ◌≤◌, ◌++◌, [], ◌∷◌, length, map, drop, IsTrue, IfOk, IfErr};
+ghost use Rattle.std.specs.Prelude.{◌↔◌, ◌+◌, ◌≤◌, ◌++◌, [], ◌∷◌, length, map, drop, IsTrue, IfOk, IfErr};
 ghost use Rattle.zf_read.specs.Prelude.{environment_of, comp_of, int, power, product, schema_of, type_of, types, IsAscending};
 ghost use Rattle.zf_read.specs.{AreMembersAt, AreNoMembers, AreNoParts, ArePartsAt, IfMisfit, IsComponentAt, IsLineOf, IsNext, IsNoComponent, IsNoLine, IsNoNext, IsNoValue, IsValueAt};
 

@@ -1,5 +1,5 @@
 -- What is read so far.
-use Rattle.zf_read.proofs.Prelude.{◌-◌, ◌≤◌, drop, length, map, comp_of, environment_of}
+use Rattle.zf_read.proofs.Prelude.{◌-◌, ◌≡◌, ◌≤◌, drop, length, map, comp_of, environment_of}
 use Rattle.zf_read.proofs.HeldSoFar.{HeldSoFar}
 use Rattle.zf_read.proofs.held.read_held.Given as goal
 
