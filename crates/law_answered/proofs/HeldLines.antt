@@ -2,7 +2,6 @@
 use Rattle.law_answered.proofs.Prelude.{◌++◌, ◌∙◌, ◌∷◌, ◌≡◌, [], ap, arith, inl, inr, length, List, None, Option, refl, Some, subst, sym, ℕ, cases_eq, Value, Comp, Environment, IsOfType, Decided, decided_lists, decided_some, binding_text, spellings, EveryHeldLineIsJudged, map, types, EveryLineIsJudged}
 use Rattle.std.proofs.Common.{◌+◌, ◌≤◌, append_assoc, codes, drop, length-append, suc, zero}
 use Rattle.std.specs.Prelude.{set, slice_get}
-use Rattle.std.proofs.lemmas.List.{drop-append}
 use Rattle.std.proofs.lemmas.Option.{same_Some}
 use Rattle.zf_print.specs.declared.spelling.Spelling.{Spelling}
 use Rattle.zf_print.specs.{comma_before, component_text, value_text}
@@ -22,6 +21,10 @@ every_line_is_judged e comps (Some text) =
     ]
 
 -- ---- of some components
+
+drop_front : (xs ys : List ℕ) → drop (length xs) (xs ++ ys) ≡ ys
+drop_front [] ys = refl
+drop_front (x ∷ xs) ys = drop_front xs ys
 
 module _ (ss : List Spelling) (e : Environment) (cs : List Comp) where
   -- after n parts the bytes go on with some to their end
@@ -57,7 +60,7 @@ module _ (ss : List Spelling) (e : Environment) (cs : List Comp) where
       behind : (rest : List ℕ) → bytes ≡ comma_before n ++ (component_text ss c v ++ rest) → drop (length (comma_before n ++ component_text ss c v)) bytes ≡ rest
       behind rest is =
           ap (drop (length (comma_before n ++ component_text ss c v))) (is ∙ sym (append_assoc (comma_before n) (component_text ss c v) rest))
-          ∙ drop-append (comma_before n ++ component_text ss c v) rest
+          ∙ drop_front (comma_before n ++ component_text ss c v) rest
 
       shorter : bytes ≡ (comma_before n ++ component_text ss c v) ++ drop (length (comma_before n ++ component_text ss c v)) bytes
           → length (drop (length (comma_before n ++ component_text ss c v)) bytes) ≤ k

@@ -40,7 +40,7 @@ pub use Rattle.law_total.proofs.Listed.{Decided, decided_lists, decided_some, Ha
 pub use Rattle.law_total.proofs.Orders.{AllPairs-mapped, Contains-map, Contains-mapped}
 pub use Rattle.zf_print.proofs.OneRow.{one_row}
 pub use Rattle.zf_print.specs.{AreClear, binding_text, spellings, row_text}
-pub use Rattle.zf_read.specs.{HaveClearNames, held_comps, held_values}
+pub use Rattle.zf_read.specs.{HaveClearNames}
 pub use Rattle.zf_enum.proofs.EventLaws.{one_ranges}
 pub use Rattle.zf_enum.specs.{behind, HasTruth, Portion, portion, property, AreTests}
 pub use Rattle.zf_ranges.specs.{IsFirstOut, IsNoneOut, AreRanges, first_held, later_held}

@@ -1,5 +1,5 @@
 -- A line of some components is the line of a row of these; and each such line is one.
-use Rattle.zf_read.proofs.Prelude.{◌++◌, ◌+◌, ◌∙◌, ◌∷◌, ◌≡◌, [], add-one, ap, List, None, Option, refl, Some, suc, sym, zero, ℕ, slice_get, same_Some, Value, Comp, Environment, IsOfType, IsRow, component_text, component_texts, AreChosen, goes_on, comma_before, HoldNext, IsElsewhere, IsPart, nothing_of, with_values, Spelling, HeldIsLine, LineIsHeld, goes_on-first, goes_on-later, goes_on-nil, subst}
+use Rattle.zf_read.proofs.Prelude.{◌++◌, ◌+◌, ◌∙◌, ◌∷◌, ◌≡◌, [], add-one, ap, List, None, Option, refl, Some, suc, sym, zero, ℕ, slice_get, Value, Comp, Environment, IsRow, component_text, component_texts, AreChosen, goes_on, comma_before, HoldNext, IsElsewhere, IsPart, nothing_of, with_values, Spelling, HeldIsLine, LineIsHeld, goes_on-first, goes_on-later, goes_on-nil, subst}
 use Rattle.std.specs.Prelude.{◌≢◌, set}
 
 -- ---- lists by place

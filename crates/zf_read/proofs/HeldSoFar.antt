@@ -116,7 +116,10 @@ module _ (ss : List Spelling) (e : Environment) (cs : List Comp) where
   pub not_named : (n : ℕ) (bytes mid : List ℕ) (before : List (Option Value)) → (bytes ≡ [] → ⊥) → bytes ≡ comma_before n ++ mid → NamesNone cs before mid → IsNoHeldRest ss e cs n bytes before
   unfolding NamesNone
   not_named n bytes mid before some b none = none_of_parts n bytes before some (λ clear names p rest part ends. none p.0 (record {
-    comp = part.comp; there = part.there; free = part.free; named = part_named n bytes mid before p.0 p.1 rest b part;
+    comp = part.comp;
+    there = part.there;
+    free = part.free;
+    named = part_named n bytes mid before p.0 p.1 rest b part;
   }))
 
   -- the component that is named has no value there

@@ -1,6 +1,6 @@
 -- What the steps of reading say. No public clause rests on this file.
 use Rattle.std.specs.Prelude.{◌≡◌, ℕ, ◌+◌, ◌≤◌, true, ◌<◌, List, [], ◌∷◌, ◌++◌, length, map, drop, codes, Option, Some, None, slice_get}
-use Rattle.zf_read.specs.Prelude.{Comp, Ty, Tys, Value, IsAscending, AreOfTypes, Environment, IsExistingElement, IsOfType, IsRow, type_number, Spelling, AreClear, comma_before, component_text, component_texts, Ends, EndsAs, goes_on, is_in_word, IsClear, parted, spelled, value_text}
+use Rattle.zf_read.specs.Prelude.{Comp, Ty, Tys, Value, IsAscending, AreOfTypes, Environment, IsExistingElement, IsOfType, IsRow, type_number, Spelling, AreClear, component_text, component_texts, Ends, EndsAs, goes_on, is_in_word, IsClear, parted, spelled, value_text}
 use Rattle.std.specs.List.{list_all, AllByRecursion}
 use Rattle.zf_value.specs.declared.TheConstants.{SET_MAX}
 use Rattle.zf_read.specs.Held.{HoldNext, IsPart}

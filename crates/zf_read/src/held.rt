@@ -149,7 +149,10 @@ fn unnamed(
             if names.as_slice().is_empty() {
                 return AfterFault::NotABinding(place, Expected::Words(b"the end"));
             }
-            AfterFault::NotABinding(misfit(line.text, start, components, held), Expected::Names(names))
+            AfterFault::NotABinding(
+                misfit(line.text, start, components, held),
+                Expected::Names(names),
+            )
         }
         Err(_) => AfterFault::OutOfMemory,
     }
@@ -176,12 +179,7 @@ fn free_names(
 }
 
 /// The place, or the end of the text, where the name of a component without a value goes on after it.
-fn misfit(
-    text: &[u8],
-    place: usize,
-    components: &[Component<'_>],
-    held: &[Option<Value>],
-) -> usize
+fn misfit(text: &[u8], place: usize, components: &[Component<'_>], held: &[Option<Value>]) -> usize
     requires place { place ≤ length text.now }
     requires all { length held.now ≡ length components.now }
 {

@@ -59,10 +59,7 @@ pub(crate) fn item(
     if stands(text, place, item) {
         return Ok(place + item.len());
     }
-    Err(AfterFault::NotABinding(
-        misfit(text, place, item),
-        expected,
-    ))
+    Err(AfterFault::NotABinding(misfit(text, place, item), expected))
 }
 
 /// The place after what stands before a part, after so many others; or else what these words say was expected.
