@@ -1,5 +1,12 @@
 -- A text is the line of a row of the components' types, or of none; and that of some of the components, which holds values of their types, or of none.
-use Rattle.law_answered.proofs.Prelude.{◌∷◌, ◌≡◌, ◌⊎◌, [], ap, arith, inl, inr, length, List, None, Option, refl, Some, subst, suc, sym, cases_eq, Value, Comp, Environment, IsOfType, IsRow, Decided, decided_lists, decided_some, binding_text, spellings, EveryHeldLineIsJudged, held_comps, held_values, ⊎_elim, map, types, EveryLineIsJudged}
+use Rattle.law_answered.proofs.Prelude.{◌++◌, ◌∙◌, ◌∷◌, ◌≡◌, [], ap, arith, inl, inr, length, List, None, Option, refl, Some, subst, sym, ℕ, cases_eq, Value, Comp, Environment, IsOfType, Decided, decided_lists, decided_some, binding_text, spellings, EveryHeldLineIsJudged, map, types, EveryLineIsJudged}
+use Rattle.std.proofs.Common.{◌+◌, ◌≤◌, append_assoc, codes, drop, length-append, suc, zero}
+use Rattle.std.specs.Prelude.{set, slice_get}
+use Rattle.std.proofs.lemmas.Option.{same_Some}
+use Rattle.zf_print.specs.declared.spelling.Spelling.{Spelling}
+use Rattle.zf_print.specs.{comma_before, component_text, value_text}
+use Rattle.zf_read.specs.{HoldNext, nothing_of}
+use Rattle.zf_read.proofs.HeldSoFar.{component_parts}
 use Rattle.law_answered.proofs.ListedValues.{rows_listed, values_listed}
 
 -- ---- of a row
@@ -15,57 +22,108 @@ every_line_is_judged e comps (Some text) =
 
 -- ---- of some components
 
-module _ (e : Environment) where
-  -- values of some of the components make such a row
-  abbrev Chosen : List Comp → (List Comp → List Value → Type 0) → Type 0
-  Chosen cs P = (held : List (Option Value)) × (length held ≡ length cs) × IsRow e (held_comps cs held) (held_values held) × P (held_comps cs held) (held_values held)
+drop_front : (xs ys : List ℕ) → drop (length xs) (xs ++ ys) ≡ ys
+drop_front [] ys = refl
+drop_front (x ∷ xs) ys = drop_front xs ys
 
-  -- with a value of the first component
-  abbrev WithFirst : Comp → List Comp → (List Comp → List Value → Type 0) → Value → Type 0
-  WithFirst c cs P v = Chosen cs (λ ds vs. P (c ∷ ds) (v ∷ vs))
+module _ (ss : List Spelling) (e : Environment) (cs : List Comp) where
+  -- after n parts the bytes go on with some to their end
+  abbrev Goes : ℕ → List ℕ → List (Option Value) → Type 0
+  Goes n bytes before = (held : List (Option Value)) × (parts : List (ℕ × Value)) × HoldNext ss e cs n bytes before parts held
 
-  with_first : (c : Comp) (cs : List Comp) (P : List Comp → List Value → Type 0) → (v : Value) × IsOfType e c.type v × WithFirst c cs P v → Chosen (c ∷ cs) P
-  with_first c cs P (v, of_type, (held, long, row, p)) = (Some v ∷ held, ap suc long, (v, held_values held, refl, of_type, row), p)
+  -- with a component, or with a value of it
+  abbrev GoesWith : ℕ → List ℕ → List (Option Value) → ℕ → Comp → Value → Type 0
+  GoesWith n bytes before place c v =
+      (rest : List ℕ) × (bytes ≡ comma_before n ++ (component_text ss c v ++ rest)) × Goes (n + 1) rest (set before place (Some v))
 
-  without_first : (c : Comp) (cs : List Comp) (P : List Comp → List Value → Type 0) → Chosen cs P → Chosen (c ∷ cs) P
-  without_first c cs P (held, long, row, p) = (None ∷ held, ap suc long, row, p)
+  abbrev GoesAt : ℕ → List ℕ → List (Option Value) → ℕ → Comp → Type 0
+  GoesAt n bytes before place c = (slice_get before place ≡ Some None) × ((v : Value) × IsOfType e c.type v × GoesWith n bytes before place c v)
 
-  -- there are no other rows
-  with_or_without : (c : Comp) (cs : List Comp) (P : List Comp → List Value → Type 0) → Chosen (c ∷ cs) P → Chosen cs P ⊎ ((v : Value) × IsOfType e c.type v × WithFirst c cs P v)
-  with_or_without c cs P ([], long, row, p) = absurd (omega (arith, long))
-  with_or_without c cs P (None ∷ held, long, row, p) = inl (held, omega (arith, long), row, p)
-  with_or_without c cs P (Some v ∷ held, long, (w, ws, is, of_type, row), p) =
-      inr (v, subst (IsOfType e c.type) (sym (first is)) of_type, (held, omega (arith, long), subst (IsRow e (held_comps cs held)) (sym (others is)) row, p))
+  -- ---- whether they do
+
+  decided_with : (k n : ℕ) (bytes : List ℕ) (before : List (Option Value)) (place : ℕ) (c : Comp) (v : Value) → length bytes ≤ suc k
+      → ((rest : List ℕ) → length rest ≤ k → Decided (Goes (n + 1) rest (set before place (Some v)))) → Decided (GoesWith n bytes before place c v)
+  decided_with k n bytes before place c v l decided =
+      let front = comma_before n ++ component_text ss c v in
+      let last = drop (length front) bytes in
+      elim (decided_lists cases_eq bytes (front ++ last)) [
+        | inl is ↦ elim (decided last (shorter is)) [
+          | inl goes ↦ inl (last, is ∙ append_assoc (comma_before n) (component_text ss c v) last, goes)
+          | inr none ↦ inr (λ h. none (subst (λ x. Goes (n + 1) x (set before place (Some v))) (sym (behind h.0 h.1)) h.2))
+        ]
+        | inr other ↦ inr (λ h. other (subst (λ x. bytes ≡ front ++ x) (sym (behind h.0 h.1)) (whole h.0 h.1)))
+      ]
     where
-      first : v ∷ held_values held ≡ w ∷ ws → v ≡ w
-      first s = cc
+      whole : (rest : List ℕ) → bytes ≡ comma_before n ++ (component_text ss c v ++ rest) → bytes ≡ (comma_before n ++ component_text ss c v) ++ rest
+      whole rest is = is ∙ sym (append_assoc (comma_before n) (component_text ss c v) rest)
 
-      others : v ∷ held_values held ≡ w ∷ ws → held_values held ≡ ws
-      others s = cc
+      behind : (rest : List ℕ) → bytes ≡ comma_before n ++ (component_text ss c v ++ rest) → drop (length (comma_before n ++ component_text ss c v)) bytes ≡ rest
+      behind rest is =
+          ap (drop (length (comma_before n ++ component_text ss c v))) (is ∙ sym (append_assoc (comma_before n) (component_text ss c v) rest))
+          ∙ drop_front (comma_before n ++ component_text ss c v) rest
 
-  of_none : (P : List Comp → List Value → Type 0) → Decided (P [] []) → Decided (Chosen [] P)
-  of_none P (inl p) = inl ([], refl, refl, p)
-  of_none P (inr none) = inr (λ h. by h.0 h.1 h.3)
+      shorter : bytes ≡ (comma_before n ++ component_text ss c v) ++ drop (length (comma_before n ++ component_text ss c v)) bytes
+          → length (drop (length (comma_before n ++ component_text ss c v)) bytes) ≤ k
+      shorter is =
+          let rest = drop (length (comma_before n ++ component_text ss c v)) bytes in
+          let all = ap length (is ∙ append_assoc (comma_before n) (component_text ss c v) rest ∙ ap (λ x. comma_before n ++ x) (component_parts ss c v rest)) in
+          let outer = length-append (comma_before n) (c.name ++ (codes " == " ++ (value_text ss v ++ rest))) in
+          let inner = length-append c.name (codes " == " ++ (value_text ss v ++ rest)) in
+          let end = length-append (value_text ss v) rest in
+          omega (arith, all, outer, inner, end, l)
+
+  decided_free : (x : Option (Option Value)) → Decided (x ≡ Some None)
+  decided_free None = inr (λ q. cc)
+  decided_free (Some None) = inl refl
+  decided_free (Some (Some v)) = inr (λ q. cc)
+
+  decided_both : {A B : Type 0} → Decided A → Decided B → Decided (A × B)
+  decided_both (inl a) (inl b) = inl (a, b)
+  decided_both (inr a) b = inr (λ h. a h.0)
+  decided_both (inl a) (inr b) = inr (λ h. b h.1)
+
+  -- a component that P says so of
+  decided_place : (ds : List Comp) (P : ℕ → Comp → Type 0) → ((place : ℕ) (c : Comp) → Decided (P place c)) → Decided ((place : ℕ) × (c : Comp) × (slice_get ds place ≡ Some c) × P place c)
+  decided_place [] P decided = inr (λ h. none h.0 h.1 h.2)
     where
-      by : (held : List (Option Value)) → length held ≡ 0 → P (held_comps [] held) (held_values held) → ⊥
-      by [] long p = none p
-      by (x ∷ held) long p = absurd (omega (arith, long))
-
-  decided_chosen : (cs : List Comp) (P : List Comp → List Value → Type 0) → ((ds : List Comp) (vs : List Value) → Decided (P ds vs)) → Decided (Chosen cs P)
-  decided_chosen [] P decided = of_none P (decided [] [])
-  decided_chosen (c ∷ cs) P decided = elim (decided_chosen cs P decided) [
-    | inl without ↦ inl (without_first c cs P without)
-    | inr none ↦ elim (decided_some (WithFirst c cs P) (values_listed e c.type) (λ v. decided_chosen cs (λ ds vs. P (c ∷ ds) (v ∷ vs)) (λ ds vs. decided (c ∷ ds) (v ∷ vs)))) [
-      | inl with_it ↦ inl (with_first c cs P with_it)
-      | inr neither ↦ inr (λ h. ⊎_elim none neither (with_or_without c cs P h))
+      none : (place : ℕ) (c : Comp) → slice_get [] place ≡ Some c → ⊥
+      none zero c q = cc
+      none (suc place) c q = cc
+  decided_place (d ∷ ds) P decided = elim (decided zero d) [
+    | inl here ↦ inl (zero, d, refl, here)
+    | inr not ↦ elim (decided_place ds (λ place c. P (suc place) c) (λ place c. decided (suc place) c)) [
+      | inl there ↦ inl (suc there.0, there.1, there.2, there.3)
+      | inr none ↦ inr (λ h. neither not none h.0 h.1 h.2 h.3)
     ]
   ]
+    where
+      neither : (P zero d → ⊥) → ((place : ℕ) × (c : Comp) × (slice_get ds place ≡ Some c) × P (suc place) c → ⊥) → (place : ℕ) (c : Comp) → slice_get (d ∷ ds) place ≡ Some c → P place c → ⊥
+      neither not none zero c q p = not (subst (P zero) (sym (same_Some d c q)) p)
+      neither not none (suc place) c q p = none (place, c, q, p)
+
+  goes : (n : ℕ) (bytes : List ℕ) (before : List (Option Value)) → (place : ℕ) × (c : Comp) × (slice_get cs place ≡ Some c) × GoesAt n bytes before place c → Goes n bytes before
+  goes n bytes before (place, c, there, free, v, of_type, rest, stands, held, parts, h) =
+      (held, (place, v) ∷ parts, (rest, record { comp = c; there = there; free = free; of_type = of_type; stands = stands }, h))
+
+  goes_at : (n b : ℕ) (bytes : List ℕ) (before held : List (Option Value)) (parts : List (ℕ × Value)) → HoldNext ss e cs n (b ∷ bytes) before parts held
+      → (place : ℕ) × (c : Comp) × (slice_get cs place ≡ Some c) × GoesAt n (b ∷ bytes) before place c
+  goes_at n b bytes before held [] h = absurd (cc)
+  goes_at n b bytes before held (p ∷ parts) (rest, part, h) = (p.0, part.comp, part.there, part.free, p.1, part.of_type, rest, part.stands, held, parts, h)
+
+  decided_goes : (k n : ℕ) (bytes : List ℕ) (before : List (Option Value)) → length bytes ≤ k → Decided (Goes n bytes before)
+  decided_goes k n [] before l = inl (before, [], (refl, refl))
+  decided_goes zero n (b ∷ bytes) before l = absurd (omega (arith, l))
+  decided_goes (suc k) n (b ∷ bytes) before l =
+      elim (decided_place cs (GoesAt n (b ∷ bytes) before) (λ place c. decided_both (decided_free (slice_get before place))
+      (decided_some (GoesWith n (b ∷ bytes) before place c) (values_listed e c.type) (λ v. decided_with k n (b ∷ bytes) before place c v l
+      (λ rest m. decided_goes k (n + 1) rest (set before place (Some v)) m))))) [
+        | inl there ↦ inl (goes n (b ∷ bytes) before there)
+        | inr none ↦ inr (λ h. none (goes_at n b bytes before h.0 h.1 h.2))
+      ]
 
 pub every_held_line_is_judged : EveryHeldLineIsJudged
 every_held_line_is_judged e comps None = inl ([], refl)
-every_held_line_is_judged e comps (Some text) =
-    elim (decided_chosen e comps (λ ds vs. text ≡ binding_text (spellings e.globals) ds vs)
-    (λ ds vs. decided_lists cases_eq text (binding_text (spellings e.globals) ds vs))) [
-      | inl h ↦ inl (h.0, record { all = h.1; row = h.2; line = h.3 })
-      | inr none ↦ inr (λ held line. none (held, line.all, line.row, line.line))
-    ]
+every_held_line_is_judged e comps (Some text) = elim (decided_goes (spellings e.globals) e comps (length text) 0 text (nothing_of comps) (omega arith)) [
+  | inl h ↦ inl (h.0, (h.1, h.2))
+  | inr none ↦ inr (λ held line. none (held, line.0, line.1))
+]

@@ -2,7 +2,7 @@
 use Rattle.law_answered.proofs.Prelude.{◌++◌, ◌∙◌, ◌≡◌, ap, arith, Bool, false, inl, inr, List, None, Option, Some, subst, sym, true, ℕ, cases_order, Event, cut, IsNumberOfTests, IsUpTo, IsWalked, exact, value_order, Value, Comp, Defined, Schema, Fault, first, finite_without_cause, causes, IsFinite, NotFinite, Environment, IsEnvironment, AreComplete, given_sets, Size, one_row, AreClear, spellings, one_ranges, Portion, property, IsFirstOut, AreEventsUpTo, HasEvents, IsTestsLine, IsWritten, Status, property_told, AreHeld, Checks, IsNamed, IsNamedRow, Request, ShowsEvents, Wording, wording, AreTests, HaveClearNames, Lines, total-law, AreRanges}
 use Rattle.zf_walk.proofs.Counting.{number-le}
 use Rattle.zf_meaning.proofs.Environments.{one_environment}
-use Rattle.zf_read.proofs.Chosen.{line_is_held, one_held_line}
+use Rattle.zf_read.proofs.OneHeld.{one_held_line}
 use Rattle.law_names.proofs.Clear.{components_clear, globals_clear}
 use Rattle.law_answered.proofs.OneEnding.{AreOneEnd, one_ending}
 use Rattle.law_answered.proofs.OneRefusal.{one_sizes}
@@ -51,7 +51,7 @@ pub one_held : (e : Environment) (comps : List Comp) (text : Option (List ℕ)) 
     → AreHeld e comps text one → AreHeld e comps text two → one ≡ two
 one_held e comps None one two clear names p q = p ∙ sym q
 one_held e comps (Some text) one two clear names p q =
-    one_held_line (spellings e.globals) e comps text one two clear (line_is_held (spellings e.globals) e comps text one names p) (line_is_held (spellings e.globals) e comps text two names q)
+    one_held_line (spellings e.globals) e comps text one two clear names p q
 
 -- ---- declared sets
 

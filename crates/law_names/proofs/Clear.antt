@@ -7,9 +7,8 @@ use Rattle.zf_meaning.specs.declared.sizes.Size.{Size}
 use Rattle.zf_meaning.specs.{AddsSize, AreComplete, AreSizes, given_sets, IsStated}
 use Rattle.zf_print.specs.declared.spelling.Spelling.{Spelling}
 use Rattle.zf_print.specs.declared.spelling.Spelling.TheVariants.{Numbered, Named}
-use Rattle.law_names.specs.{ComponentsAreClear, EachLineIsHeld, GlobalsAreClear}
+use Rattle.law_names.specs.{ComponentsAreClear, GlobalsAreClear}
 use Rattle.zf_checker.proofs.Globals.{names_once}
-use Rattle.zf_read.proofs.Chosen.{line_is_held}
 use Rattle.law_names.proofs.Components.{once_apart}
 use Rattle.law_names.proofs.Named.{IsNamed, AreNamed, found_in, globals_named}
 
@@ -73,6 +72,3 @@ components_clear source globals a s =
     let found : ℕ × Defined = (s.place, record { name = s.name; definition = schema a }) in
     let once = found_in (λ d. HasCompsOnce d.definition) s.name globals found (names_once s.boxes globals s.faults s.checked).1 s.there in
     (found_in (λ d. IsNamed d.name d.definition) s.name globals found named.0 s.there, once_apart a.comps once)
-
-pub lines_held : EachLineIsHeld
-lines_held source globals a e text held s line = line_is_held (spellings globals) e a.comps text held (components_clear source globals a s) line

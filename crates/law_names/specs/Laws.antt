@@ -7,8 +7,7 @@ use Rattle.zf_schema.specs.{IsChecked}
 use Rattle.zf_meaning.specs.declared.sizes.Size.{Size}
 use Rattle.zf_meaning.specs.{AreComplete, Environment, given_sets, IsEnvironment}
 use Rattle.zf_print.specs.{AreClear, spellings}
-use Rattle.zf_read.specs.{HaveClearNames, IsHeldLine, IsLineOfSome}
-use Rattle.zf_value.specs.declared.plain.Value.{Value}
+use Rattle.zf_read.specs.{HaveClearNames}
 
 -- the globals of a text, at sizes of all its given sets, have clear spellings
 abbrev pub GlobalsAreClear : Type 0
@@ -29,9 +28,3 @@ pub record IsSchemaOf (source : List ℕ) (globals : List Defined) (a : Schema) 
 -- each of its components has a name, and no two have one
 abbrev pub ComponentsAreClear : Type 0
 ComponentsAreClear = (source : List ℕ) (globals : List Defined) (a : Schema) → IsSchemaOf source globals a → HaveClearNames a.comps
-
--- so the line of some of its components, with values of their types, is read as a line of these, and holds these values
-abbrev pub EachLineIsHeld : Type 0
-EachLineIsHeld =
-    (source : List ℕ) (globals : List Defined) (a : Schema) (e : Environment) (text : List ℕ) (held : List (Option Value))
-    → IsSchemaOf source globals a → IsLineOfSome (spellings globals) e a.comps text held → IsHeldLine (spellings globals) e a.comps text held

@@ -1,2 +1,2 @@
 pub mod Laws
-pub use Rattle.law_names.specs.Laws.{ComponentsAreClear, EachLineIsHeld, GlobalsAreClear}
+pub use Rattle.law_names.specs.Laws.{ComponentsAreClear, GlobalsAreClear}

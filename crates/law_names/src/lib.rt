@@ -1,7 +1,7 @@
 //! The names of a text are spelled clearly.
 #![tactic(auto)]
 
-ghost use Rattle.law_names.specs.{ComponentsAreClear, EachLineIsHeld, GlobalsAreClear};
+ghost use Rattle.law_names.specs.{ComponentsAreClear, GlobalsAreClear};
 
 /// The globals of a text, at sizes of all its given sets, have clear spellings.
 pub fn clear_spellings()
@@ -11,9 +11,4 @@ pub fn clear_spellings()
 /// The components of a schema of a text have clear names.
 pub fn clear_components()
     ensures { ComponentsAreClear }
-{}
-
-/// Each line of some components of a schema of a text holds their values.
-pub fn each_line_is_held()
-    ensures { EachLineIsHeld }
 {}

@@ -6,7 +6,6 @@ use Rattle.zf_parse.specs.{RefusesSource}
 use Rattle.zf_checker.proofs.WellTyped.{globals_well_typed}
 use Rattle.zf_read.specs.{HaveClearNames, IsHeldLine, IsNoHeldLine, IsNoLine}
 use Rattle.law_names.proofs.Clear.{components_clear, globals_clear}
-use Rattle.zf_read.proofs.Chosen.{held_is_line, line_is_held}
 
 pub weaker : (stop : Stop) {P Q : List Message → Status → Type 0} → ((told : List Message) (status : Status) → P told status → Q told status)
     → IfAnswered stop P → IfAnswered stop Q
@@ -64,7 +63,7 @@ pub line_told : (ss : List Spelling) (e : Environment) (comps : List Comp) (text
     → bytes ≡ text → IsHeldLine ss e comps bytes held
     → AreHeld e comps (Some text) held
 line_told ss e comps text bytes held same is h =
-    held_is_line (spellings e.globals) e comps text held (subst (λ l. IsHeldLine (spellings e.globals) e comps l held) is (subst (λ k. IsHeldLine k e comps bytes held) same h))
+    subst (λ l. IsHeldLine (spellings e.globals) e comps l held) is (subst (λ k. IsHeldLine k e comps bytes held) same h)
 
 -- where spellings and names are clear, a text that is read as the line of no components holds no values
 pub no_values_told : (ss : List Spelling) (e : Environment) (comps : List Comp) (text bytes : List ℕ) (stop : Stop) (place : ℕ) → ss ≡ spellings e.globals
@@ -73,8 +72,7 @@ pub no_values_told : (ss : List Spelling) (e : Environment) (comps : List Comp) 
 unfolding IsNoHeldLine
 no_values_told ss e comps text bytes stop place same is none told clear names =
     weaker stop (λ written status t. (
-      (λ held line. none clear held (subst (λ l. IsHeldLine ss e comps l held) (sym is)
-          (subst (λ k. IsHeldLine k e comps text held) (sym same) (line_is_held (spellings e.globals) e comps text held names line)))),
+      (λ held line. none clear names held (subst (λ l. IsHeldLine ss e comps l held) (sym is) (subst (λ k. IsHeldLine k e comps text held) (sym same) line))),
       (place, t),
     )) told
 

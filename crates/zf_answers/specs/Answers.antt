@@ -1,6 +1,6 @@
 -- What is answered of a source, by the first case that applies: by `check`, by `why`, and where a request about a schema is refused.
 use Rattle.std.specs.Prelude.{◌≡◌, ◌≢◌, ℕ, Bool, if◌then◌else◌, List, [], ◌∷◌, ◌++◌, Option, Some, None, IsSomeAnd, slice_get, MatchOption}
-use Rattle.zf_answers.specs.Prelude.{Request, Format, NotFinite, causes, IsFinite, TextFault, RefusesSource, Comp, Defined, Fault, Schema, first, Value, SizeFault, OutOfMemory, AreComplete, Environment, given_sets, IsEnvironment, IsRefusal, IsRow, Portion, IsFirstOut, IsNoneOut, binding_text, spellings, IsLineOfSome, Status, Done, BadSpec, BadRequest, PastBounds, Message, messages_text, AreFaultMessages, Cited, IsReportedBeside, no_schema_message, not_finite_message, not_held, numbers_too_large, text_fault_message}
+use Rattle.zf_answers.specs.Prelude.{Request, Format, NotFinite, causes, IsFinite, TextFault, RefusesSource, Comp, Defined, Fault, Schema, first, Value, SizeFault, OutOfMemory, AreComplete, Environment, given_sets, IsEnvironment, IsRefusal, IsRow, Portion, IsFirstOut, IsNoneOut, binding_text, spellings, IsHeldLine, Status, Done, BadSpec, BadRequest, PastBounds, Message, messages_text, AreFaultMessages, Cited, IsReportedBeside, no_schema_message, not_finite_message, not_held, numbers_too_large, text_fault_message}
 use Rattle.zf_checker.specs.{listing}
 use Rattle.zf_messages.specs.Texts as messages
 use Rattle.zf_answers.specs.Numbers.{AreSmall, AreTooLarge}
@@ -53,11 +53,11 @@ NamesNoRow e comps named = IsSomeAnd named (λ text. (row : List Value) → IsLi
 
 -- the values that are held, by the components' places, if a line of some components is given
 abbrev pub AreHeld : Environment → List Comp → Option (List ℕ) → List (Option Value) → Type 0
-AreHeld e comps named held = MatchOption named (held ≡ []) (λ text. IsLineOfSome (spellings e.globals) e comps text held)
+AreHeld e comps named held = MatchOption named (held ≡ []) (λ text. IsHeldLine (spellings e.globals) e comps text held)
 
 -- a text is given that is no such line
 abbrev pub HoldsNoValues : Environment → List Comp → Option (List ℕ) → Type 0
-HoldsNoValues e comps named = IsSomeAnd named (λ text. (held : List (Option Value)) → IsLineOfSome (spellings e.globals) e comps text held → ⊥)
+HoldsNoValues e comps named = IsSomeAnd named (λ text. (held : List (Option Value)) → IsHeldLine (spellings e.globals) e comps text held → ⊥)
 
 -- the row that the search comes after: where some components alone are shown, none
 abbrev pub row_after : (only : Option (List ℕ)) → Option (List Value) → Option (List Value)

@@ -18,7 +18,7 @@ pub use Rattle.zf_enum.specs.{Portion, Begins, Goal, portion, property, BeginsCo
 pub use Rattle.zf_instances.specs.{planted_goal}
 pub use Rattle.zf_ranges.specs.{IsFirstOut, IsNoneOut, RefusesStart}
 pub use Rattle.zf_print.specs.{binding_text, spellings, parted, value_object, value_text, AreClear, comma_before}
-pub use Rattle.zf_read.specs.{IsLineOfSome, HaveClearNames}
+pub use Rattle.zf_read.specs.{IsHeldLine, HaveClearNames}
 pub use Rattle.zf_lines.specs.declared.fault.Status.{Status}
 pub use Rattle.zf_lines.specs.declared.fault.Status.TheVariants.{Done, BadSpec, BadRequest, PastBounds}
 pub use Rattle.zf_places.specs.{comps_at}

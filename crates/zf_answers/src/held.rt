@@ -32,7 +32,7 @@ pub fn values_held(
     };
     match read_held(alloc, text.as_bytes(), flat, env, elements) {
         Ok(values) => Ok(values),
-        Err(AfterFault::NotABinding(place)) => {
+        Err(AfterFault::NotABinding(place, _)) => {
             let message = texts::not_held(alloc, place)?;
             Err(Stop::told(alloc, message, Status::BadRequest))
         }

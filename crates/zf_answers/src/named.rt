@@ -31,7 +31,7 @@ pub fn named_row(
     };
     match read_binding(alloc, text.as_bytes(), flat, env, elements) {
         Ok(row) => Ok(Some(row)),
-        Err(AfterFault::NotABinding(place)) => {
+        Err(AfterFault::NotABinding(place, _)) => {
             let message = texts::not_a_binding(alloc, place)?;
             Err(Stop::told(alloc, message, Status::BadRequest))
         }

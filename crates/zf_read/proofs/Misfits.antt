@@ -4,7 +4,7 @@ use Rattle.zf_read.specs.declared.fault.AfterFault.{AfterFault}
 use Rattle.zf_read.specs.declared.fault.AfterFault.TheVariants.{NotABinding, OutOfMemory}
 
 tells : {P Q : Type 0} (x : AfterFault) → (P → Q) → IfMisfit P x → IfMisfit Q x
-tells (NotABinding place) f h = f h
+tells (NotABinding place expected) f h = f h
 tells OutOfMemory f h = tt
 
 -- of a fault that is passed on by `?`
@@ -16,3 +16,8 @@ passed {Q = Q} x (Err y) is f h = subst (IfMisfit Q) (sym is) (tells x f h)
 pub answered : {X P Q : Type 0} (r : Result X AfterFault) → (P → Q) → IfErr r (IfMisfit P) → IfErr r (IfMisfit Q)
 answered (Ok v) f h = tt
 answered (Err y) f h = tells y f h
+
+-- of a fault that is made
+pub made : {P : Type 0} (x : AfterFault) → P → IfMisfit P x
+made (NotABinding place expected) h = h
+made OutOfMemory h = tt

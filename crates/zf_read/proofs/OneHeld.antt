@@ -1,18 +1,18 @@
 -- A line of some components holds one list of values.
-use Rattle.zf_read.proofs.Prelude.{Lines, ◌+◌, ◌∙◌, ◌∷◌, ◌≡◌, [], ap, ap₂, List, None, Option, refl, Some, subst, sym, ℕ, Value, Comp, Environment, AreClear, HoldNext, comma_before, Spelling, one_component, cancel}
-use Rattle.zf_read.proofs.HeldSoFar.{ends_more, told_named}
+use Rattle.zf_read.proofs.Prelude.{◌+◌, ◌∙◌, ◌∷◌, ◌≡◌, [], List, nothing_of, Option, Some, sym, ℕ, Value, Comp, Environment, AreClear, HaveClearNames, HoldNext, Spelling, OneHeldLine}
+use Rattle.std.specs.Prelude.{set}
+use Rattle.zf_read.proofs.HeldSoFar.{ends_more, one_part, some_part}
 
-module _ (ss : List Spelling) (e : Environment) where
-  pub one_next : (clear : AreClear ss e.sizes) (cs : List Comp) (n : ℕ) (bytes : List ℕ) (xs ys : List (Option Value)) → HoldNext ss e cs n bytes xs → HoldNext ss e cs n bytes ys → xs ≡ ys
-  one_next clear [] n bytes [] [] h g = refl
-  one_next clear [] n bytes [] (y ∷ ys) h g = absurd g
-  one_next clear [] n bytes (x ∷ xs) ys h g = absurd h
-  one_next clear (c ∷ cs) n bytes [] ys h g = absurd h
-  one_next clear (c ∷ cs) n bytes (None ∷ xs) [] h g = absurd g
-  one_next clear (c ∷ cs) n bytes (None ∷ xs) (None ∷ ys) h g = ap (λ zs. None ∷ zs) (one_next clear cs n bytes xs ys h.1 g.1)
-  one_next clear (c ∷ cs) n bytes (None ∷ xs) (Some w ∷ ys) h (rest, of_type, is, g) = absurd (h.0 (told_named ss c n bytes rest w is))
-  one_next clear (c ∷ cs) n bytes (Some v ∷ xs) [] h g = absurd g
-  one_next clear (c ∷ cs) n bytes (Some v ∷ xs) (None ∷ ys) (rest, of_type, is, h) g = absurd (g.0 (told_named ss c n bytes rest v is))
-  one_next clear (c ∷ cs) n bytes (Some v ∷ xs) (Some w ∷ ys) (rest, of_type, is, h) (more, other, are, g) =
-      let one = one_component Lines ss e clear c v w rest more of_type other (ends_more ss e c cs n rest xs h) (ends_more ss e c cs n more ys g) (cancel (comma_before n) _ _ (sym is ∙ are)) in
-      ap₂ (λ (x : Value) (zs : List (Option Value)). Some x ∷ zs) one.0 (one_next clear cs (n + 1) more xs ys (subst (λ l. HoldNext ss e cs (n + 1) l xs) one.1 h) g)
+module _ (ss : List Spelling) (e : Environment) (cs : List Comp) (clear : AreClear ss e.sizes) (names : HaveClearNames cs) where
+  one_next : (n : ℕ) (bytes : List ℕ) (before : List (Option Value)) (ps qs : List (ℕ × Value)) (xs ys : List (Option Value))
+      → HoldNext ss e cs n bytes before ps xs → HoldNext ss e cs n bytes before qs ys → xs ≡ ys
+  one_next n bytes before [] [] xs ys h g = h.1 ∙ sym g.1
+  one_next n bytes before [] (q ∷ qs) xs ys h (more, part, g) = absurd (some_part ss e cs n bytes before q.0 q.1 more part h.0)
+  one_next n bytes before (p ∷ ps) [] xs ys (rest, part, h) g = absurd (some_part ss e cs n bytes before p.0 p.1 rest part g.0)
+  one_next n bytes before (p ∷ ps) (q ∷ qs) xs ys (rest, part, h) (more, other, g) =
+      let one = one_part ss e cs clear names n bytes before p.0 q.0 p.1 q.1 rest more part other (ends_more ss e cs part.comp n rest (set before p.0 (Some p.1)) ps xs h)
+      (λ c. ends_more ss e cs c n more (set before q.0 (Some q.1)) qs ys g) in
+      one_next (n + 1) rest (set before p.0 (Some p.1)) ps qs xs ys h (rw (sym one.0, sym one.1, sym one.2) at g)
+
+pub one_held_line : OneHeldLine
+one_held_line ss e cs text held other clear names h k = one_next ss e cs clear names 0 text (nothing_of cs) h.0 k.0 held other h.1 k.1

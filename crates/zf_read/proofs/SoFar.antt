@@ -1,5 +1,5 @@
 -- What is read so far of the components of a line, the parts of a tuple, the members of a set.
-use Rattle.zf_read.proofs.Prelude.{Lines, ◌++◌, ◌+◌, ◌<◌, ◌∙◌, ◌∷◌, ◌≡◌, [], ap, arith, codes, length, List, map, refl, subst, suc, sym, ℕ, append-nil, append_assoc, length-append, IsAscending, SET_MAX, Value, Comp, no_types, Ty, type, Tys, Environment, AreOfTypes, IsOfType, IsRow, binding_text, component_text, component_texts, IsNoLine, AreMembers, EndsAs, goes_on, AreNoMembers, AreNoParts, IsNoComponent, IsNoItem, IsNoRest, later_parts, parted, comma_before, value_text, Spelling, AllByRecursion, ends_as, one_component, ends_parts, goes_on-nil, goes_on-first, front, goes_on-later, cancel}
+use Rattle.zf_read.proofs.Prelude.{Lines, ◌++◌, ◌+◌, ◌<◌, ◌∙◌, ◌∷◌, ◌≡◌, [], ap, arith, codes, length, List, map, refl, subst, suc, sym, ℕ, append-nil, append_assoc, length-append, IsAscending, SET_MAX, Value, Comp, no_types, Ty, type, Tys, Environment, AreOfTypes, IsOfType, IsRow, binding_text, component_text, component_texts, IsNoLine, AreMembers, EndsAs, goes_on, AreNoMembers, AreNoParts, IsNoComponent, IsNoItem, IsNoRest, later_parts, parted, comma_before, value_text, Spelling, ends_as, one_component, ends_parts, goes_on-nil, goes_on-first, front, goes_on-later, cancel}
 use Rattle.zf_read.proofs.Ascending.{every_push}
 use Rattle.zf_read.proofs.Reading.{parts_next, members_next}
 

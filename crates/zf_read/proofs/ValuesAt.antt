@@ -1,5 +1,5 @@
 -- Values of each form at a place of a line, and where none stands.
-use Rattle.zf_read.proofs.Prelude.{Lines, ◌++◌, ◌+◌, ◌<◌, ◌∙◌, ◌≡◌, [], ap, codes, drop, length, List, map, refl, Some, subst, sym, ℕ, ℤ, append_assoc, signed_decimal, w64, FitsSigned, slice_get, Elem, Int, SetOf, Tuple, Value, Comp, basic, int, power, product, Ty, Tys, Environment, IsExistingElement, component_text, IsClear, spelled, AreMembersAt, ArePartsAt, IsItem, IsSpelledType, IsValueAt, IsWordAt, AreNoMembers, AreNoParts, IsNoComponent, IsNoItem, IsNoSpelledType, IsNoValue, SpellsNone, parted, value_text, Spelling, same_Some, element_spelled, cancel, spelled_word, AreInWord, one_run, signed_in_word}
+use Rattle.zf_read.proofs.Prelude.{Lines, ◌++◌, ◌+◌, ◌<◌, ◌∙◌, ◌≡◌, [], ap, codes, drop, length, List, map, refl, subst, sym, ℕ, ℤ, append_assoc, signed_decimal, w64, FitsSigned, Elem, Int, SetOf, Tuple, Value, Comp, basic, int, power, product, Ty, Tys, Environment, IsExistingElement, component_text, IsClear, spelled, AreMembersAt, ArePartsAt, IsItem, IsSpelledType, IsValueAt, IsWordAt, AreNoMembers, AreNoParts, IsNoComponent, IsNoItem, IsNoSpelledType, IsNoValue, SpellsNone, parted, value_text, Spelling, same_Some, element_spelled, cancel, spelled_word, AreInWord, one_run, signed_in_word}
 use Rattle.zf_read.proofs.HeldSoFar.{component_parts}
 use Rattle.zf_print.proofs.TextsSeen.{of-Int, of-Tuple, of-SetOf}
 

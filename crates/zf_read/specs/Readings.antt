@@ -13,7 +13,12 @@ pub record IsLineOf (ss : List Spelling) (e : Environment) (cs : List Comp) (tex
 unfoldable pub IsNoLine : List Spelling → Environment → List Comp → List ℕ → Type 0
 IsNoLine ss e cs text = AreClear ss e.sizes → (vs : List Value) → IsRow e cs vs → text ≡ binding_text ss cs vs → ⊥
 
--- what a misfit tells. Its place, and want of memory, say nothing.
+-- what a misfit tells. Its place, what was expected there, and want of memory, say nothing.
 abbrev pub IfMisfit : Type 0 → AfterFault → Type 0
-IfMisfit P (NotABinding place) = P
+IfMisfit P (NotABinding place expected) = P
 IfMisfit P OutOfMemory = Unit {0}
+
+-- where the one is a misfit the other is any fault
+abbrev pub TellsAsMuch : AfterFault → AfterFault → Type 0
+TellsAsMuch (NotABinding place expected) other = Unit {0}
+TellsAsMuch OutOfMemory other = other ≡ OutOfMemory

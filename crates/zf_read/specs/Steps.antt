@@ -1,9 +1,10 @@
 -- What the steps of reading say. No public clause rests on this file.
 use Rattle.std.specs.Prelude.{◌≡◌, ℕ, ◌+◌, ◌≤◌, true, ◌<◌, List, [], ◌∷◌, ◌++◌, length, map, drop, codes, Option, Some, None, slice_get}
-use Rattle.zf_read.specs.Prelude.{Comp, Ty, Tys, Value, IsAscending, AreOfTypes, Environment, IsExistingElement, IsOfType, IsRow, type_number, Spelling, AreClear, comma_before, component_text, component_texts, Ends, EndsAs, goes_on, is_in_word, IsClear, parted, spelled, value_text}
+use Rattle.zf_read.specs.Prelude.{Comp, Ty, Tys, Value, IsAscending, AreOfTypes, Environment, IsExistingElement, IsOfType, IsRow, type_number, Spelling, AreClear, component_text, component_texts, Ends, EndsAs, goes_on, is_in_word, IsClear, parted, spelled, value_text}
 use Rattle.std.specs.List.{list_all, AllByRecursion}
 use Rattle.zf_value.specs.declared.TheConstants.{SET_MAX}
-use Rattle.zf_read.specs.Held.{IsNamedNext}
+use Rattle.zf_read.specs.Held.{HoldNext, IsPart}
+use Rattle.zf_read.specs.HeldLaws.{HaveClearNames}
 
 -- ---- words
 
@@ -116,24 +117,25 @@ GoesOn bytes = Ends bytes → ⊥
 unfoldable pub BeginsWithoutName : List ℕ → List ℕ → Type 0
 BeginsWithoutName name bytes = BeginsWithName name bytes → ⊥
 
--- the component is named next, from this place on
-pub record IsNamedAt (c : Comp) (bytes : List ℕ) (n place start : ℕ) : Type 0 where
-  pub stands : IsItem bytes place (comma_before n) start
-  pub named : BeginsWithName c.name (drop start bytes)
+-- of the component at this place no value is held yet, and the bytes begin with its name
+pub record IsNamed (cs : List Comp) (held : List (Option Value)) (bytes : List ℕ) (place : ℕ) : Type 0 where
+  pub comp : Comp
+  pub there : slice_get cs place ≡ Some comp
+  pub free : slice_get held place ≡ Some None
+  pub named : BeginsWithName comp.name bytes
 
-unfoldable pub IsNotNamed : Comp → ℕ → List ℕ → Type 0
-IsNotNamed c n bytes = IsNamedNext c n bytes → ⊥
+-- there is no such component
+unfoldable pub NamesNone : List Comp → List (Option Value) → List ℕ → Type 0
+NamesNone cs held bytes = (place : ℕ) → IsNamed cs held bytes place → ⊥
 
--- of a component that is named next the line holds a value, up to this place
-pub record IsHeldAt (ss : List Spelling) (e : Environment) (c : Comp) (bytes : List ℕ) (n place : ℕ) (v : Value) (end : ℕ) : Type 0 where
-  pub start : ℕ
-  pub named : IsNamedAt c bytes n place start
-  pub held : IsComponentAt ss e c bytes start v end
+-- after n parts, with what they hold, the bytes are not the rest of a line
+unfoldable pub IsNoHeldRest : List Spelling → Environment → List Comp → ℕ → List ℕ → List (Option Value) → Type 0
+IsNoHeldRest ss e cs n bytes before =
+    AreClear ss e.sizes → HaveClearNames cs → (parts : List (ℕ × Value)) (held : List (Option Value)) → HoldNext ss e cs n bytes before parts held → ⊥
 
-abbrev pub HoldsIfNamed : List Spelling → Environment → Comp → List ℕ → ℕ → ℕ → Option (Value × ℕ) → Type 0
-HoldsIfNamed ss e c bytes n place None = IsNotNamed c n (drop place bytes)
-HoldsIfNamed ss e c bytes n place (Some (v, end)) = IsHeldAt ss e c bytes n place v end
-
--- the component is named next, and no value of it follows
-unfoldable pub HoldsNothing : List Spelling → Environment → Comp → ℕ → List ℕ → Type 0
-HoldsNothing ss e c n bytes = (mid : List ℕ) × (bytes ≡ comma_before n ++ mid) × BeginsWithName c.name mid × IsNoComponent ss e c mid
+-- the next part stands from the one place to the other
+pub record IsPartAt (ss : List Spelling) (e : Environment) (cs : List Comp) (bytes : List ℕ) (n place : ℕ) (before : List (Option Value)) (next : ℕ) (v : Value) (end : ℕ) : Type 0 where
+  pub part : IsPart ss e cs n (drop place bytes) before next v (drop end bytes)
+  pub ends : EndsAs part.comp.type (drop end bytes)
+  pub further : place < end
+  pub within : end ≤ length bytes

@@ -4,6 +4,7 @@ ghost use Rattle.zf_read.specs.Prelude.{environment_of, basic, spelled};
 ghost use Rattle.zf_print.specs.declared.spelling.Spelling.TheVariants.{Named};
 ghost use Rattle.zf_read.specs.{HasNoElements, IfMisfit, IsNoSpelledType, IsNoValue, IsSpelledType, IsValueAt, SpellsNone};
 
+use crate::expected::Expected;
 use crate::fault::AfterFault;
 use crate::read::{Line, Read};
 use crate::words::{behind, unsigned, word_at};
@@ -19,7 +20,7 @@ pub(crate) fn read_element(line: &Line<'_, '_, '_, '_>, place: usize, name: &[u8
     ensures refused { IfErr result (IfMisfit (IsNoValue line.now.spellings.now (environment_of line.now.env.now) (basic name.now) (drop place line.now.text.now))) }
 {
     let Some((number, count, spelling)) = spelled_type(name, line.env, line.spellings) else {
-        return Err(AfterFault::NotABinding(place));
+        return Err(AfterFault::NotABinding(place, Expected::Value));
     };
     let word = word_at(line.text, place);
     match place_among(word, spelling, count) {
@@ -27,7 +28,10 @@ pub(crate) fn read_element(line: &Line<'_, '_, '_, '_>, place: usize, name: &[u8
             let form = Form::Elem(number, index);
             Ok((Value { form }, place + word.len()))
         }
-        None => Err(AfterFault::NotABinding(misfit(line.text, place, word, spelling))),
+        None => {
+            let misfit = misfit(line.text, place, word, spelling);
+            Err(AfterFault::NotABinding(misfit, Expected::Value))
+        }
     }
 }
 

@@ -2,12 +2,14 @@
 #![tactic(auto)]
 
 mod elements;
+mod expected;
 mod fault;
 mod held;
 pub mod laws;
 mod read;
 mod words;
 
+pub use expected::Expected;
 pub use fault::AfterFault;
 pub use held::read_held;
 pub use read::read_binding;

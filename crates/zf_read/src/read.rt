@@ -1,11 +1,12 @@
 //! Values and bindings as they are read back.
-ghost use Rattle.std.specs.Prelude.{◌↔◌, ◌≤◌, ◌++◌, [], ◌∷◌, length, map, drop, IsTrue, IfOk, IfErr};
+ghost use Rattle.std.specs.Prelude.{◌↔◌, ◌+◌, ◌≤◌, ◌++◌, [], ◌∷◌, length, map, drop, IsTrue, IfOk, IfErr};
 ghost use Rattle.zf_read.specs.Prelude.{environment_of, comp_of, int, power, product, schema_of, type_of, types, IsAscending};
 ghost use Rattle.zf_read.specs.{AreMembersAt, AreNoMembers, AreNoParts, ArePartsAt, IfMisfit, IsComponentAt, IsLineOf, IsNext, IsNoComponent, IsNoLine, IsNoNext, IsNoValue, IsValueAt};
 
 use crate::elements::read_element;
+use crate::expected::{Expected, of_type, unnamed};
 use crate::fault::AfterFault;
-use crate::words::{is_in_word, item, separated, signed, stands, word_at};
+use crate::words::{is_in_word, item, misfit, separated, signed, stands, word_at};
 use std::alloc::Global;
 use zf_meaning::Env;
 use zf_print::Spelling;
@@ -45,13 +46,13 @@ pub fn read_binding(
     let mut row = Vec::new(alloc);
     let mut place = 0;
     for count in 0..components.len() {
-        let start = separated(text, place, count)?;
+        let start = separated(text, place, count, b"\", \"")?;
         let (value, end) = read_component(&line, start, &components[count])?;
         row.push(value)?;
         place = end;
     }
     if place < text.len() {
-        return Err(AfterFault::NotABinding(place));
+        return Err(AfterFault::NotABinding(place, Expected::Words(b"the end")));
     }
     Ok(row)
 }
@@ -66,27 +67,46 @@ pub(crate) fn read_component(
     ensures read { IfOk result (λ p. IsComponentAt line.now.spellings.now (environment_of line.now.env.now) (comp_of component.now) line.now.text.now place p.0 p.1) }
     ensures refused { IfErr result (IfMisfit (IsNoComponent line.now.spellings.now (environment_of line.now.env.now) (comp_of component.now) (drop place line.now.text.now))) }
 {
-    let behind_name = item(line.text, place, component.name.as_slice())?;
+    let name = component.name.as_slice();
+    if !stands(line.text, place, name) {
+        return Err(unnamed(line.alloc, misfit(line.text, place, name), name));
+    }
+    let behind_name = place + name.len();
     if !stands(line.text, behind_name, b" == ") {
-        return Err(AfterFault::NotABinding(misfit(line.text, place, behind_name)));
+        return Err(unequal(line, place, name));
     }
     read_value(line, behind_name + 4, &component.ztype)
 }
 
-/// The place of a name that goes on after it, or else of what follows it.
-fn misfit(text: &[u8], place: usize, behind_name: usize) -> usize
-    requires { behind_name ≤ length text.now }
+/// The fault of a name that goes on, or else of what follows it.
+fn unequal(line: &Line<'_, '_, '_, '_>, place: usize, name: &[u8]) -> AfterFault
+    requires { place + length name.now ≤ length line.now.text.now }
 {
-    if behind_name < text.len() && is_in_word(text[behind_name]) {
-        return place;
+    let behind_name = place + name.len();
+    if behind_name < line.text.len() && is_in_word(line.text[behind_name]) {
+        return unnamed(line.alloc, place, name);
     }
-    crate::words::misfit(text, behind_name, b" == ")
+    let misfit = misfit(line.text, behind_name, b" == ");
+    AfterFault::NotABinding(misfit, Expected::Words(b"\" == \""))
 }
 
 /// The value of the type at the place, and the place after it.
 #[cycle(read)]
-#[tactic(auto, using(zf_term::proofs::TypesSeen::seen))]
 fn read_value(line: &Line<'_, '_, '_, '_>, place: usize, ztype: &ZType<'_>) -> Read<Value>
+    requires { place ≤ length line.now.text.now }
+    ensures read { IfOk result (λ p. IsValueAt line.now.spellings.now (environment_of line.now.env.now) (type_of ztype.now) line.now.text.now place p.0 p.1) }
+    ensures refused { IfErr result (IfMisfit (IsNoValue line.now.spellings.now (environment_of line.now.env.now) (type_of ztype.now) (drop place line.now.text.now))) }
+{
+    match read_form(line, place, ztype) {
+        Ok(read) => Ok(read),
+        Err(fault) => Err(of_type(line.alloc, fault, ztype)),
+    }
+}
+
+/// The same; a fault does not name the type.
+#[cycle(read)]
+#[tactic(auto, using(zf_term::proofs::TypesSeen::seen))]
+fn read_form(line: &Line<'_, '_, '_, '_>, place: usize, ztype: &ZType<'_>) -> Read<Value>
     requires { place ≤ length line.now.text.now }
     ensures read { IfOk result (λ p. IsValueAt line.now.spellings.now (environment_of line.now.env.now) (type_of ztype.now) line.now.text.now place p.0 p.1) }
     ensures refused { IfErr result (IfMisfit (IsNoValue line.now.spellings.now (environment_of line.now.env.now) (type_of ztype.now) (drop place line.now.text.now))) }
@@ -110,7 +130,10 @@ fn read_number(line: &Line<'_, '_, '_, '_>, place: usize) -> Read<Value>
             let form = Form::Int(number);
             Ok((Value { form }, place + word.len()))
         }
-        None => Err(AfterFault::NotABinding(crate::words::misfit(line.text, place, b"-"))),
+        None => {
+            let misfit = misfit(line.text, place, b"-");
+            Err(AfterFault::NotABinding(misfit, Expected::Value))
+        }
     }
 }
 
@@ -120,7 +143,7 @@ fn read_tuple(line: &Line<'_, '_, '_, '_>, place: usize, parts: &[ZType<'_>]) ->
     ensures read { IfOk result (λ p. IsValueAt line.now.spellings.now (environment_of line.now.env.now) (product (types (map type_of parts.now))) line.now.text.now place p.0 p.1) }
     ensures refused { IfErr result (IfMisfit (IsNoValue line.now.spellings.now (environment_of line.now.env.now) (product (types (map type_of parts.now))) (drop place line.now.text.now))) }
 {
-    let start = item(line.text, place, b"(")?;
+    let start = item(line.text, place, b"(", Expected::Value)?;
     let (values, end) = read_parts(line, start, parts)?;
     let form = Form::Tuple(Items::of(line.alloc, values)?);
     Ok((Value { form }, end))
@@ -136,12 +159,12 @@ fn read_parts(line: &Line<'_, '_, '_, '_>, place: usize, parts: &[ZType<'_>]) ->
     let mut values = Vec::new(line.alloc);
     let mut at = place;
     for count in 0..parts.len() {
-        let start = separated(line.text, at, count)?;
+        let start = separated(line.text, at, count, b"\", \"")?;
         let (value, end) = read_value(line, start, &parts[count])?;
         values.push(value)?;
         at = end;
     }
-    let end = item(line.text, at, b")")?;
+    let end = item(line.text, at, b")", Expected::Words(b"\")\""))?;
     Ok((values, end))
 }
 
@@ -151,7 +174,7 @@ fn read_set(line: &Line<'_, '_, '_, '_>, place: usize, member: &ZType<'_>) -> Re
     ensures read { IfOk result (λ p. IsValueAt line.now.spellings.now (environment_of line.now.env.now) (power (type_of member.now)) line.now.text.now place p.0 p.1) }
     ensures refused { IfErr result (IfMisfit (IsNoValue line.now.spellings.now (environment_of line.now.env.now) (power (type_of member.now)) (drop place line.now.text.now))) }
 {
-    let start = item(line.text, place, b"{")?;
+    let start = item(line.text, place, b"{", Expected::Value)?;
     let (members, end) = read_members(line, start, member)?;
     let form = Form::SetOf(Items::of(line.alloc, members)?);
     Ok((Value { form }, end))
@@ -170,12 +193,12 @@ fn read_members(line: &Line<'_, '_, '_, '_>, place: usize, member: &ZType<'_>) -
         if stands(line.text, at, b"}") {
             return Ok((members, at + 1));
         }
-        let start = separated(line.text, at, count)?;
+        let start = separated(line.text, at, count, b"\", \" or \"}\"")?;
         let (value, end) = read_next(line, start, member, &members)?;
         members.push(value)?;
         at = end;
     }
-    let end = item(line.text, at, b"}")?;
+    let end = item(line.text, at, b"}", Expected::Words(b"\"}\""))?;
     Ok((members, end))
 }
 
@@ -196,7 +219,8 @@ fn read_next(
     if is_above(members, &value) {
         Ok((value, end))
     } else {
-        Err(AfterFault::NotABinding(place))
+        let greater = Expected::Words(b"a greater member");
+        Err(AfterFault::NotABinding(place, greater))
     }
 }
 

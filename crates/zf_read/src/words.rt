@@ -6,6 +6,7 @@ ghost use Rattle.std.specs.Int.{w64};
 ghost use Rattle.zf_print.specs.Words as spec;
 ghost use Rattle.zf_read.specs.{IfMisfit, IsItem, IsNoItem, IsWordAt};
 
+use crate::expected::Expected;
 use crate::fault::AfterFault;
 use itoa::Buffer;
 
@@ -44,8 +45,13 @@ pub(crate) fn stands(text: &[u8], place: usize, item: &[u8]) -> bool
     behind(&text[place..], item).is_some()
 }
 
-/// The place after the item, which stands at the place.
-pub(crate) fn item(text: &[u8], place: usize, item: &[u8]) -> Result<usize, AfterFault>
+/// The place after the item, which stands at the place; or else this was expected.
+pub(crate) fn item(
+    text: &[u8],
+    place: usize,
+    item: &[u8],
+    expected: Expected,
+) -> Result<usize, AfterFault>
     requires { place ≤ length text.now }
     ensures read { IfOk result (λ end. IsItem text.now place item.now end) }
     ensures refused { IfErr result (IfMisfit (IsNoItem item.now (drop place text.now))) }
@@ -53,11 +59,16 @@ pub(crate) fn item(text: &[u8], place: usize, item: &[u8]) -> Result<usize, Afte
     if stands(text, place, item) {
         return Ok(place + item.len());
     }
-    Err(AfterFault::NotABinding(misfit(text, place, item)))
+    Err(AfterFault::NotABinding(misfit(text, place, item), expected))
 }
 
-/// What stands before a part, after so many others.
-pub(crate) fn separated(text: &[u8], place: usize, count: usize) -> Result<usize, AfterFault>
+/// The place after what stands before a part, after so many others; or else what these words say was expected.
+pub(crate) fn separated(
+    text: &[u8],
+    place: usize,
+    count: usize,
+    words: &'static [u8],
+) -> Result<usize, AfterFault>
     requires { place ≤ length text.now }
     ensures read { IfOk result (λ end. IsItem text.now place (comma_before count) end) }
     ensures refused { IfErr result (IfMisfit (IsNoItem (comma_before count) (drop place text.now))) }
@@ -65,7 +76,7 @@ pub(crate) fn separated(text: &[u8], place: usize, count: usize) -> Result<usize
     if count == 0 {
         return Ok(place);
     }
-    item(text, place, b", ")
+    item(text, place, b", ", Expected::Words(words))
 }
 
 /// The place of an item that doesn't stand there: the end of the text, where that comes before the end of the item.
