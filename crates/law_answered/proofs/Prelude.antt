@@ -1,5 +1,5 @@
 -- What the proofs of this crate take from elsewhere, passed on from one place.
-pub use Rattle.std.proofs.Common.{◌++◌, ◌+◌, ◌<◌, ◌^◌, ◌↔◌, ◌∙◌, ◌∷◌, ◌≡◌, ◌≤◌, ◌⊎◌, [], ap, append-nil, append_assoc, arith, Bool, Err, false, inl, inr, IsTrue, length, length-append, List, map, None, Ok, Option, refl, Some, subst, suc, sym, take, true, zero, ℕ, ℤ, ⊎_elim, Global, Vec}
+pub use Rattle.std.proofs.Common.{◌++◌, ◌+◌, ◌<◌, ◌^◌, ◌↔◌, ◌∙◌, ◌∷◌, ◌≡◌, ◌≤◌, ◌⊎◌, [], ap, append-nil, append_assoc, arith, Bool, Err, false, inl, inr, IsTrue, length, length-append, List, map, None, Ok, Option, refl, Some, subst, suc, sym, take, true, zero, ℕ, ℤ, Global, Vec}
 pub use Rattle.std.proofs.lemmas.Bool.{cases_eq, cases_order, cases_lt}
 pub use Rattle.std.proofs.lemmas.Grind.{flat_map-append}
 pub use Rattle.std.proofs.lemmas.List.{length-map, map-append, take_all}
@@ -33,7 +33,7 @@ pub use Rattle.zf_extent.specs.{first}
 pub use Rattle.zf_finite.proofs.FiniteSchemas.{finite_without_cause}
 pub use Rattle.zf_finite.specs.declared.not_finite.NotFinite.{NotFinite}
 pub use Rattle.zf_finite.specs.{causes, IsFinite, one_bounds}
-pub use Rattle.zf_meaning.specs.{AreComplete, AreOfTypes, Environment, given_sets, IsEnvironment, IsExistingElement, IsOfType, IsRefusal, IsRow, type_number, AddsSize, AreAccepted, AreSizes, Context, IsAccepted, IsNumberSet, IsSizeFault, IsStated, IsTruth, LacksSize, RefusesSize, in_row, least, names}
+pub use Rattle.zf_meaning.specs.{AreComplete, AreOfTypes, Environment, given_sets, IsEnvironment, IsExistingElement, IsOfType, IsRefusal, type_number, AddsSize, AreAccepted, AreSizes, Context, IsAccepted, IsNumberSet, IsSizeFault, IsStated, IsTruth, LacksSize, RefusesSize, in_row, least, names}
 pub use Rattle.zf_meaning.specs.declared.sizes.Size.{Size}
 pub use Rattle.zf_meaning.specs.declared.sizes.SizeFault.{SizeFault}
 pub use Rattle.law_total.proofs.Listed.{Decided, decided_lists, decided_some, HasSome, Listed, listed_either, listed_image, listed_kept, listed_none, listed_one, listed_pairs, listed_same}

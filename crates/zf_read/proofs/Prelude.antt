@@ -1,5 +1,5 @@
 -- What the proofs of this crate take from elsewhere, passed on from one place.
-pub use Rattle.std.proofs.Common.{◌&&◌, ◌++◌, ◌+◌, ◌-◌, ◌<◌, ◌^◌, ◌↔◌, ◌∙◌, ◌∷◌, ◌≡◌, ◌≤◌, ◌⊎◌, [], add-one, ap, ap₂, arith, Bool, codes, drop, Equal, Err, false, get_or, Global, Greater, IfErr, inl, inr, is_lt, IsTrue, length, Less, List, map, None, of_z, Ok, Option, Ordering, refl, Result, rules, Some, subst, suc, sym, take, to_z, true, Vec, zero, ℕ, ℤ, ⊎_elim}
+pub use Rattle.std.proofs.Common.{◌&&◌, ◌++◌, ◌+◌, ◌-◌, ◌<◌, ◌^◌, ◌↔◌, ◌∙◌, ◌∷◌, ◌≡◌, ◌≤◌, ◌⊎◌, [], add-one, ap, arith, Bool, codes, drop, Equal, Err, false, get_or, Greater, IfErr, inl, inr, is_lt, IsTrue, length, Less, List, map, None, of_z, Ok, Option, Ordering, refl, Result, rules, Some, subst, suc, sym, take, to_z, true, zero, ℕ, ℤ, ⊎_elim}
 pub use Rattle.std.proofs.lemmas.Bool.Decides.{Decides-eqb}
 pub use Rattle.std.proofs.lemmas.Fmt.{decimal_injective, IsAscii-decimal, IsAscii-signed, parse-decimal, parse-signed_decimal}
 pub use Rattle.std.proofs.lemmas.List.{append-nil, append_assoc, drop_more, length-append, length-drop, take-append-drop, take_all}
@@ -18,7 +18,7 @@ pub use Rattle.zf_term.specs.{basic, Comp, comp_of, first_named, int, no_types, 
 pub use Rattle.zf_term.specs.declared.schema.Component.{Component}
 pub use Rattle.zf_meaning.specs.{AreOfTypes, Environment, environment_of, found_number, IsExistingElement, IsOfType, IsRow, type_number}
 pub use Rattle.zf_print.specs.{AreApart, AreClear, AreNames, binding_text, Closes, comma_before, component_text, component_texts, Ends, EndsAs, goes_on, is_in_word, IsClear, IsName, IsNoneOf, later_parts, parted, spelled, value_text}
-pub use Rattle.zf_read.specs.{AreMembers, AreMembersAt, ArePartsAt, BeginsWithName, AreChosen, HaveClearNames, HoldNext, IfMisfit, IsComponentAt, IsElsewhere, IsHeldLine, IsItem, IsLineOf, IsLineOfSome, IsNamed, IsNext, IsPart, IsPartAt, IsSpelledType, IsValueAt, IsWordAt, HeldIsLine, LineIsHeld, nothing_of, OneHeldLine, with_values}
+pub use Rattle.zf_read.specs.{AreMembers, AreMembersAt, ArePartsAt, BeginsWithName, AreChosen, HaveClearNames, HoldNext, IfMisfit, IsComponentAt, IsElsewhere, IsHeldLine, IsItem, IsLineOf, IsNamed, IsNext, IsPart, IsPartAt, IsSpelledType, IsValueAt, IsWordAt, HeldIsLine, LineIsHeld, nothing_of, OneHeldLine, with_values}
 unfoldable pub use Rattle.zf_read.specs.{AreNoMembers, AreNoParts, BeginsWithoutName, GoesOn, HasNoElements, IsNoComponent, IsNoHeldRest, IsNoHeldLine, IsNoItem, IsNoLine, IsNoNext, IsNoRest, IsNoSpelledType, IsNoValue, NamesNone, SpellsNone}
 pub use Rattle.zf_print.specs.declared.spelling.Spelling.{Spelling}
 pub use Rattle.zf_print.specs.declared.spelling.Spelling.TheVariants.{Named, Numbered}
