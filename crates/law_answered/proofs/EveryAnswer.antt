@@ -48,13 +48,13 @@ module _ (Tells : List Defined → Schema → Environment → Portion → List �
           some_at_values : (after : Option (List Value)) → IsNamedRow e shown r.after after → IsAnswered
           some_at_values after named = elim (every_held_line_is_judged e a.comps r.held) [
             | inl held ↦ some_at_sets after held.0 named held.1
-            | inr none ↦ refused (not_held 0 ∷ []) BadRequest (RefusesRequest.holds_nothing g a e shown after 0 asked are_shown named none refl refl)
+            | inr none ↦ refused (not_held r.details (0, []) ∷ []) BadRequest (RefusesRequest.holds_nothing g a e shown after (0, []) asked are_shown named none refl refl)
           ]
 
           some_at_row : IsAnswered
           some_at_row = elim (every_line_is_judged e shown r.after) [
             | inl named ↦ some_at_values named.0 named.1
-            | inr none ↦ refused (not_a_binding 0 ∷ []) BadRequest (RefusesRequest.not_a_binding g a e shown 0 asked are_shown none refl refl)
+            | inr none ↦ refused (not_a_binding r.details (0, []) ∷ []) BadRequest (RefusesRequest.not_a_binding g a e shown (0, []) asked are_shown none refl refl)
           ]
 
         some_at_components : IsAnswered

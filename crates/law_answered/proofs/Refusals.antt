@@ -15,8 +15,8 @@ IfRefused f details file source one two s t C =
     (first second : List Message) → AreRefusedAlike details source first second s t → one ≡ messages_text f file first → two ≡ messages_text f file second → C
 
 -- this does not hold, as the message says with some place of a text
-abbrev pub TellsPlace : Type 0 → (message : ℕ → Message) → (told : List Message) → Status → Type 0
-TellsPlace Fails message told status = Fails × (place : ℕ) × (told ≡ message place ∷ []) × (status ≡ BadRequest)
+abbrev pub TellsPlace : {A : Type 0} → Type 0 → (message : A → Message) → (told : List Message) → Status → Type 0
+TellsPlace {A} Fails message told status = Fails × (place : A) × (told ≡ message place ∷ []) × (status ≡ BadRequest)
 
 module _ (details : Bool) (source : List ℕ) (one two : List Message) (s t : Status) where
   abbrev Alike : Type 0
@@ -71,8 +71,8 @@ module _ (details : Bool) (source : List ℕ) (one two : List Message) (s t : St
       }))
 
   -- the place may be another
-  pub one_failure : (Fails : Type 0) (message : ℕ → Message)
-      → ((i j : ℕ) → one ≡ message i ∷ [] → two ≡ message j ∷ [] → AreMessagesAlike details source one two)
+  pub one_failure : {A : Type 0} (Fails : Type 0) (message : A → Message)
+      → ((i j : A) → one ≡ message i ∷ [] → two ≡ message j ∷ [] → AreMessagesAlike details source one two)
       → TellsPlace Fails message one s → TellsPlace Fails message two t → Alike
   one_failure Fails message alike (none, i, told, bad) (also_none, j, also_told, also_bad) = bad_request bad also_bad (alike i j told also_told)
 

@@ -22,11 +22,11 @@ module _ (Tells : Telling) (r : Request) (file source text : List ℕ) (status :
   AtSearch g a e p = Refused (TellsOut e a.comps) ⊎ (IsNoneOut e a.comps × Tells g a e p text status)
 
   abbrev AtHeldValues : List Defined → Schema → Environment → Option (List Value) → Type 0
-  AtHeldValues g a e after = Refused (TellsPlace (HoldsNoValues e a.comps r.held) not_held) ⊎ ((held : List (Option Value)) × AreHeld e a.comps r.held held
+  AtHeldValues g a e after = Refused (TellsPlace (HoldsNoValues e a.comps r.held) (not_held r.details)) ⊎ ((held : List (Option Value)) × AreHeld e a.comps r.held held
       × AtSearch g a e (portion (row_after r.only after) held))
 
   abbrev AtNamedRow : List Defined → Schema → Environment → (shown : List Comp) → Type 0
-  AtNamedRow g a e shown = Refused (TellsPlace (NamesNoRow e shown r.after) not_a_binding)
+  AtNamedRow g a e shown = Refused (TellsPlace (NamesNoRow e shown r.after) (not_a_binding r.details))
       ⊎ ((after : Option (List Value)) × IsNamedRow e shown r.after after × AtHeldValues g a e after)
 
   abbrev AtComponents : List Defined → Schema → Environment → Type 0
@@ -117,7 +117,7 @@ module _ {C : Type 0} (Tells Also : Telling) (r : Request) (file source one two 
 
         at_values : (after : Option (List Value)) → AtHeldValues Tells r file source one s g a e after → AtHeldValues Also r file source two t g a e after → C
         at_values after (inl x) (inl y) =
-            refuse x.0 y.0 (one_failure r.details source x.0 y.0 s t (HoldsNoValues e a.comps r.held) not_held
+            refuse x.0 y.0 (one_failure r.details source x.0 y.0 s t (HoldsNoValues e a.comps r.held) (not_held r.details)
             AreMessagesAlike.no_values x.1 y.1) x.2 y.2
         at_values after (inl x) (inr y) = absurd (no_held_values e a.comps r.held y.0 x.1.0 y.1)
         at_values after (inr x) (inl y) = absurd (no_held_values e a.comps r.held x.0 y.1.0 x.1)
@@ -129,7 +129,7 @@ module _ {C : Type 0} (Tells Also : Telling) (r : Request) (file source one two 
 
         at_row : (shown : List Comp) → AtNamedRow Tells r file source one s g a e shown → AtNamedRow Also r file source two t g a e shown → C
         at_row shown (inl x) (inl y) =
-            refuse x.0 y.0 (one_failure r.details source x.0 y.0 s t (NamesNoRow e shown r.after) not_a_binding
+            refuse x.0 y.0 (one_failure r.details source x.0 y.0 s t (NamesNoRow e shown r.after) (not_a_binding r.details)
             AreMessagesAlike.no_binding x.1 y.1) x.2 y.2
         at_row shown (inl x) (inr y) = absurd (no_named_row e shown r.after y.0 x.1.0 y.1)
         at_row shown (inr x) (inl y) = absurd (no_named_row e shown r.after x.0 y.1.0 x.1)

@@ -99,7 +99,7 @@ pub record AreFaultsAlike (details : Bool) (source : List ℕ) (one two : List M
 
 -- Two lists of messages are one, or differ in what is left open: which fault of the grammar an unread source has, which symbols a fault of it is about, which
 -- offence of an ill typed paragraph is reported and what is reported beside it, which schema without a component is reported, and the byte at which a text is no
--- names of components, no binding, or no line of some components.
+-- names of components, no binding, or no line of some components, with what was expected there.
 pub data AreMessagesAlike (details : Bool) (source : List ℕ) (one two : List Message) : Type 0 where
   same : one ≡ two → AreMessagesAlike details source one two
   symbols : (fault : TextFault) (first second : Cited) → RefusesSource source fault → one ≡ text_fault_message details source fault first ∷ []
@@ -109,8 +109,8 @@ pub data AreMessagesAlike (details : Bool) (source : List ℕ) (one two : List M
   infinite : (globals : List Defined) (cause : NotFinite) (mended : Bool) (first second : List ℕ) → one ≡ not_finite_message details source globals cause first mended ∷ []
       → two ≡ not_finite_message details source globals cause second mended ∷ [] → AreMessagesAlike details source one two
   no_components : (first second : ℕ) → one ≡ not_components first ∷ [] → two ≡ not_components second ∷ [] → AreMessagesAlike details source one two
-  no_binding : (first second : ℕ) → one ≡ not_a_binding first ∷ [] → two ≡ not_a_binding second ∷ [] → AreMessagesAlike details source one two
-  no_values : (first second : ℕ) → one ≡ not_held first ∷ [] → two ≡ not_held second ∷ [] → AreMessagesAlike details source one two
+  no_binding : (first second : ℕ × List ℕ) → one ≡ not_a_binding details first ∷ [] → two ≡ not_a_binding details second ∷ [] → AreMessagesAlike details source one two
+  no_values : (first second : ℕ × List ℕ) → one ≡ not_held details first ∷ [] → two ≡ not_held details second ∷ [] → AreMessagesAlike details source one two
 
 -- Two texts in a format are one, or those of messages that are alike, with one listing behind those of faults of types; or they differ in what is reported of the
 -- sides of disjunctions, or in which minimal set of conjuncts that can't hold together is reported.

@@ -52,11 +52,11 @@ pub well_typed : (source : List ℕ) (globals : List Defined) {faults : List Fau
 well_typed source globals {faults} checks = globals_well_typed checks.boxes globals faults checks.judged
 
 -- where spellings are clear, a text that is no line names no row
-pub no_row_told : (ss : List Spelling) (e : Environment) (comps : List Comp) (text bytes : List ℕ) (stop : Stop) (place : ℕ) → ss ≡ spellings e.globals → bytes ≡ text → IsNoLine ss e comps bytes
-    → IfAnswered stop (TellsPlace place) → AreClear ss e.sizes → IfAnswered stop (TellsNoRow e comps (Some text))
+pub no_row_told : (ss : List Spelling) (e : Environment) (comps : List Comp) (text bytes : List ℕ) (stop : Stop) (details : Bool) (misfit : ℕ × List ℕ) → ss ≡ spellings e.globals → bytes ≡ text → IsNoLine ss e comps bytes
+    → IfAnswered stop (TellsPlace details misfit) → AreClear ss e.sizes → IfAnswered stop (TellsNoRow details e comps (Some text))
 unfolding IsNoLine
-no_row_told ss e comps text bytes stop place same is none told clear =
-    weaker stop (λ written status t. ((λ row line. none clear row line.0 (is ∙ line.1 ∙ ap (λ k. binding_text k comps row) (sym same))), (place, t))) told
+no_row_told ss e comps text bytes stop details misfit same is none told clear =
+    weaker stop (λ written status t. ((λ row line. none clear row line.0 (is ∙ line.1 ∙ ap (λ k. binding_text k comps row) (sym same))), (misfit, t))) told
 
 -- what a text is read to hold it holds
 pub line_told : (ss : List Spelling) (e : Environment) (comps : List Comp) (text bytes : List ℕ) (held : List (Option Value)) → ss ≡ spellings e.globals
@@ -66,14 +66,14 @@ line_told ss e comps text bytes held same is h =
     subst (λ l. IsHeldLine (spellings e.globals) e comps l held) is (subst (λ k. IsHeldLine k e comps bytes held) same h)
 
 -- where spellings and names are clear, a text that is read as the line of no components holds no values
-pub no_values_told : (ss : List Spelling) (e : Environment) (comps : List Comp) (text bytes : List ℕ) (stop : Stop) (place : ℕ) → ss ≡ spellings e.globals
+pub no_values_told : (ss : List Spelling) (e : Environment) (comps : List Comp) (text bytes : List ℕ) (stop : Stop) (details : Bool) (misfit : ℕ × List ℕ) → ss ≡ spellings e.globals
     → bytes ≡ text → IsNoHeldLine ss e comps bytes
-    → IfAnswered stop (TellsPlaceHeld place) → AreClear ss e.sizes → HaveClearNames comps → IfAnswered stop (TellsNoValues e comps (Some text))
+    → IfAnswered stop (TellsPlaceHeld details misfit) → AreClear ss e.sizes → HaveClearNames comps → IfAnswered stop (TellsNoValues details e comps (Some text))
 unfolding IsNoHeldLine
-no_values_told ss e comps text bytes stop place same is none told clear names =
+no_values_told ss e comps text bytes stop details misfit same is none told clear names =
     weaker stop (λ written status t. (
       (λ held line. none clear names held (subst (λ l. IsHeldLine ss e comps l held) (sym is) (subst (λ k. IsHeldLine k e comps text held) (sym same) line))),
-      (place, t),
+      (misfit, t),
     )) told
 
 -- the spellings of what is asked for are clear
@@ -126,7 +126,7 @@ module _ (r : Request) (source : List ℕ) (g : List Defined) (a : Schema) where
 
   module _ (e : Environment) (is : IsAsked r source g a e) where
     pub no_values_answers : (shown : List Comp) (after : Option (List Value)) → AreShown a.comps r.only shown → IsNamedRow e shown r.after after
-        → (stop : Stop) → IfAnswered stop (TellsNoValues e a.comps r.held) → AnswersRequest r source stop
+        → (stop : Stop) → IfAnswered stop (TellsNoValues r.details e a.comps r.held) → AnswersRequest r source stop
     no_values_answers shown after are named stop h =
         weaker stop (λ told status t. inr (RefusesRequest.holds_nothing g a e shown after t.1.0 is are named t.0 t.1.1.0 t.1.1.1)) h
 

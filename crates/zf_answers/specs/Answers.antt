@@ -97,10 +97,10 @@ pub data RefusesRequest (r : Request) (source : List ℕ) (told : List Message) 
       → RefusesRequest r source told status
   not_components : (globals : List Defined) (a : Schema) (e : Environment) (place : ℕ) → IsAsked r source globals a e → NamesNoParts a.comps r.only
       → told ≡ messages.not_components place ∷ [] → status ≡ BadRequest → RefusesRequest r source told status
-  not_a_binding : (globals : List Defined) (a : Schema) (e : Environment) (shown : List Comp) (place : ℕ) → IsAsked r source globals a e → AreShown a.comps r.only shown → NamesNoRow e shown r.after
-      → told ≡ messages.not_a_binding place ∷ [] → status ≡ BadRequest → RefusesRequest r source told status
-  holds_nothing : (globals : List Defined) (a : Schema) (e : Environment) (shown : List Comp) (after : Option (List Value)) (place : ℕ) → IsAsked r source globals a e
-      → AreShown a.comps r.only shown → IsNamedRow e shown r.after after → HoldsNoValues e a.comps r.held → told ≡ not_held place ∷ [] → status ≡ BadRequest → RefusesRequest r source told status
+  not_a_binding : (globals : List Defined) (a : Schema) (e : Environment) (shown : List Comp) (misfit : ℕ × List ℕ) → IsAsked r source globals a e → AreShown a.comps r.only shown → NamesNoRow e shown r.after
+      → told ≡ messages.not_a_binding r.details misfit ∷ [] → status ≡ BadRequest → RefusesRequest r source told status
+  holds_nothing : (globals : List Defined) (a : Schema) (e : Environment) (shown : List Comp) (after : Option (List Value)) (misfit : ℕ × List ℕ) → IsAsked r source globals a e
+      → AreShown a.comps r.only shown → IsNamedRow e shown r.after after → HoldsNoValues e a.comps r.held → told ≡ not_held r.details misfit ∷ [] → status ≡ BadRequest → RefusesRequest r source told status
   declared_out : (globals : List Defined) (a : Schema) (e : Environment) (shown : List Comp) (after : Option (List Value)) (held : List (Option Value)) (place : ℕ) (c : Comp) → IsAsked r source globals a e
       → AreShown a.comps r.only shown → IsNamedRow e shown r.after after → AreHeld e a.comps r.held held → IsFirstOut e a.comps place → slice_get a.comps place ≡ Some c → told ≡ messages.declared_out c.name ∷ []
       → status ≡ PastBounds → RefusesRequest r source told status

@@ -21,18 +21,18 @@ abbrev pub IsTextFault : (details : Bool) → (source : List ℕ) → TextFault 
 IsTextFault details source fault about told status = (fault.kind ≢ text_faults.OutOfMemory) × (told ≡ text_fault_message details source fault about ∷ []) × (status ≡ BadSpec)
 
 -- the answer tells a place of a text that is the line of no row
-abbrev pub TellsPlace : ℕ → List Message → Status → Type 0
-TellsPlace place told status = (told ≡ not_a_binding place ∷ []) × (status ≡ BadRequest)
+abbrev pub TellsPlace : (details : Bool) → (misfit : ℕ × List ℕ) → List Message → Status → Type 0
+TellsPlace details misfit told status = (told ≡ not_a_binding details misfit ∷ []) × (status ≡ BadRequest)
 
-abbrev pub TellsNoRow : Environment → List Comp → Option (List ℕ) → List Message → Status → Type 0
-TellsNoRow e comps after told status = NamesNoRow e comps after × ((place : ℕ) × TellsPlace place told status)
+abbrev pub TellsNoRow : (details : Bool) → Environment → List Comp → Option (List ℕ) → List Message → Status → Type 0
+TellsNoRow details e comps after told status = NamesNoRow e comps after × ((misfit : ℕ × List ℕ) × TellsPlace details misfit told status)
 
 -- the answer tells a place of a text that is no line of some components
-abbrev pub TellsPlaceHeld : ℕ → List Message → Status → Type 0
-TellsPlaceHeld place told status = (told ≡ not_held place ∷ []) × (status ≡ BadRequest)
+abbrev pub TellsPlaceHeld : (details : Bool) → (misfit : ℕ × List ℕ) → List Message → Status → Type 0
+TellsPlaceHeld details misfit told status = (told ≡ not_held details misfit ∷ []) × (status ≡ BadRequest)
 
-abbrev pub TellsNoValues : Environment → List Comp → Option (List ℕ) → List Message → Status → Type 0
-TellsNoValues e comps held told status = HoldsNoValues e comps held × ((place : ℕ) × TellsPlaceHeld place told status)
+abbrev pub TellsNoValues : (details : Bool) → Environment → List Comp → Option (List ℕ) → List Message → Status → Type 0
+TellsNoValues details e comps held told status = HoldsNoValues e comps held × ((misfit : ℕ × List ℕ) × TellsPlaceHeld details misfit told status)
 
 -- the answer tells a place of a text that names no components
 abbrev pub TellsPlaceMisnamed : List Message → Status → Type 0
@@ -48,7 +48,7 @@ IsMisnamed comps name places told status = HasNoPlace comps name places × Tells
 -- the answer tells that a text is no line of a row of the components that are shown, or no line of some components
 abbrev pub TellsBounds : Environment → List Comp → (shown : List Comp) → Request → List Message → Status → Type 0
 TellsBounds e comps shown r told status =
-    TellsNoRow e shown r.after told status ⊎ ((after : Option (List Value)) × IsNamedRow e shown r.after after × TellsNoValues e comps r.held told status)
+    TellsNoRow r.details e shown r.after told status ⊎ ((after : Option (List Value)) × IsNamedRow e shown r.after after × TellsNoValues r.details e comps r.held told status)
 
 -- the answer tells that one of the texts which say what is asked for is not what it has to be
 abbrev pub TellsMisnamed : Environment → List Comp → Request → List Message → Status → Type 0

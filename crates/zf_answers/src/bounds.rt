@@ -49,8 +49,8 @@ pub fn bounds_in<'a>(
     let request = inquiry.request;
     let chosen = chosen_in(inquiry.alloc, arena, flat, &request.only)?;
     let lines = shown(flat, &chosen);
-    let after = named_row(inquiry.alloc, lines, env, elements, &request.after)?;
-    let held = values_held(inquiry.alloc, flat, env, elements, &request.held)?;
+    let after = named_row(inquiry, lines, env, elements)?;
+    let held = values_held(inquiry, flat, env, elements)?;
     Ok(Bounds {
         chosen,
         after,

@@ -72,7 +72,7 @@ fn why_schema<'a>(
         format: request.format,
         elements: &elements,
     };
-    let held = values_held(inquiry.alloc, schema, env, &elements, &request.held)?;
+    let held = values_held(inquiry, schema, env, &elements)?;
     let subject = Subject {
         arena,
         schema,

@@ -1,10 +1,10 @@
 -- The messages of faults and of refusals, without details.
-use Rattle.std.specs.Prelude.{ℕ, List, ◌++◌, codes, decimal}
+use Rattle.std.specs.Prelude.{ℕ, Bool, if◌then◌else◌, List, [], ◌++◌, codes, decimal}
 use Rattle.zf_scan.specs.declared.fault.TextFaultKind.{TextFaultKind}
 use Rattle.zf_scan.specs.declared.fault.TextFaultKind.TheVariants.{BadByte, UnknownCommand, NotInProfile, UnclosedBox, Unexpected, NumberTooLarge, TooDeep, TooLong, OutOfMemory}
 use Rattle.zf_messages.specs.declared.message.At.TheVariants.{Nowhere}
 use Rattle.zf_messages.specs.declared.message.Message.{Message}
-use Rattle.zf_messages.specs.Messages.{plain}
+use Rattle.zf_messages.specs.Messages.{detail_if_any, message, plain}
 use Rattle.zf_term.specs.declared.fault.TypeFaultKind.{TypeFaultKind}
 use Rattle.zf_term.specs.declared.fault.TypeFaultKind.TheVariants.{NotDeclared, AlreadyDefined, Mismatch, NotASet, NotANumber, NotARelation, NotAPredicate, NotAnExpression, ComponentClash, NotASchema, LocalTwice, TooLarge}
 
@@ -56,15 +56,19 @@ size_twice name = about_words (codes "two sizes for " ++ name)
 abbrev pub size_too_large : (name : List ℕ) → Message
 size_too_large name = about_words (codes "size of " ++ name ++ codes " is too large")
 
--- the place, from 0, of the first byte of what does not fit
-abbrev pub not_a_binding : (place : ℕ) → Message
-not_a_binding place = about_words (codes "after: not a binding at byte " ++ decimal place)
+-- with details, what was expected
+abbrev pub expecting : (details : Bool) → (text expected : List ℕ) → Message
+expecting details text expected = message Nowhere (codes "zf: " ++ text) (if details then detail_if_any (codes "expected") expected else [])
+
+-- the place, from 0, of the first byte of what does not fit, and what was expected there
+abbrev pub not_a_binding : (details : Bool) → (misfit : ℕ × List ℕ) → Message
+not_a_binding details misfit = expecting details (codes "after: not a binding at byte " ++ decimal misfit.0) misfit.1
 
 abbrev pub not_components : (place : ℕ) → Message
 not_components place = about_words (codes "only: not components at byte " ++ decimal place)
 
-abbrev pub not_held : (place : ℕ) → Message
-not_held place = about_words (codes "with: not a binding at byte " ++ decimal place)
+abbrev pub not_held : (details : Bool) → (misfit : ℕ × List ℕ) → Message
+not_held details misfit = expecting details (codes "with: not a binding at byte " ++ decimal misfit.0) misfit.1
 
 -- ---- of a schema
 

@@ -1,7 +1,9 @@
 //! The messages of faults and of refusals, without details.
-ghost use Rattle.std.specs.Prelude.{◌≡◌, ◌++◌, codes, decimal, IfOk};
+ghost use Rattle.std.specs.Prelude.{◌≡◌, ◌++◌, [], if◌then◌else◌, codes, decimal, IfOk};
+ghost use Rattle.zf_messages.specs.{detail_if_any};
 ghost use Rattle.zf_messages.specs.Texts as spec;
 
+use crate::details::add_if_any;
 use crate::message::{At, Message};
 use itoa::Buffer;
 use std::alloc::{AllocError, Global};
@@ -105,10 +107,16 @@ fn at_byte(alloc: Global, before: &[u8], place: usize) -> Result<Message, AllocE
 }
 
 /// `zf: after: not a binding at byte K`
-pub fn not_a_binding(alloc: Global, place: usize) -> Result<Message, AllocError>
-    ensures { IfOk result (λ m. m ≡ spec.not_a_binding place) }
+pub fn not_a_binding(
+    alloc: Global,
+    place: usize,
+    details: bool,
+    expected: &[u8],
+) -> Result<Message, AllocError>
+    ensures { IfOk result (λ m. m ≡ spec.not_a_binding details (place, expected.now)) }
 {
-    at_byte(alloc, b"after: not a binding at byte ", place)
+    let message = at_byte(alloc, b"after: not a binding at byte ", place)?;
+    expecting(alloc, message, details, expected)
 }
 
 /// `zf: only: not components at byte K`
@@ -119,10 +127,32 @@ pub fn not_components(alloc: Global, place: usize) -> Result<Message, AllocError
 }
 
 /// `zf: with: not a binding at byte K`
-pub fn not_held(alloc: Global, place: usize) -> Result<Message, AllocError>
-    ensures { IfOk result (λ m. m ≡ spec.not_held place) }
+pub fn not_held(
+    alloc: Global,
+    place: usize,
+    details: bool,
+    expected: &[u8],
+) -> Result<Message, AllocError>
+    ensures { IfOk result (λ m. m ≡ spec.not_held details (place, expected.now)) }
 {
-    at_byte(alloc, b"with: not a binding at byte ", place)
+    let message = at_byte(alloc, b"with: not a binding at byte ", place)?;
+    expecting(alloc, message, details, expected)
+}
+
+/// The message, with what was expected if details are asked for.
+fn expecting(
+    alloc: Global,
+    message: Message,
+    details: bool,
+    expected: &[u8],
+) -> Result<Message, AllocError>
+    ensures { IfOk result (λ m. m ≡ record { at = message.at; text = message.text; details = message.details ++ (if details then detail_if_any (codes "expected") expected.now else []) }) }
+{
+    let mut message = message;
+    if details {
+        add_if_any(&mut message.details, alloc, b"expected", expected)?;
+    }
+    Ok(message)
 }
 
 /// `out of bounds in the declaration of x`

@@ -18,7 +18,7 @@ returns-in_err-after-clause-stop c =
     let comps = (schema_of c.args.flat.now).comps in
     let r = c.args.inquiry.request.now in
     let lines = (schema_of c.shown-lines.result.now).comps in
-    weaker_err _ (λ s. AreClear c.args.elements.now e.sizes → IfAnswered s (TellsNoRow e lines r.after)) (λ s. AreClear c.args.elements.now e.sizes
+    weaker_err _ (λ s. AreClear c.args.elements.now e.sizes → IfAnswered s (TellsNoRow r.details e lines r.after)) (λ s. AreClear c.args.elements.now e.sizes
     → HaveClearNames comps → IfAnswered s (TellsMisnamed e comps r))
     (λ stop told clear names. weaker stop (λ told status t. inr (
       lines,
@@ -33,7 +33,7 @@ returns-in_err-held-clause-stop c =
     let r = c.args.inquiry.request.now in
     let lines = (schema_of c.shown-lines.result.now).comps in
     weaker_err _ (λ s. AreClear c.args.elements.now e.sizes → HaveClearNames comps
-    → IfAnswered s (TellsNoValues e comps r.held)) (λ s. AreClear c.args.elements.now e.sizes → HaveClearNames comps
+    → IfAnswered s (TellsNoValues r.details e comps r.held)) (λ s. AreClear c.args.elements.now e.sizes → HaveClearNames comps
     → IfAnswered s (TellsMisnamed e comps r))
     (λ stop told clear names. weaker stop (λ told status t. inr (
       lines,

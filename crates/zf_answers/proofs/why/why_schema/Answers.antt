@@ -13,7 +13,7 @@ returns-in_err-held-clause-stop c =
     let elements = c.deref-2.result.now in
     let clear = clear_of r source a e c.requires.asked elements (c.deref-2.ensures.value ∙ c.in_ok-elements.ensures ∙ ap spellings c.globals.ensures) in
     let names = names_of r source a e c.requires.asked in
-    weaker_err _ (λ s. AreClear elements e.sizes → HaveClearNames a.comps → IfAnswered s (TellsNoValues e a.comps r.held)) (AnswersRequest r source)
+    weaker_err _ (λ s. AreClear elements e.sizes → HaveClearNames a.comps → IfAnswered s (TellsNoValues r.details e a.comps r.held)) (AnswersRequest r source)
     (λ stop told. no_values_answers r source e.globals a e c.requires.asked a.comps None (all_shown r e a.comps c.requires.plain.1)
     (none_named r e a c.requires.plain) stop (told clear names)) (search rules)
 
