@@ -102,13 +102,13 @@ module _ (ss : List Spelling) (e : Environment) (cs : List Comp) where
       neither not none (suc place) c q p = none (place, c, q, p)
 
   goes : (n : ℕ) (bytes : List ℕ) (before : List (Option Value)) → (place : ℕ) × (c : Comp) × (slice_get cs place ≡ Some c) × GoesAt n bytes before place c → Goes n bytes before
-  goes n bytes before (place, c, there, free, v, of_type, rest, stands, held, parts, h) =
+  goes n bytes before (place, c, there, (free, (v, of_type, (rest, stands, (held, parts, h))))) =
       (held, (place, v) ∷ parts, (rest, record { comp = c; there = there; free = free; of_type = of_type; stands = stands }, h))
 
   goes_at : (n b : ℕ) (bytes : List ℕ) (before held : List (Option Value)) (parts : List (ℕ × Value)) → HoldNext ss e cs n (b ∷ bytes) before parts held
       → (place : ℕ) × (c : Comp) × (slice_get cs place ≡ Some c) × GoesAt n (b ∷ bytes) before place c
   goes_at n b bytes before held [] h = absurd (cc)
-  goes_at n b bytes before held (p ∷ parts) (rest, part, h) = (p.0, part.comp, part.there, part.free, p.1, part.of_type, rest, part.stands, held, parts, h)
+  goes_at n b bytes before held (p ∷ parts) (rest, part, h) = (p.0, part.comp, part.there, (part.free, (p.1, part.of_type, (rest, part.stands, (held, parts, h)))))
 
   decided_goes : (k n : ℕ) (bytes : List ℕ) (before : List (Option Value)) → length bytes ≤ k → Decided (Goes n bytes before)
   decided_goes k n [] before l = inl (before, [], (refl, refl))
